@@ -16,6 +16,7 @@ use Rattle.iom_copies.specs.Worked.{RevivalsOccur, attach_and_detach, both_right
 use Rattle.iom_machine.specs.declared.state.Attachment.TheVariants.{Attached, Leaving, Quarantined}
 use Rattle.iom_machine.specs.declared.state.DeviceKind.TheVariants.{Ats}
 use Rattle.iom_base.specs.declared.mode.Mode.TheVariants.{Both, Second}
+use Rattle.iom_base.specs.declared.size.Size.TheVariants.{Sv39, Sv48}
 
 -- a scene after its head is fetched
 abbrev Fetched : Scene → List QueuedCommand → Scene
@@ -44,10 +45,10 @@ abbrev plugged : Scene
 plugged = record scene_at_power_on { kind_of = with_kind scene_at_power_on.kind_of 2 Ats }
 
 abbrev attached : Scene
-attached = record plugged { attachment_of = with_attachment plugged.attachment_of 2 (Attached Second false) }
+attached = record plugged { attachment_of = with_attachment plugged.attachment_of 2 (Attached (Second Sv39) false) }
 
 abbrev leaving : Scene
-leaving = record (with_ticket attached (leave_commands 2)) { attachment_of = with_attachment attached.attachment_of 2 (Leaving (attached.given + 1) Second false) }
+leaving = record (with_ticket attached (leave_commands 2)) { attachment_of = with_attachment attached.attachment_of 2 (Leaving (attached.given + 1) (Second Sv39) false) }
 
 abbrev reset : Scene
 reset = record leaving { entries = []; epoch_of = raised leaving.kind_of leaving.epoch_of 2 }
@@ -91,7 +92,7 @@ detach_occurs = (
     (refl, (λ yes. absurd (false≢true yes)), refl),
     (
       leaving,
-      (Second, false, refl, (λ page. refl), (λ page ticket pair there. in_none (ticket, pair) there), refl),
+      (Second Sv39, false, refl, (λ page. refl), (λ page ticket pair there. in_none (ticket, pair) there), refl),
       (
         reset,
         ([], (λ copy there. absurd (in_none copy there)), refl),
@@ -120,13 +121,13 @@ detach_occurs = (
 -- The quarantine.
 
 abbrev attached_again : Scene
-attached_again = record gone { attachment_of = with_attachment gone.attachment_of 2 (Attached Both true) }
+attached_again = record gone { attachment_of = with_attachment gone.attachment_of 2 (Attached (Both Sv48) true) }
 
 abbrev granted_page : Scene
 granted_page = record attached_again { history = Granted 2 3 5 both_rights ∷ attached_again.history }
 
 abbrev released_page : Scene
-released_page = record (with_ticket granted_page (release_commands 2 (released_extent Both 3) true)) { history = Released 2 3 (granted_page.given + 1) ∷ granted_page.history }
+released_page = record (with_ticket granted_page (release_commands 2 (released_extent (Both Sv48) 3) true)) { history = Released 2 3 (granted_page.given + 1) ∷ granted_page.history }
 
 abbrev dropped : Scene
 dropped = Fetched released_page (Invalidate 2 WholeSpace ∷ Fence 2 ∷ [])
@@ -138,7 +139,7 @@ requested = record dropped { waiting = Fence 2 ∷ []; slots = dropped.slots ++ 
 abbrev quarantined : Scene
 quarantined = record (with_ticket requested (leave_commands 2)) {
   history = AllReleased 2 (requested.given + 1) ∷ requested.history;
-  attachment_of = with_attachment requested.attachment_of 2 (Quarantined (requested.given + 1) Both true);
+  attachment_of = with_attachment requested.attachment_of 2 (Quarantined (requested.given + 1) (Both Sv48) true);
 }
 
 cut_off_occurs : OccurInTurn gone cut_off quarantined
@@ -150,11 +151,11 @@ cut_off_occurs = (
     (refl, refl, (λ released there. in_none released there), refl),
     (
       released_page,
-      (Both, true, refl, refl),
+      (Both Sv48, true, refl, refl),
       (
         dropped,
         translations_go released_page 2 WholeSpace (Invalidate 2 WholeSpace ∷ Fence 2 ∷ []) refl refl,
-        (requested, (Fence 2 ∷ [], [], refl, (λ message there. absurd (in_none message there)), refl), (quarantined, (Both, true, refl, refl), refl)),
+        (requested, (Fence 2 ∷ [], [], refl, (λ message there. absurd (in_none message there)), refl), (quarantined, (Both Sv48, true, refl, refl), refl)),
       ),
     ),
   ),
@@ -187,7 +188,7 @@ abbrev revived : Scene
 revived = record both_over {
   entries = [];
   epoch_of = raised both_over.kind_of both_over.epoch_of 2;
-  attachment_of = with_attachment both_over.attachment_of 2 (Attached Both true);
+  attachment_of = with_attachment both_over.attachment_of 2 (Attached (Both Sv48) true);
 }
 
 -- no other device is known
@@ -223,7 +224,7 @@ revival_occurs = (
               (
                 both_over,
                 (4, [], refl, omega arith, refl),
-                (revived, (3, Both, true, [], refl, omega arith, (λ copy there. absurd (in_none copy there)), refl), refl),
+                (revived, (3, Both Sv48, true, [], refl, omega arith, (λ copy there. absurd (in_none copy there)), refl), refl),
               ),
             ),
           ),

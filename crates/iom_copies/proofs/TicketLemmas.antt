@@ -5,7 +5,8 @@ use Rattle.std.proofs.lemmas.Bool.{false≢true}
 use Rattle.std.proofs.lemmas.List.Elements.{Contains-append_left, Contains-push}
 use Rattle.iom_ledger.specs.declared.entry.HistoryEntry.TheVariants.{Released}
 use Rattle.iom_ledger.specs.History.{History, Pair, Holds, held_at, confirms}
-use Rattle.iom_copies.specs.Attachments.{IsQuarantined, has_ats, in_both_stages, caches_translations, is_both}
+use Rattle.iom_base.specs.Modes.{is_both}
+use Rattle.iom_copies.specs.Attachments.{IsQuarantined, has_ats, in_both_stages, caches_translations}
 use Rattle.iom_copies.specs.Backing.{ComesFrom}
 use Rattle.iom_copies.specs.Copies.{AccessGoes, ContextFits, EntryGoes, IsFaithfulEntry, TranslationGoes}
 use Rattle.iom_copies.specs.DriverCalls.{release_commands, released_extent, with_ticket}

@@ -14,6 +14,7 @@ use Rattle.iom_copies.specs.Worked.{StaleWritesOccur, both_rights, first_invalid
 use Rattle.iom_machine.specs.declared.state.Attachment.TheVariants.{Attached}
 use Rattle.iom_machine.specs.declared.state.DeviceKind.TheVariants.{Ats}
 use Rattle.iom_base.specs.declared.mode.Mode.TheVariants.{First}
+use Rattle.iom_base.specs.declared.size.Size.TheVariants.{Sv39}
 
 -- the only element of a list
 only : {X : Type 0} (x y : X) → Contains (x ∷ []) y → y ≡ x
@@ -23,7 +24,7 @@ abbrev plugged : Scene
 plugged = record scene_at_power_on { kind_of = with_kind scene_at_power_on.kind_of 2 Ats }
 
 abbrev attached : Scene
-attached = record plugged { attachment_of = with_attachment plugged.attachment_of 2 (Attached First true) }
+attached = record plugged { attachment_of = with_attachment plugged.attachment_of 2 (Attached (First Sv39) true) }
 
 abbrev granted_page : Scene
 granted_page = record attached { history = Granted 2 3 5 both_rights ∷ attached.history }
@@ -47,7 +48,7 @@ abbrev quiet : Scene
 quiet = record with_entry { messages = [] }
 
 abbrev released_page : Scene
-released_page = record (with_ticket quiet (release_commands 2 (released_extent First 3) true)) { history = Released 2 3 (quiet.given + 1) ∷ quiet.history }
+released_page = record (with_ticket quiet (release_commands 2 (released_extent (First Sv39) 3) true)) { history = Released 2 3 (quiet.given + 1) ∷ quiet.history }
 
 abbrev stale : Scene
 stale = record released_page { accepted = released_page.accepted + 1; in_flight = first_write ∷ [] }
@@ -152,7 +153,7 @@ stale_write_occurs = (
                 (
                   quiet,
                   answer_goes,
-                  (released_page, (First, true, refl, refl), (stale, write_is_accepted, refl)),
+                  (released_page, (First Sv39, true, refl, refl), (stale, write_is_accepted, refl)),
                 ),
               ),
             ),

@@ -8,6 +8,7 @@ use Rattle.iom_ledger.specs.History.{held_at, confirms}
 use Rattle.iom_machine.specs.declared.state.Attachment.TheVariants.{Detached, Attached, Quarantined}
 use Rattle.iom_machine.specs.declared.state.DeviceKind.TheVariants.{Ats}
 use Rattle.iom_base.specs.declared.mode.Mode.TheVariants.{First, Second, Both}
+use Rattle.iom_base.specs.declared.size.Size.TheVariants.{Sv39, Sv48}
 use Rattle.iom_copies.specs.Queue.{OnePage, WholeSpace}
 use Rattle.iom_copies.specs.Scene.{Copy, AccessInFlight, Invalidation, Scene}
 use Rattle.iom_copies.specs.Occurrences.{Occurrence, Plug, Attach, Grant, Release, Confirm, KeepContext, KeepTranslation, Accept, Make, FetchIotinval, FetchAtsInval, TakeStock, CompleteFence, CarryMessages, DeliverAnswer, DeliverRequest, DeliverCompletion, OccurInTurn, Detach, FetchIodir, Quarantine, TimeOut, Restart, Revive, Reset}
@@ -36,7 +37,7 @@ first_write = record { device = 2; frame = 5; kind = Write; number = 1 }
 -- through its cache.
 abbrev pub stale_write : List Occurrence
 stale_write =
-    Plug 2 Ats ∷ Attach 2 First true ∷ Grant 2 3 5 both_rights
+    Plug 2 Ats ∷ Attach 2 (First Sv39) true ∷ Grant 2 3 5 both_rights
     ∷ CarryMessages ∷ KeepContext 2 ∷ KeepTranslation remembered ∷ CarryMessages ∷ DeliverAnswer remembered ∷ CarryMessages
     ∷ Release 2 3 ∷ Accept remembered Write ∷ []
 
@@ -61,12 +62,12 @@ StaleWritesOccur = (between after : Scene)
 -- The device is attached, detached and reset, and the detach is confirmed.
 abbrev pub attach_and_detach : List Occurrence
 attach_and_detach =
-    Plug 2 Ats ∷ Attach 2 Second false ∷ Detach 2 ∷ Reset 2 ∷ FetchIodir 2 ∷ FetchIotinval 2 WholeSpace ∷ TakeStock 1 ∷ CompleteFence 1 ∷ Confirm 1 ∷ []
+    Plug 2 Ats ∷ Attach 2 (Second Sv39) false ∷ Detach 2 ∷ Reset 2 ∷ FetchIodir 2 ∷ FetchIotinval 2 WholeSpace ∷ TakeStock 1 ∷ CompleteFence 1 ∷ Confirm 1 ∷ []
 
 -- It is attached in both stages with ATS, and granted a guest page, which is released; the invalidation is sent, or lost. The device is cut off.
 abbrev pub cut_off : List Occurrence
 cut_off =
-    Attach 2 Both true ∷ Grant 2 3 5 both_rights ∷ Release 2 3 ∷ FetchIotinval 2 WholeSpace ∷ FetchAtsInval 2 WholeSpace ∷ Quarantine 2 ∷ []
+    Attach 2 (Both Sv48) true ∷ Grant 2 3 5 both_rights ∷ Release 2 3 ∷ FetchIotinval 2 WholeSpace ∷ FetchAtsInval 2 WholeSpace ∷ Quarantine 2 ∷ []
 
 -- The fence of the release times out. After a restart one fence ends both tickets, and the device is revived.
 abbrev pub revival : List Occurrence
@@ -77,5 +78,5 @@ revival =
 abbrev pub RevivalsOccur : Type 0
 RevivalsOccur = (detached quarantined after : Scene)
     × OccurInTurn scene_at_power_on attach_and_detach detached × (detached.attachment_of 2 ≡ Detached)
-    × OccurInTurn detached cut_off quarantined × (quarantined.attachment_of 2 ≡ Quarantined 3 Both true)
-    × OccurInTurn quarantined revival after × (after.attachment_of 2 ≡ Attached Both true)
+    × OccurInTurn detached cut_off quarantined × (quarantined.attachment_of 2 ≡ Quarantined 3 (Both Sv48) true)
+    × OccurInTurn quarantined revival after × (after.attachment_of 2 ≡ Attached (Both Sv48) true)

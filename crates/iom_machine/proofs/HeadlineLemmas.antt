@@ -178,16 +178,16 @@ accepted_in_one_stage history id access frame chosen held (inr (none, lingers)) 
 
 accepted_where_held : (device : Device) (state : State) (id : ℕ) (access : Access) (frame chosen : ℕ) → IsOneStage device
     → HoldsFor state.history id access frame → MayAccept device.attachment state id access chosen → chosen ≡ frame
-accepted_where_held device state id access frame chosen (ats, inl first) held may =
+accepted_where_held device state id access frame chosen (size, ats, inl first) held may =
     accepted_in_one_stage state.history id access frame chosen held (subst (λ a. MayAccept a state id access chosen) first may)
-accepted_where_held device state id access frame chosen (ats, inr second) held may =
+accepted_where_held device state id access frame chosen (size, ats, inr second) held may =
     accepted_in_one_stage state.history id access frame chosen held (subst (λ a. MayAccept a state id access chosen) second may)
 
 -- a held page faults for no device that is attached in one stage
 no_fault_where_held : (device : Device) (state : State) (id : ℕ) (access : Access) (frame : ℕ) (cause : Cause) → IsOneStage device
     → HoldsFor state.history id access frame → MayFault device.attachment state id access cause → ⊥
-no_fault_where_held device state id access frame cause (ats, inl first) held may = (subst (λ a. MayFault a state id access cause) first may).0 frame held
-no_fault_where_held device state id access frame cause (ats, inr second) held may = (subst (λ a. MayFault a state id access cause) second may).0 frame held
+no_fault_where_held device state id access frame cause (size, ats, inl first) held may = (subst (λ a. MayFault a state id access cause) first may).0 frame held
+no_fault_where_held device state id access frame cause (size, ats, inr second) held may = (subst (λ a. MayFault a state id access cause) second may).0 frame held
 
 answered_where_held : (chosen : ℕ) (old new : State) (frame : ℕ) (device : Device) (access : Access) (outcome : Outcome)
     → MayAnswer old device access chosen outcome → new ≡ state_after old device access chosen outcome → IsOneStage device → IsWithinPage access → ¬ IsBusy device.in_flight

@@ -116,17 +116,17 @@ AllInFlight-weaker P Q says devices all =
 
 -- what may be accepted as in the former mode lingers
 formerly_reach : (mode : Mode) (history : History) (id : ℕ) (access : Access) (frame : ℕ) → MayAcceptFormerly mode history id access frame → May history id frame access.kind
-formerly_reach First history id access frame lingers = (page_of access, lingers.0, inr lingers.1, lingers.2)
-formerly_reach Second history id access frame lingers = (page_of access, lingers.0, inr lingers.1, lingers.2)
-formerly_reach Both history id access frame lingers = (lingers.0, lingers.1, inr lingers.2, lingers.3)
+formerly_reach (First size) history id access frame lingers = (page_of access, lingers.0, inr lingers.1, lingers.2)
+formerly_reach (Second size) history id access frame lingers = (page_of access, lingers.0, inr lingers.1, lingers.2)
+formerly_reach (Both size) history id access frame lingers = (lingers.0, lingers.1, inr lingers.2, lingers.3)
 
 -- what may be accepted may be reached
 accepted_reach : (attachment : Attachment) (state : State) (id : ℕ) (access : Access) (frame : ℕ) → MayAccept attachment state id access frame → May state.history id frame access.kind
-accepted_reach (Attached First ats) state id access frame (inl holds) = (page_of access, holds.0, inl holds.1, holds.2)
-accepted_reach (Attached First ats) state id access frame (inr (none, lingers)) = (page_of access, lingers.0, inr lingers.1, lingers.2)
-accepted_reach (Attached Second ats) state id access frame (inl holds) = (page_of access, holds.0, inl holds.1, holds.2)
-accepted_reach (Attached Second ats) state id access frame (inr (none, lingers)) = (page_of access, lingers.0, inr lingers.1, lingers.2)
-accepted_reach (Attached Both ats) state id access frame may = may
+accepted_reach (Attached (First size) ats) state id access frame (inl holds) = (page_of access, holds.0, inl holds.1, holds.2)
+accepted_reach (Attached (First size) ats) state id access frame (inr (none, lingers)) = (page_of access, lingers.0, inr lingers.1, lingers.2)
+accepted_reach (Attached (Second size) ats) state id access frame (inl holds) = (page_of access, holds.0, inl holds.1, holds.2)
+accepted_reach (Attached (Second size) ats) state id access frame (inr (none, lingers)) = (page_of access, lingers.0, inr lingers.1, lingers.2)
+accepted_reach (Attached (Both size) ats) state id access frame may = may
 accepted_reach Detached state id access frame may = absurd may
 accepted_reach (Quarantined ticket mode ats) state id access frame (unconfirmed, formerly) = formerly_reach mode state.history id access frame formerly
 accepted_reach (Leaving ticket mode ats) state id access frame (unconfirmed, formerly) = formerly_reach mode state.history id access frame formerly
@@ -160,11 +160,11 @@ IsWhole id flight = IsWithinPage flight.access × NamesItsBytes flight.access
 
 -- what a cache may have may be reached
 went_through_reach : (attachment : Attachment) (state : State) (id : ℕ) (access : Access) (frame : ℕ) → MayGoThrough attachment state id access frame → May state.history id frame access.kind
-went_through_reach (Attached First ats) state id access frame (inl holds) = (page_of access, holds.0, inl holds.1, holds.2)
-went_through_reach (Attached First ats) state id access frame (inr lingers) = (page_of access, lingers.0, inr lingers.1, lingers.2)
-went_through_reach (Attached Second ats) state id access frame (inl holds) = (page_of access, holds.0, inl holds.1, holds.2)
-went_through_reach (Attached Second ats) state id access frame (inr lingers) = (page_of access, lingers.0, inr lingers.1, lingers.2)
-went_through_reach (Attached Both ats) state id access frame may = may
+went_through_reach (Attached (First size) ats) state id access frame (inl holds) = (page_of access, holds.0, inl holds.1, holds.2)
+went_through_reach (Attached (First size) ats) state id access frame (inr lingers) = (page_of access, lingers.0, inr lingers.1, lingers.2)
+went_through_reach (Attached (Second size) ats) state id access frame (inl holds) = (page_of access, holds.0, inl holds.1, holds.2)
+went_through_reach (Attached (Second size) ats) state id access frame (inr lingers) = (page_of access, lingers.0, inr lingers.1, lingers.2)
+went_through_reach (Attached (Both size) ats) state id access frame may = may
 went_through_reach Detached state id access frame may = absurd may
 went_through_reach (Quarantined ticket mode ats) state id access frame (unconfirmed, formerly) = formerly_reach mode state.history id access frame formerly
 went_through_reach (Leaving ticket mode ats) state id access frame (unconfirmed, formerly) = formerly_reach mode state.history id access frame formerly

@@ -14,6 +14,7 @@ use Rattle.iom_machine.specs.declared.state.DeviceKind.TheVariants.{Raw}
 use Rattle.iom_machine.specs.declared.state.Frame.{Frame}
 use Rattle.iom_base.specs.declared.access.AcceptedAccess.{AcceptedAccess}
 use Rattle.iom_base.specs.declared.mode.Mode.TheVariants.{First, Second}
+use Rattle.iom_base.specs.declared.size.Size.{Size}
 use Rattle.iom_machine.specs.declared.state.State.{State}
 use Rattle.iom_machine.specs.Frames.{bytes_of}
 use Rattle.iom_machine.specs.Devices.{IsPlugged}
@@ -61,9 +62,9 @@ AsksFor event id access =
     ((address len : ℕ) × (event ≡ events.Read id address len) × (access ≡ read_of address len))
     ⊎ ((address : ℕ) × (bytes : List ℕ) × (event ≡ events.Write id address bytes) × (access ≡ write_of address bytes))
 
--- attached in one stage, with ATS or without
+-- attached in one stage, with tables of either size, with ATS or without
 abbrev pub IsOneStage : Device → Type 0
-IsOneStage device = (ats : Bool) × ((device.attachment ≡ Attached First ats) ⊎ (device.attachment ≡ Attached Second ats))
+IsOneStage device = (size : Size) × (ats : Bool) × ((device.attachment ≡ Attached (First size) ats) ⊎ (device.attachment ≡ Attached (Second size) ats))
 
 -- the event grants the frame to this device
 abbrev pub GrantsFrameTo : Event → Outcome → ℕ → ℕ → Type 0

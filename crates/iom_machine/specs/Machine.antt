@@ -84,7 +84,7 @@ Grants taken old id page frame rights Done new =
       frames = reserved_for (OneDevice id) taken old.frames;
     })
 Grants taken old id page frame rights (Refused why) new =
-    IsRefusedBy (grant_reasons old id page frame) (MayRefuseGrant old frame) why × (new ≡ old)
+    IsRefusedBy (grant_reasons old id page frame) (MayRefuseGrant old id frame) why × (new ≡ old)
 Grants taken old id page frame rights _ new = ⊥
 
 -- What the device holds at a page is released, under the next ticket.

@@ -58,15 +58,19 @@ LingersSomewhere history id frame kind =
 -- What the IOMMU still has of a device's former mode may serve the access on the frame: where no page counts as held, only what lingers. In both stages
 -- the guest's own tables say which of its pages that is.
 abbrev pub MayAcceptFormerly : Mode → History → ℕ → Access → ℕ → Type 0
-MayAcceptFormerly First history id access frame = LingersFor history id access frame
-MayAcceptFormerly Second history id access frame = LingersFor history id access frame
-MayAcceptFormerly Both history id access frame = LingersSomewhere history id frame access.kind
+MayAcceptFormerly (First size) history id access frame = LingersFor history id access frame
+MayAcceptFormerly (Second size) history id access frame = LingersFor history id access frame
+MayAcceptFormerly (Both size) history id access frame = LingersSomewhere history id frame access.kind
+
+-- the cause is a page fault of the one stage or of the other
+abbrev pub IsPageFaultOfEither : AccessKind → Cause → Type 0
+IsPageFaultOfEither kind cause = (cause ≡ page_fault_of kind) ⊎ (cause ≡ guest_page_fault_of kind)
 
 -- the cause is a page fault of the mode: of its stage, or, in both stages, of either
 abbrev pub IsPageFaultOf : Mode → AccessKind → Cause → Type 0
-IsPageFaultOf First kind cause = cause ≡ page_fault_of kind
-IsPageFaultOf Second kind cause = cause ≡ guest_page_fault_of kind
-IsPageFaultOf Both kind cause = (cause ≡ page_fault_of kind) ⊎ (cause ≡ guest_page_fault_of kind)
+IsPageFaultOf (First size) kind cause = cause ≡ page_fault_of kind
+IsPageFaultOf (Second size) kind cause = cause ≡ guest_page_fault_of kind
+IsPageFaultOf (Both size) kind cause = IsPageFaultOfEither kind cause
 
 -- The cause where no device context is found (IOMMU specification, "Process to translate an IOVA"): the directory can't name the id, or its entry
 -- isn't valid.
@@ -86,18 +90,18 @@ MayFaultCutOff ticket mode state id access cause =
 -- The IOMMU may accept the access, on the frame. In both stages that is any frame that the device may reach.
 abbrev pub MayAccept : Attachment → State → ℕ → Access → ℕ → Type 0
 MayAccept Detached state id access frame = ⊥
-MayAccept (Attached First ats) state id access frame = MayAcceptInOneStage state.history id access frame
-MayAccept (Attached Second ats) state id access frame = MayAcceptInOneStage state.history id access frame
-MayAccept (Attached Both ats) state id access frame = May state.history id frame access.kind
+MayAccept (Attached (First size) ats) state id access frame = MayAcceptInOneStage state.history id access frame
+MayAccept (Attached (Second size) ats) state id access frame = MayAcceptInOneStage state.history id access frame
+MayAccept (Attached (Both size) ats) state id access frame = May state.history id frame access.kind
 MayAccept (Quarantined ticket mode ats) state id access frame = MayAcceptCutOff ticket mode state.history id access frame
 MayAccept (Leaving ticket mode ats) state id access frame = MayAcceptCutOff ticket mode state.history id access frame
 
 -- the IOMMU may refuse the access, with the cause
 abbrev pub MayFault : Attachment → State → ℕ → Access → Cause → Type 0
 MayFault Detached state id access cause = cause ≡ cause_without_context state id
-MayFault (Attached First ats) state id access cause = MayFaultInOneStage page_fault_of state.history id access cause
-MayFault (Attached Second ats) state id access cause = MayFaultInOneStage guest_page_fault_of state.history id access cause
-MayFault (Attached Both ats) state id access cause = IsPageFaultOf Both access.kind cause
+MayFault (Attached (First size) ats) state id access cause = MayFaultInOneStage page_fault_of state.history id access cause
+MayFault (Attached (Second size) ats) state id access cause = MayFaultInOneStage guest_page_fault_of state.history id access cause
+MayFault (Attached (Both size) ats) state id access cause = IsPageFaultOfEither access.kind cause
 MayFault (Quarantined ticket mode ats) state id access cause = MayFaultCutOff ticket mode state id access cause
 MayFault (Leaving ticket mode ats) state id access cause = MayFaultCutOff ticket mode state id access cause
 

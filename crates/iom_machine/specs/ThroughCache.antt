@@ -25,9 +25,9 @@ MayHaveCached history id access frame = HoldsFor history id access frame ⊎ Lin
 -- The access may go through, on the frame. In both stages that is any frame that the device may reach.
 abbrev pub MayGoThrough : Attachment → State → ℕ → Access → ℕ → Type 0
 MayGoThrough Detached state id access frame = ⊥
-MayGoThrough (Attached First ats) state id access frame = MayHaveCached state.history id access frame
-MayGoThrough (Attached Second ats) state id access frame = MayHaveCached state.history id access frame
-MayGoThrough (Attached Both ats) state id access frame = May state.history id frame access.kind
+MayGoThrough (Attached (First size) ats) state id access frame = MayHaveCached state.history id access frame
+MayGoThrough (Attached (Second size) ats) state id access frame = MayHaveCached state.history id access frame
+MayGoThrough (Attached (Both size) ats) state id access frame = May state.history id frame access.kind
 MayGoThrough (Quarantined ticket mode ats) state id access frame = MayAcceptCutOff ticket mode state.history id access frame
 MayGoThrough (Leaving ticket mode ats) state id access frame = MayAcceptCutOff ticket mode state.history id access frame
 

@@ -35,6 +35,43 @@ pub enum Attachment {
     Leaving { ticket: u32, mode: Mode, ats: bool },
 }
 
+impl Attachment {
+    ghost use Rattle.std.specs.Prelude.{◌≡◌};
+    ghost use Rattle.iom_machine.specs.Refusals.{mode_at, page_limit_at, table_limit_at};
+
+    /// The mode in which a device is attached, or was until it was cut off or detached.
+    pub fn mode(self) -> Option<Mode>
+        ensures { result ≡ mode_at self }
+    {
+        match self {
+            Attachment::Detached => None,
+            Attachment::Attached { mode, .. } => Some(mode),
+            Attachment::Quarantined { mode, .. } => Some(mode),
+            Attachment::Leaving { mode, .. } => Some(mode),
+        }
+    }
+
+    /// The pages that may be granted to a device that is attached so are below this.
+    pub fn page_limit(self) -> u64
+        ensures { result ≡ page_limit_at self }
+    {
+        match self.mode() {
+            None => 0,
+            Some(mode) => mode.size().page_limit(),
+        }
+    }
+
+    /// The path of such a page lacks no more tables than this.
+    pub fn table_limit(self) -> u32
+        ensures { result ≡ table_limit_at self }
+    {
+        match self.mode() {
+            None => 0,
+            Some(mode) => mode.size().table_limit(),
+        }
+    }
+}
+
 /// A frame of memory. Where it has an owner it is reserved, and its bytes mean nothing.
 #[derive(Drop)]
 pub struct Frame {

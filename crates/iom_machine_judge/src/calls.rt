@@ -10,7 +10,8 @@ use crate::block_devices::without_disk;
 use crate::devices::{place_of, set_attachment, start_leaving};
 use crate::frames::{are_fewer_free, are_fewer_runs_free, are_free_besides};
 use crate::reasons::{
-    attach_refusal, detach_refusal, grant_refusal, plug_refusal, refuses, release_refusal,
+    attach_refusal, detach_refusal, grant_refusal, most_tables, plug_refusal, refuses,
+    release_refusal,
 };
 use iom_base::{DeviceId, GrantRights, Mode, Owner, Sequence};
 use iom_ledger::{HistoryEntry, Refusal};
@@ -28,20 +29,20 @@ fn may_refuse_attach(state: &State, mode: Mode, why: Refusal) -> bool
 {
     match why {
         Refusal::NoFrames => match mode {
-            Mode::First => are_fewer_free(state, None, 3),
-            Mode::Second => are_fewer_runs_free(state, 3),
-            Mode::Both => are_fewer_runs_free(state, 3),
+            Mode::First(_) => are_fewer_free(state, None, 3),
+            Mode::Second(_) => are_fewer_runs_free(state, 3),
+            Mode::Both(_) => are_fewer_runs_free(state, 3),
         },
         Refusal::Memory => true,
         _ => false,
     }
 }
 
-fn may_refuse_grant(state: &State, frame: u64, why: Refusal) -> bool
-    ensures { IsTrue result ↔ MayRefuseGrant state.now frame why }
+fn may_refuse_grant(state: &State, id: DeviceId, frame: u64, why: Refusal) -> bool
+    ensures { IsTrue result ↔ MayRefuseGrant state.now id frame why }
 {
     match why {
-        Refusal::NoFrames => are_fewer_free(state, Some(frame), 2),
+        Refusal::NoFrames => are_fewer_free(state, Some(frame), most_tables(state, id)),
         Refusal::Memory => true,
         _ => false,
     }
@@ -197,7 +198,7 @@ pub(crate) fn judge_grant(
             Ok(true)
         }
         Outcome::Refused(why) => {
-            let may_come = may_refuse_grant(state, frame, *why);
+            let may_come = may_refuse_grant(state, id, frame, *why);
             Ok(refuses(first, may_come, *why))
         }
         _ => Ok(false),

@@ -1,6 +1,6 @@
 // What a device is answered that has no context, or that is quarantined or leaving under a ticket.
 ghost use Rattle.std.specs.Prelude.{◌≡◌, ◌↔◌, IsTrue};
-ghost use Rattle.iom_machine.specs.Requests.{MayAcceptFormerly, MayAcceptCutOff, MayFaultCutOff, IsPageFaultOf, cause_without_context};
+ghost use Rattle.iom_machine.specs.Requests.{MayAcceptFormerly, MayAcceptCutOff, MayFaultCutOff, IsPageFaultOf, IsPageFaultOfEither, cause_without_context};
 
 use crate::history::{is_confirmed, lingers_somewhere};
 use crate::reasons::too_wide;
@@ -20,14 +20,21 @@ pub(crate) fn cause_without_context(state: &State, id: DeviceId) -> Cause
     }
 }
 
+/// Whether the cause is a page fault of the one stage or of the other.
+pub(crate) fn is_page_fault_of_either(kind: AccessKind, cause: Cause) -> bool
+    ensures { IsTrue result ↔ IsPageFaultOfEither kind cause }
+{
+    cause == Cause::page_fault(kind) || cause == Cause::guest_page_fault(kind)
+}
+
 /// Whether the cause is a page fault of the mode.
 pub(crate) fn is_page_fault_of(mode: Mode, kind: AccessKind, cause: Cause) -> bool
     ensures { IsTrue result ↔ IsPageFaultOf mode kind cause }
 {
     match mode {
-        Mode::First => cause == Cause::page_fault(kind),
-        Mode::Second => cause == Cause::guest_page_fault(kind),
-        Mode::Both => cause == Cause::page_fault(kind) || cause == Cause::guest_page_fault(kind),
+        Mode::First(_) => cause == Cause::page_fault(kind),
+        Mode::Second(_) => cause == Cause::guest_page_fault(kind),
+        Mode::Both(_) => is_page_fault_of_either(kind, cause),
     }
 }
 
@@ -42,9 +49,9 @@ fn accepts_formerly(
     ensures { IsTrue result ↔ MayAcceptFormerly mode history.now id access.now frame }
 {
     match mode {
-        Mode::First => lingers(history, id, access, frame),
-        Mode::Second => lingers(history, id, access, frame),
-        Mode::Both => lingers_somewhere(history, id, u64::from(frame), access.kind),
+        Mode::First(_) => lingers(history, id, access, frame),
+        Mode::Second(_) => lingers(history, id, access, frame),
+        Mode::Both(_) => lingers_somewhere(history, id, u64::from(frame), access.kind),
     }
 }
 

@@ -7,7 +7,7 @@ ghost use Rattle.iom_machine.specs.Requests.{LingersSomewhere};
 ghost use Rattle.iom_machine.specs.Questions.{HoldsNothing, MayShow, MayTellInOneStage, IsForEachKind, MayTellInBoth};
 ghost use Rattle.iom_machine.specs.Questions.{MayShowFormerly, MayTellFormerly, MayTellCutOff, MayTell};
 
-use crate::cut_off::{cause_without_context, is_page_fault_of};
+use crate::cut_off::{cause_without_context, is_page_fault_of, is_page_fault_of_either};
 use crate::history::{Pair, is_confirmed, lingers_somewhere, may};
 use crate::pairs::{holds_nothing, holds_pair, pair_lingers};
 use crate::requests::is_same_cause;
@@ -103,7 +103,7 @@ fn tells_in_both(history: &[HistoryEntry], id: DeviceId, told: Translation) -> b
 {
     match told {
         Translation::Page { frame, rights } => may_each(history, id, frame, rights),
-        Translation::Refused(cause) => is_page_fault_of(Mode::Both, AccessKind::Read, cause),
+        Translation::Refused(cause) => is_page_fault_of_either(AccessKind::Read, cause),
     }
 }
 
@@ -119,9 +119,9 @@ fn shows_formerly(
     ensures { IsTrue result ↔ MayShowFormerly mode history.now id page frame rights }
 {
     match mode {
-        Mode::First => pair_lingers(history, id, page, &(frame, rights)),
-        Mode::Second => pair_lingers(history, id, page, &(frame, rights)),
-        Mode::Both => lingers_each(history, id, frame, rights),
+        Mode::First(_) => pair_lingers(history, id, page, &(frame, rights)),
+        Mode::Second(_) => pair_lingers(history, id, page, &(frame, rights)),
+        Mode::Both(_) => lingers_each(history, id, frame, rights),
     }
 }
 
@@ -173,9 +173,9 @@ fn tells_attached(mode: Mode, state: &State, id: DeviceId, page: u64, told: Tran
 {
     let history = state.history.as_slice();
     match mode {
-        Mode::First => tells_in_one_stage(Cause::ReadPageFault, history, id, page, told),
-        Mode::Second => tells_in_one_stage(Cause::ReadGuestPageFault, history, id, page, told),
-        Mode::Both => tells_in_both(history, id, told),
+        Mode::First(_) => tells_in_one_stage(Cause::ReadPageFault, history, id, page, told),
+        Mode::Second(_) => tells_in_one_stage(Cause::ReadGuestPageFault, history, id, page, told),
+        Mode::Both(_) => tells_in_both(history, id, told),
     }
 }
 

@@ -6,7 +6,7 @@ ghost use Rattle.iom_machine.specs.Disks.{is_missing};
 ghost use Rattle.iom_machine.specs.Tickets.{pending_tickets};
 ghost use Rattle.iom_ledger.specs.Refusals.{first_that_applies};
 ghost use Rattle.iom_machine.specs.Refusals.{plug_reasons, attach_reasons, detach_reasons, grant_reasons, release_reasons, quarantine_reasons, revive_reasons, frame_reasons, poke_reasons};
-ghost use Rattle.iom_machine.specs.Refusals.{is_plugged, attachment_of, is_detached, is_leaving, is_quarantined, is_attached, may_still_reach};
+ghost use Rattle.iom_machine.specs.Refusals.{is_plugged, attachment_of, is_detached, is_leaving, is_quarantined, is_attached, may_still_reach, table_limit_at};
 ghost use Rattle.iom_machine.specs.Refusals.{is_trusted, id_limit, is_too_wide, is_held, is_lingering, has_grants};
 ghost use Rattle.iom_machine.specs.Judging.{attachment_in};
 
@@ -14,7 +14,7 @@ use crate::block_devices::is_among;
 use crate::devices::device_with;
 use crate::frames::has_owner;
 use crate::history::{grants_left, is_confirmed, last_ticket_confirmed, lingers_at, pair_held};
-use iom_base::{DeviceId, MAX_DEVICES, PAGE_LIMIT};
+use iom_base::{DeviceId, MAX_DEVICES};
 use iom_ledger::{HistoryEntry, MAX_PENDING, Refusal};
 use iom_machine::{Attachment, Device, NewDevice, State};
 
@@ -191,6 +191,13 @@ pub(crate) fn detach_refusal(state: &State, id: DeviceId) -> Option<Refusal>
     }
 }
 
+/// The path of a page of the device lacks no more tables than this.
+pub(crate) fn most_tables(state: &State, id: DeviceId) -> usize
+    ensures { result ≡ table_limit_at (attachment_of state.now id) }
+{
+    attachment(state, id).table_limit() as usize
+}
+
 pub(crate) fn grant_refusal(state: &State, id: DeviceId, page: u64, frame: u64) -> Option<Refusal>
     ensures { result ≡ first_that_applies (grant_reasons state.now id page frame) }
 {
@@ -205,7 +212,7 @@ pub(crate) fn grant_refusal(state: &State, id: DeviceId, page: u64, frame: u64) 
         Some(Refusal::FrameOutOfRange)
     } else if has_owner(state.frames.as_slice(), frame) {
         Some(Refusal::FrameReserved)
-    } else if page >= PAGE_LIMIT {
+    } else if page >= attachment.page_limit() {
         Some(Refusal::IovaOutOfRange)
     } else if held(state, id, page) || lingering(state, id, page) {
         Some(Refusal::IovaBusy)

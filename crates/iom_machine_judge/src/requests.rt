@@ -10,7 +10,9 @@ ghost use Rattle.iom_machine.specs.Judging.{StandsAt};
 ghost use Rattle.iom_machine_judge.specs.Deciding.{left_by};
 
 use crate::absent::{answers_absent, answers_unable};
-use crate::cut_off::{accepts_cut_off, cause_without_context, faults_cut_off, is_page_fault_of};
+use crate::cut_off::{
+    accepts_cut_off, cause_without_context, faults_cut_off, is_page_fault_of_either,
+};
 use crate::devices::{accept, place_of};
 use crate::history::{is_held_for, lingers_in, may, pair_held};
 use iom_base::{Access, Cause, DeviceId, MAX_IN_FLIGHT, Mode, PAGE_SIZE, Span};
@@ -119,9 +121,9 @@ fn may_accept(
     match attachment {
         Attachment::Detached => false,
         Attachment::Attached { mode, .. } => match mode {
-            Mode::First => accepts_in_one_stage(history, id, access, frame),
-            Mode::Second => accepts_in_one_stage(history, id, access, frame),
-            Mode::Both => may(history, id, u64::from(frame), access.kind),
+            Mode::First(_) => accepts_in_one_stage(history, id, access, frame),
+            Mode::Second(_) => accepts_in_one_stage(history, id, access, frame),
+            Mode::Both(_) => may(history, id, u64::from(frame), access.kind),
         },
         Attachment::Quarantined { ticket, mode, .. } => {
             accepts_cut_off(ticket, mode, history, id, access, frame)
@@ -146,14 +148,14 @@ fn may_fault(
     match attachment {
         Attachment::Detached => is_same_cause(cause, cause_without_context(state, id)),
         Attachment::Attached { mode, .. } => match mode {
-            Mode::First => faults_in_one_stage(
+            Mode::First(_) => faults_in_one_stage(
                 history,
                 id,
                 access,
                 cause,
                 Cause::page_fault(access.kind),
             ),
-            Mode::Second => {
+            Mode::Second(_) => {
                 faults_in_one_stage(
                     history,
                     id,
@@ -162,7 +164,7 @@ fn may_fault(
                     Cause::guest_page_fault(access.kind),
                 )
             }
-            Mode::Both => is_page_fault_of(Mode::Both, access.kind, cause),
+            Mode::Both(_) => is_page_fault_of_either(access.kind, cause),
         },
         Attachment::Quarantined { ticket, mode, .. } => {
             faults_cut_off(ticket, mode, state, id, access, cause)

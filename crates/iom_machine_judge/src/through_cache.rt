@@ -56,9 +56,9 @@ fn may_go_through(
     match attachment {
         Attachment::Detached => false,
         Attachment::Attached { mode, .. } => match mode {
-            Mode::First => may_have_cached(history, id, access, frame),
-            Mode::Second => may_have_cached(history, id, access, frame),
-            Mode::Both => may(history, id, u64::from(frame), access.kind),
+            Mode::First(_) => may_have_cached(history, id, access, frame),
+            Mode::Second(_) => may_have_cached(history, id, access, frame),
+            Mode::Both(_) => may(history, id, u64::from(frame), access.kind),
         },
         Attachment::Quarantined { ticket, mode, .. } => {
             accepts_cut_off(ticket, mode, history, id, access, frame)

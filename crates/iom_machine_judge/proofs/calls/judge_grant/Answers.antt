@@ -14,4 +14,4 @@ returns-in_ok-push_front-in-Done c = rw c.in-Done.is
 
 pub returns-in-Refused : goal.returns-in-Refused
 returns-in-Refused c = rw c.in-Refused.is
-    (refused_by c.grant_refusal-first.result (grant_reasons c.args.state.now c.args.id c.args.page c.args.frame) c.may_refuse_grant-may_come.result c.refuses.result (MayRefuseGrant c.args.state.now c.args.frame) c.in-Refused.why c.args.state.now c.grant_refusal-first.ensures c.may_refuse_grant-may_come.ensures c.refuses.ensures)
+    (refused_by c.grant_refusal-first.result (grant_reasons c.args.state.now c.args.id c.args.page c.args.frame) c.may_refuse_grant-may_come.result c.refuses.result (MayRefuseGrant c.args.state.now c.args.id c.args.frame) c.in-Refused.why c.args.state.now c.grant_refusal-first.ensures c.may_refuse_grant-may_come.ensures c.refuses.ensures)
