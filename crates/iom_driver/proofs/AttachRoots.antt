@@ -4,7 +4,7 @@ use Rattle.iom_base.specs.declared.mode.Mode.{Mode}
 use Rattle.iom_base.specs.declared.mode.Mode.TheVariants.{First, Second, Both}
 use Rattle.iom_base.specs.declared.owner.Owner.{Owner}
 use Rattle.iom_ledger.specs.declared.ledger.Ledger.{Ledger}
-use Rattle.iom_page_table.specs.Sv39x4.{other_quarters}
+use Rattle.iom_page_table.specs.SecondTables.{other_quarters}
 use Rattle.iom_table_frames.specs.Fours.{IsHighestFour}
 use Rattle.iom_table_frames.specs.Marks.{IsFreeForTable, IsHighestFree}
 use Rattle.iom_driver.specs.Admitted.{IsAligned}
@@ -52,18 +52,18 @@ four_below marks ledger limit root is = record { below = low; free = free }
     free f (inr (inr (inr (inr none)))) = absurd none
 
 root_below : (mode : Mode) (d : DriverState) (limit root : ℕ) → IsRootBelow mode d limit root → AreBelow d.marks d.ledger limit (root_frames mode root)
-root_below First d limit root is = one_below d.marks d.ledger limit root is
-root_below Second d limit root is = four_below d.marks d.ledger limit root is
-root_below Both d limit root is = four_below d.marks d.ledger limit root is
+root_below (First size) d limit root is = one_below d.marks d.ledger limit root is
+root_below (Second size) d limit root is = four_below d.marks d.ledger limit root is
+root_below (Both size) d limit root is = four_below d.marks d.ledger limit root is
 
 -- a root of a second stage is aligned
 four_aligned : (root : ℕ) → (n : ℕ) × (root ≡ 4 * n) → root % 4 ≡ 0
 four_aligned root aligned = let is : root ≡ 4 * aligned.0 = aligned.1 in omega (arith, is)
 
 pub root_aligned : (mode : Mode) (d : DriverState) (limit root : ℕ) → IsRootBelow mode d limit root → IsAligned mode root
-root_aligned First d limit root is = tt
-root_aligned Second d limit root is = four_aligned root is.aligned
-root_aligned Both d limit root is = four_aligned root is.aligned
+root_aligned (First size) d limit root is = tt
+root_aligned (Second size) d limit root is = four_aligned root is.aligned
+root_aligned (Both size) d limit root is = four_aligned root is.aligned
 
 -- the pages and the root
 pub taken_so : (mode : Mode) (d : DriverState) (frames count : ℕ) (pages : List ℕ) (root : ℕ) → AreHighestFree d.marks d.ledger None frames count pages

@@ -1,14 +1,13 @@
 -- The tables of the devices when one more is attached.
-use Rattle.std.proofs.Common.{◌≡◌, ◌∙◌, inl, inr, ℕ, List, [], ◌∷◌, Option, Some, None, option_map, slice_get, refl, sym, ap, subst, true}
+use Rattle.std.proofs.Common.{◌≡◌, ◌∙◌, inl, inr, ℕ, List, ◌∷◌, Option, Some, None, option_map, slice_get, refl, sym, ap, subst, true}
 use Rattle.iom_base.specs.declared.mode.Mode.{Mode}
+use Rattle.iom_base.specs.Modes.{size_in}
 use Rattle.iom_base.specs.declared.owner.Owner.{Owner}
 use Rattle.iom_base.specs.declared.owner.Owner.TheVariants.{OneDevice}
 use Rattle.iom_ledger.specs.declared.ledger.Ledger.{Ledger}
 use Rattle.iom_ledger.specs.Shown.{held_in}
-use Rattle.iom_page_table.proofs.Stays.{root_tree, zeroed_frames, zeroed_leaves}
-use Rattle.iom_page_table.proofs.Words.{zero_entry}
+use Rattle.iom_page_table.proofs.Stays.{zeroed_root, zeroed_frames, zeroed_leaves}
 use Rattle.iom_phys_mem.specs.Words.{zeroed}
-use Rattle.iom_stage_walk.specs.Entries.{entries}
 use Rattle.iom_driver.specs.declared.device.Attachment.TheVariants.{Attached}
 use Rattle.iom_driver.specs.declared.device.Device.{Device}
 use Rattle.iom_driver.specs.declared.device.Stages.{Stages}
@@ -29,12 +28,12 @@ zeroed_maps_nothing memory mode root aligned cleared =
     let zero : slice_get memory root ≡ Some zeroed = cleared root (inl refl) in
     record {
       tree = root_in mode memory root record {
-        tree = root_tree (entries memory) root 512 (512 ∷ 512 ∷ []) (λ j lt. zero_entry memory root j zero lt);
+        tree = zeroed_root (size_in mode) memory root zero;
         others = λ f here. cleared f (inr here);
-        apart = λ f at here. rest_differs mode root f here ((zeroed_frames memory root zero f).0 at);
+        apart = λ f at here. rest_differs mode root f here ((zeroed_frames (size_in mode) memory root zero f).0 at);
         aligned = aligned;
       };
-      leaves = λ page low. zeroed_leaves memory root zero page;
+      leaves = λ page low. zeroed_leaves (size_in mode) memory root zero page;
     }
 
 -- the root of a device that holds nothing is zero
@@ -47,9 +46,10 @@ tables_new memory marks ledger id mode root aligned cleared marked none =
     record {
       tree = new.tree;
       own = λ f at. elim (table_of mode memory root f at) [
-        | inl now ↦ ap (λ n. slice_get marks n) ((zeroed_frames memory root zero f).0 now) ∙ marked root (inl refl)
+        | inl now ↦ ap (λ n. slice_get marks n) ((zeroed_frames (size_in mode) memory root zero f).0 now) ∙ marked root (inl refl)
         | inr here ↦ marked f (inr here)
       ];
+      low = λ page high. none page;
       leaves = λ page low. new.leaves page low ∙ ap (option_map leaf_for) (sym (none page));
     }
 

@@ -1,11 +1,12 @@
 -- The frames that are chosen for tables: they are free, distinct and as many as are wanted; and where some are chosen, enough are free.
-use Rattle.std.proofs.Common.{suc, zero, ◌≡◌, ◌≢◌, ◌<◌, ◌≤◌, ℕ, List, [], ◌∷◌, length, Option, refl, ap, arith, All}
+use Rattle.std.proofs.Common.{suc, zero, ◌≡◌, ◌≢◌, ◌+◌, ◌-◌, ◌<◌, ◌≤◌, ℕ, List, [], ◌∷◌, ◌++◌, length, Option, refl, sym, ap, subst, arith, All}
 use Rattle.std.specs.List.{AllPairs}
 use Rattle.std.proofs.lemmas.List.Elements.{All-nil, All-cons}
 use Rattle.std.proofs.lemmas.List.Kept.{AllPairs-cons}
 use Rattle.iom_base.specs.declared.owner.Owner.{Owner}
 use Rattle.iom_ledger.specs.declared.ledger.Ledger.{Ledger}
-use Rattle.iom_table_frames.specs.Marks.{IsFreeForTable, HasFree}
+use Rattle.iom_table_frames.specs.Marks.{IsFreeForTable, IsHighestFree, NoneIsFree, HasFree}
+use Rattle.iom_table_frames.proofs.ChoiceLemmas.{HasFree-next, HasFree-none}
 use Rattle.iom_driver.specs.Attaching.{limit_below}
 use Rattle.iom_driver.specs.Choices.{AreHighestFree}
 use Rattle.iom_driver.proofs.Marks.{NotAmong}
@@ -64,3 +65,49 @@ below_apart marks ledger named limit zero (first ∷ frames) f chose low = absur
 below_apart marks ledger named limit (suc count) (first ∷ frames) f chose low =
     let last = last_low marks ledger named first count frames chose.1 in
     ((λ same. absurd (omega (arith, low, last, same))), below_apart marks ledger named first count frames f chose.1 low)
+
+-- one frame more
+pub chosen_more : (marks : List (Option Owner)) (ledger : Ledger) (named : Option ℕ) (limit count : ℕ) (chosen : List ℕ) (frame : ℕ) → AreHighestFree marks ledger named limit count chosen
+    → IsHighestFree marks ledger named (limit_below limit chosen) frame → AreHighestFree marks ledger named limit (suc count) (chosen ++ frame ∷ [])
+chosen_more marks ledger named limit zero [] frame chose highest = (highest, tt)
+chosen_more marks ledger named limit zero (first ∷ frames) frame chose highest = absurd chose
+chosen_more marks ledger named limit (suc count) [] frame chose highest = absurd chose
+chosen_more marks ledger named limit (suc count) (first ∷ frames) frame chose highest = (chose.0, chosen_more marks ledger named first count frames frame chose.1 highest)
+
+last_chosen : (limit frame : ℕ) (chosen : List ℕ) → limit_below limit (chosen ++ frame ∷ []) ≡ frame
+last_chosen limit frame [] = refl
+last_chosen limit frame (first ∷ frames) = last_chosen first frame frames
+
+-- so many are chosen, and the others are to be found below the last of them
+pub record ChosenSoFar (marks : List (Option Owner)) (ledger : Ledger) (named : Option ℕ) (frames limit count so_far : ℕ) (chosen : List ℕ) : Type 0 where
+  pub chose : AreHighestFree marks ledger named frames so_far chosen
+  pub last : limit ≡ limit_below frames chosen
+  pub left : HasFree marks ledger named count frames → HasFree marks ledger named (count - so_far) limit
+
+module _ (marks : List (Option Owner)) (ledger : Ledger) (named : Option ℕ) (frames count : ℕ) where
+  pub chosen_none : ChosenSoFar marks ledger named frames frames count 0 []
+  chosen_none =
+      let all : count - 0 ≡ count = omega arith in record { chose = tt; last = refl; left = λ has. subst (λ n. HasFree marks ledger named n frames) (sym all) has }
+
+  pub chosen_next : (limit so_far frame : ℕ) (chosen : List ℕ) → so_far < count → ChosenSoFar marks ledger named frames limit count so_far chosen → IsHighestFree marks ledger named limit frame
+      → ChosenSoFar marks ledger named frames frame count (so_far + 1) (chosen ++ frame ∷ [])
+  chosen_next limit so_far frame chosen more before highest =
+      let next : so_far + 1 ≡ suc so_far = omega arith in
+      let left : count - so_far ≡ suc (count - (so_far + 1)) = omega (arith, more) in
+      record {
+        chose = subst (λ n. AreHighestFree marks ledger named frames n (chosen ++ frame ∷ [])) (sym next)
+            (chosen_more marks ledger named frames so_far chosen frame before.chose (subst (λ n. IsHighestFree marks ledger named n frame) before.last highest));
+        last = sym (last_chosen frames frame chosen);
+        left = λ has. (HasFree-next marks ledger named (count - so_far) (count - (so_far + 1)) limit frame left highest).0 (before.left has);
+      }
+
+  pub none_chosen : (limit so_far : ℕ) (chosen : List ℕ) → so_far < count → ChosenSoFar marks ledger named frames limit count so_far chosen → NoneIsFree marks ledger named 0 limit
+      → ¬ HasFree marks ledger named count frames
+  none_chosen limit so_far chosen more before none =
+      λ has. HasFree-none marks ledger named (count - so_far) (count - (so_far + 1)) limit (omega (arith, more)) none (before.left has)
+
+  pub chosen_low : (limit so_far : ℕ) (chosen : List ℕ) → ChosenSoFar marks ledger named frames limit count so_far chosen → limit ≤ frames
+  chosen_low limit so_far chosen before = let low = last_low marks ledger named frames so_far chosen before.chose in omega (arith, before.last, low)
+
+  pub chosen_many : (limit so_far : ℕ) (chosen : List ℕ) → ChosenSoFar marks ledger named frames limit count so_far chosen → length chosen ≡ so_far
+  chosen_many limit so_far chosen before = (are_chosen marks ledger named frames so_far chosen before.chose).many

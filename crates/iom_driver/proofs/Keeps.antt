@@ -6,7 +6,8 @@ use Rattle.std.proofs.lemmas.List.{length-map}
 use Rattle.iom_base.specs.declared.owner.Owner.{Owner}
 use Rattle.iom_base.specs.declared.owner.Owner.TheVariants.{OneDevice, System}
 use Rattle.iom_base.specs.declared.rights.Rights.{Rights}
-use Rattle.iom_base.specs.Sizes.{page_limit}
+use Rattle.iom_base.specs.declared.size.Size.TheVariants.{Sv48}
+use Rattle.iom_base.specs.Sizes.{page_limit_of}
 use Rattle.iom_ledger.specs.declared.ledger.Ledger.{Ledger}
 use Rattle.iom_ledger.specs.Changes.{ShowsGrant, ShowsRelease, IsUnchanged, released_from}
 use Rattle.iom_ledger.specs.Confirmations.{ConfirmsFrom, is_among_next, unless_among}
@@ -273,7 +274,7 @@ here_or_there id page device p pair held found is = by ((id == device) && (page 
     by false e now = inr ((λ same. false≢true (sym e ∙ rw (eq-eqb id device same.0, eq-eqb page p same.1) refl)), now)
 
 grants_more : (marks : List (Option Owner)) (old new : Ledger) (id page frame : ℕ) (rights : Rights) (tables : List ℕ)
-    → AreGrants marks old → ShowsGrant old new id page (frame, rights) → page < page_limit → slice_get marks frame ≡ Some None → All (λ f. IsFreeForTable marks old (Some frame) f) tables
+    → AreGrants marks old → ShowsGrant old new id page (frame, rights) → page < page_limit_of Sv48 → slice_get marks frame ≡ Some None → All (λ f. IsFreeForTable marks old (Some frame) f) tables
     → AreGrants (marked_for (OneDevice id) tables marks) new
 grants_more marks old new id page frame rights tables grants granted low unreserved free = record {
   held = λ device p f r held. by_held device p f r held (here_or_there id page device p (frame, rights) (held_in old device p) (held_in new device p) (granted.held device p));
@@ -293,7 +294,7 @@ grants_more marks old new id page frame rights tables grants granted low unreser
         let pairs : ◌≡◌ {A = Option Pair} (Some (frame, rights)) (Some (f, r)) = sym now.2 ∙ held in
         let pair : ◌≡◌ {A = Pair} (frame, rights) (f, r) = cc in
         let same : frame ≡ f = ap (λ (q : Pair). q.0) pair in
-        record { page_low = subst (λ n. n < page_limit) now.1 low; unreserved = subst (λ n. slice_get (marked_for (OneDevice id) tables marks) n ≡ Some None) same own_frame }
+        record { page_low = subst (λ n. n < page_limit_of Sv48) now.1 low; unreserved = subst (λ n. slice_get (marked_for (OneDevice id) tables marks) n ≡ Some None) same own_frame }
     by_held device p f r held (inr was) =
         let before = sym was.1 ∙ held in
         let grant = grants.held device p f r before in
@@ -301,7 +302,7 @@ grants_more marks old new id page frame rights tables grants granted low unreser
 
 pub sound_granted : (old new : Ledger) (marks : List (Option Owner)) (devices : List Device) (frames levels : ℕ) (started : Bool) (given confirmed restarts restarted id page frame : ℕ) (rights : Rights) (stage : Stages) (tables : List ℕ)
     → IsSound old marks devices frames levels started given confirmed restarts restarted → ShowsGrant old new id page (frame, rights) → stages_of devices id ≡ Some stage
-    → page < page_limit → slice_get marks frame ≡ Some None → All (λ f. f < length marks) tables → All (λ f. IsFreeForTable marks old (Some frame) f) tables
+    → page < page_limit_of Sv48 → slice_get marks frame ≡ Some None → All (λ f. f < length marks) tables → All (λ f. IsFreeForTable marks old (Some frame) f) tables
     → IsSound new (marked_for (OneDevice id) tables marks) devices frames levels started given confirmed restarts restarted
 sound_granted old new marks devices frames levels started given confirmed restarts restarted id page frame rights stage tables sound granted attached low unreserved inside free = record {
   sizes = record { marked = length-marked_for (OneDevice id) tables marks ∙ sound.sizes.marked; size = sound.sizes.size; in_range = sound.sizes.in_range };

@@ -15,6 +15,7 @@ pub mod Marks
 pub mod Directories
 pub mod Modes
 pub mod FaultRings
+pub mod Limits
 pub mod Stays
 pub mod Reported
 pub mod Taking

@@ -3,6 +3,7 @@ use Rattle.std.proofs.Common.{◌≡◌, ◌<◌, ◌∙◌, ℕ, List, Option, 
 use Rattle.std.proofs.lemmas.Bool.{eq-eqb}
 use Rattle.iom_base.specs.declared.cause.Cause.TheVariants.{DirectoryEntryNotValid}
 use Rattle.iom_base.specs.declared.mode.Mode.{Mode}
+use Rattle.iom_base.specs.declared.size.Size.{Size}
 use Rattle.iom_base.specs.declared.owner.Owner.{Owner}
 use Rattle.iom_base.specs.declared.owner.Owner.TheVariants.{OneDevice}
 use Rattle.iom_device_dir.specs.Located.{path_end_from}
@@ -12,7 +13,7 @@ use Rattle.iom_directory.proofs.Stays.{stays}
 use Rattle.iom_ledger.specs.Changes.{ShowsReleaseOfAll}
 use Rattle.iom_ledger.specs.declared.ledger.Ledger.{Ledger}
 use Rattle.iom_ledger.specs.Shown.{held_in}
-use Rattle.iom_page_table.specs.Sv39.{HasTable}
+use Rattle.iom_page_table.specs.FirstTables.{HasTable}
 use Rattle.iom_driver.specs.declared.device.Device.{Device}
 use Rattle.iom_driver.specs.Layout.{IsLevels, directory_frame}
 use Rattle.iom_driver.specs.Orders.{MapsNothing}
@@ -34,11 +35,11 @@ pub none_left : (old new : Ledger) (id ticket : ℕ) → ShowsReleaseOfAll old n
 none_left old new id ticket released page = released.held id page ∙ rw (eq-eqb id id refl) refl
 
 -- a context that is cleared stays so while leaves of the device are
-pub still_cleared : (frames : ℕ) (memory between bare : List (List ℕ)) (marks : List (Option Owner)) (ledger : Ledger) (devices : List Device) (levels id root : ℕ) → IsLevels levels
+pub still_cleared : (frames : ℕ) (memory between bare : List (List ℕ)) (marks : List (Option Owner)) (ledger : Ledger) (devices : List Device) (levels id : ℕ) (size : Size) (root : ℕ) → IsLevels levels
     → DirectoryIn frames memory marks devices levels → IsCleared memory between levels (directory_frame frames) id → id < ids_below (root_level levels)
-    → ((f : ℕ) → HasTable between root f → slice_get marks f ≡ Some (Some (OneDevice id))) → AreUnmapped ledger id root between bare
+    → ((f : ℕ) → HasTable size between root f → slice_get marks f ≡ Some (Some (OneDevice id))) → AreUnmapped size ledger id root between bare
     → path_end_from bare (root_level levels) (directory_frame frames) id ≡ Err DirectoryEntryNotValid
-still_cleared frames memory between bare marks ledger devices levels id root range stands cleared low own unmapped =
-    (stays between bare (root_level levels) (directory_frame frames) (low_levels levels range) cleared.tree unmapped.size
-    (λ f at. frame_stays ledger id root between bare f unmapped (λ table. not_of_device marks f id (stands.own f (cleared.pages f at)).system (own f table)))).ends id low
+still_cleared frames memory between bare marks ledger devices levels id size root range stands cleared low own unmapped =
+    (stays between bare (root_level levels) (directory_frame frames) (low_levels levels range) cleared.tree unmapped.long
+    (λ f at. frame_stays size ledger id root between bare f unmapped (λ table. not_of_device marks f id (stands.own f (cleared.pages f at)).system (own f table)))).ends id low
     ∙ cleared.here

@@ -8,8 +8,11 @@ use Rattle.iom_ledger.specs.History.{Pair}
 use Rattle.iom_ledger.specs.Shown.{held_in}
 use Rattle.iom_page_table.specs.declared.leaf.PageLeaf.{PageLeaf}
 use Rattle.iom_page_table.specs.Leaves.{leaf_of}
-use Rattle.iom_page_table.specs.Sv39.{IsRoot, HasTable, ChangesLeaf, KeepsOutside}
+use Rattle.iom_page_table.specs.FirstTables.{IsRoot, HasTable, ChangesLeaf, KeepsOutside}
 use Rattle.iom_base.specs.declared.mode.Mode.{Mode}
+use Rattle.iom_base.specs.declared.size.Size.{Size}
+use Rattle.iom_base.specs.Modes.{size_in}
+use Rattle.iom_base.specs.Sizes.{levels_of}
 use Rattle.iom_base.specs.declared.owner.Owner.{Owner}
 use Rattle.iom_base.specs.declared.owner.Owner.TheVariants.{OneDevice}
 use Rattle.iom_driver.specs.declared.device.Device.{Device}
@@ -21,24 +24,24 @@ use Rattle.iom_driver.proofs.Modes.{IsRooted, rooted, root_in, table_of, table_i
 use Rattle.iom_driver.proofs.Stays.{tables_kept}
 
 -- the leaf of a page of the root's tables is cleared, and no other, and no frame but theirs changes
-pub record IsUnmapped (memory memory' : List (List ℕ)) (root page : ℕ) : Type 0 where
-  pub tree : IsRoot memory' root
-  pub tables : (f : ℕ) → HasTable memory' root f ↔ HasTable memory root f
-  pub leaf : ChangesLeaf memory memory' root page None
-  pub outside : KeepsOutside memory memory' root
-  pub size : length memory' ≡ length memory
+pub record IsUnmapped (size : Size) (memory memory' : List (List ℕ)) (root page : ℕ) : Type 0 where
+  pub tree : IsRoot size memory' root
+  pub tables : (f : ℕ) → HasTable size memory' root f ↔ HasTable size memory root f
+  pub leaf : ChangesLeaf size memory memory' root page None
+  pub outside : KeepsOutside size memory memory' root
+  pub long : length memory' ≡ length memory
 
 -- a frame that holds none of its tables keeps its bytes
-pub other_frame : (memory memory' : List (List ℕ)) (root page f : ℕ) → IsUnmapped memory memory' root page → (HasTable memory root f → ⊥) → slice_get memory' f ≡ slice_get memory f
-other_frame memory memory' root page f unmapped other = unmapped.outside f (λ at. other ((unmapped.tables f).0 at))
+pub other_frame : (size : Size) (memory memory' : List (List ℕ)) (root page f : ℕ) → IsUnmapped size memory memory' root page → (HasTable size memory root f → ⊥) → slice_get memory' f ≡ slice_get memory f
+other_frame size memory memory' root page f unmapped other = unmapped.outside f (λ at. other ((unmapped.tables f).0 at))
 
 -- the tables of the device
 own_tables : (memory memory' : List (List ℕ)) (marks : List (Option Owner)) (ledger ledger' : Ledger) (id : ℕ) (mode : Mode) (root page ticket : ℕ)
-    → AreTablesOf memory marks ledger id mode root → IsUnmapped memory memory' root page → ShowsRelease ledger ledger' id page ticket → AreTablesOf memory' marks ledger' id mode root
+    → AreTablesOf memory marks ledger id mode root → IsUnmapped (size_in mode) memory memory' root page → ShowsRelease ledger ledger' id page ticket → AreTablesOf memory' marks ledger' id mode root
 own_tables memory memory' marks ledger ledger' id mode root page ticket tables unmapped released = record {
   tree = root_in mode memory' root record {
     tree = unmapped.tree;
-    others = λ f here. other_frame memory memory' root page f unmapped (λ at. was.apart f at here) ∙ was.others f here;
+    others = λ f here. other_frame (size_in mode) memory memory' root page f unmapped (λ at. was.apart f at here) ∙ was.others f here;
     apart = λ f at here. was.apart f ((unmapped.tables f).0 at) here;
     aligned = was.aligned;
   };
@@ -46,9 +49,14 @@ own_tables memory memory' marks ledger ledger' id mode root page ticket tables u
     | inl now ↦ tables.own f (table_in mode memory root f (inl ((unmapped.tables f).0 now)))
     | inr here ↦ tables.own f (table_in mode memory root f (inr here))
   ];
+  low = λ p high. released.held id p ∙ none_still ((id == id) && (page == p)) (held_in ledger id p) (tables.low p high);
   leaves = λ p low. unmapped.leaf p low ∙ by p (tables.leaves p low);
 }
   where
+    none_still : (released : Bool) (held : Option Pair) → held ≡ None → ◌≡◌ {A = Option Pair} (if released then None else held) None
+    none_still true held none = refl
+    none_still false held none = none
+
     was : IsRooted mode memory root
     was = rooted mode memory root tables.tree
 
@@ -63,32 +71,36 @@ own_tables memory memory' marks ledger ledger' id mode root page ticket tables u
       | inr ne ↦ rw (eq-eqb id id refl, differs p page (λ same. ne.1 (sym same)), ne.0) refl
     ]
 
-    by : (p : ℕ) → leaf_of 3 memory root p ≡ option_map leaf_for (held_in ledger id p)
-        → ◌≡◌ {A = Option PageLeaf} (if p == page then None else leaf_of 3 memory root p) (option_map leaf_for (held_in ledger' id p))
+    by : (p : ℕ) → leaf_of (levels_of (size_in mode)) memory root p ≡ option_map leaf_for (held_in ledger id p)
+        → ◌≡◌ {A = Option PageLeaf} (if p == page then None else leaf_of (levels_of (size_in mode)) memory root p) (option_map leaf_for (held_in ledger' id p))
     by p shows =
-        cleared (p == page) (leaf_of 3 memory root p) (held_in ledger id p) shows
+        cleared (p == page) (leaf_of (levels_of (size_in mode)) memory root p) (held_in ledger id p) shows
         ∙ ap (λ b. option_map leaf_for (if b then None else held_in ledger id p)) (turned p)
         ∙ ap (option_map leaf_for) (sym (released.held id p))
 
 -- the tables of another device
 other_tables : (memory memory' : List (List ℕ)) (marks : List (Option Owner)) (ledger ledger' : Ledger) (id : ℕ) (mode : Mode) (root page ticket other : ℕ) (other_mode : Mode) (other_root : ℕ) → other ≢ id
-    → AreTablesOf memory marks ledger id mode root → AreTablesOf memory marks ledger other other_mode other_root → IsUnmapped memory memory' root page → ShowsRelease ledger ledger' id page ticket
+    → AreTablesOf memory marks ledger id mode root → AreTablesOf memory marks ledger other other_mode other_root → IsUnmapped (size_in mode) memory memory' root page → ShowsRelease ledger ledger' id page ticket
     → AreTablesOf memory' marks ledger' other other_mode other_root
 other_tables memory memory' marks ledger ledger' id mode root page ticket other other_mode other_root apart tables others unmapped released =
     let kept = tables_kept memory memory' marks ledger other other_mode other_root others
-    (λ n marked. other_frame memory memory' root page n unmapped (λ at. absurd (apart (one_owner n marked (tables.own n (table_in mode memory root n (inl at))))))) unmapped.size in
+    (λ n marked. other_frame (size_in mode) memory memory' root page n unmapped (λ at. absurd (apart (one_owner n marked (tables.own n (table_in mode memory root n (inl at))))))) unmapped.long in
     record {
       tree = kept.tree;
       own = kept.own;
-      leaves = λ p low. kept.leaves p low ∙ ap (option_map leaf_for) (sym (released.held other p ∙ rw (differs id other (λ same. apart (sym same))) refl));
+      low = λ p high. same_held p ∙ kept.low p high;
+      leaves = λ p low. kept.leaves p low ∙ ap (option_map leaf_for) (sym (same_held p));
     }
   where
+    same_held : (p : ℕ) → held_in ledger' other p ≡ held_in ledger other p
+    same_held p = released.held other p ∙ rw (differs id other (λ same. apart (sym same))) refl
+
     one_owner : (n : ℕ) → slice_get marks n ≡ Some (Some (OneDevice other)) → slice_get marks n ≡ Some (Some (OneDevice id)) → other ≡ id
     one_owner n a b = cc
 
 -- the tables of all devices
 pub tables_released : (memory memory' : List (List ℕ)) (marks : List (Option Owner)) (ledger ledger' : Ledger) (devices : List Device) (id page ticket : ℕ) (stage : Stages)
-    → HaveTables memory marks ledger devices → owned_stages_of devices id ≡ Some stage → IsUnmapped memory memory' stage.root page → ShowsRelease ledger ledger' id page ticket
+    → HaveTables memory marks ledger devices → owned_stages_of devices id ≡ Some stage → IsUnmapped (size_in stage.mode) memory memory' stage.root page → ShowsRelease ledger ledger' id page ticket
     → HaveTables memory' marks ledger' devices
 tables_released memory memory' marks ledger ledger' devices id page ticket stage tables attached unmapped released other found at =
     elim (eqb_tells other id) [

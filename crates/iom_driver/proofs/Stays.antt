@@ -3,8 +3,9 @@ use Rattle.std.proofs.Common.{◌≡◌, ◌≢◌, ◌-◌, ◌*◌, ◌≤◌,
 use Rattle.iom_ledger.specs.declared.ledger.Ledger.{Ledger}
 use Rattle.iom_ledger.specs.Shown.{held_in}
 use Rattle.iom_page_table.proofs.Stays.{stays}
-use Rattle.iom_page_table.specs.Sv39.{HasTable}
+use Rattle.iom_page_table.specs.FirstTables.{HasTable}
 use Rattle.iom_base.specs.declared.mode.Mode.{Mode}
+use Rattle.iom_base.specs.Modes.{size_in}
 use Rattle.iom_base.specs.declared.owner.Owner.{Owner}
 use Rattle.iom_base.specs.declared.owner.Owner.TheVariants.{OneDevice, System}
 use Rattle.iom_registers.specs.declared.registers.Registers.{Registers}
@@ -28,8 +29,8 @@ pub tables_stay : (memory memory' : List (List ℕ)) (marks marks' : List (Optio
     → ((page : ℕ) → held_in ledger' id page ≡ held_in ledger id page) → AreTablesOf memory' marks' ledger' id mode root
 tables_stay memory memory' marks marks' ledger ledger' id mode root tables kept held =
     let was = rooted mode memory root tables.tree in
-    let own = λ (f : ℕ) (at : HasTable memory root f ⊎ Among f (rest mode root)). tables.own f (table_in mode memory root f at) in
-    let same = stays memory memory' root was.tree (λ f at. (kept f (own f (inl at))).0) in
+    let own = λ (f : ℕ) (at : HasTable (size_in mode) memory root f ⊎ Among f (rest mode root)). tables.own f (table_in mode memory root f at) in
+    let same = stays (size_in mode) memory memory' root was.tree (λ f at. (kept f (own f (inl at))).0) in
     record {
       tree = root_in mode memory' root record {
         tree = same.tree;
@@ -41,6 +42,7 @@ tables_stay memory memory' marks marks' ledger ledger' id mode root tables kept 
         | inl now ↦ let before = own f (inl ((same.tables f).0 now)) in (kept f before).1 ∙ before
         | inr here ↦ (kept f (own f (inr here))).1 ∙ own f (inr here)
       ];
+      low = λ page high. held page ∙ tables.low page high;
       leaves = λ page low. same.leaves page ∙ tables.leaves page low ∙ ap (option_map leaf_for) (sym (held page));
     }
 

@@ -4,6 +4,9 @@ use Rattle.std.proofs.lemmas.Bool.{false≢true, eq-eqb}
 use Rattle.std.proofs.lemmas.Bool.Decides.{eqb_tells}
 use Rattle.std.proofs.lemmas.Option.{slice_get-get_or}
 use Rattle.iom_base.specs.declared.mode.Mode.{Mode}
+use Rattle.iom_base.specs.declared.size.Size.{Size}
+use Rattle.iom_base.specs.Modes.{size_in}
+use Rattle.iom_base.specs.Sizes.{levels_of}
 use Rattle.iom_base.specs.declared.owner.Owner.{Owner}
 use Rattle.iom_base.specs.declared.owner.Owner.TheVariants.{OneDevice}
 use Rattle.iom_ledger.specs.declared.ledger.Ledger.{Ledger}
@@ -12,7 +15,7 @@ use Rattle.iom_ledger.specs.History.{Pair}
 use Rattle.iom_ledger.specs.Shown.{held_in, pages_listed}
 use Rattle.iom_page_table.specs.declared.leaf.PageLeaf.{PageLeaf}
 use Rattle.iom_page_table.specs.Leaves.{leaf_of}
-use Rattle.iom_page_table.specs.Sv39.{IsRoot, HasTable, KeepsOutside, unmapped}
+use Rattle.iom_page_table.specs.FirstTables.{IsRoot, HasTable, KeepsOutside, unmapped}
 use Rattle.iom_driver.specs.declared.device.Device.{Device}
 use Rattle.iom_driver.specs.declared.device.Stages.{Stages}
 use Rattle.iom_driver.specs.Devices.{owned_stages_of}
@@ -25,20 +28,20 @@ use Rattle.iom_driver.proofs.ReleaseTables.{IsUnmapped, other_frame}
 use Rattle.iom_driver.proofs.Stays.{tables_kept}
 
 -- of the pages up to a place, those that the device holds have no leaf any more; each page that it doesn't hold has what it had
-pub record UnmapsTo (ledger : Ledger) (id root : ℕ) (old new : List (List ℕ)) (place : ℕ) : Type 0 where
-  pub tree : IsRoot new root
-  pub tables : (f : ℕ) → HasTable new root f ↔ HasTable old root f
-  pub lost : (k page : ℕ) → k < place → slice_get (pages_listed ledger id) k ≡ Some page → IsSome (held_in ledger id page) → page < 2 ^ 52 → leaf_of 3 new root page ≡ None
-  pub kept : (page : ℕ) → page < 2 ^ 52 → held_in ledger id page ≡ None → leaf_of 3 new root page ≡ leaf_of 3 old root page
-  pub outside : KeepsOutside old new root
-  pub size : length new ≡ length old
-  pub whole : new ≡ all_unmapped old root (held_pages ledger id (take place (pages_listed ledger id)))
+pub record UnmapsTo (size : Size) (ledger : Ledger) (id root : ℕ) (old new : List (List ℕ)) (place : ℕ) : Type 0 where
+  pub tree : IsRoot size new root
+  pub tables : (f : ℕ) → HasTable size new root f ↔ HasTable size old root f
+  pub lost : (k page : ℕ) → k < place → slice_get (pages_listed ledger id) k ≡ Some page → IsSome (held_in ledger id page) → page < 2 ^ 52 → leaf_of (levels_of size) new root page ≡ None
+  pub kept : (page : ℕ) → page < 2 ^ 52 → held_in ledger id page ≡ None → leaf_of (levels_of size) new root page ≡ leaf_of (levels_of size) old root page
+  pub outside : KeepsOutside size old new root
+  pub long : length new ≡ length old
+  pub whole : new ≡ all_unmapped size old root (held_pages ledger id (take place (pages_listed ledger id)))
 
 -- one page more
 
-all_unmapped_more : (memory : List (List ℕ)) (root : ℕ) (pages : List ℕ) (page : ℕ) → all_unmapped memory root (pages ++ page ∷ []) ≡ unmapped (all_unmapped memory root pages) root page
-all_unmapped_more memory root [] page = refl
-all_unmapped_more memory root (first ∷ pages) page = all_unmapped_more (unmapped memory root first) root pages page
+all_unmapped_more : (size : Size) (memory : List (List ℕ)) (root : ℕ) (pages : List ℕ) (page : ℕ) → all_unmapped size memory root (pages ++ page ∷ []) ≡ unmapped size (all_unmapped size memory root pages) root page
+all_unmapped_more size memory root [] page = refl
+all_unmapped_more size memory root (first ∷ pages) page = all_unmapped_more size (unmapped size memory root first) root pages page
 
 held_more : (ledger : Ledger) (id : ℕ) (pages : List ℕ) (page : ℕ) → is_some (held_in ledger id page) ≡ true → held_pages ledger id (pages ++ page ∷ []) ≡ held_pages ledger id pages ++ page ∷ []
 held_more ledger id [] page held = rw held refl
@@ -75,21 +78,21 @@ none_is : (o : Option Pair) → is_some o ≡ false → o ≡ None
 none_is None not_some = refl
 none_is (Some pair) not_some = cc
 
-pub unmaps_none : (ledger : Ledger) (id root : ℕ) (memory : List (List ℕ)) → IsRoot memory root → UnmapsTo ledger id root memory memory 0
-unmaps_none ledger id root memory tree = record {
+pub unmaps_none : (size : Size) (ledger : Ledger) (id root : ℕ) (memory : List (List ℕ)) → IsRoot size memory root → UnmapsTo size ledger id root memory memory 0
+unmaps_none size ledger id root memory tree = record {
   tree = tree;
   tables = λ f. (λ at. at, λ at. at);
   lost = λ k page lt at held low. absurd (omega arith);
   kept = λ page low none. refl;
   outside = λ f apart. refl;
-  size = refl;
+  long = refl;
   whole = refl;
 }
 
 -- a page that is held
-pub unmaps_next : (ledger : Ledger) (id root : ℕ) (old between new : List (List ℕ)) (place page : ℕ) → UnmapsTo ledger id root old between place → slice_get (pages_listed ledger id) place ≡ Some page
-    → is_some (held_in ledger id page) ≡ true → IsUnmapped between new root page → new ≡ unmapped between root page → UnmapsTo ledger id root old new (place + 1)
-unmaps_next ledger id root old between new place page before at held now whole = record {
+pub unmaps_next : (size : Size) (ledger : Ledger) (id root : ℕ) (old between new : List (List ℕ)) (place page : ℕ) → UnmapsTo size ledger id root old between place → slice_get (pages_listed ledger id) place ≡ Some page
+    → is_some (held_in ledger id page) ≡ true → IsUnmapped size between new root page → new ≡ unmapped size between root page → UnmapsTo size ledger id root old new (place + 1)
+unmaps_next size ledger id root old between new place page before at held now whole = record {
   tree = now.tree;
   tables = λ f. (λ has. (before.tables f).0 ((now.tables f).0 has), λ has. (now.tables f).1 ((before.tables f).1 has));
   lost = λ k p lt there held_there low. elim (eqb_tells p page) [
@@ -100,11 +103,11 @@ unmaps_next ledger id root old between new place page before at held now whole =
     | inl e ↦ absurd (some_none (held_in ledger id page) held (ap (λ q. held_in ledger id q) (sym e.1) ∙ none))
     | inr ne ↦ now.leaf p low ∙ rw ne.0 (before.kept p low none)
   ];
-  outside = λ f apart. other_frame between new root page f now (λ has. apart ((now.tables f).1 has)) ∙ before.outside f (λ has. apart ((now.tables f).1 has));
-  size = now.size ∙ before.size;
+  outside = λ f apart. other_frame size between new root page f now (λ has. apart ((now.tables f).1 has)) ∙ before.outside f (λ has. apart ((now.tables f).1 has));
+  long = now.long ∙ before.long;
   whole =
-      whole ∙ ap (λ m. unmapped m root page) before.whole ∙ sym (all_unmapped_more old root (held_pages ledger id (take place (pages_listed ledger id))) page)
-      ∙ ap (λ ps. all_unmapped old root ps) (sym (ap (λ ps. held_pages ledger id ps) (next_place (pages_listed ledger id) place page at) ∙ held_more ledger id (take place (pages_listed ledger id)) page held));
+      whole ∙ ap (λ m. unmapped size m root page) before.whole ∙ sym (all_unmapped_more size old root (held_pages ledger id (take place (pages_listed ledger id))) page)
+      ∙ ap (λ ps. all_unmapped size old root ps) (sym (ap (λ ps. held_pages ledger id ps) (next_place (pages_listed ledger id) place page at) ∙ held_more ledger id (take place (pages_listed ledger id)) page held));
 }
   where
     same_page : (p q : ℕ) → ◌≡◌ {A = Option ℕ} (Some p) (Some q) → p ≡ q
@@ -121,17 +124,17 @@ unmaps_next ledger id root old between new place page before at held now whole =
     some_none (Some pair) there none = cc
 
 -- a page at which something only lingers
-pub unmaps_past : (ledger : Ledger) (id root : ℕ) (old new : List (List ℕ)) (place page : ℕ) → UnmapsTo ledger id root old new place → slice_get (pages_listed ledger id) place ≡ Some page
-    → is_some (held_in ledger id page) ≡ false → UnmapsTo ledger id root old new (place + 1)
-unmaps_past ledger id root old new place page before at not_held = record {
+pub unmaps_past : (size : Size) (ledger : Ledger) (id root : ℕ) (old new : List (List ℕ)) (place page : ℕ) → UnmapsTo size ledger id root old new place → slice_get (pages_listed ledger id) place ≡ Some page
+    → is_some (held_in ledger id page) ≡ false → UnmapsTo size ledger id root old new (place + 1)
+unmaps_past size ledger id root old new place page before at not_held = record {
   tree = before.tree;
   tables = before.tables;
   lost = λ k p lt there held_there low. before.lost k p (earlier k p lt there held_there) there held_there low;
   kept = before.kept;
   outside = before.outside;
-  size = before.size;
+  long = before.long;
   whole = before.whole
-      ∙ ap (λ ps. all_unmapped old root ps) (sym (ap (λ ps. held_pages ledger id ps) (next_place (pages_listed ledger id) place page at) ∙ not_held_more ledger id (take place (pages_listed ledger id)) page not_held));
+      ∙ ap (λ ps. all_unmapped size old root ps) (sym (ap (λ ps. held_pages ledger id ps) (next_place (pages_listed ledger id) place page at) ∙ not_held_more ledger id (take place (pages_listed ledger id)) page not_held));
 }
   where
     same_page : (p q : ℕ) → ◌≡◌ {A = Option ℕ} (Some p) (Some q) → p ≡ q
@@ -146,15 +149,15 @@ unmaps_past ledger id root old new place page before at not_held = record {
     ]
 
 -- once all are looked at, each page that the device holds has no leaf, and each other one has what it had
-pub loses_leaves : (ledger : Ledger) (id root : ℕ) (old new : List (List ℕ)) (place : ℕ) → UnmapsTo ledger id root old new place → length (pages_listed ledger id) ≤ place
-    → ((page : ℕ) → IsSome (held_in ledger id page) → Contains (pages_listed ledger id) page) → LosesHeldLeaves ledger id root old new
-loses_leaves ledger id root old new place all end listed page low = by (is_some (held_in ledger id page)) refl
+pub loses_leaves : (size : Size) (ledger : Ledger) (id root : ℕ) (old new : List (List ℕ)) (place : ℕ) → UnmapsTo size ledger id root old new place → length (pages_listed ledger id) ≤ place
+    → ((page : ℕ) → IsSome (held_in ledger id page) → Contains (pages_listed ledger id) page) → LosesHeldLeaves size ledger id root old new
+loses_leaves size ledger id root old new place all end listed page low = by (is_some (held_in ledger id page)) refl
   where
     there : (o : Option Pair) → is_some o ≡ true → IsSome o
     there None held = cc
     there (Some pair) held = cc
 
-    by : (b : Bool) → is_some (held_in ledger id page) ≡ b → ◌≡◌ {A = Option PageLeaf} (leaf_of 3 new root page) (if b then None else leaf_of 3 old root page)
+    by : (b : Bool) → is_some (held_in ledger id page) ≡ b → ◌≡◌ {A = Option PageLeaf} (leaf_of (levels_of size) new root page) (if b then None else leaf_of (levels_of size) old root page)
     by true held =
         let at = there (held_in ledger id page) held in
         let among = listed page at in
@@ -199,24 +202,24 @@ contained_held ledger id page pages among = by pages (among_contained page (held
     by (first ∷ others) at = kept (is_some (held_in ledger id first)) first others refl (by others) at
 
 -- the leaf of each page that the device holds is cleared, and no other, and no frame but its tables' changes
-pub record AreUnmapped (ledger : Ledger) (id root : ℕ) (memory memory' : List (List ℕ)) : Type 0 where
-  pub tree : IsRoot memory' root
-  pub tables : (f : ℕ) → HasTable memory' root f ↔ HasTable memory root f
-  pub leaves : LosesHeldLeaves ledger id root memory memory'
-  pub outside : KeepsOutside memory memory' root
-  pub size : length memory' ≡ length memory
+pub record AreUnmapped (size : Size) (ledger : Ledger) (id root : ℕ) (memory memory' : List (List ℕ)) : Type 0 where
+  pub tree : IsRoot size memory' root
+  pub tables : (f : ℕ) → HasTable size memory' root f ↔ HasTable size memory root f
+  pub leaves : LosesHeldLeaves size ledger id root memory memory'
+  pub outside : KeepsOutside size memory memory' root
+  pub long : length memory' ≡ length memory
 
 -- a frame that holds none of its tables keeps its bytes
-pub frame_stays : (ledger : Ledger) (id root : ℕ) (memory memory' : List (List ℕ)) (f : ℕ) → AreUnmapped ledger id root memory memory' → (HasTable memory root f → ⊥) → slice_get memory' f ≡ slice_get memory f
-frame_stays ledger id root memory memory' f unmapped other = unmapped.outside f (λ at. other ((unmapped.tables f).0 at))
+pub frame_stays : (size : Size) (ledger : Ledger) (id root : ℕ) (memory memory' : List (List ℕ)) (f : ℕ) → AreUnmapped size ledger id root memory memory' → (HasTable size memory root f → ⊥) → slice_get memory' f ≡ slice_get memory f
+frame_stays size ledger id root memory memory' f unmapped other = unmapped.outside f (λ at. other ((unmapped.tables f).0 at))
 
 -- the tables of the device map nothing
 own_tables : (memory memory' : List (List ℕ)) (marks : List (Option Owner)) (ledger ledger' : Ledger) (id ticket : ℕ) (mode : Mode) (root : ℕ)
-    → AreTablesOf memory marks ledger id mode root → AreUnmapped ledger id root memory memory' → ShowsReleaseOfAll ledger ledger' id ticket → AreTablesOf memory' marks ledger' id mode root
+    → AreTablesOf memory marks ledger id mode root → AreUnmapped (size_in mode) ledger id root memory memory' → ShowsReleaseOfAll ledger ledger' id ticket → AreTablesOf memory' marks ledger' id mode root
 own_tables memory memory' marks ledger ledger' id ticket mode root tables unmapped released = record {
   tree = root_in mode memory' root record {
     tree = unmapped.tree;
-    others = λ f here. frame_stays ledger id root memory memory' f unmapped (λ at. was.apart f at here) ∙ was.others f here;
+    others = λ f here. frame_stays (size_in mode) ledger id root memory memory' f unmapped (λ at. was.apart f at here) ∙ was.others f here;
     apart = λ f at here. was.apart f ((unmapped.tables f).0 at) here;
     aligned = was.aligned;
   };
@@ -224,7 +227,8 @@ own_tables memory memory' marks ledger ledger' id ticket mode root tables unmapp
     | inl now ↦ tables.own f (table_in mode memory root f (inl ((unmapped.tables f).0 now)))
     | inr here ↦ tables.own f (table_in mode memory root f (inr here))
   ];
-  leaves = λ p low. unmapped.leaves p low ∙ none (held_in ledger id p) (leaf_of 3 memory root p) (tables.leaves p low) ∙ ap (option_map leaf_for) (sym (gone p));
+  low = λ p high. gone p;
+  leaves = λ p low. unmapped.leaves p low ∙ none (held_in ledger id p) (leaf_of (levels_of (size_in mode)) memory root p) (tables.leaves p low) ∙ ap (option_map leaf_for) (sym (gone p));
 }
   where
     gone : (p : ℕ) → held_in ledger' id p ≡ None
@@ -242,23 +246,27 @@ own_tables memory memory' marks ledger ledger' id ticket mode root tables unmapp
 
 -- the tables of another device
 other_tables : (memory memory' : List (List ℕ)) (marks : List (Option Owner)) (ledger ledger' : Ledger) (id ticket : ℕ) (mode : Mode) (root other : ℕ) (other_mode : Mode) (other_root : ℕ) → other ≢ id
-    → AreTablesOf memory marks ledger id mode root → AreTablesOf memory marks ledger other other_mode other_root → AreUnmapped ledger id root memory memory' → ShowsReleaseOfAll ledger ledger' id ticket
+    → AreTablesOf memory marks ledger id mode root → AreTablesOf memory marks ledger other other_mode other_root → AreUnmapped (size_in mode) ledger id root memory memory' → ShowsReleaseOfAll ledger ledger' id ticket
     → AreTablesOf memory' marks ledger' other other_mode other_root
 other_tables memory memory' marks ledger ledger' id ticket mode root other other_mode other_root apart tables others unmapped released =
     let kept = tables_kept memory memory' marks ledger other other_mode other_root others
-    (λ n marked. frame_stays ledger id root memory memory' n unmapped (λ at. absurd (apart (one_owner n marked (tables.own n (table_in mode memory root n (inl at))))))) unmapped.size in
+    (λ n marked. frame_stays (size_in mode) ledger id root memory memory' n unmapped (λ at. absurd (apart (one_owner n marked (tables.own n (table_in mode memory root n (inl at))))))) unmapped.long in
     record {
       tree = kept.tree;
       own = kept.own;
-      leaves = λ p low. kept.leaves p low ∙ ap (option_map leaf_for) (sym (released.held other p ∙ rw (differs id other (λ same. apart (sym same))) refl));
+      low = λ p high. same_held p ∙ kept.low p high;
+      leaves = λ p low. kept.leaves p low ∙ ap (option_map leaf_for) (sym (same_held p));
     }
   where
+    same_held : (p : ℕ) → held_in ledger' other p ≡ held_in ledger other p
+    same_held p = released.held other p ∙ rw (differs id other (λ same. apart (sym same))) refl
+
     one_owner : (n : ℕ) → slice_get marks n ≡ Some (Some (OneDevice other)) → slice_get marks n ≡ Some (Some (OneDevice id)) → other ≡ id
     one_owner n a b = cc
 
 -- the tables of all devices
 pub tables_unmapped : (memory memory' : List (List ℕ)) (marks : List (Option Owner)) (ledger ledger' : Ledger) (devices : List Device) (id ticket : ℕ) (stage : Stages)
-    → HaveTables memory marks ledger devices → owned_stages_of devices id ≡ Some stage → AreUnmapped ledger id stage.root memory memory' → ShowsReleaseOfAll ledger ledger' id ticket
+    → HaveTables memory marks ledger devices → owned_stages_of devices id ≡ Some stage → AreUnmapped (size_in stage.mode) ledger id stage.root memory memory' → ShowsReleaseOfAll ledger ledger' id ticket
     → HaveTables memory' marks ledger' devices
 tables_unmapped memory memory' marks ledger ledger' devices id ticket stage tables owned unmapped released other found at =
     elim (eqb_tells other id) [

@@ -2,7 +2,8 @@
 use Rattle.std.specs.Prelude.{◌≡◌, ℕ, ◌+◌, ◌-◌, ◌%◌, ◌<◌, ◌≤◌, ⊤, true, false, length, None, Some, IsSome}
 use Rattle.iom_base.specs.declared.mode.Mode.{Mode}
 use Rattle.iom_base.specs.declared.mode.Mode.TheVariants.{First, Second, Both}
-use Rattle.iom_base.specs.Sizes.{page_limit}
+use Rattle.iom_base.specs.Modes.{size_in}
+use Rattle.iom_base.specs.Sizes.{page_limit_of}
 use Rattle.iom_command_queue.specs.Waiting.{how_many}
 use Rattle.iom_ledger.specs.History.{pending_limit}
 use Rattle.iom_ledger.specs.Shown.{held_in, lingering_in}
@@ -26,7 +27,7 @@ pub record MayBeGranted (d : DriverState) (id page frame : ℕ) (stage : Stages)
   pub attached : stages_of d.devices id ≡ Some stage
   pub inside : frame < length d.marks
   pub unreserved : is_marked d.marks frame ≡ false
-  pub page_low : page < page_limit
+  pub page_low : page < page_limit_of (size_in stage.mode)
   pub not_held : held_in d.ledger id page ≡ None
   pub not_lingering : lingering_in d.ledger id page ≡ None
 
@@ -61,6 +62,6 @@ pub record MayBeRevived (d : DriverState) (id : ℕ) (stage : Stages) : Type 0 w
 
 -- the root may be that of tables in the mode: a second stage's fills four frames, and is aligned to that
 abbrev pub IsAligned : Mode → ℕ → Type 0
-IsAligned First root = ⊤
-IsAligned Second root = root % 4 ≡ 0
-IsAligned Both root = root % 4 ≡ 0
+IsAligned (First size) root = ⊤
+IsAligned (Second size) root = root % 4 ≡ 0
+IsAligned (Both size) root = root % 4 ≡ 0

@@ -16,9 +16,9 @@ use Rattle.iom_driver.specs.declared.device.Stages.{Stages}
 -- Translations go, of the address space of this number in the mode: those of the page, or all (IOMMU specification, section 3.1.1, "IOMMU Page-Table
 -- cache invalidation commands"). IOTINVAL.VMA where the first stage translates alone; else IOTINVAL.GVMA, whose page is a guest physical one.
 abbrev pub invalidation_of : Mode → ℕ → Option ℕ → Command
-invalidation_of First number page = IotinvalVma None (Some number) page
-invalidation_of Second number page = IotinvalGvma (Some number) page
-invalidation_of Both number page = IotinvalGvma (Some number) page
+invalidation_of (First size) number page = IotinvalVma None (Some number) page
+invalidation_of (Second size) number page = IotinvalGvma (Some number) page
+invalidation_of (Both size) number page = IotinvalGvma (Some number) page
 
 -- those of the page
 abbrev pub invalidation : Mode → ℕ → ℕ → Command
@@ -40,9 +40,9 @@ fence address number = IofenceC (Some (record { address = address; «data» = nu
 -- The translations that a device with ATS is asked to drop when its page is released: those of the page. In both stages everything, since the page is
 -- a guest physical one, and the device's own copies don't tell which of these they came through.
 abbrev pub dropped_range : Mode → ℕ → AtsRange
-dropped_range First page = Page page
-dropped_range Second page = Page page
-dropped_range Both page = Everything
+dropped_range (First size) page = Page page
+dropped_range (Second size) page = Page page
+dropped_range (Both size) page = Everything
 
 -- ATS.INVAL: the device, where it may keep translations of its own, drops these (section 3.1.4, "IOMMU PCIe ATS commands")
 abbrev pub device_invalidation : ℕ → Stages → ℕ → List Command

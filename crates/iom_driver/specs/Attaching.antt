@@ -8,7 +8,7 @@ use Rattle.iom_directory.specs.Written.{hung}
 use Rattle.iom_ledger.specs.declared.refusal.Refusal.{Refusal}
 use Rattle.iom_ledger.specs.declared.refusal.Refusal.TheVariants.{NoFrames}
 use Rattle.iom_ledger.specs.Refusals.{NoneApplies, IsRefusedBy}
-use Rattle.iom_page_table.specs.Sv39x4.{other_quarters}
+use Rattle.iom_page_table.specs.SecondTables.{other_quarters}
 use Rattle.iom_table_frames.specs.Fours.{IsHighestFour, NoFourAreFree}
 use Rattle.iom_table_frames.specs.Marks.{HasFree, IsHighestFree, NoneIsFree}
 use Rattle.iom_driver.specs.declared.device.Attachment.TheVariants.{Attached}
@@ -35,21 +35,21 @@ limit_below limit (page ∷ pages) = limit_below page pages
 
 -- a root of a first stage takes the highest free frame below the limit; one of a second stage the highest four, the first a multiple of four
 abbrev pub IsRootBelow : Mode → DriverState → ℕ → ℕ → Type 0
-IsRootBelow First d limit root = IsHighestFree d.marks d.ledger None limit root
-IsRootBelow Second d limit root = IsHighestFour d.marks d.ledger limit root
-IsRootBelow Both d limit root = IsHighestFour d.marks d.ledger limit root
+IsRootBelow (First size) d limit root = IsHighestFree d.marks d.ledger None limit root
+IsRootBelow (Second size) d limit root = IsHighestFour d.marks d.ledger limit root
+IsRootBelow (Both size) d limit root = IsHighestFour d.marks d.ledger limit root
 
 -- there is no place for it
 abbrev pub NoRootBelow : Mode → DriverState → ℕ → Type 0
-NoRootBelow First d limit = NoneIsFree d.marks d.ledger None 0 limit
-NoRootBelow Second d limit = NoFourAreFree d.marks d.ledger 0 limit
-NoRootBelow Both d limit = NoFourAreFree d.marks d.ledger 0 limit
+NoRootBelow (First size) d limit = NoneIsFree d.marks d.ledger None 0 limit
+NoRootBelow (Second size) d limit = NoFourAreFree d.marks d.ledger 0 limit
+NoRootBelow (Both size) d limit = NoFourAreFree d.marks d.ledger 0 limit
 
 -- the frames that the root fills
 abbrev pub root_frames : Mode → ℕ → List ℕ
-root_frames First root = root ∷ []
-root_frames Second root = root ∷ other_quarters root
-root_frames Both root = root ∷ other_quarters root
+root_frames (First size) root = root ∷ []
+root_frames (Second size) root = root ∷ other_quarters root
+root_frames (Both size) root = root ∷ other_quarters root
 
 -- The directory pages that the id's path lacks, from the root of the directory down, take the highest free frames, and then the root of the device's
 -- tables the highest that are free then. The lowest free number is the device's address space. Memory is what it was, but that these frames are zero, and

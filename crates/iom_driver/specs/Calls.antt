@@ -2,6 +2,7 @@
 -- restart and poll have files of their own.
 use Rattle.std.specs.Prelude.{◌≡◌, ◌≢◌, ℕ, ◌+◌, ◌<◌, Bool, true, false, List, [], ◌∷◌, ◌++◌, length, map, Some, Result, Ok, Err, Option, slice_get, slice_set}
 use Rattle.iom_base.specs.GrantRights.{rights_of}
+use Rattle.iom_base.specs.Modes.{size_in}
 use Rattle.iom_base.specs.declared.grant_rights.GrantRights.{GrantRights}
 use Rattle.iom_base.specs.declared.owner.Owner.{Owner}
 use Rattle.iom_base.specs.declared.owner.Owner.TheVariants.{OneDevice}
@@ -15,7 +16,7 @@ use Rattle.iom_ledger.specs.declared.refusal.Refusal.TheVariants.{NoFrames, Memo
 use Rattle.iom_ledger.specs.History.{History, confirms}
 use Rattle.iom_ledger.specs.Refusals.{first_that_applies, NoneApplies, IsRefusedBy}
 use Rattle.iom_page_table.specs.declared.leaf.PageLeaf.{PageLeaf}
-use Rattle.iom_page_table.specs.Sv39.{missing_for, mapped, unmapped}
+use Rattle.iom_page_table.specs.FirstTables.{missing_for, mapped, unmapped}
 use Rattle.iom_phys_mem.specs.Words.{with_word, zeroed}
 use Rattle.iom_registers.specs.declared.mmio.Mmio.{Ghosts}
 use Rattle.iom_registers.specs.declared.register.Register.TheVariants.{Ddtp, Cqb, Cqcsr, Fqb, Fqcsr}
@@ -84,18 +85,18 @@ pub record TakesTables (d : DriverState) (memory : List (List ℕ)) (id page fra
   pub stage : Stages
   pub attached : stages_of d.devices id ≡ Some stage
   pub tables : List ℕ
-  pub chosen : AreHighestFree d.marks d.ledger (Some frame) (length memory) (missing_for memory stage.root page) tables
+  pub chosen : AreHighestFree d.marks d.ledger (Some frame) (length memory) (missing_for (size_in stage.mode) memory stage.root page) tables
   pub shown : ShowsGrant d.ledger d'.ledger id page (frame, rights_of rights)
   pub agrees : (h : History) → Agrees d.ledger h → Agrees d'.ledger (entry.Granted id page frame (rights_of rights) ∷ h)
   pub driver : d' ≡ record d { ledger = d'.ledger; marks = marked_for (OneDevice id) tables d.marks }
-  pub bytes : memory' ≡ mapped (cleared tables memory) stage.root page (granted_leaf frame rights) tables
+  pub bytes : memory' ≡ mapped (size_in stage.mode) (cleared tables memory) stage.root page (granted_leaf frame rights) tables
   pub others : KeepsOthers d'.marks id memory memory'
 
 -- the frames that are free besides the granted one are enough for the tables that the page lacks
 pub record HasFrames (d : DriverState) (memory : List (List ℕ)) (id page frame : ℕ) : Type 0 where
   pub stage : Stages
   pub attached : stages_of d.devices id ≡ Some stage
-  pub enough : HasFree d.marks d.ledger (Some frame) (missing_for memory stage.root page) (length memory)
+  pub enough : HasFree d.marks d.ledger (Some frame) (missing_for (size_in stage.mode) memory stage.root page) (length memory)
 
 -- a grant finds too few free frames, or else no memory for its row
 abbrev pub LacksTables : DriverState → List (List ℕ) → ℕ → ℕ → ℕ → Refusal → Type 0
@@ -118,7 +119,7 @@ pub record QueuesRelease {M : Type 0} (g : Ghosts M) (d : DriverState) (memory :
   pub shown : ShowsRelease d.ledger d'.ledger id page ticket
   pub agrees : (h : History) → Agrees d.ledger h → confirms h ticket ≡ false → Agrees d'.ledger (entry.Released id page ticket ∷ h)
   pub driver : d' ≡ record d { ledger = d'.ledger; given = ticket }
-  pub queued : AppendsAll g (unmapped memory stage.root page) io (release_commands id stage page (completion_address (length memory)) (last_fence d + 1)) memory' io'
+  pub queued : AppendsAll g (unmapped (size_in stage.mode) memory stage.root page) io (release_commands id stage page (completion_address (length memory)) (last_fence d + 1)) memory' io'
   pub list : commands_in memory' (g.registers io') ≡ commands_in memory (g.registers io)
       ++ map stands.Command (release_commands id stage page (completion_address (length memory)) (last_fence d + 1))
   pub others : (f : ℕ) → slice_get d.marks f ≢ Some (Some (OneDevice id)) → f ≢ command_frame (length memory) → slice_get memory' f ≡ slice_get memory f

@@ -24,26 +24,26 @@ use Rattle.iom_driver.specs.Devices.{stages_of, owned_stages_of}
 use Rattle.iom_driver.specs.Layout.{command_frame, fault_frame, completion_frame, directory_frame}
 
 -- The context of a device that is attached in a mode, with a root and an address-space number, with ATS or without. In both stages the root of the
--- first is the guest physical page 0.
+-- first is the guest physical page 0, and the guest's tables are of the size of those of the second.
 abbrev pub context_in : Mode → ℕ → ℕ → Bool → Context
-context_in First root number ats = record {
+context_in (First size) root number ats = record {
   en_ats = ats;
-  first_stage = first.Sv39 (page_from 0 root);
+  first_stage = first.Tables size (page_from 0 root);
   second_stage = second.Bare;
   pscid = address_space_from 0 number;
   gscid = 0;
 }
-context_in Second root number ats = record {
+context_in (Second size) root number ats = record {
   en_ats = ats;
   first_stage = first.Bare;
-  second_stage = second.Sv39x4 (guest_root_from root);
+  second_stage = second.Tables size (guest_root_from root);
   pscid = address_space_from 0 0;
   gscid = number;
 }
-context_in Both root number ats = record {
+context_in (Both size) root number ats = record {
   en_ats = ats;
-  first_stage = first.Sv39 (page_from 0 0);
-  second_stage = second.Sv39x4 (guest_root_from root);
+  first_stage = first.Tables size (page_from 0 0);
+  second_stage = second.Tables size (guest_root_from root);
   pscid = address_space_from 0 number;
   gscid = number;
 }

@@ -54,9 +54,9 @@ pub sound_prop : (ledger : Ledger) (marks : List (Option Owner)) (devices : List
 sound_prop ledger marks devices frames levels started given confirmed restarts restarted = hlevel (props, rise_prop, own_ids_prop)
 
 pub root_prop : (mode : Mode) (memory : List (List ℕ)) (root : ℕ) → IsProp (IsRootIn mode memory root)
-root_prop First memory root = hlevel (props, upper_prop, lowest_prop)
-root_prop Second memory root = hlevel (props, upper_prop, lowest_prop)
-root_prop Both memory root = hlevel (props, upper_prop, lowest_prop)
+root_prop (First size) memory root = hlevel (props, upper_prop, lowest_prop)
+root_prop (Second size) memory root = hlevel (props, upper_prop, lowest_prop)
+root_prop (Both size) memory root = hlevel (props, upper_prop, lowest_prop)
 
 pub report_prop : (e : QueueEntry) → IsProp (IsReport e)
 report_prop (queue.Record fields) = Unit-prop

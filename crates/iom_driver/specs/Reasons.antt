@@ -1,6 +1,7 @@
 -- Why a call is refused: its reasons, in the order in which it tests them.
 use Rattle.std.specs.Prelude.{ℕ, ◌+◌, ◌-◌, Bool, not, ◌||◌, ◌&&◌, nat_le, nat_lt, false, List, [], ◌∷◌, length, Option, None, Some, is_some, is_none, IsSome, ◌⊎◌, if◌then◌else◌}
-use Rattle.iom_base.specs.Sizes.{page_limit}
+use Rattle.iom_base.specs.Modes.{size_in}
+use Rattle.iom_base.specs.Sizes.{page_limit_of}
 use Rattle.iom_command_queue.specs.Waiting.{how_many}
 use Rattle.iom_ledger.specs.declared.ledger.Ledger.{Ledger}
 use Rattle.iom_ledger.specs.declared.refusal.Refusal.{Refusal}
@@ -58,12 +59,17 @@ why_not_attached d id later =
     ∷ (is_quarantined (attachment_of d.devices id), Quarantined)
     ∷ later
 
+-- the pages that may be granted are below this, by the stages of the device
+abbrev pub page_limit_in : Option Stages → ℕ
+page_limit_in None = 0
+page_limit_in (Some stage) = page_limit_of (size_in stage.mode)
+
 -- beyond that: a frame is granted at a page
 abbrev pub granting_reasons : DriverState → ℕ → ℕ → ℕ → List (Bool × Refusal)
 granting_reasons d id page frame =
     (nat_le (length d.marks) frame, FrameOutOfRange)
     ∷ (is_marked d.marks frame, FrameReserved)
-    ∷ (nat_le page_limit page, IovaOutOfRange)
+    ∷ (nat_le (page_limit_in (stages_of d.devices id)) page, IovaOutOfRange)
     ∷ (is_busy d id page, IovaBusy)
     ∷ []
 

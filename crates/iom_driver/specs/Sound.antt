@@ -1,6 +1,7 @@
 -- What stays true of a driver by itself, whatever its calls and whatever happens to memory and registers.
 use Rattle.std.specs.Prelude.{◌≡◌, ℕ, ◌+◌, ◌<◌, ⊤, ◌≤◌, Bool, false, List, [], ◌∷◌, length, Option, None, Some, slice_get}
-use Rattle.iom_base.specs.Sizes.{page_limit}
+use Rattle.iom_base.specs.Sizes.{page_limit_of}
+use Rattle.iom_base.specs.declared.size.Size.TheVariants.{Sv48}
 use Rattle.iom_base.specs.declared.owner.Owner.{Owner}
 use Rattle.iom_base.specs.declared.rights.Rights.{Rights}
 use Rattle.iom_ledger.specs.declared.ledger.Ledger.{Ledger}
@@ -12,9 +13,9 @@ use Rattle.iom_driver.specs.declared.device.Attachment.TheVariants.{Detached, Qu
 use Rattle.iom_driver.specs.Devices.{attachment_of, stages_of, owned_stages_of, HaveOwnIds}
 use Rattle.iom_driver.specs.Layout.{AreFixed, IsLevels, id_limit}
 
--- a pair that is granted at a page: the page is one that tables map, and the frame is of memory and isn't reserved
+-- a pair that is granted at a page: the page is one that tables of some size map, and the frame is of memory and isn't reserved
 pub record IsGrant (marks : List (Option Owner)) (page frame : ℕ) : Type 0 where
-  pub page_low : page < page_limit
+  pub page_low : page < page_limit_of Sv48
   pub unreserved : slice_get marks frame ≡ Some None
 
 -- what is held or lingers is so

@@ -1,6 +1,5 @@
 // Whether a call is refused, and why.
 ghost use Rattle.std.specs.Prelude.{◌≡◌, ◌^◌, ◌<◌, ◌↔◌, ℕ, Bool, IsTrue, List, IfOk, IfErr, Some, None, true, false};
-ghost use Rattle.iom_base.specs.Sizes.{page_limit};
 ghost use Rattle.iom_ledger.specs.declared.refusal.Refusal.{Refusal};
 ghost use Rattle.iom_ledger.specs.Refusals.{first_that_applies, NoneApplies};
 ghost use Rattle.iom_registers.specs.Queues.{command_entries};
@@ -16,7 +15,7 @@ use crate::driver::Driver;
 use crate::layout::id_limit;
 use crate::lookups::place_of;
 use crate::room::lacks_places;
-use iom_base::{DeviceId, PAGE_LIMIT};
+use iom_base::DeviceId;
 use iom_ledger::{MAX_PENDING, Refusal};
 use iom_registers::Mmio;
 
@@ -90,7 +89,7 @@ impl Driver {
         if self.marks.is_reserved(frame as u32) {
             return Err(Refusal::FrameReserved);
         }
-        if page >= PAGE_LIMIT {
+        if page >= stage.mode.size().page_limit() {
             return Err(Refusal::IovaOutOfRange);
         }
         if !self.ledger.is_vacant(id, page) {

@@ -4,7 +4,8 @@ ghost use Rattle.std.specs.Prelude.{◌≡◌, ◌+◌, ◌*◌, ◌/◌, ◌%�
 ghost use Rattle.iom_command_queue.specs.declared.command.Command.TheVariants.{AtsInval};
 ghost use Rattle.iom_command_queue.specs.Waiting.{how_many};
 ghost use Rattle.iom_page_table.specs.Leaves.{leaf_of};
-ghost use Rattle.iom_stage_walk.specs.Paths.{first_levels};
+ghost use Rattle.iom_base.specs.Modes.{size_in};
+ghost use Rattle.iom_base.specs.Sizes.{levels_of};
 ghost use Rattle.iom_driver.specs.Appends.{invalidation_of, invalidation, space_invalidation, context_invalidation, dropped_range, device_invalidation, fence};
 ghost use Rattle.iom_driver.specs.Appends.{release_commands, detach_commands, Appends, AppendsAll};
 ghost use Rattle.iom_driver.specs.Restarts.{device_reset, requeued, IsNamable};
@@ -32,12 +33,12 @@ fn invalidation_of(mode: Mode, number: u32, page: Option<PageNumber>) -> Command
     ensures { result ≡ invalidation_of mode number page }
 {
     match mode {
-        Mode::First => Command::IotinvalVma {
+        Mode::First(_) => Command::IotinvalVma {
             gscid: None,
             pscid: Pscid::new(number),
             page,
         },
-        Mode::Second | Mode::Both => Command::IotinvalGvma {
+        Mode::Second(_) | Mode::Both(_) => Command::IotinvalGvma {
             gscid: Some(number as u16),
             page,
         },
@@ -79,8 +80,8 @@ fn dropped_range(mode: Mode, page: u64) -> AtsRange
     ensures { result ≡ dropped_range mode page }
 {
     match mode {
-        Mode::First | Mode::Second => AtsRange::Page(PageNumber::new(page).unwrap()),
-        Mode::Both => AtsRange::Everything,
+        Mode::First(_) | Mode::Second(_) => AtsRange::Page(PageNumber::new(page).unwrap()),
+        Mode::Both(_) => AtsRange::Everything,
     }
 }
 
@@ -177,7 +178,7 @@ pub(crate) fn append_release<M: Mmio>(
     requires id { id < 2 ^ 24 }
     requires number { stage.number < 2 ^ 16 }
     requires page { page < 2 ^ 52 }
-    requires unmapped { leaf_of first_levels memory.old stage.root page ≡ None }
+    requires unmapped { leaf_of (levels_of (size_in stage.mode)) memory.old stage.root page ≡ None }
     ensures appended { let commands = release_commands id stage page (completion_address frames) number in
         AppendsAll M.Mmio memory.old io.old commands memory.new io.new }
     ensures ring { IsRing frames (M.registers io.new) }

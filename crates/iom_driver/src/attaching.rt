@@ -52,7 +52,7 @@ fn lowest_number(devices: &[Device]) -> u32
 /// of its frames.
 #[derive(Drop)]
 struct Taken {
-    pages: ArrayVec<u32, 2>,
+    pages: ArrayVec<u32, 3>,
     root: u32,
 }
 
@@ -63,8 +63,8 @@ impl Driver {
         ensures { MatchOption result (NoRootBelow mode (state_of self.now) limit) (IsRootBelow mode (state_of self.now) limit) }
     {
         match mode {
-            Mode::First => self.marks.highest_free(&self.ledger, limit, None),
-            Mode::Second | Mode::Both => self.marks.highest_four(&self.ledger, limit),
+            Mode::First(_) => self.marks.highest_free(&self.ledger, limit, None),
+            Mode::Second(_) | Mode::Both(_) => self.marks.highest_four(&self.ledger, limit),
         }
     }
 

@@ -2,7 +2,7 @@
 ghost use Rattle.std.specs.Prelude.{◌≡◌, ◌<◌, ◌≤◌, ◌+◌, ◌^◌, ◌∷◌, Some, None, All, length, IfSome, IfNone};
 ghost use Rattle.iom_driver.specs.Attaching.{root_frames};
 ghost use Rattle.iom_driver.specs.Choices.{AreHighestFree, marked_for, cleared};
-ghost use Rattle.iom_page_table.specs.Sv39x4.{other_quarters};
+ghost use Rattle.iom_page_table.specs.SecondTables.{other_quarters};
 ghost use Rattle.iom_table_frames.specs.Marks.{HasFree};
 
 use crate::driver::Driver;
@@ -55,29 +55,26 @@ pub(crate) fn reserve_root(
     ensures memory { memory.new ≡ cleared (root_frames mode root) memory.old }
 {
     match mode {
-        Mode::First => reserve_all(marks, memory, &[root], owner),
-        Mode::Second | Mode::Both => reserve_four(marks, memory, root, owner),
+        Mode::First(_) => reserve_all(marks, memory, &[root], owner),
+        Mode::Second(_) | Mode::Both(_) => reserve_four(marks, memory, root, owner),
     }
 }
 
 impl Driver {
-    /// So many of the highest free frames, the named one passed over.
+    /// So many of the highest free frames, the highest first, the named one passed over.
     #[inline(always)]
-    pub(crate) fn choose(&self, count: usize, named: Option<u32>) -> Option<ArrayVec<u32, 2>>
-        requires { count ≤ 2 }
+    pub(crate) fn choose(&self, count: usize, named: Option<u32>) -> Option<ArrayVec<u32, 3>>
+        requires { count ≤ 3 }
         ensures chosen { IfSome result (λ chosen.
             AreHighestFree self.now.marks self.now.ledger named self.now.frames count chosen.items) }
         ensures none { IfNone result (¬ HasFree self.now.marks self.now.ledger named count self.now.frames) }
     {
         let mut chosen = ArrayVec::new();
-        if count == 0 {
-            return Some(chosen);
-        }
-        let first = self.marks.highest_free(&self.ledger, self.frames, named)?;
-        chosen.push(first);
-        if count == 2 {
-            let second = self.marks.highest_free(&self.ledger, first, named)?;
-            chosen.push(second);
+        let mut limit = self.frames;
+        for _ in 0..count {
+            let frame = self.marks.highest_free(&self.ledger, limit, named)?;
+            chosen.push(frame);
+            limit = frame;
         }
         Some(chosen)
     }

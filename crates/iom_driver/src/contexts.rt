@@ -9,23 +9,25 @@ ghost use Rattle.iom_driver.specs.Directory.{context_for};
 ghost use Rattle.iom_driver.specs.Orders.{MapsNothing};
 
 use crate::device::Stages;
-use iom_base::{Mode, Ppn};
+use iom_base::{Mode, Ppn, Size};
 use iom_device_dir::{Context, FirstStage, GuestRoot, Pscid, SecondStage};
 use iom_phys_mem::Memory;
 
-/// A first stage with its root in this page.
-fn sv39(root: u32) -> FirstStage
-    ensures { result ≡ first.Sv39 (page_from 0 root) }
+/// A first stage of the size with its root in this page.
+fn first_stage(size: Size, root: u32) -> FirstStage
+    ensures { result ≡ first.Tables size (page_from 0 root) }
 {
-    FirstStage::Sv39(Ppn::new(u64::from(root)).unwrap())
+    let root = Ppn::new(u64::from(root)).unwrap();
+    FirstStage::Tables { size, root }
 }
 
-/// A second stage with its root in the four frames from this one on.
-fn sv39x4(root: u32) -> SecondStage
+/// A second stage of the size with its root in the four frames from this one on.
+fn second_stage(size: Size, root: u32) -> SecondStage
     requires { root % 4 ≡ 0 }
-    ensures { result ≡ second.Sv39x4 (guest_root_from root) }
+    ensures { result ≡ second.Tables size (guest_root_from root) }
 {
-    SecondStage::Sv39x4(GuestRoot::new(u64::from(root)).unwrap())
+    let root = GuestRoot::new(u64::from(root)).unwrap();
+    SecondStage::Tables { size, root }
 }
 
 /// The address space of this number.
@@ -37,8 +39,8 @@ fn space(number: u32) -> Pscid
 }
 
 /// The context of a device that is attached in these stages. In both the root of the first is the guest
-/// physical page 0. The IOMMU may use the tables at the root once the context is written: whoever has it was lent
-/// the memory, in which these tables map nothing already.
+/// physical page 0, and its tables are of the size of the second's. The IOMMU may use the tables at the root
+/// once the context is written: whoever has it was lent the memory, in which these tables map nothing already.
 pub(crate) fn context_for(memory: &Memory, stages: Stages) -> Context
     requires number { stages.number < 2 ^ 16 }
     requires root { IsAligned stages.mode stages.root }
@@ -46,24 +48,24 @@ pub(crate) fn context_for(memory: &Memory, stages: Stages) -> Context
     ensures { result ≡ context_for stages }
 {
     match stages.mode {
-        Mode::First => Context {
+        Mode::First(size) => Context {
             en_ats: stages.ats,
-            first_stage: sv39(stages.root),
+            first_stage: first_stage(size, stages.root),
             second_stage: SecondStage::Bare,
             pscid: space(stages.number),
             gscid: 0,
         },
-        Mode::Second => Context {
+        Mode::Second(size) => Context {
             en_ats: stages.ats,
             first_stage: FirstStage::Bare,
-            second_stage: sv39x4(stages.root),
+            second_stage: second_stage(size, stages.root),
             pscid: space(0),
             gscid: stages.number as u16,
         },
-        Mode::Both => Context {
+        Mode::Both(size) => Context {
             en_ats: stages.ats,
-            first_stage: sv39(0),
-            second_stage: sv39x4(stages.root),
+            first_stage: first_stage(size, 0),
+            second_stage: second_stage(size, stages.root),
             pscid: space(stages.number),
             gscid: stages.number as u16,
         },

@@ -14,8 +14,9 @@ use iom_phys_mem::Memory;
 impl Driver {
     /// The device gets the frame at the page: the tables that are missing take the highest free frames, from
     /// the root down, the granted one passed over, and the page's leaf is written. No command is queued.
-    /// `NotStarted`, `NoSuchDevice`, `NotAttached`, `FrameOutOfRange`, `FrameReserved`, `IovaOutOfRange`,
-    /// `IovaBusy`, `NoFrames`, `Memory`: the first that applies.
+    /// `NotStarted`, `NoSuchDevice`, `NotAttached`, `FrameOutOfRange`, `FrameReserved`, `IovaOutOfRange` where
+    /// the page isn't below the limit of the size of the device's mode, `IovaBusy`, `NoFrames`, `Memory`: the
+    /// first that applies.
     pub fn grant(
         &mut self,
         memory: &mut Memory,
@@ -29,13 +30,15 @@ impl Driver {
         ensures stand { TablesStand (state_of self.new) memory.new }
         ensures ready { (r : Registers) → IsReady (state_of self.old) memory.old r → IsReady (state_of self.new) memory.new r }
     {
-        let root = match self.admit_grant(id, page, frame) {
-            Ok(stage) => stage.root,
+        let stage = match self.admit_grant(id, page, frame) {
+            Ok(stage) => stage,
             Err(why) => return Err(why),
         };
+        let size = stage.mode.size();
+        let root = stage.root;
         let frame = frame as u32;
         let rights = rights.rights();
-        let lacking = missing(memory, root, page);
+        let lacking = missing(memory, size, root, page);
         let Some(tables) = self.choose(lacking, Some(frame)) else {
             return Err(Refusal::NoFrames);
         };
@@ -45,7 +48,7 @@ impl Driver {
         let owner = Owner::OneDevice(id);
         reserve_all(&mut self.marks, memory, tables.as_slice(), owner);
         let leaf = PageLeaf { frame, rights };
-        map(memory, root, page, leaf, tables.as_slice());
+        map(memory, size, root, page, leaf, tables.as_slice());
         Ok(())
     }
 }

@@ -7,9 +7,9 @@
 //! number: nothing else. It keeps no list of the commands that wait.
 //!
 //! A device is attached in a [`Mode`], with ATS or without. Where the first stage translates alone the tables
-//! are those of Sv39, else those of a second stage, Sv39x4, whose root fills four frames: what is granted then
-//! are guest physical pages. In both stages the first one's tables are the guest's own business, with their
-//! root in its page 0.
+//! are those of Sv39 or Sv48, by the size of the mode; else those of a second stage, Sv39x4 or Sv48x4, whose root
+//! fills four frames: what is granted then are guest physical pages. In both stages the first one's tables are
+//! the guest's own business, of the same size, with their root in its page 0.
 //!
 //! The layers above may rely on this. The whole effect of each call is one relation, over the
 //! driver, memory and whatever has registers, by the answer (`specs/Calls.antt`, and `Attaching`,

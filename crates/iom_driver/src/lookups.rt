@@ -1,8 +1,9 @@
 // What the driver tells of itself.
-ghost use Rattle.std.specs.Prelude.{◌≡◌, ◌↔◌, ◌-◌, IsTrue, MatchOption};
+ghost use Rattle.std.specs.Prelude.{◌≡◌, ◌↔◌, ◌-◌, IsTrue, MatchOption, nat_lt, nat_le};
 ghost use Rattle.iom_table_frames.specs.Marks.{is_marked, AreSoMany};
 ghost use Rattle.iom_driver.specs.Calls.{IsFreeFrame};
 ghost use Rattle.iom_driver.specs.Devices.{device_of};
+ghost use Rattle.iom_driver.specs.Fences.{last_fence};
 ghost use Rattle.iom_driver.specs.Places.{IsPlaceOf};
 ghost use Rattle.iom_driver.specs.Seen.{state_of};
 
@@ -61,5 +62,19 @@ impl Driver {
         ensures { result ≡ (state_of self.now).given - (state_of self.now).confirmed }
     {
         (self.given - self.confirmed) as usize
+    }
+
+    /// Whether a ticket isn't confirmed.
+    pub fn has_pending(&self) -> bool
+        ensures { result ≡ nat_lt (state_of self.now).confirmed (state_of self.now).given }
+    {
+        self.confirmed < self.given
+    }
+
+    /// Whether the numbers of fences are used up, so that nothing can be queued any more that ends with a fence.
+    pub fn has_used_up(&self) -> bool
+        ensures { result ≡ nat_le 4294967295 (last_fence (state_of self.now)) }
+    {
+        self.last_fence() == u32::MAX
     }
 }

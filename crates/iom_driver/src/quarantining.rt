@@ -1,9 +1,9 @@
 // A device is cut off, and attached again.
 ghost use Rattle.std.specs.Prelude.{◌≡◌, ◌<◌, ◌↔◌, ℕ, Some, IfOk, IfErr, IsSome, Contains, length};
-ghost use Rattle.iom_base.specs.Sizes.{page_limit};
+ghost use Rattle.iom_base.specs.Sizes.{page_limit_of};
 ghost use Rattle.iom_ledger.specs.Refusals.{first_that_applies, NoneApplies};
 ghost use Rattle.iom_ledger.specs.Shown.{held_in, pages_listed};
-ghost use Rattle.iom_page_table.specs.Sv39.{IsRoot, HasTable, KeepsOutside};
+ghost use Rattle.iom_page_table.specs.FirstTables.{IsRoot, HasTable, KeepsOutside};
 ghost use Rattle.iom_registers.specs.declared.registers.Registers.{Registers};
 ghost use Rattle.iom_driver.specs.Quarantines.{all_unmapped, held_pages, LosesHeldLeaves, AnswersQuarantine};
 ghost use Rattle.iom_driver.specs.Ready.{TablesStand, IsReady};
@@ -17,7 +17,7 @@ use crate::contexts::context_for;
 use crate::device::Attachment;
 use crate::driver::Driver;
 use crate::layout::directory_frame;
-use iom_base::DeviceId;
+use iom_base::{DeviceId, Size};
 use iom_directory::{clear_context, put_context};
 use iom_ledger::{Ledger, Refusal};
 use iom_page_table::unmap;
@@ -25,22 +25,22 @@ use iom_phys_mem::Memory;
 use iom_registers::Mmio;
 
 /// Clears the leaf of each page that the device holds.
-fn clear_leaves(ledger: &Ledger, memory: &mut Memory, id: DeviceId, root: u32)
-    requires tree { IsRoot memory.old root }
-    requires pages { (page : ℕ) → IsSome (held_in ledger.now id page) → page < page_limit }
-    ensures tree { IsRoot memory.new root }
-    ensures tables { (f : ℕ) → HasTable memory.new root f ↔ HasTable memory.old root f }
-    ensures leaves { LosesHeldLeaves ledger.now id root memory.old memory.new }
-    ensures outside { KeepsOutside memory.old memory.new root }
+fn clear_leaves(ledger: &Ledger, memory: &mut Memory, id: DeviceId, size: Size, root: u32)
+    requires tree { IsRoot size memory.old root }
+    requires pages { (page : ℕ) → IsSome (held_in ledger.now id page) → page < page_limit_of size }
+    ensures tree { IsRoot size memory.new root }
+    ensures tables { (f : ℕ) → HasTable size memory.new root f ↔ HasTable size memory.old root f }
+    ensures leaves { LosesHeldLeaves size ledger.now id root memory.old memory.new }
+    ensures outside { KeepsOutside size memory.old memory.new root }
     ensures size { length memory.new ≡ length memory.old }
-    ensures whole { memory.new ≡ all_unmapped memory.old root (held_pages ledger.now id (pages_listed ledger.now id)) }
+    ensures whole { memory.new ≡ all_unmapped size memory.old root (held_pages ledger.now id (pages_listed ledger.now id)) }
     ensures all { (page : ℕ) → IsSome (held_in ledger.now id page)
         → Contains (held_pages ledger.now id (pages_listed ledger.now id)) page }
 {
     for index in 0..ledger.page_count(id) {
         if let Some(page) = ledger.page_at(id, index) {
             if ledger.holds(id, page).is_some() {
-                unmap(memory, root, page);
+                unmap(memory, size, root, page);
             }
         }
     }
@@ -71,7 +71,7 @@ impl Driver {
         let ticket = self.given;
         let directory = directory_frame(self.frames);
         clear_context(memory, self.levels, directory, id);
-        clear_leaves(&self.ledger, memory, id, stage.root);
+        clear_leaves(&self.ledger, memory, id, stage.mode.size(), stage.root);
         self.ledger.release_all(id, ticket);
         set_attachment(
             &mut self.devices,

@@ -37,7 +37,7 @@ impl Driver {
         let number = self.last_fence() + 1;
         self.given += 1;
         self.ledger.release(id, page, self.given);
-        unmap(memory, stage.root, page);
+        unmap(memory, stage.mode.size(), stage.root, page);
         append_release(memory, io, self.frames, id, stage, page, number);
         Ok(Ticket(self.given))
     }

@@ -20,6 +20,7 @@ pub loop-index-preserved : goal.loop-index-preserved
 loop-index-preserved c =
     let ledger = c.args.ledger.now in
     let id = c.args.id in
+    let size = c.args.size in
     let root = c.args.root in
     let old = c.args.memory.now in
     let index = c.loop-index.index in
@@ -29,18 +30,18 @@ loop-index-preserved c =
           let at : slice_get (pages_listed ledger id) index ≡ Some w.in-Some.page = sym c.page_at.ensures ∙ w.in-Some.is in
           let held : is_some (held_in ledger id w.in-Some.page) ≡ true = ap is_some (sym w.holds.ensures.shown) ∙ sym w.is_some.ensures ∙ w.if-is_some.true in
           rw w.memory-is record {
-            unmaps = unmaps_next ledger id root old c.loop-index.memory w.unmap.new.memory index w.in-Some.page before at held record {
+            unmaps = unmaps_next size ledger id root old c.loop-index.memory w.unmap.new.memory index w.in-Some.page before at held record {
               tree = w.unmap.ensures.tree;
               tables = w.unmap.ensures.tables;
               leaf = w.unmap.ensures.leaf;
               outside = w.unmap.ensures.outside;
-              size = w.unmap.ensures.size;
+              long = w.unmap.ensures.size;
             } w.unmap.ensures.whole;
           }
       | in-Some+else-is_some w ↦
           let at : slice_get (pages_listed ledger id) index ≡ Some w.in-Some.page = sym c.page_at.ensures ∙ w.in-Some.is in
           let held : is_some (held_in ledger id w.in-Some.page) ≡ false = ap is_some (sym w.holds.ensures.shown) ∙ sym w.is_some.ensures ∙ w.if-is_some.false in
-          rw w.memory-is record { unmaps = unmaps_past ledger id root old c.loop-index.memory index w.in-Some.page before at held }
+          rw w.memory-is record { unmaps = unmaps_past size ledger id root old c.loop-index.memory index w.in-Some.page before at held }
       | in_default w ↦
           let inside : index < length (pages_listed ledger id) = omega (arith, c.page_count-index-end.ensures.count, c.loop-index-test.true) in
           let found = get_there (pages_listed ledger id) index inside in
@@ -50,7 +51,7 @@ loop-index-preserved c =
 pub returns-clause-leaves : goal.returns-clause-leaves
 returns-clause-leaves c =
     let end : length (pages_listed c.args.ledger.now c.args.id) ≤ c.loop-index.index = omega (arith, c.page_count-index-end.ensures.count, c.loop-index-test.false) in
-    loses_leaves c.args.ledger.now c.args.id c.args.root c.args.memory.now c.loop-index.memory c.loop-index.index c.loop-index.invariant.unmaps end c.page_count-index-end.ensures.held
+    loses_leaves c.args.size c.args.ledger.now c.args.id c.args.root c.args.memory.now c.loop-index.memory c.loop-index.index c.loop-index.invariant.unmaps end c.page_count-index-end.ensures.held
 
 pub returns-clause-all : goal.returns-clause-all
 returns-clause-all c = λ page held. held_contained c.args.ledger.now c.args.id page (pages_listed c.args.ledger.now c.args.id) held (c.page_count-index-end.ensures.held page held)

@@ -4,6 +4,8 @@ use Rattle.std.proofs.lemmas.Bool.{false≢true}
 use Rattle.iom_base.specs.declared.owner.Owner.{Owner}
 use Rattle.iom_base.specs.declared.owner.Owner.TheVariants.{OneDevice, System}
 use Rattle.iom_base.specs.declared.rights.Rights.{Rights}
+use Rattle.iom_base.specs.declared.size.Size.{Size}
+use Rattle.iom_base.specs.Modes.{size_in}
 use Rattle.iom_ledger.specs.Changes.{IsUnchanged, ShowsGrant}
 use Rattle.iom_ledger.specs.declared.entry.HistoryEntry.TheVariants as entry
 use Rattle.iom_ledger.specs.declared.ledger.Ledger.{Ledger}
@@ -11,7 +13,7 @@ use Rattle.iom_ledger.specs.declared.refusal.Refusal.TheVariants.{NoFrames}
 use Rattle.iom_ledger.specs.History.{History}
 use Rattle.iom_ledger.specs.Shown.{Agrees}
 use Rattle.iom_page_table.specs.declared.leaf.PageLeaf.{PageLeaf}
-use Rattle.iom_page_table.specs.Sv39.{missing_for, mapped}
+use Rattle.iom_page_table.specs.FirstTables.{missing_for, mapped}
 use Rattle.iom_table_frames.specs.Marks.{HasFree}
 use Rattle.iom_driver.specs.Calls.{granted_leaf, KeepsOthers, HasFrames, IsSame, LacksTables}
 use Rattle.iom_driver.specs.Choices.{AreHighestFree, marked_for, cleared}
@@ -25,8 +27,9 @@ use Rattle.iom_driver.specs.State.{DriverState}
 use Rattle.iom_driver.specs.Tables.{HaveTables}
 use Rattle.iom_driver.proofs.Chosen.{AreChosen, are_chosen, enough}
 use Rattle.iom_driver.proofs.Directories.{directory_stay, in_stands, stands_in}
-use Rattle.iom_driver.proofs.GrantTables.{missing_two, may_be_mapped, IsMapped, mapped_is, others_kept, kept_others, tables_granted}
+use Rattle.iom_driver.proofs.GrantTables.{missing_few, may_be_mapped, IsMapped, mapped_is, others_kept, kept_others, tables_granted}
 use Rattle.iom_driver.proofs.Keeps.{sound_granted}
+use Rattle.iom_driver.proofs.Limits.{low_in_any}
 use Rattle.iom_driver.proofs.Marks.{length-cleared, length-marked_for, mark_stays}
 use Rattle.iom_driver.proofs.Places.{attached_owns}
 use Rattle.iom_driver.proofs.Stays.{all_stay, ready_from}
@@ -51,11 +54,12 @@ system_device : (id : ℕ) → ◌≡◌ {A = Option (Option Owner)} (Some (Some
 system_device id same = cc
 
 -- the frames that are cleared and then mapped are the chosen ones
-mapped_as : (memory before after : List (List ℕ)) (root page : ℕ) (leaf : PageLeaf) (clears maps chosen : List ℕ) → before ≡ cleared clears memory → clears ≡ chosen → maps ≡ chosen
-    → IsMapped before after root page leaf maps → IsMapped (cleared chosen memory) after root page leaf chosen
-mapped_as memory before after root page leaf clears maps chosen is clears_is maps_is mapped =
-    subst (λ m. IsMapped m after root page leaf chosen) (is ∙ ap (λ fs. cleared fs memory) clears_is)
-    (subst (λ fs. IsMapped before after root page leaf fs) maps_is mapped)
+mapped_as : (size given : Size) (memory before after : List (List ℕ)) (root page : ℕ) (leaf : PageLeaf) (clears maps chosen : List ℕ) → given ≡ size → before ≡ cleared clears memory → clears ≡ chosen → maps ≡ chosen
+    → IsMapped given before after root page leaf maps → IsMapped size (cleared chosen memory) after root page leaf chosen
+mapped_as size given memory before after root page leaf clears maps chosen size_is is clears_is maps_is maps_so =
+    subst (λ s. IsMapped s (cleared chosen memory) after root page leaf chosen) size_is
+    (subst (λ m. IsMapped given m after root page leaf chosen) (is ∙ ap (λ fs. cleared fs memory) clears_is)
+    (subst (λ fs. IsMapped given before after root page leaf fs) maps_is maps_so))
 
 -- the chosen frames, below the end of memory
 chosen_below : (marks : List (Option Owner)) (ledger : Ledger) (named limit count : ℕ) (chosen : List ℕ) (memory : List (List ℕ)) → limit ≡ length memory
@@ -86,13 +90,13 @@ returns-in-Err c =
 
 -- where too few are free for the tables that the page lacks
 no_frames : (d : DriverState) (memory : List (List ℕ)) (id page frame : ℕ) (stage : Stages) (frames lacking : ℕ) → stages_of d.devices id ≡ Some stage → frames ≡ length memory
-    → lacking ≡ missing_for memory stage.root page → ¬ HasFree d.marks d.ledger (Some frame) lacking frames → ¬ HasFrames d memory id page frame
+    → lacking ≡ missing_for (size_in stage.mode) memory stage.root page → ¬ HasFree d.marks d.ledger (Some frame) lacking frames → ¬ HasFrames d memory id page frame
 no_frames d memory id page frame stage frames lacking at many is none = λ has.
     let both : Some has.stage ≡ Some stage = sym has.attached ∙ at in
     let same : has.stage ≡ stage = cc in
     none (subst (λ n. HasFree d.marks d.ledger (Some frame) lacking n) (sym many)
     (subst (λ n. HasFree d.marks d.ledger (Some frame) n (length memory)) (sym is)
-    (subst (λ (s : Stages). HasFree d.marks d.ledger (Some frame) (missing_for memory s.root page) (length memory)) same has.enough)))
+    (subst (λ (s : Stages). HasFree d.marks d.ledger (Some frame) (missing_for (size_in s.mode) memory s.root page) (length memory)) same has.enough)))
 
 pub returns-in_default : goal.returns-in_default
 returns-in_default c =
@@ -100,7 +104,8 @@ returns-in_default c =
     let d = state_of driver in
     let memory = c.args.memory.now in
     let many : driver.frames ≡ length memory = sym (c.requires.stand.size ∙ driver.sound.sizes.marked) in
-    let without = no_frames d memory c.args.id c.args.page c.args.frame c.in-Ok.stage driver.frames c.missing-lacking.result c.in-Ok.ensures.may.attached many c.missing-lacking.ensures c.in_default.ensures.none in
+    let counted = c.missing-lacking.ensures ∙ ap (λ s. missing_for s memory c.in-Ok.stage.root c.args.page) c.size-size.ensures in
+    let without = no_frames d memory c.args.id c.args.page c.args.frame c.in-Ok.stage driver.frames c.missing-lacking.result c.in-Ok.ensures.may.attached many counted c.in_default.ensures.none in
     record {
       effect = (
         none_told (why_not_grant d c.args.id c.args.page c.args.frame) (LacksTables d memory c.args.id c.args.page c.args.frame) NoFrames c.in-Ok.ensures.admitted without,
@@ -112,7 +117,7 @@ returns-in_default c =
     }
 
 pub choose-requires : goal.choose-requires
-choose-requires c = subst (λ n. n ≤ 2) (sym c.missing-lacking.ensures) (missing_two c.args.memory.now c.in-Ok.stage.root c.args.page)
+choose-requires c = subst (λ n. n ≤ 3) (sym c.missing-lacking.ensures) (missing_few c.size-size.result c.args.memory.now c.in-Ok.stage.root c.args.page)
 
 pub grant-requires : goal.grant-requires
 grant-requires c = record {
@@ -134,7 +139,7 @@ reserve_all-requires c =
     }
 
 pub map-requires-clause-page : goal.map-requires-clause-page
-map-requires-clause-page c = c.in-Ok.ensures.may.page_low
+map-requires-clause-page c = rw c.size-size.ensures c.in-Ok.ensures.may.page_low
 
 pub map-requires-clause-rights : goal.map-requires-clause-rights
 map-requires-clause-rights c = c.rights-rights.ensures.grantable
@@ -156,13 +161,14 @@ returns-then-is_err-clause-effect c =
     let failed = sym c.is_err.ensures.value ∙ c.if-is_err.true in
     let unchanged : IsUnchanged driver.ledger c.grant.new.self = err_then c.grant.result failed c.grant.ensures.refused in
     let many = sym (c.requires.stand.size ∙ driver.sound.sizes.marked) in
-    let chosen : AreHighestFree driver.marks driver.ledger (Some c.args.frame) (length memory) (missing_for memory c.in-Ok.stage.root c.args.page) c.in-Some.tables.items =
-    subst (λ n. AreHighestFree driver.marks driver.ledger (Some c.args.frame) (length memory) n c.in-Some.tables.items) c.missing-lacking.ensures
+    let chosen : AreHighestFree driver.marks driver.ledger (Some c.args.frame) (length memory) (missing_for (size_in c.in-Ok.stage.mode) memory c.in-Ok.stage.root c.args.page) c.in-Some.tables.items =
+    subst (λ n. AreHighestFree driver.marks driver.ledger (Some c.args.frame) (length memory) n c.in-Some.tables.items)
+    (c.missing-lacking.ensures ∙ ap (λ s. missing_for s memory c.in-Ok.stage.root c.args.page) c.size-size.ensures)
     (subst (λ n. AreHighestFree driver.marks driver.ledger (Some c.args.frame) n c.missing-lacking.result c.in-Some.tables.items) many c.in-Some.ensures.chosen) in (
       rw c.in-Ok.ensures.admitted record {
         stage = c.in-Ok.stage;
         attached = c.in-Ok.ensures.may.attached;
-        enough = enough driver.marks driver.ledger (Some c.args.frame) (length memory) (missing_for memory c.in-Ok.stage.root c.args.page) c.in-Some.tables.items chosen;
+        enough = enough driver.marks driver.ledger (Some c.args.frame) (length memory) (missing_for (size_in c.in-Ok.stage.mode) memory c.in-Ok.stage.root c.args.page) c.in-Some.tables.items chosen;
       },
       record { ledger = unchanged; agrees = err_then c.grant.result failed c.grant.ensures.refused_agrees; rest = refl },
       refl,
@@ -181,7 +187,7 @@ invariant_of-self-2 c =
           subst (λ (ms : List (Option Owner)). IsSound c.grant.new.self ms driver.devices.items driver.frames driver.levels driver.started driver.given driver.confirmed driver.restarts driver.restarted)
           (sym (c.reserve_all.ensures.marks ∙ ap (λ fs. marked_for (OneDevice c.args.id) fs driver.marks) c.as_slice.ensures.value))
           (sound_granted driver.ledger c.grant.new.self driver.marks driver.devices.items driver.frames driver.levels driver.started driver.given driver.confirmed driver.restarts driver.restarted c.args.id c.args.page c.args.frame c.rights-rights.result c.in-Ok.stage tables
-          driver.sound granted may.attached may.page_low (unmarked driver.marks c.args.frame may.inside may.unreserved) chose.inside chose.free);
+          driver.sound granted may.attached (low_in_any (size_in c.in-Ok.stage.mode) c.args.page may.page_low) (unmarked driver.marks c.args.frame may.inside may.unreserved) chose.inside chose.free);
     }
 
 pub map-requires-clause-tree : goal.map-requires-clause-tree
@@ -189,36 +195,40 @@ map-requires-clause-tree c =
     let driver = c.args.self.now in
     let many = sym (c.requires.stand.size ∙ driver.sound.sizes.marked) in
     let may = may_be_mapped c.args.memory.now driver.marks driver.ledger c.args.id c.in-Ok.stage.mode c.in-Ok.stage.root c.args.page c.args.frame c.missing-lacking.result c.in-Some.tables.items
-    (c.requires.stand.tables c.args.id c.in-Ok.stage (attached_owns (attachment_of driver.devices.items c.args.id) c.in-Ok.stage c.in-Ok.ensures.may.attached)) c.in-Ok.ensures.may.page_low c.in-Ok.ensures.may.not_held c.missing-lacking.ensures
+    (c.requires.stand.tables c.args.id c.in-Ok.stage (attached_owns (attachment_of driver.devices.items c.args.id) c.in-Ok.stage c.in-Ok.ensures.may.attached)) c.in-Ok.ensures.may.page_low c.in-Ok.ensures.may.not_held
+    (c.missing-lacking.ensures ∙ ap (λ s. missing_for s c.args.memory.now c.in-Ok.stage.root c.args.page) c.size-size.ensures)
     (chosen_below driver.marks driver.ledger c.args.frame driver.frames c.missing-lacking.result c.in-Some.tables.items c.args.memory.now many c.in-Some.ensures.chosen) in
-    rw (c.reserve_all.ensures.memory, c.as_slice.ensures.value) may.tree
+    rw (c.size-size.ensures, c.reserve_all.ensures.memory, c.as_slice.ensures.value) may.tree
 
 pub map-requires-clause-free : goal.map-requires-clause-free
 map-requires-clause-free c =
     let driver = c.args.self.now in
     let many = sym (c.requires.stand.size ∙ driver.sound.sizes.marked) in
     let may = may_be_mapped c.args.memory.now driver.marks driver.ledger c.args.id c.in-Ok.stage.mode c.in-Ok.stage.root c.args.page c.args.frame c.missing-lacking.result c.in-Some.tables.items
-    (c.requires.stand.tables c.args.id c.in-Ok.stage (attached_owns (attachment_of driver.devices.items c.args.id) c.in-Ok.stage c.in-Ok.ensures.may.attached)) c.in-Ok.ensures.may.page_low c.in-Ok.ensures.may.not_held c.missing-lacking.ensures
+    (c.requires.stand.tables c.args.id c.in-Ok.stage (attached_owns (attachment_of driver.devices.items c.args.id) c.in-Ok.stage c.in-Ok.ensures.may.attached)) c.in-Ok.ensures.may.page_low c.in-Ok.ensures.may.not_held
+    (c.missing-lacking.ensures ∙ ap (λ s. missing_for s c.args.memory.now c.in-Ok.stage.root c.args.page) c.size-size.ensures)
     (chosen_below driver.marks driver.ledger c.args.frame driver.frames c.missing-lacking.result c.in-Some.tables.items c.args.memory.now many c.in-Some.ensures.chosen) in
-    rw (c.reserve_all.ensures.memory, c.as_slice.ensures.value) may.free
+    rw (c.size-size.ensures, c.reserve_all.ensures.memory, c.as_slice.ensures.value) may.free
 
 pub map-requires-clause-count : goal.map-requires-clause-count
 map-requires-clause-count c =
     let driver = c.args.self.now in
     let many = sym (c.requires.stand.size ∙ driver.sound.sizes.marked) in
     let may = may_be_mapped c.args.memory.now driver.marks driver.ledger c.args.id c.in-Ok.stage.mode c.in-Ok.stage.root c.args.page c.args.frame c.missing-lacking.result c.in-Some.tables.items
-    (c.requires.stand.tables c.args.id c.in-Ok.stage (attached_owns (attachment_of driver.devices.items c.args.id) c.in-Ok.stage c.in-Ok.ensures.may.attached)) c.in-Ok.ensures.may.page_low c.in-Ok.ensures.may.not_held c.missing-lacking.ensures
+    (c.requires.stand.tables c.args.id c.in-Ok.stage (attached_owns (attachment_of driver.devices.items c.args.id) c.in-Ok.stage c.in-Ok.ensures.may.attached)) c.in-Ok.ensures.may.page_low c.in-Ok.ensures.may.not_held
+    (c.missing-lacking.ensures ∙ ap (λ s. missing_for s c.args.memory.now c.in-Ok.stage.root c.args.page) c.size-size.ensures)
     (chosen_below driver.marks driver.ledger c.args.frame driver.frames c.missing-lacking.result c.in-Some.tables.items c.args.memory.now many c.in-Some.ensures.chosen) in
-    rw (c.as_slice-2.ensures.value, c.reserve_all.ensures.memory, c.as_slice.ensures.value) may.count
+    rw (c.size-size.ensures, c.as_slice-2.ensures.value, c.reserve_all.ensures.memory, c.as_slice.ensures.value) may.count
 
 pub map-requires-clause-fresh : goal.map-requires-clause-fresh
 map-requires-clause-fresh c =
     let driver = c.args.self.now in
     let many = sym (c.requires.stand.size ∙ driver.sound.sizes.marked) in
     let may = may_be_mapped c.args.memory.now driver.marks driver.ledger c.args.id c.in-Ok.stage.mode c.in-Ok.stage.root c.args.page c.args.frame c.missing-lacking.result c.in-Some.tables.items
-    (c.requires.stand.tables c.args.id c.in-Ok.stage (attached_owns (attachment_of driver.devices.items c.args.id) c.in-Ok.stage c.in-Ok.ensures.may.attached)) c.in-Ok.ensures.may.page_low c.in-Ok.ensures.may.not_held c.missing-lacking.ensures
+    (c.requires.stand.tables c.args.id c.in-Ok.stage (attached_owns (attachment_of driver.devices.items c.args.id) c.in-Ok.stage c.in-Ok.ensures.may.attached)) c.in-Ok.ensures.may.page_low c.in-Ok.ensures.may.not_held
+    (c.missing-lacking.ensures ∙ ap (λ s. missing_for s c.args.memory.now c.in-Ok.stage.root c.args.page) c.size-size.ensures)
     (chosen_below driver.marks driver.ledger c.args.frame driver.frames c.missing-lacking.result c.in-Some.tables.items c.args.memory.now many c.in-Some.ensures.chosen) in
-    rw (c.as_slice-2.ensures.value, c.reserve_all.ensures.memory, c.as_slice.ensures.value) may.fresh
+    rw (c.size-size.ensures, c.as_slice-2.ensures.value, c.reserve_all.ensures.memory, c.as_slice.ensures.value) may.fresh
 
 pub returns-clause-effect : goal.returns-clause-effect
 returns-clause-effect c =
@@ -226,6 +236,7 @@ returns-clause-effect c =
     let tables = c.in-Some.tables.items in
     let memory = c.args.memory.now in
     let right = c.rights-rights.ensures.value in
+    let size = size_in c.in-Ok.stage.mode in
     let root = c.in-Ok.stage.root in
     let granted = ok_then c.grant.result (sym c.is_err.ensures.value ∙ c.if-is_err.false) c.grant.ensures.granted in
     let agrees = ok_then c.grant.result (sym c.is_err.ensures.value ∙ c.if-is_err.false) c.grant.ensures.agrees in
@@ -235,29 +246,31 @@ returns-clause-effect c =
         stage = c.in-Ok.stage;
         attached = c.in-Ok.ensures.may.attached;
         tables = tables;
-        chosen = subst (λ n. AreHighestFree driver.marks driver.ledger (Some c.args.frame) n (missing_for memory root c.args.page) tables) many
-            (subst (λ n. AreHighestFree driver.marks driver.ledger (Some c.args.frame) driver.frames n tables) c.missing-lacking.ensures c.in-Some.ensures.chosen);
+        chosen = subst (λ n. AreHighestFree driver.marks driver.ledger (Some c.args.frame) n (missing_for size memory root c.args.page) tables) many
+            (subst (λ n. AreHighestFree driver.marks driver.ledger (Some c.args.frame) driver.frames n tables) (c.missing-lacking.ensures ∙ ap (λ s. missing_for s memory root c.args.page) c.size-size.ensures) c.in-Some.ensures.chosen);
         shown = subst (λ (r : Rights). ShowsGrant driver.ledger c.grant.new.self c.args.id c.args.page (c.args.frame, r)) right granted;
         agrees = subst (λ (r : Rights). (h : History) → Agrees driver.ledger h → Agrees c.grant.new.self (entry.Granted c.args.id c.args.page c.args.frame r ∷ h)) right agrees;
         driver = rw (c.reserve_all.ensures.marks, c.as_slice.ensures.value) refl;
-        bytes = mapped_is memory c.reserve_all.new.memory c.map.new.memory root c.args.page (record { frame = c.args.frame; rights = c.rights-rights.result }) (granted_leaf c.args.frame c.args.rights)
-            c.as_slice.result.now c.as_slice-2.result.now tables c.map.ensures.whole c.reserve_all.ensures.memory c.as_slice.ensures.value c.as_slice-2.ensures.value
+        bytes = mapped_is size memory c.reserve_all.new.memory c.map.new.memory root c.args.page (record { frame = c.args.frame; rights = c.rights-rights.result }) (granted_leaf c.args.frame c.args.rights)
+            c.as_slice.result.now c.as_slice-2.result.now tables
+            (c.map.ensures.whole ∙ ap (λ s. mapped s c.reserve_all.new.memory root c.args.page (record { frame = c.args.frame; rights = c.rights-rights.result }) c.as_slice-2.result.now) c.size-size.ensures)
+            c.reserve_all.ensures.memory c.as_slice.ensures.value c.as_slice-2.ensures.value
             (ap (λ (r : Rights). granted_with c.args.frame r) right);
         others =
             let leaf : PageLeaf = record { frame = c.args.frame; rights = c.rights-rights.result } in
-            let mapped = mapped_as memory c.reserve_all.new.memory c.map.new.memory root c.args.page leaf c.as_slice.result.now c.as_slice-2.result.now tables
-            c.reserve_all.ensures.memory c.as_slice.ensures.value c.as_slice-2.ensures.value record {
+            let mapped_so = mapped_as size c.size-size.result memory c.reserve_all.new.memory c.map.new.memory root c.args.page leaf c.as_slice.result.now c.as_slice-2.result.now tables
+            c.size-size.ensures c.reserve_all.ensures.memory c.as_slice.ensures.value c.as_slice-2.ensures.value record {
               tree = c.map.ensures.tree;
               tables = c.map.ensures.tables;
               leaf = c.map.ensures.leaf;
               outside = c.map.ensures.outside;
-              size = c.map.ensures.size;
+              long = c.map.ensures.size;
             } in
             subst (λ (ms : List (Option Owner)). KeepsOthers ms c.args.id memory c.map.new.memory)
             (sym (c.reserve_all.ensures.marks ∙ ap (λ fs. marked_for (OneDevice c.args.id) fs driver.marks) c.as_slice.ensures.value))
             (others_kept memory c.map.new.memory driver.marks driver.ledger c.args.id c.in-Ok.stage.mode root c.args.page c.args.frame c.missing-lacking.result leaf tables (sym c.requires.stand.size)
             (c.requires.stand.tables c.args.id c.in-Ok.stage (attached_owns (attachment_of driver.devices.items c.args.id) c.in-Ok.stage c.in-Ok.ensures.may.attached))
-            (chosen_below driver.marks driver.ledger c.args.frame driver.frames c.missing-lacking.result tables memory many c.in-Some.ensures.chosen) mapped);
+            (chosen_below driver.marks driver.ledger c.args.frame driver.frames c.missing-lacking.result tables memory many c.in-Some.ensures.chosen) mapped_so);
       },
     )
   where
@@ -271,32 +284,32 @@ returns-clause-stand c =
     let memory = c.args.memory.now in
     let may = c.in-Ok.ensures.may in
     let leaf : PageLeaf = record { frame = c.args.frame; rights = c.rights-rights.result } in
-    let mapped = mapped_as memory c.reserve_all.new.memory c.map.new.memory c.in-Ok.stage.root c.args.page leaf c.as_slice.result.now c.as_slice-2.result.now tables
-    c.reserve_all.ensures.memory c.as_slice.ensures.value c.as_slice-2.ensures.value record {
+    let mapped_so = mapped_as (size_in c.in-Ok.stage.mode) c.size-size.result memory c.reserve_all.new.memory c.map.new.memory c.in-Ok.stage.root c.args.page leaf c.as_slice.result.now c.as_slice-2.result.now tables
+    c.size-size.ensures c.reserve_all.ensures.memory c.as_slice.ensures.value c.as_slice-2.ensures.value record {
       tree = c.map.ensures.tree;
       tables = c.map.ensures.tables;
       leaf = c.map.ensures.leaf;
       outside = c.map.ensures.outside;
-      size = c.map.ensures.size;
+      long = c.map.ensures.size;
     } in
     let granted = ok_then c.grant.result (sym c.is_err.ensures.value ∙ c.if-is_err.false) c.grant.ensures.granted in
     let many = sym (c.requires.stand.size ∙ driver.sound.sizes.marked) in
     let chose = chosen_below driver.marks driver.ledger c.args.frame driver.frames c.missing-lacking.result tables memory many c.in-Some.ensures.chosen in
     let marks = c.reserve_all.ensures.marks ∙ ap (λ fs. marked_for (OneDevice c.args.id) fs driver.marks) c.as_slice.ensures.value in
     record {
-      size = mapped.size ∙ length-cleared tables memory ∙ c.requires.stand.size ∙ sym (length-marked_for (OneDevice c.args.id) tables driver.marks) ∙ sym (ap (λ (ms : List (Option Owner)). length ms) marks);
+      size = mapped_so.long ∙ length-cleared tables memory ∙ c.requires.stand.size ∙ sym (length-marked_for (OneDevice c.args.id) tables driver.marks) ∙ sym (ap (λ (ms : List (Option Owner)). length ms) marks);
       tables =
           subst (λ (ms : List (Option Owner)). HaveTables c.map.new.memory ms c.grant.new.self driver.devices.items) (sym marks)
           (tables_granted memory c.map.new.memory driver.marks driver.ledger c.grant.new.self driver.devices.items c.args.id c.args.page c.args.frame c.missing-lacking.result c.rights-rights.result c.in-Ok.stage tables
-          (sym c.requires.stand.size) c.requires.stand.tables (attached_owns (attachment_of driver.devices.items c.args.id) c.in-Ok.stage c.in-Ok.ensures.may.attached) may.page_low granted chose mapped);
+          (sym c.requires.stand.size) c.requires.stand.tables (attached_owns (attachment_of driver.devices.items c.args.id) c.in-Ok.stage c.in-Ok.ensures.may.attached) may.page_low granted chose mapped_so);
       directory = λ started.
           let before = c.requires.stand.tables c.args.id c.in-Ok.stage (attached_owns (attachment_of driver.devices.items c.args.id) c.in-Ok.stage c.in-Ok.ensures.may.attached) in
-          let size : length c.map.new.memory ≡ length memory = mapped.size ∙ length-cleared tables memory in
+          let size : length c.map.new.memory ≡ length memory = mapped_so.long ∙ length-cleared tables memory in
           stands_in driver.frames c.map.new.memory _ driver.devices.items driver.levels (size ∙ sym many)
           (directory_stay driver.frames memory c.map.new.memory driver.marks _ driver.devices.items driver.devices.items driver.levels driver.sound.sizes.in_range size
           (λ n own. (
             kept_others memory c.map.new.memory driver.marks driver.ledger c.args.id c.in-Ok.stage.mode c.in-Ok.stage.root c.args.page c.args.frame c.missing-lacking.result n leaf tables System
-                (sym c.requires.stand.size) before chose mapped own.system (λ same. not_system c.args.id same),
+                (sym c.requires.stand.size) before chose mapped_so own.system (λ same. not_system c.args.id same),
             ap (λ (ms : List (Option Owner)). slice_get ms n) marks ∙ mark_stays (OneDevice c.args.id) n tables driver.marks
                 (owned_not_chosen driver.marks driver.ledger (Some c.args.frame) (length memory) c.missing-lacking.result n tables System (sym c.requires.stand.size) chose own.system),
           )) (λ id. refl) (λ id stage at. at) (in_stands driver.frames memory driver.marks driver.devices.items driver.levels (sym many) (c.requires.stand.directory started)));

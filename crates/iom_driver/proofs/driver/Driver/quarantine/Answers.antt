@@ -1,11 +1,12 @@
-use Rattle.std.proofs.Common.{◌≡◌, ◌≢◌, ◌<◌, ◌≤◌, ◌+◌, ◌-◌, ◌++◌, ◌∙◌, inl, ℕ, List, map, Option, None, Some, IsSome, length, slice_get, refl, sym, ap, subst, arith}
+use Rattle.std.proofs.Common.{◌≡◌, ◌≢◌, ◌<◌, ◌≤◌, ◌+◌, ◌-◌, ◌++◌, ◌∙◌, inl, ℕ, List, map, None, Some, length, slice_get, refl, sym, ap, subst, arith}
+use Rattle.iom_base.specs.Modes.{size_in}
 use Rattle.iom_base.specs.declared.owner.Owner.TheVariants.{System, OneDevice}
 use Rattle.iom_command_queue.specs.declared.entry.QueueEntry.{QueueEntry}
 use Rattle.iom_command_queue.specs.declared.entry.QueueEntry.TheVariants as stands
 use Rattle.iom_directory.specs.Pages.{HasPage, root_level}
 use Rattle.iom_directory.specs.Written.{without_context}
 use Rattle.iom_ledger.specs.History.{pending_limit}
-use Rattle.iom_ledger.specs.Shown.{held_in, pending_in, pages_listed}
+use Rattle.iom_ledger.specs.Shown.{pending_in, pages_listed}
 use Rattle.iom_driver.specs.declared.device.Attachment.TheVariants.{Quarantined}
 use Rattle.iom_driver.specs.declared.device.Device.{Device}
 use Rattle.iom_driver.specs.Appends.{detach_commands, AppendsAll}
@@ -18,6 +19,7 @@ use Rattle.iom_driver.specs.Sound.{IsSound}
 use Rattle.iom_driver.proofs.CuttingOff.{IsCleared, not_of_device, tables_uncontexted, owned_cut_off, sound_quarantined}
 use Rattle.iom_driver.proofs.Directories.{DirectoryIn, low_id, room_for_ids, in_stands, stands_in, directory_cleared, directory_stay}
 use Rattle.iom_driver.proofs.FaultRings.{fault_ring_stays}
+use Rattle.iom_driver.proofs.Limits.{held_low}
 use Rattle.iom_driver.proofs.Modes.{rooted, table_in}
 use Rattle.iom_driver.proofs.Orders.{maps_nothing, none_left, still_cleared}
 use Rattle.iom_driver.proofs.Places.{attached_owns, attached_there, attachment_set, attachment_other}
@@ -26,11 +28,6 @@ use Rattle.iom_driver.proofs.Stays.{all_stay, of_one}
 use Rattle.iom_driver.proofs.Tickets.{few_rise}
 use Rattle.iom_driver.proofs.Unmaps.{AreUnmapped, contained_held, frame_stays, tables_unmapped}
 use Rattle.iom_driver.proofs.driver.Driver.quarantine.Goals as goal
-
--- a value that is there
-there : {A : Type 0} (o : Option A) → IsSome o → (x : A) × (o ≡ Some x)
-there None present = cc
-there (Some x) present = (x, refl)
 
 pub returns-in-Err : goal.returns-in-Err
 returns-in-Err g c = record {
@@ -73,12 +70,13 @@ clear_leaves-requires-clause-tree g c =
     } in
     let tables = tables_uncontexted driver.frames memory c.clear_context.new.memory driver.marks driver.ledger driver.devices.items driver.levels c.args.id here cleared stand.tables c.args.id c.in-Ok.stage
     (attached_owns (attachment_of driver.devices.items c.args.id) c.in-Ok.stage may.attached) in
-    (rooted c.in-Ok.stage.mode c.clear_context.new.memory c.in-Ok.stage.root tables.tree).tree
+    rw c.size.ensures (rooted c.in-Ok.stage.mode c.clear_context.new.memory c.in-Ok.stage.root tables.tree).tree
 
 pub clear_leaves-requires-clause-pages : goal.clear_leaves-requires-clause-pages
 clear_leaves-requires-clause-pages g c = λ page present.
-    let held = there (held_in c.args.self.now.ledger c.args.id page) present in
-    (c.args.self.now.sound.grants.held c.args.id page held.0.0 held.0.1 held.1).page_low
+    let driver = c.args.self.now in
+    let tables = c.requires.ready.stand.tables c.args.id c.in-Ok.stage (attached_owns (attachment_of driver.devices.items c.args.id) c.in-Ok.stage c.in-Ok.ensures.may.attached) in
+    rw c.size.ensures (held_low c.args.memory.now driver.marks driver.ledger c.args.id c.in-Ok.stage.mode c.in-Ok.stage.root page tables present)
 
 pub release_all-requires : goal.release_all-requires
 release_all-requires g c =
@@ -146,17 +144,17 @@ append_detach-requires-clause-cut_off g c =
       size = c.clear_context.ensures.size;
     } in
     let tables = tables_uncontexted driver.frames memory between driver.marks driver.ledger driver.devices.items driver.levels id here cleared stand.tables in
-    let unmapped : AreUnmapped driver.ledger id stage.root between bare = record {
+    let unmapped = subst (λ size. AreUnmapped size driver.ledger id stage.root between bare) c.size.ensures record {
       tree = c.clear_leaves.ensures.tree;
       tables = c.clear_leaves.ensures.tables;
       leaves = c.clear_leaves.ensures.leaves;
       outside = c.clear_leaves.ensures.outside;
-      size = c.clear_leaves.ensures.size;
+      long = c.clear_leaves.ensures.size;
     } in
     let mapped = tables_unmapped between bare driver.marks driver.ledger ledger driver.devices.items id (driver.given + 1) stage tables owns unmapped c.release_all.ensures.released in
     let low = subst (λ n. id < n) (room_for_ids driver.levels driver.sound.sizes.in_range) (driver.sound.named id stage owns) in
     record {
-      context = still_cleared driver.frames memory between bare driver.marks driver.ledger driver.devices.items driver.levels id stage.root driver.sound.sizes.in_range here cleared low
+      context = still_cleared driver.frames memory between bare driver.marks driver.ledger driver.devices.items driver.levels id (size_in stage.mode) stage.root driver.sound.sizes.in_range here cleared low
           (λ f at. (tables id stage owns).own f (table_in stage.mode between stage.root f (inl at))) unmapped;
       tables = maps_nothing bare driver.marks ledger id stage.mode stage.root (mapped id stage owns) (none_left driver.ledger ledger id (driver.given + 1) c.release_all.ensures.released);
     }
@@ -186,23 +184,24 @@ returns-clause-effect g c =
       size = c.clear_context.ensures.size;
     } in
     let own = tables_uncontexted driver.frames memory between driver.marks driver.ledger driver.devices.items driver.levels id here cleared stand.tables id stage owns in
-    let unmapped : AreUnmapped driver.ledger id stage.root between bare = record {
+    let unmapped = subst (λ size. AreUnmapped size driver.ledger id stage.root between bare) c.size.ensures record {
       tree = c.clear_leaves.ensures.tree;
       tables = c.clear_leaves.ensures.tables;
       leaves = c.clear_leaves.ensures.leaves;
       outside = c.clear_leaves.ensures.outside;
-      size = c.clear_leaves.ensures.size;
+      long = c.clear_leaves.ensures.size;
     } in
     let kept : (f : ℕ) → slice_get driver.marks f ≢ Some (Some (OneDevice id)) → (HasPage memory (root_level driver.levels) (directory_frame driver.frames) f → ⊥) → slice_get bare f ≡ slice_get memory f =
     λ f apart outside.
-    frame_stays driver.ledger id stage.root between bare f unmapped (λ at. apart (own.own f (table_in stage.mode between stage.root f (inl at))))
+    frame_stays (size_in stage.mode) driver.ledger id stage.root between bare f unmapped (λ at. apart (own.own f (table_in stage.mode between stage.root f (inl at))))
     ∙ cleared.outside f (λ at. outside (cleared.pages f at)) in
     let commands = detach_commands id stage (completion_address driver.frames) (driver.given + driver.restarts + 1) in
     let appended = subst (λ n. AppendsAll g.M.Mmio bare io (detach_commands id stage (completion_address driver.frames) (n + 1)) new c.append_detach.new.io) c.last_fence-number.ensures c.append_detach.ensures.appended in
     let pages = held_pages driver.ledger id (pages_listed driver.ledger id) in
-    let whole : bare ≡ all_unmapped (without_context memory (root_level driver.levels) (directory_frame (length memory)) id) stage.root pages =
+    let whole : bare ≡ all_unmapped (size_in stage.mode) (without_context memory (root_level driver.levels) (directory_frame (length memory)) id) stage.root pages =
     c.clear_leaves.ensures.whole
-    ∙ ap (λ m. all_unmapped m stage.root pages)
+    ∙ ap (λ size. all_unmapped size between stage.root pages) c.size.ensures
+    ∙ ap (λ m. all_unmapped (size_in stage.mode) m stage.root pages)
     (c.clear_context.ensures.whole ∙ ap (λ r. without_context memory (root_level driver.levels) r id) (c.directory_frame-directory.ensures ∙ ap directory_frame (sym many))) in (
       c.in-Ok.ensures.admitted,
       record {
@@ -256,17 +255,17 @@ returns-clause-ready g c =
     } in
     let tables = tables_uncontexted driver.frames memory between driver.marks driver.ledger driver.devices.items driver.levels id here cleared stand.tables in
     let own = tables id stage owns in
-    let unmapped : AreUnmapped driver.ledger id stage.root between bare = record {
+    let unmapped = subst (λ size. AreUnmapped size driver.ledger id stage.root between bare) c.size.ensures record {
       tree = c.clear_leaves.ensures.tree;
       tables = c.clear_leaves.ensures.tables;
       leaves = c.clear_leaves.ensures.leaves;
       outside = c.clear_leaves.ensures.outside;
-      size = c.clear_leaves.ensures.size;
+      long = c.clear_leaves.ensures.size;
     } in
     let rest : length new ≡ length between = c.append_detach.ensures.size ∙ c.clear_leaves.ensures.size in
     let size : length new ≡ length memory = rest ∙ c.clear_context.ensures.size in
     let system : (f : ℕ) → slice_get driver.marks f ≡ Some (Some System) → slice_get bare f ≡ slice_get between f =
-    λ f mark. frame_stays driver.ledger id stage.root between bare f unmapped (λ at. not_of_device driver.marks f id mark (own.own f (table_in stage.mode between stage.root f (inl at)))) in
+    λ f mark. frame_stays (size_in stage.mode) driver.ledger id stage.root between bare f unmapped (λ at. not_of_device driver.marks f id mark (own.own f (table_in stage.mode between stage.root f (inl at)))) in
     let none : stages_of devices id ≡ None = ap attached_stages (attachment_set driver.devices.items id (Quarantined ticket stage) (attached_there driver.devices.items id stage may.attached)) in
     let same : (other : ℕ) → other ≢ id → stages_of devices other ≡ stages_of driver.devices.items other =
     λ other apart. ap attached_stages (attachment_other driver.devices.items id other (Quarantined ticket stage) apart) in

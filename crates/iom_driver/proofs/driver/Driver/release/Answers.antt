@@ -1,12 +1,16 @@
 use Rattle.std.proofs.Common.{◌≡◌, ◌≤◌, ◌<◌, ◌+◌, ◌-◌, ◌++◌, ◌∙◌, inl, ℕ, List, map, slice_get, Option, Some, None, IsSome, length, refl, sym, ap, subst, arith}
 use Rattle.std.proofs.lemmas.Bool.{eq-eqb}
-use Rattle.iom_base.specs.Sizes.{page_limit}
+use Rattle.iom_base.specs.Modes.{size_in}
+use Rattle.iom_base.specs.Sizes.{levels_of, page_limit_of}
+use Rattle.iom_base.specs.declared.size.Size.TheVariants.{Sv48}
 use Rattle.iom_ledger.specs.History.{pending_limit}
 use Rattle.iom_ledger.specs.Shown.{pending_in}
 use Rattle.iom_base.specs.declared.owner.Owner.{Owner}
 use Rattle.iom_base.specs.declared.owner.Owner.TheVariants.{System, OneDevice}
 use Rattle.iom_command_queue.specs.declared.entry.QueueEntry.{QueueEntry}
 use Rattle.iom_command_queue.specs.declared.entry.QueueEntry.TheVariants as stands
+use Rattle.iom_page_table.specs.FirstTables.{unmapped}
+use Rattle.iom_page_table.specs.Leaves.{leaf_of}
 use Rattle.iom_driver.specs.Appends.{release_commands, AppendsAll}
 use Rattle.iom_driver.specs.Devices.{attachment_of}
 use Rattle.iom_driver.specs.Directory.{NamesDirectory}
@@ -15,6 +19,7 @@ use Rattle.iom_driver.specs.Ready.{IsRing}
 use Rattle.iom_driver.proofs.Directories.{directory_stay, low_id, in_stands, stands_in}
 use Rattle.iom_driver.proofs.FaultRings.{fault_ring_stays}
 use Rattle.iom_driver.proofs.Keeps.{sound_released}
+use Rattle.iom_driver.proofs.Limits.{held_low}
 use Rattle.iom_driver.proofs.Modes.{rooted, table_in}
 use Rattle.iom_driver.proofs.Places.{attached_owns}
 use Rattle.iom_driver.proofs.ReleaseTables.{IsUnmapped, other_frame, tables_released}
@@ -59,12 +64,13 @@ invariant_of-self g c =
 pub unmap-requires-clause-tree : goal.unmap-requires-clause-tree
 unmap-requires-clause-tree g c =
     let tables = c.requires.ready.stand.tables c.args.id c.in-Ok.stage (attached_owns (attachment_of c.args.self.now.devices.items c.args.id) c.in-Ok.stage c.in-Ok.ensures.may.attached) in
-    (rooted c.in-Ok.stage.mode c.args.memory.now c.in-Ok.stage.root tables.tree).tree
+    rw c.size.ensures (rooted c.in-Ok.stage.mode c.args.memory.now c.in-Ok.stage.root tables.tree).tree
 
 pub unmap-requires-clause-page : goal.unmap-requires-clause-page
 unmap-requires-clause-page g c =
-    let held = there _ c.in-Ok.ensures.may.held in
-    (c.args.self.now.sound.grants.held c.args.id c.args.page held.0.0 held.0.1 held.1).page_low
+    let driver = c.args.self.now in
+    let tables = c.requires.ready.stand.tables c.args.id c.in-Ok.stage (attached_owns (attachment_of driver.devices.items c.args.id) c.in-Ok.stage c.in-Ok.ensures.may.attached) in
+    rw c.size.ensures (held_low c.args.memory.now driver.marks driver.ledger c.args.id c.in-Ok.stage.mode c.in-Ok.stage.root c.args.page tables c.in-Ok.ensures.may.held)
 
 pub append_release-requires-clause-frames : goal.append_release-requires-clause-frames
 append_release-requires-clause-frames g c = c.unmap.ensures.size ∙ c.requires.ready.stand.size ∙ c.args.self.now.sound.sizes.marked
@@ -93,26 +99,28 @@ append_release-requires-clause-number g c =
 pub append_release-requires-clause-page : goal.append_release-requires-clause-page
 append_release-requires-clause-page g c =
     let held = there _ c.in-Ok.ensures.may.held in
-    let low : c.args.page < page_limit = (c.args.self.now.sound.grants.held c.args.id c.args.page held.0.0 held.0.1 held.1).page_low in
+    let low : c.args.page < page_limit_of Sv48 = (c.args.self.now.sound.grants.held c.args.id c.args.page held.0.0 held.0.1 held.1).page_low in
     omega arith
 
 pub append_release-requires-clause-unmapped : goal.append_release-requires-clause-unmapped
 append_release-requires-clause-unmapped g c =
     let held = there _ c.in-Ok.ensures.may.held in
-    let low : c.args.page < page_limit = (c.args.self.now.sound.grants.held c.args.id c.args.page held.0.0 held.0.1 held.1).page_low in
-    c.unmap.ensures.leaf c.args.page (omega arith) ∙ rw (eq-eqb c.args.page c.args.page refl) refl
+    let low : c.args.page < page_limit_of Sv48 = (c.args.self.now.sound.grants.held c.args.id c.args.page held.0.0 held.0.1 held.1).page_low in
+    subst (λ size. leaf_of (levels_of size) c.unmap.new.memory c.in-Ok.stage.root c.args.page ≡ None) c.size.ensures
+    (c.unmap.ensures.leaf c.args.page (omega arith) ∙ rw (eq-eqb c.args.page c.args.page refl) refl)
 
 pub returns-clause-effect : goal.returns-clause-effect
 returns-clause-effect g c =
     let driver = c.args.self.now in
     let memory = c.args.memory.now in
     let stand = c.requires.ready.stand in
-    let unmapped_so : IsUnmapped memory c.unmap.new.memory c.in-Ok.stage.root c.args.page = record {
+    let size = size_in c.in-Ok.stage.mode in
+    let unmapped_so = subst (λ given. IsUnmapped given memory c.unmap.new.memory c.in-Ok.stage.root c.args.page) c.size.ensures record {
       tree = c.unmap.ensures.tree;
       tables = c.unmap.ensures.tables;
       leaf = c.unmap.ensures.leaf;
       outside = c.unmap.ensures.outside;
-      size = c.unmap.ensures.size;
+      long = c.unmap.ensures.size;
     } in
     let many : length memory ≡ driver.frames = stand.size ∙ driver.sound.sizes.marked in
     let commands = release_commands c.args.id c.in-Ok.stage c.args.page (completion_address driver.frames) (driver.given + driver.restarts + 1) in
@@ -127,11 +135,11 @@ returns-clause-effect g c =
         shown = c.release.ensures.released;
         agrees = c.release.ensures.agrees;
         driver = refl;
-        queued = rw (many, sym c.unmap.ensures.whole) appended;
+        queued = rw (many, sym (c.unmap.ensures.whole ∙ ap (λ given. unmapped given memory c.in-Ok.stage.root c.args.page) c.size.ensures)) appended;
         list =
             let io = c.args.io.now in
             let r = g.M.Mmio.registers io in
-            let kept = other_frame memory c.unmap.new.memory c.in-Ok.stage.root c.args.page (command_frame (length memory)) unmapped_so
+            let kept = other_frame size memory c.unmap.new.memory c.in-Ok.stage.root c.args.page (command_frame (length memory)) unmapped_so
             (λ at. not_of_device driver.marks (command_frame (length memory)) c.args.id (rw many driver.sound.fixed.command)
             (tables.own (command_frame (length memory)) (table_in c.in-Ok.stage.mode memory c.in-Ok.stage.root (command_frame (length memory)) (inl at)))) in
             rw many
@@ -139,7 +147,7 @@ returns-clause-effect g c =
             ∙ ap (λ (xs : List QueueEntry). xs ++ map stands.Command commands) (same_commands memory c.unmap.new.memory r (c.requires.ready.ring c.in-Ok.ensures.may.started) kept));
         others = λ f differs apart.
             c.append_release.ensures.other_frames f (λ same. apart (same ∙ ap command_frame (sym many)))
-            ∙ other_frame memory c.unmap.new.memory c.in-Ok.stage.root c.args.page f unmapped_so (λ at. differs (tables.own f (table_in c.in-Ok.stage.mode memory c.in-Ok.stage.root f (inl at))));
+            ∙ other_frame size memory c.unmap.new.memory c.in-Ok.stage.root c.args.page f unmapped_so (λ at. differs (tables.own f (table_in c.in-Ok.stage.mode memory c.in-Ok.stage.root f (inl at))));
       },
     )
 
@@ -147,15 +155,15 @@ pub returns-clause-ready : goal.returns-clause-ready
 returns-clause-ready g c =
     let driver = c.args.self.now in
     let stand = c.requires.ready.stand in
-    let unmapped : IsUnmapped c.args.memory.now c.unmap.new.memory c.in-Ok.stage.root c.args.page = record {
+    let unmapped_so = subst (λ given. IsUnmapped given c.args.memory.now c.unmap.new.memory c.in-Ok.stage.root c.args.page) c.size.ensures record {
       tree = c.unmap.ensures.tree;
       tables = c.unmap.ensures.tables;
       leaf = c.unmap.ensures.leaf;
       outside = c.unmap.ensures.outside;
-      size = c.unmap.ensures.size;
+      long = c.unmap.ensures.size;
     } in
     let tables = tables_released c.args.memory.now c.unmap.new.memory driver.marks driver.ledger c.release.new.self driver.devices.items c.args.id c.args.page (driver.given + 1) c.in-Ok.stage
-    stand.tables (attached_owns (attachment_of driver.devices.items c.args.id) c.in-Ok.stage c.in-Ok.ensures.may.attached) unmapped c.release.ensures.released in
+    stand.tables (attached_owns (attachment_of driver.devices.items c.args.id) c.in-Ok.stage c.in-Ok.ensures.may.attached) unmapped_so c.release.ensures.released in
     let before = stand.tables c.args.id c.in-Ok.stage (attached_owns (attachment_of driver.devices.items c.args.id) c.in-Ok.stage c.in-Ok.ensures.may.attached) in
     let many : length c.args.memory.now ≡ driver.frames = stand.size ∙ driver.sound.sizes.marked in
     let size : length c.append_release.new.memory ≡ length c.args.memory.now = c.append_release.ensures.size ∙ c.unmap.ensures.size in
@@ -169,7 +177,7 @@ returns-clause-ready g c =
             (directory_stay driver.frames c.args.memory.now c.append_release.new.memory driver.marks driver.marks driver.devices.items driver.devices.items driver.levels driver.sound.sizes.in_range size
             (λ n own. (
               c.append_release.ensures.other_frames n own.no_command
-                  ∙ other_frame c.args.memory.now c.unmap.new.memory c.in-Ok.stage.root c.args.page n unmapped
+                  ∙ other_frame (size_in c.in-Ok.stage.mode) c.args.memory.now c.unmap.new.memory c.in-Ok.stage.root c.args.page n unmapped_so
                   (λ at. not_of_device driver.marks n c.args.id own.system (before.own n (table_in c.in-Ok.stage.mode c.args.memory.now c.in-Ok.stage.root n (inl at)))),
               refl,
             )) (λ id. refl) (λ id stage at. at) (in_stands driver.frames c.args.memory.now driver.marks driver.devices.items driver.levels many (stand.directory started)));
@@ -181,7 +189,7 @@ returns-clause-ready g c =
           let system : slice_get driver.marks fault ≡ Some (Some System) = ap (λ n. slice_get driver.marks (fault_frame n)) many ∙ driver.sound.fixed.fault in
           fault_ring_stays c.args.memory.now c.append_release.new.memory (g.M.Mmio.registers c.args.io.now) (g.M.Mmio.registers c.append_release.new.io) size
           (c.append_release.ensures.other_frames fault (λ same. absurd (omega (arith, many, driver.sound.sizes.size.0, same)))
-          ∙ other_frame c.args.memory.now c.unmap.new.memory c.in-Ok.stage.root c.args.page fault unmapped
+          ∙ other_frame (size_in c.in-Ok.stage.mode) c.args.memory.now c.unmap.new.memory c.in-Ok.stage.root c.args.page fault unmapped_so
           (λ at. not_of_device driver.marks fault c.args.id system (before.own fault (table_in c.in-Ok.stage.mode c.args.memory.now c.in-Ok.stage.root fault (inl at)))))
           c.append_release.ensures.faults (c.requires.ready.faults started);
       ring = λ started. subst (λ n. IsRing n (g.M.Mmio.registers c.append_release.new.io)) (sym (size ∙ stand.size ∙ driver.sound.sizes.marked)) c.append_release.ensures.ring;
