@@ -41,9 +41,9 @@ ats_in (suc (suc (suc (suc n)))) range found = absurd (let high = range.1 in ome
 
 -- EN_ATS is as the device was attached
 en_ats_is : (mode : Mode) (root number : ℕ) (ats : Bool) → (context_in mode root number ats).en_ats ≡ ats
-en_ats_is First root number ats = refl
-en_ats_is Second root number ats = refl
-en_ats_is Both root number ats = refl
+en_ats_is (First size) root number ats = refl
+en_ats_is (Second size) root number ats = refl
+en_ats_is (Both size) root number ats = refl
 
 letting : (stage : Stages) → letting_ats (Ok (context_for stage)) ≡ ats_context stage
 letting stage = ap (λ (b : Bool). if b then Ok (context_for stage) else Err TransactionTypeDisallowed) (en_ats_is stage.mode stage.root stage.number stage.ats)

@@ -5,7 +5,8 @@ use Rattle.std.proofs.lemmas.Bool.{false≢true}
 use Rattle.std.proofs.lemmas.Grind.{not_there}
 use Rattle.iom_base.specs.declared.access.Access.{Access}
 use Rattle.iom_base.specs.Rights.{allows}
-use Rattle.iom_copies.specs.Attachments.{is_both, in_both_stages}
+use Rattle.iom_base.specs.Modes.{is_both}
+use Rattle.iom_copies.specs.Attachments.{in_both_stages}
 use Rattle.iom_copies.specs.Faithful.{IsFaithful}
 use Rattle.iom_copies.specs.Laws.{IsReachable}
 use Rattle.iom_copies.proofs.LawLemmas.{translations_reachable}
@@ -61,15 +62,15 @@ accept_merely history id frame access merely = by (holds_for history id (access.
 
 -- the number of an address space, and its mode
 same_number : (mode own : Mode) (n m : ℕ) → ◌≡◌ {A = Space} (space_in mode n) (space_in own m) → n ≡ m
-same_number First First n m same = cc
-same_number Second Second n m same = cc
-same_number Both Both n m same = cc
-same_number First Second n m same = cc
-same_number First Both n m same = cc
-same_number Second First n m same = cc
-same_number Second Both n m same = cc
-same_number Both First n m same = cc
-same_number Both Second n m same = cc
+same_number (First size) (First other) n m same = cc
+same_number (Second size) (Second other) n m same = cc
+same_number (Both size) (Both other) n m same = cc
+same_number (First size) (Second other) n m same = cc
+same_number (First size) (Both other) n m same = cc
+same_number (Second size) (First other) n m same = cc
+same_number (Second size) (Both other) n m same = cc
+same_number (Both size) (First other) n m same = cc
+same_number (Both size) (Second other) n m same = cc
 
 -- whose address space it is: no two devices have the same
 pub one_space : (d : DriverState) → IsSoundDriver d → (id other : ℕ) (stage : Stages) → owned_stages_of d.devices id ≡ Some stage
@@ -148,9 +149,9 @@ module _ (parts : Parts) (events : ℕ) (state : State) (id : ℕ) (access : Acc
   may_in both scene shown facts = reach_in true both scene shown facts access.kind allowed
 
   by_mode : (mode : Mode) (ats : Bool) → in_both_stages (shown_attachment (attachment_of parts.driver.devices id)) ≡ is_both mode → MayAccept (Attached mode ats) state id access translation.frame
-  by_mode First ats is = accept_merely state.history id translation.frame access (∥∥₁_map sound.copies (λ (scene, shown, facts). accept_in is scene shown facts))
-  by_mode Second ats is = accept_merely state.history id translation.frame access (∥∥₁_map sound.copies (λ (scene, shown, facts). accept_in is scene shown facts))
-  by_mode Both ats is = may_merely state.history id translation.frame access.kind (∥∥₁_map sound.copies (λ (scene, shown, facts). may_in is scene shown facts))
+  by_mode (First size) ats is = accept_merely state.history id translation.frame access (∥∥₁_map sound.copies (λ (scene, shown, facts). accept_in is scene shown facts))
+  by_mode (Second size) ats is = accept_merely state.history id translation.frame access (∥∥₁_map sound.copies (λ (scene, shown, facts). accept_in is scene shown facts))
+  by_mode (Both size) ats is = may_merely state.history id translation.frame access.kind (∥∥₁_map sound.copies (λ (scene, shown, facts). may_in is scene shown facts))
 
   -- of a device that is cut off it is what lingers
   cut_off : (ticket : ℕ) (s : Stages) → attachment_of parts.driver.devices id ≡ driver.Quarantined ticket s → MayAccept (shown_attachment (driver.Quarantined ticket s)) state id access translation.frame

@@ -11,7 +11,7 @@ use Rattle.iom_base.specs.declared.mode.Mode.{Mode}
 use Rattle.iom_base.specs.declared.mode.Mode.TheVariants.{First, Second, Both}
 use Rattle.iom_base.specs.declared.rights.Rights.{Rights}
 use Rattle.iom_base.specs.Rights.{allows}
-use Rattle.iom_copies.specs.Attachments.{is_both}
+use Rattle.iom_base.specs.Modes.{is_both}
 use Rattle.iom_copies.specs.Faithful.{IsFaithful}
 use Rattle.iom_copies.specs.Laws.{IsNotOver, IsReachable}
 use Rattle.iom_copies.specs.Scene.{Scene}
@@ -92,14 +92,14 @@ module _ (history : History) (id page frame : ℕ) (rights : Rights) (none : (pa
   -- so a copy serves it as in its former mode, and is told it
   pub accept_formerly : (mode : Mode) (access : Access) → access.address / 4096 ≡ page → allows rights access.kind ≡ true
       → ∥ IsReachable (is_both mode) history (copy_of id page (record { frame = frame; rights = rights })) ∥₁ → MayAcceptFormerly mode history id access frame
-  accept_formerly First access at allowed merely =
+  accept_formerly (First size) access at allowed merely =
       (rights, subst (λ p. Lingers history id p (frame, rights)) (sym at) (lingers_one history id page (frame, rights) (none page) merely), allowed)
-  accept_formerly Second access at allowed merely =
+  accept_formerly (Second size) access at allowed merely =
       (rights, subst (λ p. Lingers history id p (frame, rights)) (sym at) (lingers_one history id page (frame, rights) (none page) merely), allowed)
-  accept_formerly Both access at allowed merely = lingers_any history id frame access.kind none (∥∥₁_map merely (λ reach. reach access.kind allowed))
+  accept_formerly (Both size) access at allowed merely = lingers_any history id frame access.kind none (∥∥₁_map merely (λ reach. reach access.kind allowed))
 
   pub show_formerly : (mode : Mode) → allows rights Read ≡ true → ∥ IsReachable (is_both mode) history (copy_of id page (record { frame = frame; rights = rights })) ∥₁
       → MayShowFormerly mode history id page frame rights
-  show_formerly First allowed merely = lingers_one history id page (frame, rights) (none page) merely
-  show_formerly Second allowed merely = lingers_one history id page (frame, rights) (none page) merely
-  show_formerly Both allowed merely = (allowed, (λ kind allowing. lingers_any history id frame kind none (∥∥₁_map merely (λ reach. reach kind allowing))))
+  show_formerly (First size) allowed merely = lingers_one history id page (frame, rights) (none page) merely
+  show_formerly (Second size) allowed merely = lingers_one history id page (frame, rights) (none page) merely
+  show_formerly (Both size) allowed merely = (allowed, (λ kind allowing. lingers_any history id frame kind none (∥∥₁_map merely (λ reach. reach kind allowing))))

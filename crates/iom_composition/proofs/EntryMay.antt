@@ -20,7 +20,8 @@ use Rattle.iom_base.specs.Accesses.{page_of}
 use Rattle.iom_base.specs.Tables.{access_fault_of}
 use Rattle.iom_base.specs.Rights as of_rights
 use Rattle.iom_base.specs.Rights.{allows}
-use Rattle.iom_copies.specs.Attachments.{has_ats, is_both, in_both_stages}
+use Rattle.iom_base.specs.Modes.{is_both}
+use Rattle.iom_copies.specs.Attachments.{has_ats, in_both_stages}
 use Rattle.iom_copies.specs.Copies.{IsInUse}
 use Rattle.iom_copies.specs.Faithful.{IsFaithful, GrantsFit}
 use Rattle.iom_copies.specs.Laws.{IsReachable}
@@ -263,9 +264,9 @@ module _ (parts : Parts) (events id : ℕ) (access : Access) (frame : ℕ) (soun
     ]
 
     by_mode : (mode : Mode) (ats : Bool) → in_both_stages (shown_attachment (attachment_of parts.driver.devices id)) ≡ is_both mode → MayGoThrough (Attached mode ats) state id access frame
-    by_mode First ats is = have_merely state.history id frame access (∥∥₁_map sound.copies (λ (scene, shown, facts). have_in is scene shown facts))
-    by_mode Second ats is = have_merely state.history id frame access (∥∥₁_map sound.copies (λ (scene, shown, facts). have_in is scene shown facts))
-    by_mode Both ats is = may_merely state.history id frame access.kind (∥∥₁_map sound.copies (λ (scene, shown, facts). reachable_in true is scene shown facts access.kind entry.allowed))
+    by_mode (First size) ats is = have_merely state.history id frame access (∥∥₁_map sound.copies (λ (scene, shown, facts). have_in is scene shown facts))
+    by_mode (Second size) ats is = have_merely state.history id frame access (∥∥₁_map sound.copies (λ (scene, shown, facts). have_in is scene shown facts))
+    by_mode (Both size) ats is = may_merely state.history id frame access.kind (∥∥₁_map sound.copies (λ (scene, shown, facts). reachable_in true is scene shown facts access.kind entry.allowed))
 
     -- of a device that is cut off it is what lingers
     cut_off : (ticket : ℕ) (stage : Stages) → attachment_of parts.driver.devices id ≡ driver.Quarantined ticket stage → MayGoThrough (shown_attachment (driver.Quarantined ticket stage)) state id access frame

@@ -72,21 +72,21 @@ queued_still address before after (entry ∷ entries) [] stay these = absurd the
 -- what a release and a detach queue for a device's address space
 pub queued_page : (address : ℕ) (spaces : ℕ → Option Space) (mode : Mode) (number page device : ℕ) → spaces device ≡ Some (space_in mode number)
     → IsQueuedAs address spaces (Command (invalidation mode number page)) (DropTranslations device (released_extent mode page))
-queued_page address spaces First number page device own = record { space = space.First number; page = Some page; own = own; named = refl; about = refl }
-queued_page address spaces Second number page device own = record { space = space.Second number; page = Some page; own = own; named = refl; about = refl }
-queued_page address spaces Both number page device own = record { space = space.Both number number; page = Some page; own = own; named = refl; about = refl }
+queued_page address spaces (First size) number page device own = record { space = space.First number; page = Some page; own = own; named = refl; about = refl }
+queued_page address spaces (Second size) number page device own = record { space = space.Second number; page = Some page; own = own; named = refl; about = refl }
+queued_page address spaces (Both size) number page device own = record { space = space.Both number number; page = Some page; own = own; named = refl; about = refl }
 
 pub queued_space : (address : ℕ) (spaces : ℕ → Option Space) (mode : Mode) (number device : ℕ) → spaces device ≡ Some (space_in mode number)
     → IsQueuedAs address spaces (Command (space_invalidation mode number)) (DropTranslations device WholeSpace)
-queued_space address spaces First number device own = record { space = space.First number; page = None; own = own; named = refl; about = refl }
-queued_space address spaces Second number device own = record { space = space.Second number; page = None; own = own; named = refl; about = refl }
-queued_space address spaces Both number device own = record { space = space.Both number number; page = None; own = own; named = refl; about = refl }
+queued_space address spaces (First size) number device own = record { space = space.First number; page = None; own = own; named = refl; about = refl }
+queued_space address spaces (Second size) number device own = record { space = space.Second number; page = None; own = own; named = refl; about = refl }
+queued_space address spaces (Both size) number device own = record { space = space.Both number number; page = None; own = own; named = refl; about = refl }
 
 -- with ATS the device is asked to drop what the IOMMU dropped
 queued_device : (mode : Mode) (page : ℕ) → released_extent mode page ≡ pages_of (range_of (dropped_range mode page))
-queued_device First page = refl
-queued_device Second page = refl
-queued_device Both page = refl
+queued_device (First size) page = refl
+queued_device (Second size) page = refl
+queued_device (Both size) page = refl
 
 -- what a release queues in front of its fence
 pub queued_release : (address : ℕ) (spaces : ℕ → Option Space) (id page : ℕ) (stage : Stages) → spaces id ≡ Some (space_in stage.mode stage.number)

@@ -12,7 +12,8 @@ use Rattle.iom_command_queue.specs.declared.command.FenceStore.{FenceStore}
 use Rattle.iom_command_queue.specs.declared.entry.QueueEntry.{QueueEntry}
 use Rattle.iom_command_queue.specs.declared.entry.QueueEntry.TheVariants.{Command}
 use Rattle.iom_copies.specs.Among.{AreAmong, AreAmongWith}
-use Rattle.iom_copies.specs.Attachments.{is_both, in_both_stages, IsAttached}
+use Rattle.iom_base.specs.Modes.{is_both}
+use Rattle.iom_copies.specs.Attachments.{in_both_stages, IsAttached}
 use Rattle.iom_copies.specs.Backing.{ComesFrom}
 use Rattle.iom_copies.specs.Faithful.{IsFaithful}
 use Rattle.iom_copies.specs.Fetches.{next_invalidation}

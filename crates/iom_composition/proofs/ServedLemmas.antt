@@ -10,7 +10,10 @@ use Rattle.iom_base.specs.declared.owner.Owner.{Owner}
 use Rattle.iom_base.specs.declared.owner.Owner.TheVariants.{OneDevice}
 use Rattle.iom_base.specs.declared.rights.Rights.{Rights}
 use Rattle.iom_base.specs.Rights.{allows}
-use Rattle.iom_base.specs.Sizes.{page_limit}
+use Rattle.iom_base.specs.Modes.{size_in}
+use Rattle.iom_base.specs.Sizes.{levels_of}
+use Rattle.iom_base.specs.declared.size.Size.{Size}
+use Rattle.iom_base.specs.declared.size.Size.TheVariants.{Sv39, Sv48}
 use Rattle.iom_device_dir.specs.declared.context.Context.{Context}
 use Rattle.iom_device_dir.specs.Located.{located_context, path_end_from}
 use Rattle.iom_device_dir.specs.Paths.{ids_below, fits_directory}
@@ -34,12 +37,12 @@ use Rattle.iom_ledger.specs.declared.ledger.Ledger.{Ledger}
 use Rattle.iom_ledger.specs.History.{Pair}
 use Rattle.iom_ledger.specs.Shown.{held_in}
 use Rattle.iom_machine.specs.Requests.{IsPageFaultOf}
-use Rattle.iom_page_table.specs.Sv39.{HasTable}
+use Rattle.iom_page_table.specs.FirstTables.{HasTable}
 use Rattle.iom_registers.specs.declared.registers.Registers.{Registers}
 use Rattle.iom_stage_walk.specs.declared.walked.WalkFault.{WalkFault}
 use Rattle.iom_stage_walk.specs.Both.{ReachesBoth, StopsBoth, plain}
-use Rattle.iom_stage_walk.specs.Paths.{first_levels, ReachesFirst, StopsFirst}
-use Rattle.iom_stage_walk.specs.Second.{second_levels, ReachesSecond, StopsSecond}
+use Rattle.iom_stage_walk.specs.Paths.{ReachesFirst, StopsFirst}
+use Rattle.iom_stage_walk.specs.Second.{ReachesSecond, StopsSecond}
 use Rattle.iom_composition.specs.Parts.{Parts}
 use Rattle.iom_composition.specs.Sound.{AreSound}
 use Rattle.iom_composition.specs.Read.{space_in}
@@ -91,28 +94,29 @@ IsAnswered sure d id address kind old (Err fault) new = FaultsAs (attachment_of 
 
 -- a page fault of the mode
 page_fault_by : (mode : Mode) (ledger : Ledger) (id page : ℕ) (kind : AccessKind) (cause : Cause) → FaultsBy mode ledger id page kind cause → IsPageFaultOf mode kind cause
-page_fault_by First ledger id page kind cause faults = faults.0
-page_fault_by Second ledger id page kind cause faults = faults.0
-page_fault_by Both ledger id page kind cause faults = faults
+page_fault_by (First size) ledger id page kind cause faults = faults.0
+page_fault_by (Second size) ledger id page kind cause faults = faults.0
+page_fault_by (Both size) ledger id page kind cause faults = faults
 
 -- a root is a frame of memory
 pub root_low : (memory : List (List ℕ)) (marks : List (Option Owner)) (ledger : Ledger) (id : ℕ) (mode : Mode) (root : ℕ) → AreTablesOf memory marks ledger id mode root → root < length marks
 root_low memory marks ledger id mode root tables = get_within marks root (Some (OneDevice id)) (by mode tables)
   where
-    here : HasTable memory root root
-    here = ([], 0, 512 * root + 0, (root, (omega arith, tt), refl, refl), omega arith)
+    here : (size : Size) → HasTable size memory root root
+    here Sv39 = ([], 0, 512 * root + 0, (root, (omega arith, tt), refl, refl), omega arith)
+    here Sv48 = ([], 0, 512 * root + 0, (root, (omega arith, tt), refl, refl), omega arith)
 
     by : (m : Mode) → AreTablesOf memory marks ledger id m root → slice_get marks root ≡ Some (Some (OneDevice id))
-    by First tables = tables.own root here
-    by Second tables = tables.own root (inl here)
-    by Both tables = tables.own root (inl here)
+    by (First size) tables = tables.own root (here size)
+    by (Second size) tables = tables.own root (inl (here size))
+    by (Both size) tables = tables.own root (inl (here size))
 
 -- and that of a second stage is aligned
 pub root_aligned : (memory : List (List ℕ)) (marks : List (Option Owner)) (ledger : Ledger) (id : ℕ) (mode : Mode) (root : ℕ) → AreTablesOf memory marks ledger id mode root
-    → (mode ≡ First) ⊎ (root % 4 ≡ 0)
-root_aligned memory marks ledger id First root tables = inl refl
-root_aligned memory marks ledger id Second root tables = inr tables.tree.1
-root_aligned memory marks ledger id Both root tables = inr tables.tree.1
+    → (mode ≡ First (size_in mode)) ⊎ (root % 4 ≡ 0)
+root_aligned memory marks ledger id (First size) root tables = inl refl
+root_aligned memory marks ledger id (Second size) root tables = inr tables.tree.1
+root_aligned memory marks ledger id (Both size) root tables = inr tables.tree.1
 
 -- a context of a device names its space, and its walk
 abbrev IsLookedIn : Bool → Mode → (memory : List (List ℕ)) → (root number address : ℕ) → AccessKind → Translations → Result Translation WalkFault → Translations → Type 0
@@ -121,28 +125,28 @@ IsLookedIn sure mode memory root number address kind old answer new =
     (space_in mode number, address / 4096) old answer new
 
 looked_by : (sure : Bool) (mode : Mode) (ats : Bool) (memory : List (List ℕ)) (root number address : ℕ) (kind : AccessKind) (old : Translations) (answer : Result Translation WalkFault) (new : Translations)
-    → root < 2 ^ 44 → number < 2 ^ 20 → (mode ≡ First) ⊎ (root % 4 ≡ 0) → ServesBy sure (Ok (context_in mode root number ats)) memory address kind old answer new
+    → root < 2 ^ 44 → number < 2 ^ 20 → (mode ≡ First (size_in mode)) ⊎ (root % 4 ≡ 0) → ServesBy sure (Ok (context_in mode root number ats)) memory address kind old answer new
     → IsLookedIn sure mode memory root number address kind old answer new
-looked_by sure First ats memory root number address kind old answer new low few aligned served =
+looked_by sure (First size) ats memory root number address kind old answer new low few aligned served =
     let at : root / 2 ^ 0 % 2 ^ 44 ≡ root = omega (arith, low) in
     let named : number / 2 ^ 0 % 2 ^ 20 ≡ number = omega (arith, few) in
-    subst (λ n. LooksOrWalks sure (cached_for (old (space.First number, address / 4096)) kind) (ReachesFirst first_levels memory n address kind) (StopsFirst first_levels memory n address kind)
+    subst (λ n. LooksOrWalks sure (cached_for (old (space.First number, address / 4096)) kind) (ReachesFirst (levels_of size) memory n address kind) (StopsFirst (levels_of size) memory n address kind)
     (space.First number, address / 4096) old answer new) at
-    (subst (λ n. LooksOrWalks sure (cached_for (old (space.First n, address / 4096)) kind) (ReachesFirst first_levels memory (root / 2 ^ 0 % 2 ^ 44) address kind)
-    (StopsFirst first_levels memory (root / 2 ^ 0 % 2 ^ 44) address kind) (space.First n, address / 4096) old answer new) named served)
-looked_by sure Second ats memory root number address kind old answer new low few (inl first) served = cc
-looked_by sure Second ats memory root number address kind old answer new low few (inr aligned) served =
+    (subst (λ n. LooksOrWalks sure (cached_for (old (space.First n, address / 4096)) kind) (ReachesFirst (levels_of size) memory (root / 2 ^ 0 % 2 ^ 44) address kind)
+    (StopsFirst (levels_of size) memory (root / 2 ^ 0 % 2 ^ 44) address kind) (space.First n, address / 4096) old answer new) named served)
+looked_by sure (Second size) ats memory root number address kind old answer new low few (inl first) served = cc
+looked_by sure (Second size) ats memory root number address kind old answer new low few (inr aligned) served =
     let at : 4 * (root / 4 % 2 ^ 42) ≡ root = omega (arith, low, aligned) in
-    subst (λ n. LooksOrWalks sure (cached_for (old (space.Second number, address / 4096)) kind) (ReachesSecond second_levels memory n address kind) (StopsSecond second_levels memory n address kind)
+    subst (λ n. LooksOrWalks sure (cached_for (old (space.Second number, address / 4096)) kind) (ReachesSecond (levels_of size) memory n address kind) (StopsSecond (levels_of size) memory n address kind)
     (space.Second number, address / 4096) old answer new) at served
-looked_by sure Both ats memory root number address kind old answer new low few (inl first) served = cc
-looked_by sure Both ats memory root number address kind old answer new low few (inr aligned) served =
+looked_by sure (Both size) ats memory root number address kind old answer new low few (inl first) served = cc
+looked_by sure (Both size) ats memory root number address kind old answer new low few (inr aligned) served =
     let at : 4 * (root / 4 % 2 ^ 42) ≡ root = omega (arith, low, aligned) in
     let named : number / 2 ^ 0 % 2 ^ 20 ≡ number = omega (arith, few) in
-    subst (λ n. LooksOrWalks sure (cached_for (old (space.Both number number, address / 4096)) kind) (ReachesBoth first_levels second_levels memory 0 n address kind)
-    (StopsBoth first_levels second_levels memory 0 n address kind) (space.Both number number, address / 4096) old answer new) at
-    (subst (λ n. LooksOrWalks sure (cached_for (old (space.Both number n, address / 4096)) kind) (ReachesBoth first_levels second_levels memory 0 (4 * (root / 4 % 2 ^ 42)) address kind)
-    (StopsBoth first_levels second_levels memory 0 (4 * (root / 4 % 2 ^ 42)) address kind) (space.Both number n, address / 4096) old answer new) named served)
+    subst (λ n. LooksOrWalks sure (cached_for (old (space.Both number number, address / 4096)) kind) (ReachesBoth (levels_of size) (levels_of size) memory 0 n address kind)
+    (StopsBoth (levels_of size) (levels_of size) memory 0 n address kind) (space.Both number number, address / 4096) old answer new) at
+    (subst (λ n. LooksOrWalks sure (cached_for (old (space.Both number n, address / 4096)) kind) (ReachesBoth (levels_of size) (levels_of size) memory 0 (4 * (root / 4 % 2 ^ 42)) address kind)
+    (StopsBoth (levels_of size) (levels_of size) memory 0 (4 * (root / 4 % 2 ^ 42)) address kind) (space.Both number n, address / 4096) old answer new) named served)
 
 -- the mode of the levels is that of a directory whose root has this level, and each device is served by its context
 is_mode : (levels : ℕ) → IsLevels levels → IsModeOf (mode_of levels) (root_level levels)
@@ -255,14 +259,6 @@ module _ (laws : ServiceLaws) (parts : Parts) (events : ℕ) (sound : AreSound p
   held_inside id page frame rights held =
       subst (λ n. frame < n) (sym sound.ready.stand.size) (get_within d.marks frame None (own.grants.held id page frame rights held).unreserved)
 
-  -- nothing is held at pages that may not be granted
-  pub low_pages_of : (id page : ℕ) → page_limit ≤ page → held_in parts.driver.ledger id page ≡ None
-  low_pages_of id page high = by (held_in d.ledger id page) refl
-    where
-      by : (held : Option Pair) → held_in d.ledger id page ≡ held → held ≡ None
-      by None is = refl
-      by (Some pair) is = let low = (own.grants.held id page pair.0 pair.1 is).page_low in absurd (omega (arith, low, high))
-
   module _ (id address : ℕ) (kind : AccessKind) (fits : address < 2 ^ 64) (sure : Bool) (old new : Translations) where
     low_page : address / 4096 < 2 ^ 52
     low_page = omega (arith, fits)
@@ -296,11 +292,11 @@ module _ (laws : ServiceLaws) (parts : Parts) (events : ℕ) (sound : AreSound p
 
     by_tables : (stage : Stages) (answer : Result Translation WalkFault) → attachment_of d.devices id ≡ Attached stage → IsWalked stage answer → IsAnswered sure d id address kind old answer new
     by_tables stage (Ok answer) attached (walked, reaches, same, kept) =
-        let held = reached laws.walks parts.memory d.marks d.ledger id stage.mode stage.root (tables_of stage (ap owned_stages attached)) (low_pages_of id) (held_inside id) address kind low_page walked reaches in
+        let held = reached laws.walks parts.memory d.marks d.ledger id stage.mode stage.root (tables_of stage (ap owned_stages attached)) (held_inside id) address kind low_page walked reaches in
         inl (record { stage = stage; attached = attached; translation = translation_of walked; answer_is = same; held = held.0; allowed = held.1; kept = kept })
     by_tables stage (Err fault) attached (stops, stays) = (
       subst (λ a. FaultsAs a d id address kind fault.cause) (sym attached)
-          (stopped laws.walks parts.memory d.marks d.ledger id stage.mode stage.root (tables_of stage (ap owned_stages attached)) (low_pages_of id) (held_inside id) address kind low_page fault stops),
+          (stopped laws.walks parts.memory d.marks d.ledger id stage.mode stage.root (tables_of stage (ap owned_stages attached)) (held_inside id) address kind low_page fault stops),
       stays,
     )
 
@@ -309,7 +305,7 @@ module _ (laws : ServiceLaws) (parts : Parts) (events : ℕ) (sound : AreSound p
         → ((cause : Cause) → IsPageFaultOf stage.mode kind cause → FaultsAs (attachment_of d.devices id) d id address kind cause)
         → IsWalked stage answer → IsAnswered sure d id address kind old answer new
     none_reached stage (Ok answer) owned away faults (walked, reaches, same, kept) =
-        let held = reached laws.walks parts.memory d.marks d.ledger id stage.mode stage.root (tables_of stage owned) (low_pages_of id) (held_inside id) address kind low_page walked reaches in
+        let held = reached laws.walks parts.memory d.marks d.ledger id stage.mode stage.root (tables_of stage owned) (held_inside id) address kind low_page walked reaches in
         let none = own.holders id held.0.0 away in
         absurd (none_some walked.frame held.0.1 (sym none ∙ held.0.3))
       where
@@ -317,7 +313,7 @@ module _ (laws : ServiceLaws) (parts : Parts) (events : ℕ) (sound : AreSound p
         none_some frame rights same = cc
     none_reached stage (Err fault) owned away faults (stops, stays) = (
       faults fault.cause (page_fault_by stage.mode d.ledger id (address / 4096) kind fault.cause
-          (stopped laws.walks parts.memory d.marks d.ledger id stage.mode stage.root (tables_of stage owned) (low_pages_of id) (held_inside id) address kind low_page fault stops)),
+          (stopped laws.walks parts.memory d.marks d.ledger id stage.mode stage.root (tables_of stage owned) (held_inside id) address kind low_page fault stops)),
       stays,
     )
 

@@ -2,13 +2,14 @@
 use Rattle.std.proofs.Common.{◌≡◌, ◌≢◌, ◌/◌, ◌*◌, ◌∙◌, ℕ, List, [], ◌∷◌, length, Option, Some, None, slice_get, refl, sym, ap, subst}
 use Rattle.std.proofs.lemmas.List.{length-set}
 use Rattle.iom_base.specs.declared.owner.Owner.{Owner}
+use Rattle.iom_base.specs.declared.size.Size.{Size}
 use Rattle.iom_driver.specs.State.{DriverState}
 use Rattle.iom_iommu.specs.Parts.{flights_of}
 use Rattle.iom_ledger.specs.Shown.{Agrees}
 use Rattle.iom_machine.specs.declared.state.State.{State}
 use Rattle.iom_page_table.specs.declared.leaf.PageLeaf.{PageLeaf}
-use Rattle.iom_page_table.specs.Sv39.{mapped, unmapped}
-use Rattle.iom_page_table.specs.Trees.{sv39}
+use Rattle.iom_page_table.specs.FirstTables.{mapped, unmapped}
+use Rattle.iom_page_table.specs.Trees.{shape_of}
 use Rattle.iom_page_table.specs.Written.{word_of_leaf, with_entries, mapped_entries, cleared_entries}
 use Rattle.iom_phys_mem.specs.Words.{with_word}
 use Rattle.iom_stage_walk.specs.Entries.{entries}
@@ -54,8 +55,8 @@ length-with_entries : (memory : List (List ℕ)) (stores : List (ℕ × ℕ)) �
 length-with_entries memory [] = refl
 length-with_entries memory ((s, word) ∷ later) = length-with_entries (with_word 8 memory (8 * s) word) later ∙ length-with_word 8 memory (8 * s) word
 
-pub length-mapped : (memory : List (List ℕ)) (root page : ℕ) (leaf : PageLeaf) (fresh : List ℕ) → length (mapped memory root page leaf fresh) ≡ length memory
-length-mapped memory root page leaf fresh = length-with_entries memory (mapped_entries (entries memory) root (path_of sv39 page) fresh (word_of_leaf leaf))
+pub length-mapped : (size : Size) (memory : List (List ℕ)) (root page : ℕ) (leaf : PageLeaf) (fresh : List ℕ) → length (mapped size memory root page leaf fresh) ≡ length memory
+length-mapped size memory root page leaf fresh = length-with_entries memory (mapped_entries (entries memory) root (path_of (shape_of size) page) fresh (word_of_leaf leaf))
 
-pub length-unmapped : (memory : List (List ℕ)) (root page : ℕ) → length (unmapped memory root page) ≡ length memory
-length-unmapped memory root page = length-with_entries memory (cleared_entries (entries memory) root (path_of sv39 page))
+pub length-unmapped : (size : Size) (memory : List (List ℕ)) (root page : ℕ) → length (unmapped size memory root page) ≡ length memory
+length-unmapped size memory root page = length-with_entries memory (cleared_entries (entries memory) root (path_of (shape_of size) page))

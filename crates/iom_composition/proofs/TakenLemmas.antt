@@ -67,10 +67,10 @@ four_free d limit root n four (inr (inr (inr (inl same)))) = let below = four.be
 four_free d limit root n four (inr (inr (inr (inr never)))) = absurd never
 
 pub root_free : (mode : Mode) (d : DriverState) (limit root n : ℕ) → IsRootBelow mode d limit root → Among n (root_frames mode root) → (n < limit) × IsFreeForTable d.marks d.ledger None n
-root_free First d limit root n is (inl same) = let below : root < limit = is.below in (omega (arith, below, same), subst (IsFreeForTable d.marks d.ledger None) (sym same) is.free)
-root_free First d limit root n is (inr never) = absurd never
-root_free Second d limit root n is here = four_free d limit root n is here
-root_free Both d limit root n is here = four_free d limit root n is here
+root_free (First size) d limit root n is (inl same) = let below : root < limit = is.below in (omega (arith, below, same), subst (IsFreeForTable d.marks d.ledger None) (sym same) is.free)
+root_free (First size) d limit root n is (inr never) = absurd never
+root_free (Second size) d limit root n is here = four_free d limit root n is here
+root_free (Both size) d limit root n is here = four_free d limit root n is here
 
 module _ (d : DriverState) (memory : List (List ℕ)) (id root : ℕ) (mode : Mode) (pages : List ℕ) (chosen : ArePages d memory id pages) (is_root : IsRootBelow mode d (limit_below (length memory) pages) root) where
   pages_free : (limit count : ℕ) (fs : List ℕ) (n : ℕ) → AreHighestFree d.marks d.ledger None limit count fs → Among n fs → (n < limit) × IsFreeForTable d.marks d.ledger None n

@@ -33,9 +33,9 @@ accesses_of (row ∷ rows) = map (access_of row.device) row.waiting ++ accesses_
 
 -- the address space of a device that is attached in the mode, with this number
 abbrev pub space_in : Mode → ℕ → Space
-space_in First number = space.First number
-space_in Second number = space.Second number
-space_in Both number = space.Both number number
+space_in (First size) number = space.First number
+space_in (Second size) number = space.Second number
+space_in (Both size) number = space.Both number number
 
 -- that of a device that is attached, quarantined or leaving
 abbrev pub space_at : List Device → ℕ → Option Space

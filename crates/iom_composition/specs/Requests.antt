@@ -2,10 +2,12 @@
 use Rattle.std.specs.Prelude.{◌≡◌, ℕ, ◌⊎◌, ⊤, Bool, All, List, Option, None, Some, Ok}
 use Rattle.iom_base.specs.declared.access.Access.{Access}
 use Rattle.iom_base.specs.declared.access.AccessKind.TheVariants.{Read}
+use Rattle.iom_base.specs.Sizes.{levels_of}
 use Rattle.iom_base.specs.declared.ppn.Ppn.{Ppn}
+use Rattle.iom_base.specs.declared.size.Size.{Size}
 use Rattle.iom_device_dir.specs.declared.context.Context.{Context}
-use Rattle.iom_device_dir.specs.declared.stages.FirstStage.TheVariants.{Sv39}
-use Rattle.iom_device_dir.specs.declared.stages.SecondStage.TheVariants.{Sv39x4}
+use Rattle.iom_device_dir.specs.declared.stages.FirstStage.TheVariants as first_stage
+use Rattle.iom_device_dir.specs.declared.stages.SecondStage.TheVariants as second_stage
 use Rattle.iom_device_dir.specs.declared.values.GuestRoot.{GuestRoot}
 use Rattle.iom_iommu.specs.declared.reply.Reply.{Reply}
 use Rattle.iom_iommu.specs.declared.reply.Reply.TheVariants.{Accepted, Busy, BadSpan, Fault}
@@ -18,8 +20,6 @@ use Rattle.iom_machine.specs.declared.outcome.Outcome.{Outcome}
 use Rattle.iom_machine.specs.declared.outcome.Outcome.TheVariants as outcome
 use Rattle.iom_stage_walk.specs.declared.walked.Walked.{Walked}
 use Rattle.iom_stage_walk.specs.Both.{ReachesBoth}
-use Rattle.iom_stage_walk.specs.Paths.{first_levels}
-use Rattle.iom_stage_walk.specs.Second.{second_levels}
 use Rattle.iom_composition.specs.Parts.{Parts}
 use Rattle.iom_machine.specs.declared.state.DeviceKind.{DeviceKind}
 use Rattle.iom_machine.specs.Kinds.{forges}
@@ -55,17 +55,17 @@ AsksTranslated old id access told new =
     IsUnknown old id told new ⊎ IsUnable forges old id told new
     ⊎ (IsAble forges old.devices id × IsReplied (AnswersTranslated old.memory old.iommu id access) old told new)
 
--- the IOMMU finds for the device a context with both stages, whose tables have these roots; for a question too, since a context that lets ATS through is the one
+-- the IOMMU finds for the device a context with both stages, whose tables have these sizes and roots; for a question too, since a context that lets ATS through is the one
 -- that is found
-pub record IsInBoth (parts : Parts) (id first second : ℕ) : Type 0 where
+pub record IsInBoth (parts : Parts) (id : ℕ) (first_size : Size) (first : ℕ) (second_size : Size) (second : ℕ) : Type 0 where
   pub context : Context
   pub found : context_for parts.memory (registers_of parts.iommu) (contexts_of parts.iommu) id ≡ Ok context
   pub guest : Ppn
   pub guest_is : guest.number ≡ first
-  pub first_stage : context.first_stage ≡ Sv39 guest
+  pub first_stage : context.first_stage ≡ first_stage.Tables first_size guest
   pub host : GuestRoot
   pub host_is : host.number ≡ second
-  pub second_stage : context.second_stage ≡ Sv39x4 host
+  pub second_stage : context.second_stage ≡ second_stage.Tables second_size host
 
 -- there is no frame, or the device may read it
 abbrev pub MayReadFrom : History → ℕ → Option ℕ → Type 0
@@ -74,6 +74,7 @@ MayReadFrom history id (Some frame) = May history id frame Read
 
 -- A GUEST'S OWN TABLES: where a walk through both stages translates the access, each entry of them is read from a frame that the device may read
 abbrev pub ReadsGuestTables : Parts → History → ℕ → Access → Type 0
-ReadsGuestTables parts history id access = (first second : ℕ) (walked : Walked) → IsInBoth parts id first second
-    → ReachesBoth first_levels second_levels parts.memory first second access.address access.kind walked
+ReadsGuestTables parts history id access = (first_size second_size : Size) (first second : ℕ) (walked : Walked)
+    → IsInBoth parts id first_size first second_size second
+    → ReachesBoth (levels_of first_size) (levels_of second_size) parts.memory first second access.address access.kind walked
     → All (MayReadFrom history id) walked.guest_frames

@@ -1,4 +1,4 @@
-ghost use Rattle.std.specs.Prelude.{◌≡◌, ℕ, [], ◌∷◌, ◌++◌, length, remove, nat_lt, ◌==◌, slice_get, is_some};
+ghost use Rattle.std.specs.Prelude.{◌≡◌, ℕ, [], ◌∷◌, ◌++◌, length, remove, nat_lt, ◌==◌, ◌≤◌, slice_get, is_some};
 ghost use Rattle.std.specs.Bool.{OnTrue, OnFalse};
 ghost use Rattle.iom_fabric.specs.Messages.{repeated, repeat_answer};
 
@@ -59,6 +59,13 @@ impl Fabric {
         Fabric {
             messages: ArrayVec::new(),
         }
+    }
+
+    /// What holds of them, whatever calls were made: they are 64 at most. It does nothing.
+    pub fn facts(&self)
+        ensures { length self.now ≤ 64 }
+    {
+        let _messages = self.messages.len();
     }
 
     /// How many messages are under way.

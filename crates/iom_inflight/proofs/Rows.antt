@@ -2,7 +2,7 @@
 use Rattle.std.proofs.Common.{suc, zero, ◌≡◌, ◌≢◌, ◌==◌, ◌<◌, ◌≤◌, ◌+◌, drop, ◌∙◌, ◌++◌, ℕ, Bool, true, false, List, [], ◌∷◌, length, Option, Some, None, IsSome, slice_get, refl, sym, ap, inl, inr, arith, if◌then◌else◌}
 use Rattle.std.proofs.lemmas.Bool.Decides.{eqb_tells}
 use Rattle.std.proofs.lemmas.Bool.{eq-eqb, false≢true}
-use Rattle.iom_inflight.specs.Flights.{FlightRow, row_of, with_row, count_all}
+use Rattle.iom_inflight.specs.Flights.{FlightRow, row_of, with_row, count_all, has_access, first_busy}
 use Rattle.iom_inflight.specs.Rows.{StandsAt}
 
 -- two different numbers don't compare equal
@@ -110,6 +110,25 @@ pub count_from : (rows : List FlightRow) (place : ℕ) (row : FlightRow) → sli
 count_from [] place row at = cc
 count_from (first ∷ others) zero row at = let same : first ≡ row = cc in ap (λ (r : FlightRow). length r.waiting + count_all others) same
 count_from (first ∷ others) (suc place) row at = count_from others place row at
+
+-- the first device of which something is in flight, of the rows from a place on: that of the row that stands there, or else of the later ones
+pub busy_here : (rows : List FlightRow) (place : ℕ) (row : FlightRow) → slice_get rows place ≡ Some row → has_access row.waiting ≡ true
+    → first_busy (drop place rows) ≡ Some row.device
+busy_here [] place row at busy = cc
+busy_here (first ∷ others) zero row at busy = let same : first ≡ row = cc in rw (ap (λ (r : FlightRow). has_access r.waiting) same ∙ busy) (ap (λ (r : FlightRow). Some r.device) same)
+busy_here (first ∷ others) (suc place) row at busy = busy_here others place row at busy
+
+pub busy_later : (rows : List FlightRow) (place : ℕ) (row : FlightRow) → slice_get rows place ≡ Some row → has_access row.waiting ≡ false
+    → first_busy (drop place rows) ≡ first_busy (drop (suc place) rows)
+busy_later [] place row at idle = cc
+busy_later (first ∷ others) zero row at idle = let same : first ≡ row = cc in rw (ap (λ (r : FlightRow). has_access r.waiting) same ∙ idle) refl
+busy_later (first ∷ others) (suc place) row at idle = busy_later others place row at idle
+
+pub busy_past : (rows : List FlightRow) (place : ℕ) → length rows ≤ place → first_busy (drop place rows) ≡ None
+busy_past [] zero past = refl
+busy_past [] (suc place) past = refl
+busy_past (first ∷ others) zero past = absurd (omega arith)
+busy_past (first ∷ others) (suc place) past = busy_past others place (omega arith)
 
 -- past the last row there are none
 pub count_past : (rows : List FlightRow) (place : ℕ) → length rows ≤ place → count_all (drop place rows) ≡ 0

@@ -84,6 +84,11 @@ abbrev pub has_access : List NumberedAccess → Bool
 has_access [] = false
 has_access (oldest ∷ later) = true
 
+-- the first device, in the order in which they were added, of which an access is in flight
+abbrev pub first_busy : List FlightRow → Option ℕ
+first_busy [] = None
+first_busy (row ∷ rows) = if has_access row.waiting then Some row.device else first_busy rows
+
 -- whether an access of any device is in flight
 abbrev pub some_in_flight : Flights → Bool
 some_in_flight flights = list_any (λ row. has_access row.waiting) flights.rows

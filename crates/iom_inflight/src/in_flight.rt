@@ -2,7 +2,7 @@ ghost use Rattle.std.specs.Prelude.{◌≡◌, ◌↔◌, ◌<◌, ◌≤◌, �
 ghost use Rattle.iom_base.specs.Accesses.{read_of, write_of};
 ghost use Rattle.iom_base.specs.Sizes.{in_flight_limit, device_limit};
 ghost use Rattle.iom_base.specs.Spans.{FitsInPage};
-ghost use Rattle.iom_inflight.specs.Flights.{Flights, no_flights, row_of, IsAdded, count_in, accepted_in, count_all, oldest_in, some_in_flight, are_drained};
+ghost use Rattle.iom_inflight.specs.Flights.{Flights, no_flights, row_of, IsAdded, count_in, accepted_in, count_all, oldest_in, first_busy, some_in_flight, are_drained};
 ghost use Rattle.iom_inflight.specs.Calls.{Adds, Accepts, Makes, IsReady};
 ghost use Rattle.iom_inflight.specs.Rows.{StandsAt};
 ghost use Rattle.iom_inflight.specs.Sound.{AreFlights};
@@ -63,6 +63,18 @@ fn count_in_rows(rows: &[Row]) -> usize
         total += rows[place].count();
     }
     total
+}
+
+/// The device of the first of these rows of which an access is in flight.
+fn first_busy_in(rows: &[Row]) -> Option<DeviceId>
+    ensures { result ≡ first_busy rows.now }
+{
+    for place in 0..rows.len() {
+        if rows[place].has_access() {
+            return Some(rows[place].device());
+        }
+    }
+    None
 }
 
 /// Rows for 16 devices.
@@ -180,6 +192,14 @@ impl InFlight {
         ensures { result ≡ are_drained self.now before kind }
     {
         self.rows.iter().all(|row| row.is_drained(before, kind))
+    }
+
+    /// The first device, in the order in which they were added, of which an access is in flight. None where nothing
+    /// is.
+    pub fn first_busy(&self) -> Option<DeviceId>
+        ensures { result ≡ first_busy self.now.rows }
+    {
+        first_busy_in(&self.rows)
     }
 
     /// Whether any access is in flight.

@@ -28,6 +28,7 @@ use Rattle.iom_machine.specs.declared.state.Attachment.TheVariants.{Attached}
 use Rattle.iom_machine.specs.declared.state.Device as declared
 use Rattle.iom_base.specs.declared.mode.Mode.{Mode}
 use Rattle.iom_base.specs.declared.mode.Mode.TheVariants.{First, Second, Both}
+use Rattle.iom_base.specs.declared.size.Size.{Size}
 use Rattle.iom_machine.specs.declared.state.State.{State}
 use Rattle.iom_machine.specs.Devices.{device_of, with_device, replaced_device}
 use Rattle.iom_machine.specs.Frames.{IsFree, IsFreeRun, reserved_for}
@@ -99,9 +100,9 @@ module _ (parts : Parts) (state : State) (id : ℕ) (sound : IsSoundDriver parts
       omega (arith, fewer, few)
 
   -- in the first stage
-  lacks_first : (numbers : List ℕ) → LacksRoot parts.driver parts.memory id First NoFrames → IsDistinct nat_eq numbers → All (IsFree state) numbers → length numbers < 3
-  lacks_first numbers (inl lacks) distinct free = let fewer = lacks_pages numbers lacks distinct free in omega (arith, fewer)
-  lacks_first numbers (inr (pages, chosen, none)) distinct free =
+  lacks_first : (size : Size) (numbers : List ℕ) → LacksRoot parts.driver parts.memory id (First size) NoFrames → IsDistinct nat_eq numbers → All (IsFree state) numbers → length numbers < 3
+  lacks_first size numbers (inl lacks) distinct free = let fewer = lacks_pages numbers lacks distinct free in omega (arith, fewer)
+  lacks_first size numbers (inr (pages, chosen, none)) distinct free =
       let count = lacking_pages d parts.memory id in
       let lacks : ¬ HasFree d.marks d.ledger None (suc count) (length parts.memory) = λ has. below_none pages count (length parts.memory) chosen none has in
       let fewer = fewer_free d.marks d.ledger None (suc count) (length parts.memory) numbers lacks distinct (λ k n lt. known (get_or numbers k n) (free k n lt)) in
@@ -147,9 +148,9 @@ module _ (parts : Parts) (state : State) (id : ℕ) (sound : IsSoundDriver parts
           above limit r never = elim (cases_lt (4 * r + 3) limit) [ inl lt ↦ absurd (never (omega (arith, lt))) | inr le ↦ le ]
 
   pub may_lack_root : (mode : Mode) (why : Refusal) → LacksRoot parts.driver parts.memory id mode why → MayRefuseAttach state mode why
-  may_lack_root First NoFrames lacks = λ numbers distinct free. lacks_first numbers lacks distinct free
-  may_lack_root Second NoFrames lacks = λ numbers distinct free. lacks_runs numbers lacks distinct free
-  may_lack_root Both NoFrames lacks = λ numbers distinct free. lacks_runs numbers lacks distinct free
+  may_lack_root (First size) NoFrames lacks = λ numbers distinct free. lacks_first size numbers lacks distinct free
+  may_lack_root (Second size) NoFrames lacks = λ numbers distinct free. lacks_runs numbers lacks distinct free
+  may_lack_root (Both size) NoFrames lacks = λ numbers distinct free. lacks_runs numbers lacks distinct free
   may_lack_root mode _ lacks = absurd lacks
 
 -- THE STEP

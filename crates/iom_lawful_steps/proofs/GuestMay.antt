@@ -5,6 +5,9 @@ use Rattle.iom_base.specs.declared.access.AccessKind.TheVariants.{Read}
 use Rattle.iom_base.specs.declared.mode.Mode.{Mode}
 use Rattle.iom_base.specs.declared.mode.Mode.TheVariants.{First, Second, Both}
 use Rattle.iom_base.specs.declared.ppn.Ppn.{Ppn}
+use Rattle.iom_base.specs.declared.size.Size.{Size}
+use Rattle.iom_base.specs.Modes.{size_in}
+use Rattle.iom_base.specs.Sizes.{levels_of}
 use Rattle.iom_device_dir.specs.declared.context.Context.{Context}
 use Rattle.iom_device_dir.specs.declared.stages.FirstStage.{FirstStage}
 use Rattle.iom_device_dir.specs.declared.stages.FirstStage.TheVariants as first
@@ -21,34 +24,34 @@ use Rattle.iom_iommu.specs.Parts.{contexts_of}
 use Rattle.iom_iommu.specs.Service.{found_context}
 use Rattle.iom_machine.specs.declared.state.State.{State}
 use Rattle.iom_stage_walk.specs.Laws.{IsLed}
-use Rattle.iom_stage_walk.specs.Paths.{first_levels}
-use Rattle.iom_stage_walk.specs.Second.{second_levels}
 use Rattle.iom_composition.specs.Parts.{Parts}
 use Rattle.iom_composition.specs.Requests.{MayReadFrom, ReadsGuestTables}
 use Rattle.iom_composition.specs.Shows.{PartsShow}
 use Rattle.iom_composition.specs.Sound.{AreSound}
 use Rattle.iom_composition.proofs.DriverLemmas.{IsSoundDriver}
-use Rattle.iom_composition.proofs.ServedLemmas.{ServiceLaws, found_as, located_as, low_pages_of, held_inside, root_low, root_aligned}
+use Rattle.iom_composition.proofs.ServedLemmas.{ServiceLaws, found_as, located_as, held_inside, root_low, root_aligned}
 use Rattle.iom_composition.proofs.WalkLemmas.{leads_held}
 
 -- the page that a first stage's root is, and that of a second
 abbrev first_number : FirstStage → ℕ
 first_number first.Bare = 0
-first_number (first.Sv39 root) = root.number
+first_number (first.Tables size root) = root.number
 
 abbrev second_number : SecondStage → ℕ
 second_number second.Bare = 0
-second_number (second.Sv39x4 root) = root.number
+second_number (second.Tables size root) = root.number
 
--- a context with both stages is that of a device in both, and has its roots
-in_both : (mode : Mode) (root number : ℕ) (ats : Bool) (guest : Ppn) (host : GuestRoot) → root < 2 ^ 44 → (mode ≡ First) ⊎ (root % 4 ≡ 0) → (context_in mode root number ats).first_stage ≡ first.Sv39 guest
-    → (context_in mode root number ats).second_stage ≡ second.Sv39x4 host → (mode ≡ Both) × (guest.number ≡ 0) × (host.number ≡ root)
-in_both First root number ats guest host low aligned one other = cc
-in_both Second root number ats guest host low aligned one other = cc
-in_both Both root number ats guest host low (inl first) one other = cc
-in_both Both root number ats guest host low (inr aligned) one other =
+-- a context with both stages is that of a device in both, and has its size and its roots
+in_both : (mode : Mode) (root number : ℕ) (ats : Bool) (first_size : Size) (guest : Ppn) (size : Size) (host : GuestRoot) → root < 2 ^ 44 → (mode ≡ First (size_in mode)) ⊎ (root % 4 ≡ 0)
+    → (context_in mode root number ats).first_stage ≡ first.Tables first_size guest → (context_in mode root number ats).second_stage ≡ second.Tables size host
+    → (mode ≡ Both size) × (guest.number ≡ 0) × (host.number ≡ root)
+in_both (First own) root number ats first_size guest size host low aligned one other = cc
+in_both (Second own) root number ats first_size guest size host low aligned one other = cc
+in_both (Both own) root number ats first_size guest size host low (inl first) one other = cc
+in_both (Both own) root number ats first_size guest size host low (inr aligned) one other =
     let at : 4 * (root / 4 % 2 ^ 42) ≡ root = omega (arith, low, aligned) in
-    (refl, sym (ap first_number one), sym (ap second_number other) ∙ at)
+    let same : own ≡ size = cc in
+    (ap Both same, sym (ap first_number one), sym (ap second_number other) ∙ at)
 
 -- whose context it is
 owner_of : (levels id : ℕ) (a : Attachment) (cached : Option Context) (context : Context) → ((c : Context) → cached ≡ Some c → option_map context_for (owned_stages a) ≡ Some c)
@@ -68,18 +71,16 @@ owner_of levels id a (Some c) context are found = by (owned_stages a) (are c ref
 module _ (laws : ServiceLaws) (parts : Parts) (events : ℕ) (sound : AreSound parts events) (own : IsSoundDriver parts.driver) (state : State) (shows : PartsShow parts state)
     (id : ℕ) (access : Access) where
   -- what the second stage of a device in both leads a read to, the device may read
-  led_may : (stage : Stages) (mode : Mode) → mode ≡ Both → AreTablesOf parts.memory parts.driver.marks parts.driver.ledger id mode stage.root
-      → (frame : Option ℕ) → IsLed second_levels parts.memory stage.root frame → MayReadFrom state.history id frame
-  led_may stage First is tables frame led = cc
-  led_may stage Second is tables frame led = cc
-  led_may stage Both is tables None led = tt
-  led_may stage Both is tables (Some frame) (guest, rights, leads) =
-      let held = leads_held laws.walks parts.memory parts.driver.ledger id stage.root tables.tree.0 tables.leaves (low_pages_of laws parts events sound own id)
+  led_may : (root : ℕ) (size : Size) → AreTablesOf parts.memory parts.driver.marks parts.driver.ledger id (Both size) root
+      → (frame : Option ℕ) → IsLed (levels_of size) parts.memory root frame → MayReadFrom state.history id frame
+  led_may root size tables None led = tt
+  led_may root size tables (Some frame) (guest, rights, leads) =
+      let held = leads_held laws.walks size parts.memory parts.driver.ledger id root tables.tree.0 tables.leaves tables.low
       (held_inside laws parts events sound own id) guest Read frame rights leads in
       (guest / 4096, rights, inl ((shows.ledger.pages id (guest / 4096)).holds ∙ held.0), held.1)
 
   pub reads_guest_tables : ReadsGuestTables parts state.history id access
-  reads_guest_tables at_first at_second walked is reaches =
+  reads_guest_tables first_size size at_first at_second walked is reaches =
       let owner = owner_of parts.driver.levels id (attachment_of parts.driver.devices id) (contexts_of parts.iommu id) is.context (λ c at. sound.contexts id c at)
       (sym (found_as laws parts events sound own id) ∙ is.found) in
       let stage = owner.0 in
@@ -87,8 +88,10 @@ module _ (laws : ServiceLaws) (parts : Parts) (events : ℕ) (sound : AreSound p
       let below = root_low parts.memory parts.driver.marks parts.driver.ledger id stage.mode stage.root tables in
       let many = own.sizes.size.1 in
       let low : stage.root < 2 ^ 44 = omega (arith, below, many) in
-      let roots = in_both stage.mode stage.root stage.number stage.ats is.guest is.host low (root_aligned parts.memory parts.driver.marks parts.driver.ledger id stage.mode stage.root tables)
+      let roots = in_both stage.mode stage.root stage.number stage.ats first_size is.guest size is.host low (root_aligned parts.memory parts.driver.marks parts.driver.ledger id stage.mode stage.root tables)
       (sym (ap (λ (c : Context). c.first_stage) owner.2) ∙ is.first_stage) (sym (ap (λ (c : Context). c.second_stage) owner.2) ∙ is.second_stage) in
       let at_root : at_second ≡ stage.root = sym is.host_is ∙ roots.2 in
-      let led = (laws.walks.led first_levels second_levels parts.memory at_first at_second access.address access.kind walked reaches).0 in
-      λ k d lt. led_may stage stage.mode roots.0 tables (get_or walked.guest_frames k d) (subst (λ n. IsLed second_levels parts.memory n (get_or walked.guest_frames k d)) at_root (led k d lt))
+      let both : AreTablesOf parts.memory parts.driver.marks parts.driver.ledger id (Both size) stage.root =
+      subst (λ m. AreTablesOf parts.memory parts.driver.marks parts.driver.ledger id m stage.root) roots.0 tables in
+      let led = (laws.walks.led (levels_of first_size) (levels_of size) parts.memory at_first at_second access.address access.kind walked reaches).0 in
+      λ k d lt. led_may stage.root size both (get_or walked.guest_frames k d) (subst (λ n. IsLed (levels_of size) parts.memory n (get_or walked.guest_frames k d)) at_root (led k d lt))

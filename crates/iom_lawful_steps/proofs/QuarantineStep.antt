@@ -1,6 +1,8 @@
 -- A quarantine of the driver is one of the ledger machine, and where it is refused nothing changes.
 use Rattle.std.proofs.Common.{◌≡◌, ◌+◌, ◌∙◌, ℕ, List, [], ◌∷◌, length, Option, Some, None, Result, Ok, Err, slice_get, refl, sym, ap, subst, arith}
 use Rattle.std.specs.Option.{option_map_or}
+use Rattle.iom_base.specs.Modes.{size_in}
+use Rattle.iom_base.specs.declared.size.Size.{Size}
 use Rattle.iom_base.specs.declared.owner.Owner.TheVariants.{System, OneDevice}
 use Rattle.iom_directory.specs.Pages.{HasPage, root_level}
 use Rattle.iom_directory.specs.Written.{without_context}
@@ -26,7 +28,7 @@ use Rattle.iom_machine.specs.declared.state.State.{State}
 use Rattle.iom_machine.specs.Devices.{device_of, with_device}
 use Rattle.iom_machine.specs.Machine as machine
 use Rattle.iom_machine.specs.Refusals as refusals
-use Rattle.iom_page_table.specs.Sv39.{unmapped}
+use Rattle.iom_page_table.specs.FirstTables.{unmapped}
 use Rattle.iom_composition.specs.Answers.{ticket_told_of}
 use Rattle.iom_composition.specs.Devices.{shown_attachment}
 use Rattle.iom_composition.specs.Frames.{ShowsFrames}
@@ -48,16 +50,16 @@ use Rattle.iom_lawful_steps.proofs.ReleaseStep.{flights_appended, size_appended,
 use Rattle.iom_composition.proofs.StayLemmas.{shows_same, not_owned, length-unmapped}
 
 -- memory has as many frames after the leaves of some pages are cleared
-length-all_unmapped : (memory : List (List ℕ)) (root : ℕ) (pages : List ℕ) → length (all_unmapped memory root pages) ≡ length memory
-length-all_unmapped memory root [] = refl
-length-all_unmapped memory root (page ∷ pages) = length-all_unmapped (unmapped memory root page) root pages ∙ length-unmapped memory root page
+length-all_unmapped : (size : Size) (memory : List (List ℕ)) (root : ℕ) (pages : List ℕ) → length (all_unmapped size memory root pages) ≡ length memory
+length-all_unmapped size memory root [] = refl
+length-all_unmapped size memory root (page ∷ pages) = length-all_unmapped size (unmapped size memory root page) root pages ∙ length-unmapped size memory root page
 
 -- and after a quarantine
 size_cut_off : (d d' : DriverState) (memory memory' : List (List ℕ)) (io io' : Iommu) (id ticket : ℕ) → QueuesQuarantine mmio d memory io id ticket d' memory' io' → length memory' ≡ length memory
 size_cut_off d d' memory memory' io io' id ticket queues =
     let cleared = without_context memory (root_level d.levels) (directory_frame (length memory)) id in
-    size_appended (detach_commands id queues.stage (completion_address (length memory)) (last_fence d + 1)) (all_unmapped cleared queues.stage.root queues.pages) memory' io io' queues.queued
-    ∙ length-all_unmapped cleared queues.stage.root queues.pages
+    size_appended (detach_commands id queues.stage (completion_address (length memory)) (last_fence d + 1)) (all_unmapped (size_in queues.stage.mode) cleared queues.stage.root queues.pages) memory' io io' queues.queued
+    ∙ length-all_unmapped (size_in queues.stage.mode) cleared queues.stage.root queues.pages
     ∙ length-without_context memory (root_level d.levels) (directory_frame (length memory)) id
 
 -- a frame that is nobody's is no page of the directory
@@ -93,7 +95,7 @@ module _ (old new : Parts) (events id ticket : ℕ) (found : declared.Device) (s
   flights_kept : flights_of new.iommu ≡ flights_of old.iommu
   flights_kept =
       flights_appended (detach_commands id queues.stage (completion_address (length old.memory)) (last_fence old.driver + 1))
-      (all_unmapped (without_context old.memory (root_level old.driver.levels) (directory_frame (length old.memory)) id) queues.stage.root queues.pages)
+      (all_unmapped (size_in queues.stage.mode) (without_context old.memory (root_level old.driver.levels) (directory_frame (length old.memory)) id) queues.stage.root queues.pages)
       new.memory old.iommu new.iommu queues.queued
 
   pub shows_cut_off : PartsShow new (cut_off state found id ticket)

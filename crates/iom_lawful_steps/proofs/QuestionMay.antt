@@ -11,7 +11,8 @@ use Rattle.iom_base.specs.declared.mode.Mode.{Mode}
 use Rattle.iom_base.specs.declared.mode.Mode.TheVariants.{First, Second, Both}
 use Rattle.iom_base.specs.declared.rights.Rights.{Rights}
 use Rattle.iom_base.specs.Rights.{allows}
-use Rattle.iom_copies.specs.Attachments.{has_ats, is_both, in_both_stages}
+use Rattle.iom_base.specs.Modes.{is_both}
+use Rattle.iom_copies.specs.Attachments.{has_ats, in_both_stages}
 use Rattle.iom_copies.specs.Faithful.{IsFaithful}
 use Rattle.iom_copies.specs.Scene.{Scene}
 use Rattle.iom_copies.proofs.ListLemmas.{contains_head, in_none}
@@ -142,11 +143,11 @@ module _ (parts : Parts) (events : ℕ) (state : State) (id page : ℕ) (stage :
 
   shown_cached : (mode : Mode) → in_both_stages (shown_attachment (attachment_of parts.driver.devices id)) ≡ is_both mode
       → MayTell (shown.Attached mode true) state id page (Page translation.frame translation.rights)
-  shown_cached First is =
+  shown_cached (First size) is =
       shows_merely parts.driver.ledger state.history id page (translation.frame, translation.rights) shows.ledger (∥∥₁_map sound.copies (λ (scene, at, facts). show_in is scene at facts))
-  shown_cached Second is =
+  shown_cached (Second size) is =
       shows_merely parts.driver.ledger state.history id page (translation.frame, translation.rights) shows.ledger (∥∥₁_map sound.copies (λ (scene, at, facts). show_in is scene at facts))
-  shown_cached Both is = (
+  shown_cached (Both size) is = (
     allowed,
     (λ kind allowing. may_merely state.history id translation.frame kind (∥∥₁_map sound.copies
         (λ (scene, at, facts). reachable_in parts events state id page stage translation sound own shows owned cached true is scene at facts kind allowing))),
@@ -175,11 +176,11 @@ module _ (parts : Parts) (events : ℕ) (state : State) (id page : ℕ) (stage :
 -- WHAT A WALK GIVES
 walked_tell : (state : State) (ledger : Ledger) (mode : Mode) (id page : ℕ) (translation : Translation) → Agrees ledger state.history → HoldsWalked ledger mode id page translation
     → allows translation.rights Read ≡ true → MayTell (shown.Attached mode true) state id page (Page translation.frame translation.rights)
-walked_tell state ledger First id page translation agrees (granted, rights, (at, same), held) allowed =
+walked_tell state ledger (First size) id page translation agrees (granted, rights, (at, same), held) allowed =
     inl ((agrees.pages id page).holds ∙ ap (held_in ledger id) (sym at) ∙ held ∙ ap (λ (r : Rights). Some (translation.frame, r)) same)
-walked_tell state ledger Second id page translation agrees (granted, rights, (at, same), held) allowed =
+walked_tell state ledger (Second size) id page translation agrees (granted, rights, (at, same), held) allowed =
     inl ((agrees.pages id page).holds ∙ ap (held_in ledger id) (sym at) ∙ held ∙ ap (λ (r : Rights). Some (translation.frame, r)) same)
-walked_tell state ledger Both id page translation agrees (granted, rights, no_less, held) allowed =
+walked_tell state ledger (Both size) id page translation agrees (granted, rights, no_less, held) allowed =
     (allowed, (λ kind allowing. (granted, rights, inl ((agrees.pages id granted).holds ∙ held), no_less kind allowing)))
 
 -- what the machine lets be told of a page
@@ -201,9 +202,9 @@ may_tell parts events state id address answer sure new sound own shows ats (inr 
 -- EACH REFUSAL
 attached_refuse : (mode : Mode) (state : State) (ledger : Ledger) (id page : ℕ) (cause : Cause) → Agrees ledger state.history → FaultsBy mode ledger id page Read cause
     → MayTell (shown.Attached mode true) state id page (Refused cause)
-attached_refuse First state ledger id page cause agrees faults = ((agrees.pages id page).holds ∙ none_held ledger id page faults.1, faults.0)
-attached_refuse Second state ledger id page cause agrees faults = ((agrees.pages id page).holds ∙ none_held ledger id page faults.1, faults.0)
-attached_refuse Both state ledger id page cause agrees faults = faults
+attached_refuse (First size) state ledger id page cause agrees faults = ((agrees.pages id page).holds ∙ none_held ledger id page faults.1, faults.0)
+attached_refuse (Second size) state ledger id page cause agrees faults = ((agrees.pages id page).holds ∙ none_held ledger id page faults.1, faults.0)
+attached_refuse (Both size) state ledger id page cause agrees faults = faults
 
 refuse_formerly : (stage : Stages) (state : State) (id address : ℕ) (cause : Cause) → RefusedFormerly stage cause
     → MayTellFormerly stage.mode stage.ats state.history id (address / 4096) (Refused cause)

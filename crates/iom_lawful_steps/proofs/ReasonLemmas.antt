@@ -3,15 +3,15 @@ use Rattle.std.proofs.Common.{suc, ◌≡◌, ◌==◌, ◌||◌, ◌&&◌, ◌-
 use Rattle.std.specs.Option.{option_map_or}
 use Rattle.std.proofs.lemmas.Bool.{false≢true}
 use Rattle.std.proofs.lemmas.Bool.Decides.{eqb_tells}
-use Rattle.iom_base.specs.Sizes.{page_limit}
 use Rattle.iom_driver.specs.declared.device.Device as driver
 use Rattle.iom_driver.specs.declared.device.Attachment as owned
 use Rattle.iom_driver.specs.declared.device.Attachment.TheVariants as attached
+use Rattle.iom_driver.specs.declared.device.Stages.{Stages}
 use Rattle.iom_driver.specs.Devices as as_known
-use Rattle.iom_driver.specs.Devices.{device_of, is_plugged, is_away, owned_stages}
+use Rattle.iom_driver.specs.Devices.{device_of, is_plugged, is_away, attached_stages, owned_stages}
 use Rattle.iom_driver.specs.Fences.{last_fence}
 use Rattle.iom_driver.specs.Layout.{id_limit}
-use Rattle.iom_driver.specs.Reasons.{why_not_plug, why_not_attach, why_not_grant, granting_reasons, why_not_release, releasing_reasons, why_not_detach, detaching_reasons, is_busy, lacks_places, release_places, HasGrants}
+use Rattle.iom_driver.specs.Reasons.{why_not_plug, why_not_attach, why_not_grant, granting_reasons, page_limit_in, why_not_release, releasing_reasons, why_not_detach, detaching_reasons, is_busy, lacks_places, release_places, HasGrants}
 use Rattle.iom_inflight.specs.Flights.{FlightRow}
 use Rattle.iom_iommu.specs.Parts.{registers_of, flights_of}
 use Rattle.iom_ledger.specs.declared.ledger.Ledger.{Ledger}
@@ -23,7 +23,7 @@ use Rattle.iom_ledger.specs.Refusals.{first_that_applies, NoneApplies, IsRefused
 use Rattle.iom_ledger.specs.Shown.{Agrees, held_in, released_in, lingering_in}
 use Rattle.iom_machine.specs.Frames.{is_reserved}
 use Rattle.iom_machine.specs.Refusals as machine
-use Rattle.iom_machine.specs.Refusals.{attachment_of, is_detached, is_leaving, is_quarantined, is_held, is_lingering, has_grants, is_too_wide, is_trusted, has_cache, MayFindNoPlace}
+use Rattle.iom_machine.specs.Refusals.{attachment_of, is_detached, is_leaving, is_quarantined, is_held, is_lingering, has_grants, is_too_wide, is_trusted, has_cache, page_limit_at, MayFindNoPlace}
 use Rattle.iom_machine.proofs.GrantLemmas.{grants_are_at_pages}
 use Rattle.iom_machine.specs.Tickets.{last_confirmed, pending_tickets}
 use Rattle.iom_machine.specs.declared.state.Attachment.{Attachment}
@@ -178,29 +178,29 @@ driver_first started there how later =
     ∷ (as_known.is_quarantined how, refusal.Quarantined)
     ∷ later)
 
-attachment_tests : (there : Bool) (how : owned.Attachment) (later later' : List (Bool × Refusal)) → first_that_applies later ≡ first_that_applies later'
-    → machine_first there (shown_attachment how) later ≡ driver_first true there how later'
+attachment_tests : (there : Bool) (how : owned.Attachment) (later later' : List (Bool × Refusal))
+    → ((stage : Stages) → how ≡ attached.Attached stage → first_that_applies later ≡ first_that_applies later') → machine_first there (shown_attachment how) later ≡ driver_first true there how later'
 attachment_tests false how later later' same = refl
 attachment_tests true attached.Detached later later' same = refl
 attachment_tests true (attached.Quarantined ticket stage) later later' same = refl
 attachment_tests true (attached.Leaving ticket stage) later later' same = refl
-attachment_tests true (attached.Attached stage) later later' same = same
+attachment_tests true (attached.Attached stage) later later' same = same stage refl
 
 attachment_same : (there there' started : Bool) (attachment : Attachment) (how : owned.Attachment) (later later' : List (Bool × Refusal)) → there ≡ there' → attachment ≡ shown_attachment how → started ≡ true
-    → first_that_applies later ≡ first_that_applies later' → machine_first there attachment later ≡ driver_first started there' how later'
+    → ((stage : Stages) → how ≡ attached.Attached stage → first_that_applies later ≡ first_that_applies later') → machine_first there attachment later ≡ driver_first started there' how later'
 attachment_same there there' started attachment how later later' same attached on rest = rw (same, attached, on) (attachment_tests there' how later later' rest)
 
-grant_same : (frames frames' page frame : ℕ) (reserved reserved' busy busy' : Bool) → frames ≡ frames' → reserved ≡ reserved' → busy ≡ busy'
-    → first_that_applies ((nat_le frames frame, FrameOutOfRange) ∷ (reserved, FrameReserved) ∷ (nat_le page_limit page, IovaOutOfRange) ∷ (busy, IovaBusy) ∷ [])
-    ≡ first_that_applies ((nat_le frames' frame, FrameOutOfRange) ∷ (reserved', FrameReserved) ∷ (nat_le page_limit page, IovaOutOfRange) ∷ (busy', IovaBusy) ∷ [])
-grant_same frames frames' page frame reserved reserved' busy busy' size same as_busy = rw (size, same, as_busy) refl
+grant_same : (frames frames' limit limit' page frame : ℕ) (reserved reserved' busy busy' : Bool) → frames ≡ frames' → reserved ≡ reserved' → limit ≡ limit' → busy ≡ busy'
+    → first_that_applies ((nat_le frames frame, FrameOutOfRange) ∷ (reserved, FrameReserved) ∷ (nat_le limit page, IovaOutOfRange) ∷ (busy, IovaBusy) ∷ [])
+    ≡ first_that_applies ((nat_le frames' frame, FrameOutOfRange) ∷ (reserved', FrameReserved) ∷ (nat_le limit' page, IovaOutOfRange) ∷ (busy', IovaBusy) ∷ [])
+grant_same frames frames' limit limit' page frame reserved reserved' busy busy' size same as_far as_busy = rw (size, same, as_far, as_busy) refl
 
 -- what the machine lists for an attached device, of a grant and of a release
 abbrev granting_tests : State → ℕ → ℕ → ℕ → List (Bool × Refusal)
 granting_tests state id page frame =
     (nat_le (length state.frames) frame, FrameOutOfRange)
     ∷ (is_reserved state.frames frame, FrameReserved)
-    ∷ (nat_le page_limit page, IovaOutOfRange)
+    ∷ (nat_le (page_limit_at (attachment_of state id)) page, IovaOutOfRange)
     ∷ (is_held state id page || is_lingering state id page, IovaBusy)
     ∷ []
 
@@ -281,6 +281,12 @@ attach_first parts events state id ats sound shows =
     (there_shown parts events state id sound shows) (how_shown parts events state id sound shows)
     (ap (λ levels. nat_le (id_limit levels) id) shows.levels) (trusted_shown parts events state id sound shows) sound.started
 
+-- so the pages that may be granted to an attached device are those that the driver grants
+limit_shown : (parts : Parts) (events : ℕ) (state : State) (id : ℕ) → AreSound parts events → PartsShow parts state → (stage : Stages)
+    → as_known.attachment_of parts.driver.devices id ≡ attached.Attached stage → page_limit_at (attachment_of state id) ≡ page_limit_in (as_known.stages_of parts.driver.devices id)
+limit_shown parts events state id sound shows stage is =
+    ap page_limit_at (how_shown parts events state id sound shows ∙ ap shown_attachment is) ∙ sym (ap (λ a. page_limit_in (attached_stages a)) is)
+
 pub grant_first : (parts : Parts) (events : ℕ) (state : State) (id page frame : ℕ) → AreSound parts events → PartsShow parts state
     → first_that_applies (machine.grant_reasons state id page frame) ≡ first_that_applies (why_not_grant parts.driver id page frame)
 grant_first parts events state id page frame sound shows =
@@ -288,9 +294,12 @@ grant_first parts events state id page frame sound shows =
     attachment_same (machine.is_plugged state id) (is_plugged d.devices id) d.started (attachment_of state id) (as_known.attachment_of d.devices id)
     (granting_tests state id page frame) (granting_reasons d id page frame)
     (there_shown parts events state id sound shows) (how_shown parts events state id sound shows) sound.started
-    (grant_same (length state.frames) (length d.marks) page frame (is_reserved state.frames frame) (is_marked d.marks frame) (is_held state id page || is_lingering state id page) (is_busy d id page)
+    (λ stage is.
+    grant_same (length state.frames) (length d.marks) (page_limit_at (attachment_of state id)) (page_limit_in (as_known.stages_of d.devices id)) page frame (is_reserved state.frames frame)
+    (is_marked d.marks frame) (is_held state id page || is_lingering state id page) (is_busy d id page)
     (frames_shown parts events state sound shows)
     (reserved_shown parts.memory d.marks state.frames frame shows.frames)
+    (limit_shown parts events state id sound shows stage is)
     (busy_shown _ _ _ _ (held_shown d.ledger state id page shows.ledger) (lingering_shown d.ledger state id page shows.ledger)))
 
 -- the machine's reasons of a release or of a detach, by what the driver knows

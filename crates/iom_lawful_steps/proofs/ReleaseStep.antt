@@ -1,5 +1,6 @@
 -- A release of the driver is one of the ledger machine.
 use Rattle.std.proofs.Common.{◌≡◌, ◌≢◌, ◌+◌, ◌∙◌, ℕ, List, [], ◌∷◌, length, Option, Some, None, Result, Ok, Err, slice_get, refl, sym, ap, subst, arith}
+use Rattle.iom_base.specs.Modes.{size_in}
 use Rattle.iom_base.specs.declared.owner.Owner.{Owner}
 use Rattle.iom_base.specs.declared.owner.Owner.TheVariants.{System, OneDevice}
 use Rattle.iom_driver.specs.declared.answers.Ticket.{Ticket}
@@ -12,7 +13,7 @@ use Rattle.iom_iommu.specs.Parts.{mmio, flights_of}
 use Rattle.iom_inflight.specs.Flights.{Flights}
 use Rattle.iom_command_queue.specs.declared.command.Command.{Command}
 use Rattle.iom_driver.specs.Appends.{AppendsAll, release_commands}
-use Rattle.iom_page_table.specs.Sv39.{unmapped}
+use Rattle.iom_page_table.specs.FirstTables.{unmapped}
 use Rattle.iom_ledger.specs.declared.entry.HistoryEntry.TheVariants as entry
 use Rattle.iom_ledger.specs.declared.refusal.Refusal.{Refusal}
 use Rattle.iom_machine.specs.declared.outcome.Outcome.{Outcome}
@@ -37,8 +38,8 @@ size_appended (command ∷ later) memory memory' io io' (mid, between, first, re
 -- and after a release
 size_released : (d d' : DriverState) (memory memory' : List (List ℕ)) (io io' : Iommu) (id page ticket : ℕ) → QueuesRelease mmio d memory io id page ticket d' memory' io' → length memory' ≡ length memory
 size_released d d' memory memory' io io' id page ticket queues =
-    size_appended (release_commands id queues.stage page (completion_address (length memory)) (last_fence d + 1)) (unmapped memory queues.stage.root page) memory' io io' queues.queued
-    ∙ length-unmapped memory queues.stage.root page
+    size_appended (release_commands id queues.stage page (completion_address (length memory)) (last_fence d + 1)) (unmapped (size_in queues.stage.mode) memory queues.stage.root page) memory' io io' queues.queued
+    ∙ length-unmapped (size_in queues.stage.mode) memory queues.stage.root page
 
 -- the accesses in flight stay, through writes of registers
 pub flights_appended : (commands : List Command) (memory memory' : List (List ℕ)) (io io' : Iommu) → AppendsAll mmio memory io commands memory' io' → flights_of io' ≡ flights_of io
@@ -59,7 +60,7 @@ shows_released : (old new : Parts) (id page ticket : ℕ) → length old.memory 
     → (state : State) → PartsShow old state → PartsShow new (released state id page ticket)
 shows_released old new id page ticket many sound queues devices state shows =
     let d = old.driver in
-    let flights = flights_appended (release_commands id queues.stage page (completion_address (length old.memory)) (last_fence d + 1)) (unmapped old.memory queues.stage.root page) new.memory old.iommu new.iommu queues.queued in
+    let flights = flights_appended (release_commands id queues.stage page (completion_address (length old.memory)) (last_fence d + 1)) (unmapped (size_in queues.stage.mode) old.memory queues.stage.root page) new.memory old.iommu new.iommu queues.queued in
     let next : ticket ≡ d.given + 1 = queues.next in
     let ordered = sound.tickets.ordered in
     let ring = subst (λ n. slice_get d.marks (command_frame n) ≡ Some (Some System)) (sym many) sound.fixed.command in

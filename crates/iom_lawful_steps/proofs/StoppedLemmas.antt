@@ -5,6 +5,7 @@ use Rattle.iom_base.specs.Accesses.{read_of, write_of}
 use Rattle.iom_base.specs.declared.access.Access.{Access}
 use Rattle.iom_base.specs.declared.cause.Cause.{Cause}
 use Rattle.iom_base.specs.declared.mode.Mode.{Mode}
+use Rattle.iom_base.specs.Modes.{size_in}
 use Rattle.iom_base.specs.Sizes.{page_size}
 use Rattle.iom_directory.specs.Pages.{root_level}
 use Rattle.iom_directory.specs.Written.{without_context}
@@ -48,7 +49,7 @@ use Rattle.iom_machine.specs.declared.state.DeviceKind.{DeviceKind}
 use Rattle.iom_machine.specs.declared.state.NewDevice.{NewDevice}
 use Rattle.iom_machine.specs.Kinds.{asks_questions, forges, is_block_device, sends_untranslated, sends_through_cache}
 use Rattle.iom_machine.specs.ThroughCache.{at_frame}
-use Rattle.iom_page_table.specs.Sv39.{unmapped}
+use Rattle.iom_page_table.specs.FirstTables.{unmapped}
 use Rattle.iom_phys_mem.specs.Words.{word_at}
 use Rattle.iom_registers.specs.Queues.{command_status, is_processing_commands}
 use Rattle.iom_tlb.specs.Content.{Content as Translations}
@@ -163,7 +164,7 @@ module _ (old : Parts) (before : ℕ) (sound : AreSound old before) (own : IsSou
       by : (answer : Result Ticket Refusal) → AnswersRelease mmio old.driver old.memory old.iommu id page answer new.driver new.memory new.iommu → LeavesFence old new.memory new.iommu
       by (Ok ticket) (admitted, queues) =
           rung_stays new.memory new.iommu
-          (rung_all (release_commands id queues.stage page (completion_address (length old.memory)) (last_fence old.driver + 1)) (unmapped old.memory queues.stage.root page)
+          (rung_all (release_commands id queues.stage page (completion_address (length old.memory)) (last_fence old.driver + 1)) (unmapped (size_in queues.stage.mode) old.memory queues.stage.root page)
           new.memory old.iommu new.iommu queues.queued)
           (queues.others (completion_frame (length old.memory))
           (not_of_device old.driver.marks (completion_frame (length old.memory)) id (fixed_frames old before sound own).completion) not_the_ring)
@@ -187,7 +188,7 @@ module _ (old : Parts) (before : ℕ) (sound : AreSound old before) (own : IsSou
       by : (answer : Result Ticket Refusal) → AnswersQuarantine mmio old.driver old.memory old.iommu id answer new.driver new.memory new.iommu → LeavesFence old new.memory new.iommu
       by (Ok ticket) (admitted, queues) =
           rung_stays new.memory new.iommu
-          (rung_all (detach_commands id queues.stage (completion_address (length old.memory)) (last_fence old.driver + 1)) (all_unmapped (without_context old.memory (root_level old.driver.levels) (directory_frame (length old.memory)) id) queues.stage.root queues.pages)
+          (rung_all (detach_commands id queues.stage (completion_address (length old.memory)) (last_fence old.driver + 1)) (all_unmapped (size_in queues.stage.mode) (without_context old.memory (root_level old.driver.levels) (directory_frame (length old.memory)) id) queues.stage.root queues.pages)
           new.memory old.iommu new.iommu queues.queued)
           (queues.others (completion_frame (length old.memory))
           (not_of_device old.driver.marks (completion_frame (length old.memory)) id (fixed_frames old before sound own).completion)

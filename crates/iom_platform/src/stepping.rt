@@ -1,11 +1,15 @@
 // One event, and what comes of it.
 ghost use Rattle.std.specs.Prelude.{◌≡◌, ◌+◌, ◌<◌, ◌^◌, [], true, false};
+ghost use Rattle.iom_inflight.specs.Flights.{oldest_in, row_of};
+ghost use Rattle.iom_iommu.specs.Parts.{flights_of};
 ghost use Rattle.iom_platform.specs.Happens.{HappensHere};
 ghost use Rattle.iom_platform.specs.Passing.{StaysBeside};
 ghost use Rattle.iom_platform.specs.Seen.{platform_seen};
 
 use crate::block::Block;
 use crate::platform::Platform;
+use iom_base::DeviceId;
+use iom_inflight::MadeAt;
 use iom_machine::{Event, NewDevice, Outcome};
 use iom_virtio_blk::Disk;
 use iom_world::KeptOutcomes;
@@ -67,6 +71,13 @@ impl<D: Disk> Platform<D> {
     {
         let mut kept = KeptOutcomes::new();
         mem::replace(self.take(event, &mut kept), Outcome::Done)
+    }
+
+    /// The access that a commit of the device would make. None where nothing of it is in flight, or no device has the id.
+    pub fn oldest(&self, id: DeviceId) -> Option<MadeAt>
+        ensures { result ≡ oldest_in (row_of (flights_of self.now.world.iommu).rows id) }
+    {
+        self.world.oldest(id)
     }
 
     /// How many events there were since power-on.

@@ -3,6 +3,7 @@ use Rattle.std.proofs.Common.{◌≡◌, ◌+◌, ◌^◌, ◌<◌, ◌==◌, �
 use Rattle.std.specs.Option.{option_map}
 use Rattle.std.proofs.Math.Logic.{∥∥₁_map}
 use Rattle.std.proofs.lemmas.Bool.Decides.{eqb_tells}
+use Rattle.iom_base.specs.Modes.{size_in}
 use Rattle.iom_command_queue.specs.declared.entry.QueueEntry.{QueueEntry}
 use Rattle.iom_command_queue.specs.declared.entry.QueueEntry.TheVariants as stands
 use Rattle.iom_copies.specs.DriverCalls.{leave_commands}
@@ -51,7 +52,7 @@ module _ (old new : Parts) (events id ticket : ℕ) (sound : AreSound old events
   rung : IsRung old.iommu new.iommu
   rung =
       rung_all (detach_commands id queues.stage (completion_address (length old.memory)) (last_fence old.driver + 1))
-      (all_unmapped (without_context old.memory (root_level old.driver.levels) (directory_frame (length old.memory)) id) queues.stage.root queues.pages) new.memory old.iommu new.iommu queues.queued
+      (all_unmapped (size_in queues.stage.mode) (without_context old.memory (root_level old.driver.levels) (directory_frame (length old.memory)) id) queues.stage.root queues.pages) new.memory old.iommu new.iommu queues.queued
 
   -- the completion word's frame is neither the device's, nor a page of the directory, nor the ring's
   leaves : LeavesWord old new

@@ -3,6 +3,7 @@ use Rattle.std.proofs.Common.{◌≡◌, ◌≢◌, ◌+◌, ◌^◌, ◌<◌, �
 use Rattle.std.specs.Option.{option_map}
 use Rattle.std.proofs.Math.Logic.{∥∥₁_map}
 use Rattle.std.proofs.lemmas.Bool.{leb-false}
+use Rattle.iom_base.specs.Modes.{size_in}
 use Rattle.iom_base.specs.declared.owner.Owner.{Owner}
 use Rattle.iom_base.specs.declared.owner.Owner.TheVariants.{System, OneDevice}
 use Rattle.iom_command_queue.specs.declared.command.Command.{Command}
@@ -27,7 +28,7 @@ use Rattle.iom_ledger.specs.declared.entry.HistoryEntry.TheVariants.{Released}
 use Rattle.iom_ledger.specs.History.{History, confirms}
 use Rattle.iom_ledger.specs.Shown.{Agrees}
 use Rattle.iom_machine.specs.declared.outcome.Outcome.{Outcome}
-use Rattle.iom_page_table.specs.Sv39.{unmapped}
+use Rattle.iom_page_table.specs.FirstTables.{unmapped}
 use Rattle.iom_registers.specs.Queues.{command_status, is_command_queue_on}
 use Rattle.iom_composition.proofs.DriverLemmas.{next_fence}
 use Rattle.iom_tlb.specs.Content.{Content}
@@ -135,7 +136,7 @@ module _ (old new : Parts) (events id page ticket : ℕ) (sound : AreSound old e
     (numbers : nat_le 4294967295 (last_fence old.driver) ≡ false) (queues : QueuesRelease mmio old.driver old.memory old.iommu id page ticket new.driver new.memory new.iommu)
     (devices : new.devices ≡ old.devices) (fabric : new.fabric ≡ old.fabric) where
   rung : IsRung old.iommu new.iommu
-  rung = rung_all (release_commands id queues.stage page (completion_address (length old.memory)) (last_fence old.driver + 1)) (unmapped old.memory queues.stage.root page) new.memory old.iommu new.iommu queues.queued
+  rung = rung_all (release_commands id queues.stage page (completion_address (length old.memory)) (last_fence old.driver + 1)) (unmapped (size_in queues.stage.mode) old.memory queues.stage.root page) new.memory old.iommu new.iommu queues.queued
 
   abbrev commands : List QueueEntry
   commands = stands.Command (invalidation queues.stage.mode queues.stage.number page) ∷ map stands.Command (device_invalidation id queues.stage page)

@@ -93,11 +93,11 @@ shows_same old new state same shows = subst (λ parts. PartsShow parts state) (s
 held_shown : (state : State) (ledger : Ledger) (mode : Mode) (ats : Bool) (id : ℕ) (access : Access) (translation : Translation) → Agrees ledger state.history
     → HoldsWalked ledger mode id (access.address / 4096) translation → allows translation.rights access.kind ≡ true
     → MayAccept (shown.Attached mode ats) state id access translation.frame
-held_shown state ledger First ats id access translation agrees (granted, rights, (at, same), held) allowed =
+held_shown state ledger (First size) ats id access translation agrees (granted, rights, (at, same), held) allowed =
     inl (rights, (agrees.pages id (access.address / 4096)).holds ∙ ap (held_in ledger id) (sym at) ∙ held, ap (λ r. allows r access.kind) same ∙ allowed)
-held_shown state ledger Second ats id access translation agrees (granted, rights, (at, same), held) allowed =
+held_shown state ledger (Second size) ats id access translation agrees (granted, rights, (at, same), held) allowed =
     inl (rights, (agrees.pages id (access.address / 4096)).holds ∙ ap (held_in ledger id) (sym at) ∙ held, ap (λ r. allows r access.kind) same ∙ allowed)
-held_shown state ledger Both ats id access translation agrees (granted, rights, no_less, held) allowed =
+held_shown state ledger (Both size) ats id access translation agrees (granted, rights, no_less, held) allowed =
     (granted, rights, inl ((agrees.pages id granted).holds ∙ held), no_less access.kind allowed)
 
 none_held_shown : (state : State) (ledger : Ledger) (id : ℕ) (access : Access) → Agrees ledger state.history
@@ -120,9 +120,9 @@ may_accept parts events state id answer access sure old new sound own shows same
 
 attached_fault : (mode : Mode) (ats : Bool) (state : State) (ledger : Ledger) (id : ℕ) (access : Access) (cause : Cause) → Agrees ledger state.history
     → FaultsBy mode ledger id (access.address / 4096) access.kind cause → MayFault (shown.Attached mode ats) state id access cause
-attached_fault First ats state ledger id access cause agrees faults = (none_held_shown state ledger id access agrees faults.1, faults.0)
-attached_fault Second ats state ledger id access cause agrees faults = (none_held_shown state ledger id access agrees faults.1, faults.0)
-attached_fault Both ats state ledger id access cause agrees faults = faults
+attached_fault (First size) ats state ledger id access cause agrees faults = (none_held_shown state ledger id access agrees faults.1, faults.0)
+attached_fault (Second size) ats state ledger id access cause agrees faults = (none_held_shown state ledger id access agrees faults.1, faults.0)
+attached_fault (Both size) ats state ledger id access cause agrees faults = faults
 
 may_fault : (a : Attachment) (parts : Parts) (state : State) (id : ℕ) (access : Access) (cause : Cause) → IsSoundDriver parts.driver → PartsShow parts state
     → attachment_of parts.driver.devices id ≡ a → FaultsAs a parts.driver id access.address access.kind cause → MayFault (shown_attachment a) state id access cause

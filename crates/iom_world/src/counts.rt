@@ -1,6 +1,8 @@
 // What a world tells of itself, beside the outcomes of its events.
-ghost use Rattle.std.specs.Prelude.{◌≡◌, slice_get};
-ghost use Rattle.iom_inflight.specs.Flights.{row_of};
+ghost use Rattle.std.specs.Prelude.{◌≡◌, ◌==◌, length, nat_le, nat_lt, slice_get};
+ghost use Rattle.iom_driver.specs.Fences.{last_fence};
+ghost use Rattle.iom_driver.specs.Seen.{state_of};
+ghost use Rattle.iom_inflight.specs.Flights.{first_busy, oldest_in, row_of};
 ghost use Rattle.iom_iommu.specs.Parts.{flights_of};
 ghost use Rattle.iom_machine.specs.declared.state.State.{State};
 ghost use Rattle.iom_world.specs.Counts.{IsTraceOf, oldest_number};
@@ -9,6 +11,7 @@ ghost use Rattle.iom_world.specs.Shows.{Shows};
 use crate::world::World;
 use iom_base::DeviceId;
 use iom_fabric::OnLink;
+use iom_inflight::MadeAt;
 use iom_machine::Trace;
 
 impl World {
@@ -23,6 +26,41 @@ impl World {
         }
         let later = (in_flight - 1) as u64;
         Some(self.iommu.accepted(id).saturating_sub(later))
+    }
+
+    /// The access that a commit of the device would make. None where nothing of it is in flight, or no device has the id.
+    pub fn oldest(&self, id: DeviceId) -> Option<MadeAt>
+        ensures { result ≡ oldest_in (row_of (flights_of self.now.iommu).rows id) }
+    {
+        self.iommu.oldest(id)
+    }
+
+    /// The first device, in the order of plugging, that has an access in flight. None where none has.
+    pub fn first_busy(&self) -> Option<DeviceId>
+        ensures { result ≡ first_busy (flights_of self.now.iommu).rows }
+    {
+        self.iommu.first_busy()
+    }
+
+    /// Whether no message is under way.
+    pub fn is_quiet(&self) -> bool
+        ensures { result ≡ (length self.now.fabric == 0) }
+    {
+        self.fabric.is_empty()
+    }
+
+    /// Whether a ticket isn't confirmed.
+    pub fn has_pending(&self) -> bool
+        ensures { result ≡ nat_lt (state_of self.now.driver).confirmed (state_of self.now.driver).given }
+    {
+        self.driver.has_pending()
+    }
+
+    /// Whether the numbers of fences are used up.
+    pub fn has_used_up(&self) -> bool
+        ensures { result ≡ nat_le 4294967295 (last_fence (state_of self.now.driver)) }
+    {
+        self.driver.has_used_up()
     }
 
     /// The message at the place, counted from 0, and the link that it is on; it stays. None where there is none.

@@ -2,7 +2,7 @@
 //! with one outcome.
 //!
 //! Page tables stand in memory and are walked for every request (RISC-V Privileged Architecture,
-//! "Sv39"); the driver and the IOMMU talk in commands of 16 bytes and in registers (RISC-V IOMMU
+//! "Sv39" and "Sv48"); the driver and the IOMMU talk in commands of 16 bytes and in registers (RISC-V IOMMU
 //! Architecture Specification, section 3.1 and chapter 5). The layer above may rely on each event
 //! ([`World::take`], [`World::begin`], [`World::rest`], [`World::tell_status`]) being a lawful step of the
 //! ledger machine, from every state that the world shows to one that it shows then, whatever the event is;
