@@ -42,9 +42,9 @@ use Rattle.iom_doubts.proofs.FlightSteps.{Led, led_same, led_refused, led_by, le
 fault_too : (attachment : Attachment) (old : State) (flights : List (List AcceptedAccess)) (id : ℕ) (access : Access) (cause : Cause)
     → MayFault attachment old id access cause → MayFault attachment (flown flights old) id access cause
 fault_too Detached old flights id access cause may = may
-fault_too (Attached First ats) old flights id access cause may = may
-fault_too (Attached Second ats) old flights id access cause may = may
-fault_too (Attached Both ats) old flights id access cause may = may
+fault_too (Attached (First size) ats) old flights id access cause may = may
+fault_too (Attached (Second size) ats) old flights id access cause may = may
+fault_too (Attached (Both size) ats) old flights id access cause may = may
 fault_too (Quarantined ticket mode ats) old flights id access cause may = may
 fault_too (Leaving ticket mode ats) old flights id access cause may = may
 
@@ -212,12 +212,12 @@ idle_fly doubts flights old id outcome new leaves fly step =
 tell_too : (attachment : Attachment) (old : State) (flights : List (List AcceptedAccess)) (id page : ℕ) (told : Translation)
     → MayTell attachment old id page told → MayTell attachment (flown flights old) id page told
 tell_too Detached old flights id page told may = may
-tell_too (Attached First true) old flights id page told may = may
-tell_too (Attached Second true) old flights id page told may = may
-tell_too (Attached Both true) old flights id page told may = may
-tell_too (Attached First false) old flights id page told may = may
-tell_too (Attached Second false) old flights id page told may = may
-tell_too (Attached Both false) old flights id page told may = may
+tell_too (Attached (First size) true) old flights id page told may = may
+tell_too (Attached (Second size) true) old flights id page told may = may
+tell_too (Attached (Both size) true) old flights id page told may = may
+tell_too (Attached (First size) false) old flights id page told may = may
+tell_too (Attached (Second size) false) old flights id page told may = may
+tell_too (Attached (Both size) false) old flights id page told may = may
 tell_too (Quarantined ticket mode ats) old flights id page told may = may
 tell_too (Leaving ticket mode ats) old flights id page told may = may
 

@@ -5,6 +5,7 @@ use Rattle.iom_base.specs.declared.grant_rights.GrantRights.{GrantRights}
 use Rattle.iom_base.specs.declared.mode.Mode.{Mode}
 use Rattle.iom_base.specs.declared.mode.Mode.TheVariants.{First, Second, Both}
 use Rattle.iom_ledger.specs.declared.refusal.Refusal.{Refusal}
+use Rattle.iom_ledger.specs.declared.refusal.Refusal.TheVariants.{NoFrames}
 use Rattle.iom_ledger.specs.Refusals.{NoneApplies}
 use Rattle.iom_machine.specs.CuttingOff.{cut_off_under, attached_again}
 use Rattle.iom_machine.specs.Devices.{device_of}
@@ -12,7 +13,7 @@ use Rattle.iom_machine.specs.Disks.{without_disk}
 use Rattle.iom_machine.specs.Kinds.{disk_of}
 use Rattle.iom_machine.specs.Leaving.{leaving_under}
 use Rattle.iom_machine.specs.Machine as machine
-use Rattle.iom_machine.specs.Refusals.{MayRefusePlug, MayRefuseAttach, MayRefuseGrant, MayFindNoPlace, NeverElse, plug_reasons, attach_reasons, detach_reasons, grant_reasons, release_reasons, quarantine_reasons, revive_reasons}
+use Rattle.iom_machine.specs.Refusals.{MayRefusePlug, MayRefuseAttach, MayRefuseGrant, MayFindNoPlace, NeverElse, attachment_of, plug_reasons, attach_reasons, detach_reasons, grant_reasons, release_reasons, quarantine_reasons, revive_reasons}
 use Rattle.iom_machine.specs.declared.outcome.Outcome.{Outcome}
 use Rattle.iom_machine.specs.declared.outcome.Outcome.TheVariants as outcomes
 use Rattle.iom_machine.specs.declared.state.Attachment.TheVariants.{Attached}
@@ -21,7 +22,7 @@ use Rattle.iom_machine.specs.declared.state.NewDevice.{NewDevice}
 use Rattle.iom_machine.specs.declared.state.State.{State}
 use Rattle.iom_doubts.specs.declared.doubts.Doubt.{Doubt}
 use Rattle.iom_doubts.specs.Doubted.{MayEachBe, MayFly, with_flights, flown}
-use Rattle.iom_doubts.proofs.FlightSteps.{Led, led_refused, changes_too, same_plug_reasons, same_attach_reasons, same_detach_reasons, same_grant_reasons, same_release_reasons, same_quarantine_reasons, same_revive_reasons}
+use Rattle.iom_doubts.proofs.FlightSteps.{Led, led_refused, changes_too, same_attachment, same_plug_reasons, same_attach_reasons, same_detach_reasons, same_grant_reasons, same_release_reasons, same_quarantine_reasons, same_revive_reasons}
 
 -- the device that some fact is told of
 pub some_and : (found : Option Device) (P : Device → Type 0) → IsSomeAnd found P → (device : Device) × (found ≡ Some device) × P device
@@ -74,9 +75,9 @@ attaches_fly doubts flights pages taken old id mode ats (outcomes.Refused why) n
     led_refused doubts old flights new (λ s. attach_reasons s id ats) (λ s. MayRefuseAttach s mode) why fly (same_attach_reasons doubts old flights id ats) (same mode) step
   where
     same : (m : Mode) (it : Refusal) → MayRefuseAttach old m it → MayRefuseAttach (flown flights old) m it
-    same First it may = may
-    same Second it may = may
-    same Both it may = may
+    same (First size) it may = may
+    same (Second size) it may = may
+    same (Both size) it may = may
 attaches_fly doubts flights pages taken old id mode ats outcomes.Done new fly step =
     let found = some_and (device_of old id) _ step.2 in
     let too = changes_too doubts old flights new id found.0 (record found.0 { attachment = Attached mode ats }) _ old.history old.last_ticket old.disks found.1 refl refl refl found.2 fly in
@@ -120,7 +121,12 @@ pub grants_fly : (doubts : List Doubt) (flights : List (List AcceptedAccess)) (t
     → MayFly doubts new.devices flights
     → machine.Grants taken old id page frame rights outcome new → Led doubts old flights new (λ before after. machine.Grants taken before id page frame rights outcome after)
 grants_fly doubts flights taken old id page frame rights (outcomes.Refused why) new fly step =
-    led_refused doubts old flights new (λ s. grant_reasons s id page frame) (λ s. MayRefuseGrant s frame) why fly (same_grant_reasons doubts old flights id page frame) (λ it may. may) step
+    led_refused doubts old flights new (λ s. grant_reasons s id page frame) (λ s. MayRefuseGrant s id frame) why fly (same_grant_reasons doubts old flights id page frame)
+    (same (same_attachment doubts old flights id (subst (λ (s : State). MayFly doubts s.devices flights) step.1 fly))) step
+  where
+    same : attachment_of (flown flights old) id ≡ attachment_of old id → (it : Refusal) → MayRefuseGrant old id frame it → MayRefuseGrant (flown flights old) id frame it
+    same alike NoFrames may = rw alike may
+    same alike it may = may
 grants_fly doubts flights taken old id page frame rights outcomes.Done new fly step =
     let flew = subst (λ (s : State). MayFly doubts s.devices flights) step.2 fly in
     (flights, flew, (subst (λ rs. NoneApplies rs) (sym (same_grant_reasons doubts old flights id page frame flew)) step.0, step.1, ap (λ (s : State). flown flights s) step.2))

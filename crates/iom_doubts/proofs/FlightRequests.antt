@@ -25,18 +25,18 @@ use Rattle.iom_doubts.proofs.FlightAccepts.{DoubtsOnly, HaveOwnIds, OneMore, one
 pub accept_too : (attachment : Attachment) (state : State) (flights : List (List AcceptedAccess)) (id : ℕ) (access : Access) (frame : ℕ)
     → MayAccept attachment state id access frame → MayAccept attachment (flown flights state) id access frame
 accept_too Detached state flights id access frame may = may
-accept_too (Attached First ats) state flights id access frame may = may
-accept_too (Attached Second ats) state flights id access frame may = may
-accept_too (Attached Both ats) state flights id access frame may = may
+accept_too (Attached (First size) ats) state flights id access frame may = may
+accept_too (Attached (Second size) ats) state flights id access frame may = may
+accept_too (Attached (Both size) ats) state flights id access frame may = may
 accept_too (Quarantined ticket mode ats) state flights id access frame may = may
 accept_too (Leaving ticket mode ats) state flights id access frame may = may
 
 pub pass_too : (attachment : Attachment) (state : State) (flights : List (List AcceptedAccess)) (id : ℕ) (access : Access) (frame : ℕ)
     → MayGoThrough attachment state id access frame → MayGoThrough attachment (flown flights state) id access frame
 pass_too Detached state flights id access frame may = may
-pass_too (Attached First ats) state flights id access frame may = may
-pass_too (Attached Second ats) state flights id access frame may = may
-pass_too (Attached Both ats) state flights id access frame may = may
+pass_too (Attached (First size) ats) state flights id access frame may = may
+pass_too (Attached (Second size) ats) state flights id access frame may = may
+pass_too (Attached (Both size) ats) state flights id access frame may = may
 pass_too (Quarantined ticket mode ats) state flights id access frame may = may
 pass_too (Leaving ticket mode ats) state flights id access frame may = may
 

@@ -43,28 +43,28 @@ use Rattle.iom_doubts.proofs.FollowSteps.{own_ids_in_order}
 accept_alike : (attachment : Attachment) (state : State) (id : ℕ) (one other : Access) (frame : ℕ) → page_of other ≡ page_of one → other.kind ≡ one.kind
     → MayAccept attachment state id one frame → MayAccept attachment state id other frame
 accept_alike Detached state id one other frame page kind may = may
-accept_alike (Attached First ats) state id one other frame page kind may = rw (page, kind) may
-accept_alike (Attached Second ats) state id one other frame page kind may = rw (page, kind) may
-accept_alike (Attached Both ats) state id one other frame page kind may = rw kind may
-accept_alike (Quarantined ticket First ats) state id one other frame page kind may = rw (page, kind) may
-accept_alike (Quarantined ticket Second ats) state id one other frame page kind may = rw (page, kind) may
-accept_alike (Quarantined ticket Both ats) state id one other frame page kind may = rw kind may
-accept_alike (Leaving ticket First ats) state id one other frame page kind may = rw (page, kind) may
-accept_alike (Leaving ticket Second ats) state id one other frame page kind may = rw (page, kind) may
-accept_alike (Leaving ticket Both ats) state id one other frame page kind may = rw kind may
+accept_alike (Attached (First size) ats) state id one other frame page kind may = rw (page, kind) may
+accept_alike (Attached (Second size) ats) state id one other frame page kind may = rw (page, kind) may
+accept_alike (Attached (Both size) ats) state id one other frame page kind may = rw kind may
+accept_alike (Quarantined ticket (First size) ats) state id one other frame page kind may = rw (page, kind) may
+accept_alike (Quarantined ticket (Second size) ats) state id one other frame page kind may = rw (page, kind) may
+accept_alike (Quarantined ticket (Both size) ats) state id one other frame page kind may = rw kind may
+accept_alike (Leaving ticket (First size) ats) state id one other frame page kind may = rw (page, kind) may
+accept_alike (Leaving ticket (Second size) ats) state id one other frame page kind may = rw (page, kind) may
+accept_alike (Leaving ticket (Both size) ats) state id one other frame page kind may = rw kind may
 
 pass_alike : (attachment : Attachment) (state : State) (id : ℕ) (one other : Access) (frame : ℕ) → page_of other ≡ page_of one → other.kind ≡ one.kind
     → MayGoThrough attachment state id one frame → MayGoThrough attachment state id other frame
 pass_alike Detached state id one other frame page kind may = may
-pass_alike (Attached First ats) state id one other frame page kind may = rw (page, kind) may
-pass_alike (Attached Second ats) state id one other frame page kind may = rw (page, kind) may
-pass_alike (Attached Both ats) state id one other frame page kind may = rw kind may
-pass_alike (Quarantined ticket First ats) state id one other frame page kind may = rw (page, kind) may
-pass_alike (Quarantined ticket Second ats) state id one other frame page kind may = rw (page, kind) may
-pass_alike (Quarantined ticket Both ats) state id one other frame page kind may = rw kind may
-pass_alike (Leaving ticket First ats) state id one other frame page kind may = rw (page, kind) may
-pass_alike (Leaving ticket Second ats) state id one other frame page kind may = rw (page, kind) may
-pass_alike (Leaving ticket Both ats) state id one other frame page kind may = rw kind may
+pass_alike (Attached (First size) ats) state id one other frame page kind may = rw (page, kind) may
+pass_alike (Attached (Second size) ats) state id one other frame page kind may = rw (page, kind) may
+pass_alike (Attached (Both size) ats) state id one other frame page kind may = rw kind may
+pass_alike (Quarantined ticket (First size) ats) state id one other frame page kind may = rw (page, kind) may
+pass_alike (Quarantined ticket (Second size) ats) state id one other frame page kind may = rw (page, kind) may
+pass_alike (Quarantined ticket (Both size) ats) state id one other frame page kind may = rw kind may
+pass_alike (Leaving ticket (First size) ats) state id one other frame page kind may = rw (page, kind) may
+pass_alike (Leaving ticket (Second size) ats) state id one other frame page kind may = rw (page, kind) may
+pass_alike (Leaving ticket (Both size) ats) state id one other frame page kind may = rw kind may
 
 pub open_alike : (known : Known) (device : Device) (one : Access) (page frame : ℕ) (kind : AccessKind) → page_of one ≡ page → one.kind ≡ kind
     → ((past : Past) (frames : List Frame) → IsTrueOf known past → MayAccept device.attachment (state_of known past.history frames) device.id one frame)

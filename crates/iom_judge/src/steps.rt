@@ -5,7 +5,7 @@ ghost use Rattle.iom_known.specs.Allowed.{Past, IsTrueOf};
 ghost use Rattle.iom_known.specs.Steps.{IsExplained};
 
 use crate::belief::Belief;
-use iom_base::{Access, AccessKind, Cause, DeviceId, PAGE_LIMIT, PAGE_SIZE};
+use iom_base::{Access, AccessKind, Cause, DeviceId, PAGE_SIZE, Size};
 use iom_doubts::begun::{begun_by, read_at};
 use iom_known::Known;
 use iom_known::devices::device_with;
@@ -48,9 +48,14 @@ fn is_of_write(cause: Cause) -> bool {
     )
 }
 
+/// A page that is granted to no device, whatever the size of its tables.
+fn above_all_grants() -> u64 {
+    Size::Sv48.page_limit()
+}
+
 /// An access that is refused so, if any is: at a page that no device holds.
 fn refused_access(alloc: Global, cause: Cause) -> Result<Access, AllocError> {
-    let mut access = read_at(alloc, PAGE_LIMIT);
+    let mut access = read_at(alloc, above_all_grants());
     if is_of_write(cause) {
         access.kind = AccessKind::Write;
         access.bytes.push(0)?;
@@ -163,7 +168,7 @@ impl Belief {
         }
         Some(Question {
             device,
-            page: PAGE_LIMIT,
+            page: above_all_grants(),
         })
     }
 }

@@ -51,15 +51,15 @@ pub accepted_in_both : (attachment : Attachment) (known : Known) (past : Past) (
     → IsServed attachment past.history id access.kind frame
     → MayAccept attachment (state_of known past.history frames) id access frame × MayGoThrough attachment (state_of known past.history frames) id access frame
 accepted_in_both Detached known past frames id access frame both served = absurd both
-accepted_in_both (Attached Both ats) known past frames id access frame both served = (served, served)
-accepted_in_both (Attached First ats) known past frames id access frame both served = cc
-accepted_in_both (Attached Second ats) known past frames id access frame both served = cc
-accepted_in_both (Quarantined ticket Both ats) known past frames id access frame both served = (served, served)
-accepted_in_both (Quarantined ticket First ats) known past frames id access frame both served = cc
-accepted_in_both (Quarantined ticket Second ats) known past frames id access frame both served = cc
-accepted_in_both (Leaving ticket Both ats) known past frames id access frame both served = (served, served)
-accepted_in_both (Leaving ticket First ats) known past frames id access frame both served = cc
-accepted_in_both (Leaving ticket Second ats) known past frames id access frame both served = cc
+accepted_in_both (Attached (Both size) ats) known past frames id access frame both served = (served, served)
+accepted_in_both (Attached (First size) ats) known past frames id access frame both served = cc
+accepted_in_both (Attached (Second size) ats) known past frames id access frame both served = cc
+accepted_in_both (Quarantined ticket (Both size) ats) known past frames id access frame both served = (served, served)
+accepted_in_both (Quarantined ticket (First size) ats) known past frames id access frame both served = cc
+accepted_in_both (Quarantined ticket (Second size) ats) known past frames id access frame both served = cc
+accepted_in_both (Leaving ticket (Both size) ats) known past frames id access frame both served = (served, served)
+accepted_in_both (Leaving ticket (First size) ats) known past frames id access frame both served = cc
+accepted_in_both (Leaving ticket (Second size) ats) known past frames id access frame both served = cc
 
 -- none of no frames
 pub none_listed : (k frame : ℕ) → slice_get [] k ≡ Some frame → ⊥

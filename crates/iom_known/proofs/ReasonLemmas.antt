@@ -8,7 +8,7 @@ use Rattle.iom_machine.specs.Frames.{is_reserved}
 use Rattle.iom_ledger.specs.Refusals.{first_that_applies, IsRefusedBy}
 use Rattle.iom_ledger.specs.declared.refusal.Refusal.TheVariants.{NoSuchDevice, NotAttached, Quarantined, FrameOutOfRange, FrameReserved, NotGranted, StillGranted}
 use Rattle.iom_machine.specs.declared.state.Frame.{Frame}
-use Rattle.iom_machine.specs.Refusals.{attachment_reasons, detach_reasons, grant_reasons, release_reasons, quarantine_reasons, revive_reasons, has_grants, is_held, is_lingering, may_still_reach, attachment_of, is_plugged, is_detached, is_leaving, is_quarantined}
+use Rattle.iom_machine.specs.Refusals.{attachment_reasons, detach_reasons, grant_reasons, release_reasons, quarantine_reasons, revive_reasons, has_grants, is_held, is_lingering, may_still_reach, attachment_of, page_limit_at, is_plugged, is_detached, is_leaving, is_quarantined}
 use Rattle.iom_known.specs.Allowed.{Past, IsTrueOf, state_of}
 use Rattle.iom_known.specs.Reasons.{bare, ticket_reasons, early_grant_reasons, late_grant_reasons_by, detach_reasons_by, release_reasons_by, quarantine_reasons_by, revive_reasons_by}
 use Rattle.iom_known.specs.declared.known.Known.{Known}
@@ -69,40 +69,45 @@ early_none false false false true w x y z later e = absurd (some z e)
     some r e = cc
 early_none false false false false w x y z later e = refl
 
+-- the late reasons of a grant, as the machine has them
+abbrev pub late_reasons : Known → Past → List Frame → ℕ → ℕ → List (Bool × Refusal)
+late_reasons known past frames id page =
+    late_grant_reasons_by (page_limit_at (attachment_of (bare known) id)) page
+    (is_held (state_of known past.history frames) id page || is_lingering (state_of known past.history frames) id page)
+
 -- a grant is refused for an early reason, whatever frame it names
 pub grant_early : (known : Known) (past : Past) (frames : List Frame) (id page frame : ℕ) (why : Refusal) → length frames ≡ length known.frames
     → first_that_applies (early_grant_reasons known id frame) ≡ Some why → first_that_applies (grant_reasons (state_of known past.history frames) id page frame) ≡ Some why
 grant_early known past frames id page frame why count e =
     early_some (not (is_plugged (bare known) id)) (is_detached (attachment_of (bare known) id) || is_leaving (attachment_of (bare known) id)) (is_quarantined (attachment_of (bare known) id))
     (nat_le (length frames) frame) NoSuchDevice NotAttached Quarantined FrameOutOfRange why
-    ((is_reserved frames frame, FrameReserved) ∷ late_grant_reasons_by page (is_held (state_of known past.history frames) id page || is_lingering (state_of known past.history frames) id page))
+    ((is_reserved frames frame, FrameReserved) ∷ late_reasons known past frames id page)
     (ap (λ (n : ℕ). first_that_applies (attachment_reasons (bare known) id ((nat_le n frame, FrameOutOfRange) ∷ []))) count ∙ e)
 
 -- where no early reason applies, the others decide
 pub grant_later : (known : Known) (past : Past) (frames : List Frame) (id page frame : ℕ) → length frames ≡ length known.frames
     → first_that_applies (early_grant_reasons known id frame) ≡ None
     → first_that_applies (grant_reasons (state_of known past.history frames) id page frame)
-    ≡ first_that_applies ((is_reserved frames frame, FrameReserved)
-    ∷ late_grant_reasons_by page (is_held (state_of known past.history frames) id page || is_lingering (state_of known past.history frames) id page))
+    ≡ first_that_applies ((is_reserved frames frame, FrameReserved) ∷ late_reasons known past frames id page)
 grant_later known past frames id page frame count e =
     early_none (not (is_plugged (bare known) id)) (is_detached (attachment_of (bare known) id) || is_leaving (attachment_of (bare known) id)) (is_quarantined (attachment_of (bare known) id))
     (nat_le (length frames) frame) NoSuchDevice NotAttached Quarantined FrameOutOfRange
-    ((is_reserved frames frame, FrameReserved) ∷ late_grant_reasons_by page (is_held (state_of known past.history frames) id page || is_lingering (state_of known past.history frames) id page))
+    ((is_reserved frames frame, FrameReserved) ∷ late_reasons known past frames id page)
     (ap (λ (n : ℕ). first_that_applies (attachment_reasons (bare known) id ((nat_le n frame, FrameOutOfRange) ∷ []))) count ∙ e)
 
 pub grant_open : (known : Known) (past : Past) (frames : List Frame) (id page frame : ℕ) (late : Option Refusal) → length frames ≡ length known.frames
     → first_that_applies (early_grant_reasons known id frame) ≡ None → is_reserved frames frame ≡ false
-    → late ≡ first_that_applies (late_grant_reasons_by page (is_held (state_of known past.history frames) id page || is_lingering (state_of known past.history frames) id page))
+    → late ≡ first_that_applies (late_reasons known past frames id page)
     → late ≡ first_that_applies (grant_reasons (state_of known past.history frames) id page frame)
 grant_open known past frames id page frame late count e open_frame same =
-    let rest = late_grant_reasons_by page (is_held (state_of known past.history frames) id page || is_lingering (state_of known past.history frames) id page) in
+    let rest = late_reasons known past frames id page in
     same ∙ sym (grant_later known past frames id page frame count e ∙ ap (λ (b : Bool). first_that_applies ((b, FrameReserved) ∷ rest)) open_frame)
 
 pub grant_taken : (known : Known) (past : Past) (frames : List Frame) (id page frame : ℕ) → length frames ≡ length known.frames
     → first_that_applies (early_grant_reasons known id frame) ≡ None → is_reserved frames frame ≡ true
     → first_that_applies (grant_reasons (state_of known past.history frames) id page frame) ≡ Some FrameReserved
 grant_taken known past frames id page frame count e reserved =
-    let rest = late_grant_reasons_by page (is_held (state_of known past.history frames) id page || is_lingering (state_of known past.history frames) id page) in
+    let rest = late_reasons known past frames id page in
     grant_later known past frames id page frame count e ∙ ap (λ (b : Bool). first_that_applies ((b, FrameReserved) ∷ rest)) reserved
 
 -- a refusal for an early reason is one of the machine's

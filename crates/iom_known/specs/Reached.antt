@@ -1,7 +1,7 @@
 -- The frames that a device may reach, and those on which a request of one in both stages may be accepted.
 use Rattle.std.specs.Prelude.{◌≡◌, ℕ, Bool, true, false, List, Some, slice_get}
 use Rattle.iom_base.specs.declared.access.AccessKind.{AccessKind}
-use Rattle.iom_base.specs.declared.mode.Mode.TheVariants.{Both}
+use Rattle.iom_base.specs.Modes.{is_both}
 use Rattle.iom_ledger.specs.History.{History, May, confirms}
 use Rattle.iom_machine.specs.Requests.{LingersSomewhere}
 use Rattle.iom_machine.specs.declared.state.Attachment.{Attachment}
@@ -38,6 +38,6 @@ AreServed attachment known id kind frames =
 -- requests of the device are, or were, translated in both stages
 abbrev pub HasBothStages : Attachment → Type 0
 HasBothStages Detached = ⊥
-HasBothStages (Attached mode ats) = mode ≡ Both
-HasBothStages (Quarantined ticket mode ats) = mode ≡ Both
-HasBothStages (Leaving ticket mode ats) = mode ≡ Both
+HasBothStages (Attached mode ats) = is_both mode ≡ true
+HasBothStages (Quarantined ticket mode ats) = is_both mode ≡ true
+HasBothStages (Leaving ticket mode ats) = is_both mode ≡ true

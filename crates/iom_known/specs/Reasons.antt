@@ -1,6 +1,5 @@
 -- Why a call is refused, by what is known: the machine's reasons, with what its history says given beside.
 use Rattle.std.specs.Prelude.{ℕ, ◌-◌, Bool, List, [], ◌∷◌, length, not, ◌||◌, nat_le}
-use Rattle.iom_base.specs.Sizes.{page_limit}
 use Rattle.iom_ledger.specs.History.{pending_limit}
 use Rattle.iom_ledger.specs.declared.refusal.Refusal.{Refusal}
 use Rattle.iom_ledger.specs.declared.refusal.Refusal.TheVariants.{NoSuchDevice, AlreadyAttached, NotAttached, FrameOutOfRange, IovaOutOfRange, IovaBusy, NotGranted, StillGranted, TooManyPending}
@@ -44,6 +43,6 @@ revive_reasons_by known id reaching =
 abbrev pub early_grant_reasons : Known → ℕ → ℕ → List (Bool × Refusal)
 early_grant_reasons known id frame = attachment_reasons (bare known) id ((nat_le (length known.frames) frame, FrameOutOfRange) ∷ [])
 
--- afterwards, at a page at which something is held or lingers, or not
-abbrev pub late_grant_reasons_by : ℕ → Bool → List (Bool × Refusal)
-late_grant_reasons_by page is_busy = (nat_le page_limit page, IovaOutOfRange) ∷ (is_busy, IovaBusy) ∷ []
+-- afterwards, at a page at which something is held or lingers, or not, where pages below the limit may be granted
+abbrev pub late_grant_reasons_by : ℕ → ℕ → Bool → List (Bool × Refusal)
+late_grant_reasons_by limit page is_busy = (nat_le limit page, IovaOutOfRange) ∷ (is_busy, IovaBusy) ∷ []

@@ -94,9 +94,9 @@ pub fn may_go_through(known: &Known, device: &Device, access: &Access, frame: u3
     match device.attachment {
         Attachment::Detached => false,
         Attachment::Attached { mode, .. } => match mode {
-            Mode::First => may_have_cached(known, id, access, frame),
-            Mode::Second => may_have_cached(known, id, access, frame),
-            Mode::Both => may(known, id, frame, access.kind),
+            Mode::First(_) => may_have_cached(known, id, access, frame),
+            Mode::Second(_) => may_have_cached(known, id, access, frame),
+            Mode::Both(_) => may(known, id, frame, access.kind),
         },
         Attachment::Quarantined { ticket, mode, .. } => {
             accepts_cut_off(ticket, mode, known, id, access, frame)

@@ -12,7 +12,7 @@ ghost use Rattle.iom_known.specs.Reached.{IsReached, AreReached, IsServed, AreSe
 use crate::devices::place_of;
 use crate::known::Known;
 use crate::way::Way;
-use iom_base::{Access, AccessKind, DeviceId, Mode, Rights};
+use iom_base::{Access, AccessKind, DeviceId, Rights};
 use iom_machine::{Attachment, Device};
 use std::alloc::{AllocError, Global};
 
@@ -142,7 +142,7 @@ pub fn has_both_stages(attachment: Attachment) -> bool
         Attachment::Detached => false,
         Attachment::Attached { mode, .. }
         | Attachment::Quarantined { mode, .. }
-        | Attachment::Leaving { mode, .. } => mode == Mode::Both,
+        | Attachment::Leaving { mode, .. } => mode.is_both(),
     }
 }
 

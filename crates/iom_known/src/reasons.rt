@@ -7,13 +7,13 @@ ghost use Rattle.iom_machine.specs.declared.state.Frame.{Frame};
 ghost use Rattle.iom_known.specs.Reasons.{bare, early_grant_reasons, late_grant_reasons_by, detach_reasons_by, release_reasons_by, quarantine_reasons_by, revive_reasons_by};
 ghost use Rattle.iom_machine.specs.Refusals.{plug_reasons, attach_reasons, detach_reasons, grant_reasons, release_reasons, quarantine_reasons, revive_reasons, frame_reasons};
 ghost use Rattle.iom_machine.specs.Refusals.{is_plugged, attachment_of, is_trusted, id_limit, is_too_wide, is_held, is_lingering, has_grants, may_still_reach};
-ghost use Rattle.iom_machine.specs.Refusals.{is_detached, is_leaving, is_quarantined, is_attached};
+ghost use Rattle.iom_machine.specs.Refusals.{is_detached, is_leaving, is_quarantined, is_attached, page_limit_at, table_limit_at};
 ghost use Rattle.iom_known.specs.Allowed.{Past, IsTrueOf, state_of};
 
 use crate::devices::{attachment_in, device_with};
 use crate::disks::is_missing;
 use crate::known::Known;
-use iom_base::{DeviceId, MAX_DEVICES, PAGE_LIMIT};
+use iom_base::{DeviceId, MAX_DEVICES};
 use iom_ledger::{MAX_PENDING, Refusal};
 use iom_machine::{Attachment, NewDevice};
 
@@ -209,10 +209,10 @@ fn busy(known: &Known, id: DeviceId, page: u64) -> bool
     !known.ledger.is_vacant(id, page)
 }
 
-fn late_grant_refusal_by(page: u64, is_busy: bool) -> Option<Refusal>
-    ensures { result ≡ first_that_applies (late_grant_reasons_by page is_busy) }
+fn late_grant_refusal_by(limit: u64, page: u64, is_busy: bool) -> Option<Refusal>
+    ensures { result ≡ first_that_applies (late_grant_reasons_by limit page is_busy) }
 {
-    if page >= PAGE_LIMIT {
+    if page >= limit {
         Some(Refusal::IovaOutOfRange)
     } else if is_busy {
         Some(Refusal::IovaBusy)
@@ -224,12 +224,20 @@ fn late_grant_refusal_by(page: u64, is_busy: bool) -> Option<Refusal>
 /// Why one is refused afterwards, where the frame is nobody's.
 pub fn late_grant_refusal(known: &Known, id: DeviceId, page: u64) -> Option<Refusal>
     ensures { (past : Past) (frames : List Frame) → IsTrueOf known.now past
-        → result ≡ first_that_applies (late_grant_reasons_by page
+        → result ≡ first_that_applies (late_grant_reasons_by (page_limit_at (attachment_of (bare known.now) id)) page
         (is_held (state_of known.now past.history frames) id page
         || is_lingering (state_of known.now past.history frames) id page)) }
 {
+    let limit = attachment(known, id).page_limit();
     let is_busy = busy(known, id, page);
-    late_grant_refusal_by(page, is_busy)
+    late_grant_refusal_by(limit, page, is_busy)
+}
+
+/// The path of a page of the device lacks no more tables than this.
+pub fn most_tables(known: &Known, id: DeviceId) -> u32
+    ensures { result ≡ table_limit_at (attachment_of (bare known.now) id) }
+{
+    attachment(known, id).table_limit()
 }
 
 /// Whether no reason applies to a grant of a frame that is nobody's.

@@ -4,7 +4,7 @@ ghost use Rattle.iom_base.specs.Accesses.{IsWithinPage};
 ghost use Rattle.iom_ledger.specs.declared.refusal.Refusal.TheVariants.{NoSuchDevice, WrongKind};
 ghost use Rattle.iom_machine.specs.declared.outcome.Outcome.TheVariants.{Refused};
 ghost use Rattle.iom_machine.specs.declared.state.Frame.{Frame};
-ghost use Rattle.iom_machine.specs.Requests.{IsBusy, IsForwarded, IsPageFaultOf, cause_without_context};
+ghost use Rattle.iom_machine.specs.Requests.{IsBusy, IsForwarded, IsPageFaultOf, IsPageFaultOfEither, cause_without_context};
 ghost use Rattle.iom_machine.specs.Requests.{HoldsNoneFor, MayAcceptInOneStage, MayAcceptCutOff, MayAccept, MayFaultCutOff, MayFault, MayAnswer};
 ghost use Rattle.iom_known.specs.Allowed.{Past, IsTrueOf, state_of};
 ghost use Rattle.iom_known.specs.Reasons.{bare};
@@ -91,14 +91,21 @@ pub fn cause_without_context(known: &Known, id: DeviceId) -> Cause
     }
 }
 
+/// Whether the cause is a page fault of the one stage or of the other.
+pub fn is_page_fault_of_either(kind: AccessKind, cause: Cause) -> bool
+    ensures { IsTrue result ↔ IsPageFaultOfEither kind cause }
+{
+    cause == Cause::page_fault(kind) || cause == Cause::guest_page_fault(kind)
+}
+
 /// Whether the cause is a page fault of the mode.
 pub fn is_page_fault_of(mode: Mode, kind: AccessKind, cause: Cause) -> bool
     ensures { IsTrue result ↔ IsPageFaultOf mode kind cause }
 {
     match mode {
-        Mode::First => cause == Cause::page_fault(kind),
-        Mode::Second => cause == Cause::guest_page_fault(kind),
-        Mode::Both => cause == Cause::page_fault(kind) || cause == Cause::guest_page_fault(kind),
+        Mode::First(_) => cause == Cause::page_fault(kind),
+        Mode::Second(_) => cause == Cause::guest_page_fault(kind),
+        Mode::Both(_) => is_page_fault_of_either(kind, cause),
     }
 }
 
@@ -130,9 +137,9 @@ pub fn accepts_cut_off(
         return false;
     }
     match mode {
-        Mode::First => lingers(known, id, access, frame),
-        Mode::Second => lingers(known, id, access, frame),
-        Mode::Both => lingers_somewhere(known, id, frame, access.kind),
+        Mode::First(_) => lingers(known, id, access, frame),
+        Mode::Second(_) => lingers(known, id, access, frame),
+        Mode::Both(_) => lingers_somewhere(known, id, frame, access.kind),
     }
 }
 
@@ -145,9 +152,9 @@ pub fn may_accept(known: &Known, device: &Device, access: &Access, frame: u32) -
     match device.attachment {
         Attachment::Detached => false,
         Attachment::Attached { mode, .. } => match mode {
-            Mode::First => accepts_in_one_stage(known, id, access, frame),
-            Mode::Second => accepts_in_one_stage(known, id, access, frame),
-            Mode::Both => may(known, id, frame, access.kind),
+            Mode::First(_) => accepts_in_one_stage(known, id, access, frame),
+            Mode::Second(_) => accepts_in_one_stage(known, id, access, frame),
+            Mode::Both(_) => may(known, id, frame, access.kind),
         },
         Attachment::Quarantined { ticket, mode, .. } => {
             accepts_cut_off(ticket, mode, known, id, access, frame)
@@ -205,11 +212,17 @@ pub fn may_fault(known: &Known, device: &Device, access: &Access, cause: Cause) 
     match device.attachment {
         Attachment::Detached => is_same_cause(cause, cause_without_context(known, id)),
         Attachment::Attached { mode, .. } => match mode {
-            Mode::First => faults_in_one_stage(known, id, access, cause, Cause::page_fault(kind)),
-            Mode::Second => {
+            Mode::First(_) => faults_in_one_stage(
+                known,
+                id,
+                access,
+                cause,
+                Cause::page_fault(kind),
+            ),
+            Mode::Second(_) => {
                 faults_in_one_stage(known, id, access, cause, Cause::guest_page_fault(kind))
             }
-            Mode::Both => is_page_fault_of(Mode::Both, kind, cause),
+            Mode::Both(_) => is_page_fault_of_either(kind, cause),
         },
         Attachment::Quarantined { ticket, mode, .. } => {
             faults_cut_off(ticket, mode, known, id, access, cause)

@@ -28,9 +28,9 @@ MayBeFreeRun frames ledger run =
 
 -- an attach in the mode may find too few free frames, since fewer than so many may be free
 abbrev pub MustLack : List BelievedFrame → Ledger → Mode → Type 0
-MustLack frames ledger First = FewerThan 3 (MayBeFree frames ledger None)
-MustLack frames ledger Second = FewerThan 3 (MayBeFreeRun frames ledger)
-MustLack frames ledger Both = FewerThan 3 (MayBeFreeRun frames ledger)
+MustLack frames ledger (First size) = FewerThan 3 (MayBeFree frames ledger None)
+MustLack frames ledger (Second size) = FewerThan 3 (MayBeFreeRun frames ledger)
+MustLack frames ledger (Both size) = FewerThan 3 (MayBeFreeRun frames ledger)
 
 -- the bit stands for the device at the place, or, where the system takes frames too, for that
 abbrev pub IsTaker : Bool → ℕ → ℕ → Type 0

@@ -97,9 +97,9 @@ fn may_lack_tables(known: &mut Known, mode: Mode) -> bool
     ensures lacks { IsTrue result → MustLack known.new.frames known.new.ledger mode }
 {
     match mode {
-        Mode::First => may_lack_frames(known, None, 3),
-        Mode::Second => may_lack_runs(known, 3),
-        Mode::Both => may_lack_runs(known, 3),
+        Mode::First(_) => may_lack_frames(known, None, 3),
+        Mode::Second(_) => may_lack_runs(known, 3),
+        Mode::Both(_) => may_lack_runs(known, 3),
     }
 }
 

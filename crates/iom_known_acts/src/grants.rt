@@ -15,7 +15,9 @@ use iom_known::bits::without_bit;
 use iom_known::devices::place_of;
 use iom_known::frames::{NOBODY, ONLY_NOBODY};
 use iom_known::owners::{may_be_nobodys, may_be_somebodys, number_of, owners_of, set_owners};
-use iom_known::reasons::{early_grant_refusal, is_memory, late_grant_refusal, may_grant, refuses};
+use iom_known::reasons::{
+    early_grant_refusal, is_memory, late_grant_refusal, may_grant, most_tables, refuses,
+};
 use iom_ledger::Refusal;
 use iom_machine::Outcome;
 use std::alloc::AllocError;
@@ -96,7 +98,8 @@ fn refused_for_tables(known: &mut Known, id: DeviceId, page: u64, frame: u64) ->
     if !may_be_nobodys(known, frame) {
         return false;
     }
-    if !may_lack_frames(known, Some(frame), 2) {
+    let most = most_tables(known, id);
+    if !may_lack_frames(known, Some(frame), most) {
         return false;
     }
     let place = frame as usize;

@@ -18,7 +18,9 @@ use iom_fabric::Translation;
 use iom_known::Known;
 use iom_known::devices::device_with;
 use iom_known::reach::{lingers_somewhere, may};
-use iom_known::requests::{cause_without_context, is_page_fault_of, is_same_cause};
+use iom_known::requests::{
+    cause_without_context, is_page_fault_of, is_page_fault_of_either, is_same_cause,
+};
 use iom_machine::Attachment;
 
 /// A device asks for the translation of a page.
@@ -150,7 +152,7 @@ fn tells_in_both(known: &Known, id: DeviceId, told: Translation) -> bool
 {
     match told {
         Translation::Page { frame, rights } => may_each(known, id, frame, rights),
-        Translation::Refused(cause) => is_page_fault_of(Mode::Both, AccessKind::Read, cause),
+        Translation::Refused(cause) => is_page_fault_of_either(AccessKind::Read, cause),
     }
 }
 
@@ -160,9 +162,9 @@ fn tells_attached(mode: Mode, known: &Known, id: DeviceId, page: u64, told: Tran
         → MayTell (Attached mode true) (state_of known.now past.history frames) id page told }
 {
     match mode {
-        Mode::First => tells_in_one_stage(Cause::ReadPageFault, known, id, page, told),
-        Mode::Second => tells_in_one_stage(Cause::ReadGuestPageFault, known, id, page, told),
-        Mode::Both => tells_in_both(known, id, told),
+        Mode::First(_) => tells_in_one_stage(Cause::ReadPageFault, known, id, page, told),
+        Mode::Second(_) => tells_in_one_stage(Cause::ReadGuestPageFault, known, id, page, told),
+        Mode::Both(_) => tells_in_both(known, id, told),
     }
 }
 
@@ -178,9 +180,9 @@ fn shows_formerly(
     ensures { IsTrue result → (past : Past) → IsTrueOf known.now past → MayShowFormerly mode past.history id page frame rights }
 {
     match mode {
-        Mode::First => pair_lingers(known, id, page, frame, rights),
-        Mode::Second => pair_lingers(known, id, page, frame, rights),
-        Mode::Both => lingers_each(known, id, frame, rights),
+        Mode::First(_) => pair_lingers(known, id, page, frame, rights),
+        Mode::Second(_) => pair_lingers(known, id, page, frame, rights),
+        Mode::Both(_) => lingers_each(known, id, frame, rights),
     }
 }
 

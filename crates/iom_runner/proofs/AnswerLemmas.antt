@@ -93,7 +93,7 @@ grant_is_answered state id page frame rights = by (first_that_applies (grant_rea
       record state { history = entry.Granted id page frame (rights_of rights) ∷ state.history },
       (no_choice, (none, All-nil (λ (number : ℕ). IsFree state number × (number ≢ frame)), refl)),
     )
-    by (Some why) some = (Refused why, state, (no_choice, (refused_first (grant_reasons state id page frame) (MayRefuseGrant state frame) why some, refl)))
+    by (Some why) some = (Refused why, state, (no_choice, (refused_first (grant_reasons state id page frame) (MayRefuseGrant state id frame) why some, refl)))
 
 release_is_answered : (state : State) (id page : ℕ) → IsAnswered state (events.Release id page)
 release_is_answered state id page = by (first_that_applies (release_reasons state id page)) refl
@@ -190,15 +190,15 @@ forwarded_reply : (state : State) (device : Device) (access : Access) → IsForw
     → HasReply state device access
 forwarded_reply state device access forwarded Detached is =
     without_context state device access forwarded (subst (λ a. MayFault a state device.id access (cause_without_context state device.id)) (sym is) refl)
-forwarded_reply state device access forwarded (Attached First ats) is =
+forwarded_reply state device access forwarded (Attached (First size) ats) is =
     held_reply state device access forwarded
     (λ frame holds. (frame, Accepted (device.accepted + 1), (forwarded, subst (λ a. MayAccept a state device.id access frame) (sym is) (inl holds), refl)))
     (λ none. (0, Fault (page_fault_of access.kind), (forwarded, subst (λ a. MayFault a state device.id access (page_fault_of access.kind)) (sym is) (none, refl))))
-forwarded_reply state device access forwarded (Attached Second ats) is =
+forwarded_reply state device access forwarded (Attached (Second size) ats) is =
     held_reply state device access forwarded
     (λ frame holds. (frame, Accepted (device.accepted + 1), (forwarded, subst (λ a. MayAccept a state device.id access frame) (sym is) (inl holds), refl)))
     (λ none. (0, Fault (guest_page_fault_of access.kind), (forwarded, subst (λ a. MayFault a state device.id access (guest_page_fault_of access.kind)) (sym is) (none, refl))))
-forwarded_reply state device access forwarded (Attached Both ats) is =
+forwarded_reply state device access forwarded (Attached (Both size) ats) is =
     (0, Fault (page_fault_of access.kind), (forwarded, subst (λ a. MayFault a state device.id access (page_fault_of access.kind)) (sym is) (inl refl)))
 forwarded_reply state device access forwarded (Quarantined ticket mode ats) is =
     without_context state device access forwarded (subst (λ a. MayFault a state device.id access (cause_without_context state device.id)) (sym is) (inl refl))

@@ -1,9 +1,11 @@
 -- A text says one thing.
-use Rattle.std.proofs.Common.{◌≡◌, ℕ, ◌^◌, ◌<◌, Bool, true, false, inl, inr, List, [], ◌∷◌, ◌++◌, length, drop, Option, None, Some, codes, ap, sym, subst, refl, ◌∙◌, arith, ◌≤◌}
+use Rattle.std.proofs.Common.{◌≡◌, ℕ, ◌^◌, ◌<◌, Bool, true, false, inl, inr, List, [], ◌∷◌, ◌++◌, length, drop, Option, None, Some, codes, ap, sym, subst, refl, ◌∙◌, arith, rules}
+use Rattle.std.specs.Prelude.{if◌then◌else◌, nat_eq}
+use Rattle.std.specs.Cmp.Lexicographic.{pointwise}
 use Rattle.std.specs.Str.Parse.{AllDigits, digits_value}
 use Rattle.std.proofs.lemmas.Str.Parse.{IsNumeralModel, numerals_by_value, tells_digits}
 use Rattle.std.proofs.lemmas.Fmt.{digits_value-decimal}
-use Rattle.std.proofs.lemmas.List.{append_cancel_left, length-append}
+use Rattle.std.proofs.lemmas.List.{append_cancel_left}
 use Rattle.iom_machine.specs.declared.event.Event.{Event}
 use Rattle.iom_machine.specs.declared.event.Event.TheVariants.{Plug, Attach, Detach, Grant, Release, Fetch, Poll, Faults, Read, Write, Commit, Poke, Peek, Free}
 use Rattle.iom_machine.specs.declared.event.Event.TheVariants.{ReadTranslated, WriteTranslated, ReadThroughCache, WriteThroughCache, Ask, Forge, Deliver, Drop, Repeat}
@@ -12,12 +14,13 @@ use Rattle.iom_machine.specs.declared.event.Event.TheVariants.{Medium, Queue, St
 use Rattle.iom_machine.specs.declared.state.NewDevice.TheVariants.{Raw, Ats, Block, CachedBlock}
 use Rattle.iom_base.specs.declared.mode.Mode.{Mode}
 use Rattle.iom_base.specs.declared.mode.Mode.TheVariants.{First, Second, Both}
+use Rattle.iom_base.specs.declared.size.Size.TheVariants.{Sv39, Sv48}
 use Rattle.iom_script.specs.declared.script.WorldSize.{WorldSize}
 use Rattle.iom_script.specs.declared.script.Script.{Script}
 use Rattle.iom_script.specs.Digits.{hex_digits}
 use Rattle.iom_script.specs.Words.{◌␣◌, IsWithout, IsDevice, IsNumber, IsPage, IsAddress, IsRight, IsMode, IsKind, IsHex}
 use Rattle.iom_script.specs.Grammar.{IsEventLine, IsWorldLine, SayEvents, Says}
-use Rattle.iom_script.proofs.CutLemmas.{cut_is_one}
+use Rattle.iom_script.proofs.CutLemmas.{cut_is_one, cut_has_separator}
 use Rattle.iom_script.proofs.HexLemmas.{same_hex, length_hex}
 use Rattle.iom_script.proofs.HexBytesLemmas.{same_hex_of}
 use Rattle.iom_script.proofs.DecimalLemmas.{number_without_space}
@@ -53,40 +56,44 @@ right_same text x y (inl a) (inr b) = absurd (omega (arith, ap length (sym a.0 �
 right_same text x y (inr a) (inl b) = absurd (omega (arith, ap length (sym a.0 ∙ b.0)))
 right_same text x y (inr a) (inr b) = a.1 ∙ sym b.1
 
+-- the mode of a word that says one
+abbrev mode_by : List ℕ → Mode
+mode_by text =
+    if pointwise nat_eq text (codes "first") then First Sv39
+    else (if pointwise nat_eq text (codes "second") then Second Sv39
+    else (if pointwise nat_eq text (codes "both") then Both Sv39
+    else (if pointwise nat_eq text (codes "first48") then First Sv48
+    else (if pointwise nat_eq text (codes "second48") then Second Sv48
+    else Both Sv48))))
+
+mode_read : (text : List ℕ) (mode : Mode) → IsMode text mode → mode_by text ≡ mode
+mode_read text (First Sv39) p = ap mode_by p
+mode_read text (First Sv48) p = ap mode_by p
+mode_read text (Second Sv39) p = ap mode_by p
+mode_read text (Second Sv48) p = ap mode_by p
+mode_read text (Both Sv39) p = ap mode_by p
+mode_read text (Both Sv48) p = ap mode_by p
+
 mode_same : SaysOne IsMode
-mode_same text First First p q = refl
-mode_same text First Second p q = absurd (omega (arith, ap length (sym p ∙ q)))
-mode_same text First Both p q = absurd (omega (arith, ap length (sym p ∙ q)))
-mode_same text Second First p q = absurd (omega (arith, ap length (sym p ∙ q)))
-mode_same text Second Second p q = refl
-mode_same text Second Both p q = absurd (omega (arith, ap length (sym p ∙ q)))
-mode_same text Both First p q = absurd (omega (arith, ap length (sym p ∙ q)))
-mode_same text Both Second p q = absurd (omega (arith, ap length (sym p ∙ q)))
-mode_same text Both Both p q = refl
+mode_same text x y p q = sym (mode_read text x p) ∙ mode_read text y q
 
 -- a mode is one word
 pub mode_without_space : (text : List ℕ) (mode : Mode) → IsMode text mode → IsWithout 32 text
-mode_without_space text First p = subst (IsWithout 32) (sym p) ((λ e. omega (arith, e)), ((λ e. omega (arith, e)), ((λ e. omega (arith, e)), ((λ e. omega (arith, e)), ((λ e. omega (arith, e)), tt)))))
-mode_without_space text Second p = subst (IsWithout 32) (sym p) ((λ e. omega (arith, e)), ((λ e. omega (arith, e)), ((λ e. omega (arith, e)), ((λ e. omega (arith, e)), ((λ e. omega (arith, e)), ((λ e. omega (arith, e)), tt))))))
-mode_without_space text Both p = subst (IsWithout 32) (sym p) ((λ e. omega (arith, e)), ((λ e. omega (arith, e)), ((λ e. omega (arith, e)), ((λ e. omega (arith, e)), tt))))
-
--- of four to six letters
-mode_length : (text : List ℕ) (mode : Mode) → IsMode text mode → (4 ≤ length text) × (length text ≤ 6)
-mode_length text First p = (omega (arith, ap length p), omega (arith, ap length p))
-mode_length text Second p = (omega (arith, ap length p), omega (arith, ap length p))
-mode_length text Both p = (omega (arith, ap length p), omega (arith, ap length p))
+mode_without_space text (First Sv39) p = subst (IsWithout 32) (sym p) (search rules)
+mode_without_space text (First Sv48) p = subst (IsWithout 32) (sym p) (search rules)
+mode_without_space text (Second Sv39) p = subst (IsWithout 32) (sym p) (search rules)
+mode_without_space text (Second Sv48) p = subst (IsWithout 32) (sym p) (search rules)
+mode_without_space text (Both Sv39) p = subst (IsWithout 32) (sym p) (search rules)
+mode_without_space text (Both Sv48) p = subst (IsWithout 32) (sym p) (search rules)
 
 -- so a mode alone isn't one with `ats` behind it
-one_word : (text word : List ℕ) (m n : Mode) → IsMode text m → IsMode word n → text ≡ word ␣ codes "ats" → ⊥
-one_word text word m n p q e =
-    let short = mode_length text m p in
-    let long = mode_length word n q in
-    omega (arith, short.1, long.0, ap length e, length-append word (codes " ats"))
+one_word : (text word : List ℕ) (m : Mode) → IsMode text m → text ≡ word ␣ codes "ats" → ⊥
+one_word text word m p e = cut_has_separator 32 text word (codes "ats") (mode_without_space text m p) e
 
 pub attaching_same : SaysOne AttachingOf
 attaching_same text (m, false) (n, false) p q = ap (λ (mode : Mode). let how : Mode × Bool = (mode, false) in how) (mode_same text m n p q)
-attaching_same text (m, false) (n, true) p q = absurd (one_word text q.0 m n p q.1 q.2)
-attaching_same text (m, true) (n, false) p q = absurd (one_word text p.0 n m q p.1 p.2)
+attaching_same text (m, false) (n, true) p q = absurd (one_word text q.0 m p q.2)
+attaching_same text (m, true) (n, false) p q = absurd (one_word text p.0 n q p.2)
 attaching_same text (m, true) (n, true) p q =
     let words = cut_is_one 32 p.0 q.0 (codes "ats") (codes "ats") (mode_without_space p.0 m p.1) (mode_without_space q.0 n q.1) (sym p.2 ∙ q.2) in
     ap (λ (mode : Mode). let how : Mode × Bool = (mode, true) in how) (mode_same q.0 m n (subst (λ w. IsMode w m) words.0 p.1) q.1)

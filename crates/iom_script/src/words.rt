@@ -6,7 +6,7 @@ ghost use Rattle.iom_script.specs.Reading.{Reads};
 ghost use Rattle.iom_script.specs.Cuts.{shown, shown_rest, with_rest, IsCut, Begins, LeadsWithHex, LeadsWithDecimal, LeadsWithNumber, SaysFirst};
 
 use crate::lanes::eight_bytes;
-use iom_base::{DeviceId, GrantRights, Mode, Sequence};
+use iom_base::{DeviceId, GrantRights, Mode, Sequence, Size};
 use iom_fabric::PageNumber;
 use iom_machine::NewDevice;
 use memchr::{memchr, memchr_iter};
@@ -205,11 +205,17 @@ fn mode_of(text: &[u8]) -> Option<Mode>
     ensures { Reads result (IsMode text.now) }
 {
     if text == b"first".as_slice() {
-        Some(Mode::First)
+        Some(Mode::First(Size::Sv39))
     } else if text == b"second".as_slice() {
-        Some(Mode::Second)
+        Some(Mode::Second(Size::Sv39))
     } else if text == b"both".as_slice() {
-        Some(Mode::Both)
+        Some(Mode::Both(Size::Sv39))
+    } else if text == b"first48".as_slice() {
+        Some(Mode::First(Size::Sv48))
+    } else if text == b"second48".as_slice() {
+        Some(Mode::Second(Size::Sv48))
+    } else if text == b"both48".as_slice() {
+        Some(Mode::Both(Size::Sv48))
     } else {
         None
     }

@@ -12,7 +12,7 @@ returns-then-is_some c told rights past is =
     stays c.args.known.now (events.Grant c.args.id c.args.page c.args.frame rights) (outcomes.Refused c.args.why) past is
     (λ frames allowed.
     let state = state_of c.args.known.now past.history frames in (
-      early_refused c.early_grant_refusal-early.result (grant_reasons state c.args.id c.args.page c.args.frame) (MayRefuseGrant state c.args.frame) c.args.why
+      early_refused c.early_grant_refusal-early.result (grant_reasons state c.args.id c.args.page c.args.frame) (MayRefuseGrant state c.args.id c.args.frame) c.args.why
           (λ it e. grant_early c.args.known.now past frames c.args.id c.args.page c.args.frame it allowed.count (sym c.early_grant_refusal-early.ensures ∙ e))
           (c.refuses.ensures.0 told),
       same_state state,

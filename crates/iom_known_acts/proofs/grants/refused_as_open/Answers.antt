@@ -30,6 +30,6 @@ returns c told rights past is =
     (slice_get-set_same old.frames c.args.frame there.0 now there.1) (λ k low bit. lowest_alone k bit)
     (λ frames allowed open_frame.
     let state = state_of old past.history frames in
-    refused_by c.late_grant_refusal.result (grant_reasons state c.args.id c.args.page c.args.frame) c.is_memory.result (MayRefuseGrant state c.args.frame) c.args.why
+    refused_by c.late_grant_refusal.result (grant_reasons state c.args.id c.args.page c.args.frame) c.is_memory.result (MayRefuseGrant state c.args.id c.args.frame) c.args.why
     (grant_open old past frames c.args.id c.args.page c.args.frame c.late_grant_refusal.result (allowed.count ∙ length-set old.frames c.args.frame now) early open_frame (c.late_grant_refusal.ensures past frames is))
-    (λ memory. subst (λ (w : Refusal). MayRefuseGrant state c.args.frame w) (sym (c.is_memory.ensures.0 memory)) tt) (c.refuses.ensures.0 c.if-not-refuses.false)))
+    (λ memory. subst (λ (w : Refusal). MayRefuseGrant state c.args.id c.args.frame w) (sym (c.is_memory.ensures.0 memory)) tt) (c.refuses.ensures.0 c.if-not-refuses.false)))

@@ -29,5 +29,5 @@ returns c told rights past is =
     (λ k low bit. inl (subst (λ (w : ℕ). bit_at w k ≡ 1) there.2 (without_lowest c.in-Some.owners c.without_bit.result c.without_bit.ensures.clear c.without_bit.ensures.others k low bit))))
     (slice_get-set_same old.frames c.args.frame there.0 now there.1) c.without_bit.ensures.clear
     (λ frames count reserved.
-    first_refuses (grant_reasons (state_of old past.history frames) c.args.id c.args.page c.args.frame) (MayRefuseGrant (state_of old past.history frames) c.args.frame) refusals.FrameReserved
+    first_refuses (grant_reasons (state_of old past.history frames) c.args.id c.args.page c.args.frame) (MayRefuseGrant (state_of old past.history frames) c.args.id c.args.frame) refusals.FrameReserved
     (grant_taken old past frames c.args.id c.args.page c.args.frame count early reserved)))

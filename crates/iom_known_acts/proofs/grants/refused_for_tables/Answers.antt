@@ -4,12 +4,13 @@ use Rattle.std.proofs.lemmas.Option.{slice_get_within}
 use Rattle.iom_ledger.specs.declared.ledger.Ledger.{Ledger}
 use Rattle.iom_ledger.specs.declared.refusal.Refusal.TheVariants as refusals
 use Rattle.iom_machine.specs.Frames.{FewerThan}
-use Rattle.iom_machine.specs.Refusals.{MayRefuseGrant, grant_reasons}
+use Rattle.iom_machine.specs.Refusals.{MayRefuseGrant, attachment_of, grant_reasons, table_limit_at}
 use Rattle.iom_machine.specs.declared.event.Event.TheVariants as events
 use Rattle.iom_machine.specs.declared.outcome.Outcome.TheVariants as outcomes
 use Rattle.iom_machine.proofs.ByteLemmas.{slice_get-set_same, slice_get-set_other}
 use Rattle.iom_machine.proofs.HeadlineLemmas.{element_at}
 use Rattle.iom_known.specs.Allowed.{state_of}
+use Rattle.iom_known.specs.Reasons.{bare}
 use Rattle.iom_known_acts.specs.Owners.{MayBeFree, IsNoTaker, with_belief}
 use Rattle.iom_known.specs.Steps.{IsExplained}
 use Rattle.iom_known.specs.declared.frames.BelievedFrame.{BelievedFrame}
@@ -22,6 +23,7 @@ use Rattle.iom_known_acts.proofs.grants.refused_for_tables.Goals as goal
 pub returns : goal.returns
 returns c told rights past is =
     let old = c.args.known.now in
+    let most = table_limit_at (attachment_of (bare old) c.args.id) in
     let mid = c.may_lack_frames.new.known in
     let narrowed = c.may_lack_frames.ensures.narrowed in
     let there = some_and _ _ (c.may_be_nobodys.ensures c.if-not-may_be_nobodys.false) in
@@ -30,7 +32,8 @@ returns c told rights past is =
     let now : BelievedFrame = record found.0 { owners = 1 } in
     let event = events.Grant c.args.id c.args.page c.args.frame rights in
     let same : mid.ledger ≡ old.ledger = ap (λ (k : Known). k.ledger) narrowed.same in
-    let lack = subst (λ (l : Ledger). FewerThan 2 (MayBeFree mid.frames l (Some c.args.frame))) same (c.may_lack_frames.ensures.lacks c.if-not-may_lack_frames.false) in
+    let lack = subst (λ (l : Ledger). FewerThan most (MayBeFree mid.frames l (Some c.args.frame))) same
+    (subst (λ (n : ℕ). FewerThan n (MayBeFree mid.frames mid.ledger (Some c.args.frame))) c.most_tables-most.ensures (c.may_lack_frames.ensures.lacks c.if-not-may_lack_frames.false)) in
     subst (λ (k : Known). IsExplained old k event (outcomes.Refused refusals.NoFrames) past)
     (ap (λ (fs : List BelievedFrame). with_belief old fs mid.is_exact) (sym (c.set_owners.ensures found.0 found.1)) ∙ ap (λ (k : Known). record k { frames = c.set_owners.new.frames }) (sym narrowed.same))
     (grant_refused old past _ mid.is_exact IsNoTaker c.args.id c.args.page c.args.frame rights refusals.NoFrames now is
@@ -38,6 +41,6 @@ returns c told rights past is =
     (slice_get-set_same mid.frames c.args.frame found.0 now found.1) (λ k small bit. lowest_alone k bit)
     (λ frames allowed open_frame.
     let state = state_of old past.history frames in
-    no_reason (grant_reasons state c.args.id c.args.page c.args.frame) (MayRefuseGrant state c.args.frame) refusals.NoFrames
+    no_reason (grant_reasons state c.args.id c.args.page c.args.frame) (MayRefuseGrant state c.args.id c.args.frame) refusals.NoFrames
     (c.may_grant.ensures c.if-not-may_grant.false past frames is (allowed.count ∙ length-set mid.frames c.args.frame now ∙ narrowed.frames.count) open_frame)
-    (lack_besides old past mid.frames _ mid.is_exact c.args.frame frames is allowed (λ n other. slice_get-set_other mid.frames c.args.frame n now other) lack)))
+    (lack_besides old past mid.frames _ mid.is_exact most c.args.frame frames is allowed (λ n other. slice_get-set_other mid.frames c.args.frame n now other) lack)))
