@@ -2,7 +2,7 @@
 // directory.
 
 use crate::run::Step;
-use iom_base::{Access, AccessKind, DeviceId, Mode, Owner, Sequence};
+use iom_base::{Access, AccessKind, DeviceId, Mode, Sequence, Size};
 use iom_machine::{Choice, Event, Outcome, State};
 use std::alloc::{AllocError, Global};
 
@@ -24,11 +24,11 @@ fn is_free(state: &State, number: u32) -> bool {
     }
 }
 
-/// How many frames are the device's own: those of its root, which are one or four, and its tables.
-fn count_owned(state: &State, device: DeviceId) -> usize {
-    let owner = Some(Owner::OneDevice(device));
-    let frames = state.frames.as_slice();
-    frames.iter().filter(|frame| frame.owner == owner).count()
+/// The size of the device's tables, where it has any.
+fn size_of(state: &State, asked: DeviceId) -> Option<Size> {
+    let mut devices = state.devices.as_slice().iter();
+    let device = devices.find(|device| device.id == asked)?;
+    Some(device.attachment.mode()?.size())
 }
 
 /// So many of the highest free frames.
@@ -81,25 +81,60 @@ fn sequence(alloc: Global, numbers: &[u32]) -> Result<Sequence<u32>, AllocError>
     Ok(all)
 }
 
-/// The two tables that the pages 0 to 7 take below the root: at the first grant after an attach.
-fn tables(alloc: Global, state: &State, device: DeviceId) -> Result<Sequence<u32>, AllocError> {
-    match count_owned(state, device) {
-        1 | 4 => highest(alloc, state, 2),
-        _ => Ok(Sequence::new(alloc)),
-    }
+/// Which tables are on the path of the page, from the last level on, each by what the pages that have it in common begin
+/// with: nine bits of a page are an index (Privileged Architecture, "Sv39", "Sv48").
+fn tables_of(page: u64) -> [u64; 3] {
+    [page >> 9, page >> 18, page >> 27]
 }
 
-/// Which ids were ever attached, and so have all pages of the directory on their paths.
+/// Which ids were ever attached, and so have all pages of the directory on their paths; and for which pages a device took
+/// tables since its attach, which it keeps.
 #[derive(Drop)]
 pub(crate) struct Choices {
     attached: Vec<DeviceId>,
+    granted: Vec<(DeviceId, u64)>,
 }
 
 impl Choices {
     pub(crate) fn new(alloc: Global) -> Choices {
         Choices {
             attached: Vec::new(alloc),
+            granted: Vec::new(alloc),
         }
+    }
+
+    /// Whether the device has the table of this number on the path of the page.
+    fn has_table(&self, device: DeviceId, page: u64, number: usize) -> bool {
+        let asked = tables_of(page);
+        self.granted.iter().any(|(owner, other)| {
+            let tables = tables_of(*other);
+            *owner == device && tables.get(number) == asked.get(number)
+        })
+    }
+
+    /// The tables that the path of the page lacks below the root.
+    fn tables(
+        &mut self,
+        alloc: Global,
+        state: &State,
+        device: DeviceId,
+        page: u64,
+    ) -> Result<Sequence<u32>, AllocError> {
+        let most = match size_of(state, device) {
+            Some(Size::Sv39) => 2,
+            Some(Size::Sv48) => 3,
+            None => 0,
+        };
+        let mut lacking = 0usize;
+        for number in 0..most {
+            if !self.has_table(device, page, number) {
+                lacking = lacking.wrapping_add(1);
+            }
+        }
+        if lacking > 0 {
+            self.granted.push((device, page))?;
+        }
+        highest(alloc, state, lacking)
     }
 
     /// How many pages the path of the id lacks, in a directory of one level or of three (IOMMU specification,
@@ -130,13 +165,14 @@ impl Choices {
     ) -> Result<(Sequence<u32>, Sequence<u32>), AllocError> {
         let pages = highest(alloc, state, self.count_lacking(state, device))?;
         self.attached.push(device)?;
+        self.granted.retain(|(owner, _page)| *owner != device);
         let limit = match pages.as_slice().last() {
             Some(page) => *page,
             None => 64,
         };
         let root = match mode {
-            Mode::First => highest_one(alloc, state, limit)?,
-            Mode::Second | Mode::Both => highest_four(alloc, state, limit)?,
+            Mode::First(_) => highest_one(alloc, state, limit)?,
+            Mode::Second(_) | Mode::Both(_) => highest_four(alloc, state, limit)?,
         };
         Ok((pages, root))
     }
@@ -152,8 +188,9 @@ impl Choices {
             (Event::Attach { device, mode, .. }, Outcome::Done) => {
                 self.attach(alloc, state, *device, *mode)
             }
-            (Event::Grant { device, .. }, Outcome::Done) => {
-                Ok((Sequence::new(alloc), tables(alloc, state, *device)?))
+            (Event::Grant { device, page, .. }, Outcome::Done) => {
+                let tables = self.tables(alloc, state, *device, *page)?;
+                Ok((Sequence::new(alloc), tables))
             }
             _ => Ok((Sequence::new(alloc), Sequence::new(alloc))),
         }

@@ -1,9 +1,9 @@
 // What happens next in a drawn run.
 
-ghost use Rattle.std.specs.Prelude.{◌<◌, IfOk};
+ghost use Rattle.std.specs.Prelude.{◌<◌, ◌≤◌, ◌^◌, IfOk};
 ghost use Rattle.iom_composition.specs.Stays.{IsNoChoice};
 
-use iom_base::{DeviceId, GrantRights, Mode, Sequence};
+use iom_base::{DeviceId, GrantRights, Mode, Sequence, Size};
 use iom_fabric::PageNumber;
 use iom_machine::{Event, NewDevice};
 use std::alloc::{AllocError, Global};
@@ -17,9 +17,21 @@ pub(crate) const FRAMES: u64 = 8;
 /// Where in a frame its own name stands, in eight bytes.
 pub(crate) const NAME_AT: u64 = 4088;
 
+/// The last page that can be granted in tables of three levels. The next can be in tables of four.
+pub(crate) const LAST_OF_THREE: u64 = 0x3ff_ffff;
+
+/// The last page that can be granted in tables of four levels. The next can't be in any.
+const LAST_OF_FOUR: u64 = 0x7_ffff_ffff;
+
+/// How many of the lowest pages devices have and ask for.
+pub(crate) const LOW_PAGES: u64 = 9;
+
+/// How many pages a guest's tables stand in, from the first one on: as many as levels, of which there are four at most.
+pub(crate) const GUEST_TABLES: u64 = 4;
+
 /// Valid, readable, writable, for users, accessed and dirty: a leaf that lets everything through
 /// (Privileged Architecture, "Addressing and Memory Protection").
-const OPEN_LEAF: u64 = 0b1101_0111;
+pub(crate) const OPEN_LEAF: u64 = 0b1101_0111;
 
 /// The words, each with its lowest byte first.
 pub(crate) fn bytes_of(alloc: Global, words: &[u64]) -> Result<Sequence<u8>, AllocError> {
@@ -98,24 +110,40 @@ impl Draw {
         self.mostly(able)
     }
 
-    /// A page that a device may ask for, in bytes.
-    fn page(&mut self) -> u64
-        ensures { result < 32768 }
-    {
-        self.below(8) * 4096
+    /// One of the sizes.
+    pub(crate) fn size(&mut self) -> Size {
+        if self.below(2) == 0 {
+            Size::Sv39
+        } else {
+            Size::Sv48
+        }
     }
 
-    /// An entry of the guest's tables at this level, which stand in its pages 0, 1 and 2: mostly the one that
-    /// leads on, or to one of eight pages; else a leaf with drawn flags, or anything.
-    pub(crate) fn entry(&mut self, level: u64) -> u64
-        requires { level < 3 }
+    /// A page that a device may have or ask for: mostly one of the lowest, else one at the end of what can be
+    /// granted in tables of three levels or of four.
+    fn page(&mut self) -> u64
+        ensures { result ≤ 2 ^ 35 }
     {
-        let page = self.below(8);
+        match self.below(24) {
+            0 => LAST_OF_THREE,
+            1 => LAST_OF_THREE + 1,
+            2 => LAST_OF_FOUR,
+            3 => LAST_OF_FOUR + 1,
+            _ => self.below(LOW_PAGES),
+        }
+    }
+
+    /// An entry of the guest's tables at this level of so many, which stand in its first pages in order: mostly the one
+    /// that leads on, or to a page; else a leaf with drawn flags, or anything.
+    pub(crate) fn entry(&mut self, level: u64, levels: u64) -> u64
+        requires { level < 4 }
+    {
+        let page = self.page();
         match self.below(16) {
             0 => self.below(1 << 30) << 30 | self.below(1 << 30),
             1 => page << 10 | self.below(256),
             _ => {
-                if level < 2 {
+                if level + 1 < levels {
                     (level + 1) << 10 | 1
                 } else {
                     page << 10 | OPEN_LEAF
@@ -130,7 +158,7 @@ impl Draw {
     {
         Event::Grant {
             device: self.device(),
-            page: self.below(8),
+            page: self.page(),
             frame: FIRST_FRAME + self.below(FRAMES),
             rights: if self.below(4) == 0 {
                 GrantRights::ReadOnly
@@ -146,10 +174,11 @@ impl Draw {
     {
         Event::Release {
             device: self.device(),
-            page: if self.below(4) == 0 {
-                self.below(8)
-            } else {
-                3 + self.below(5)
+            page: match self.page() {
+                table if table < GUEST_TABLES && self.below(8) > 0 => {
+                    GUEST_TABLES + self.below(LOW_PAGES - GUEST_TABLES)
+                }
+                page => page,
             },
         }
     }
@@ -158,7 +187,7 @@ impl Draw {
     fn ask(&mut self) -> Event
         ensures { IsNoChoice result }
     {
-        let page = self.below(8);
+        let page = self.page();
         Event::Ask {
             device: self.asker(),
             page: PageNumber::new(page).unwrap(),
@@ -192,7 +221,7 @@ impl Draw {
     /// Where a read begins, and how long it is: up to the end of a page, so that it takes in the frame's name.
     fn span_to_name(&mut self) -> (u64, u64) {
         let before = self.below(8);
-        (self.page() + NAME_AT - before, 8 + before)
+        (self.page() * 4096 + NAME_AT - before, 8 + before)
     }
 
     /// An untranslated read.
@@ -240,8 +269,8 @@ impl Draw {
         } else {
             self.below(509)
         };
-        let address = self.page() + 8 * place;
-        let entry = self.entry(2);
+        let address = self.page() * 4096 + 8 * place;
+        let entry = self.entry(2, 3);
         Ok((address, bytes_of(alloc, &[entry, own])?))
     }
 
@@ -328,12 +357,12 @@ impl Draw {
             },
             1 => Event::Attach {
                 device,
-                mode: Mode::First,
+                mode: Mode::First(self.size()),
                 ats: false,
             },
             _ => Event::Read {
                 device,
-                address: self.page() + NAME_AT,
+                address: self.page() * 4096 + NAME_AT,
                 len: 9 + self.below(8),
             },
         }

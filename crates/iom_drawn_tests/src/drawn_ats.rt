@@ -24,8 +24,9 @@ static LEAST: [(Note, usize); 10] = [
     (Note::Repeated, 20),
 ];
 
-/// One run with a device in both stages, and one with a device in the second.
+/// One run with a device in both stages, with tables of four levels, and one with a device in the second, with tables of
+/// three.
 #[test]
 fn devices_use_what_they_keep_and_drop_it(rt: HostRuntime) -> Result<(), Fail> {
-    have_often(&rt, Plan::Steady, [1, 6], 2000, &LEAST)
+    have_often(&rt, Plan::Steady, [47, 6], 2000, &LEAST)
 }

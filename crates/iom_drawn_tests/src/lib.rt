@@ -6,7 +6,7 @@
 //! services (PCI Express Base Specification, chapter 10): two devices with a cache of translations of their own ask,
 //! keep, use and drop translations, while a raw device forges; messages are delivered in any order, lost and repeated.
 //! In the third the devices come and go as well: they are cut off, revived, detached, attached again and reset, fences
-//! that wait for them are given up, and the command queue is restarted.
+//! that wait for them are given up, and the command queue is restarted. Tables of both sizes come in each mode.
 //!
 //! Three things the judge is asked that no line says. One is the frame on which an access was accepted: the runs let it
 //! show later, since every frame names itself in its last eight bytes, which each read takes in, and each write has

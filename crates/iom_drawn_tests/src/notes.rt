@@ -1,5 +1,6 @@
 // What is counted of a run.
 
+use crate::draw::LAST_OF_THREE;
 use crate::run::Step;
 use iom_base::DeviceId;
 use iom_ledger::Refusal;
@@ -150,6 +151,41 @@ pub(crate) fn count_made(steps: &[Step], asked: DeviceId) -> usize {
     of_device
         .filter(|step| !matches!(step.outcome, Outcome::NothingInFlight))
         .count()
+}
+
+/// Whether an access of the device is accepted here at a page that can be granted in tables of four levels alone.
+fn is_far(step: &Step, asked: DeviceId) -> bool {
+    let (Event::Read {
+        device,
+        address,
+        ..
+    }
+    | Event::Write {
+        device,
+        address,
+        ..
+    }
+    | Event::ReadThroughCache {
+        device,
+        address,
+        ..
+    }
+    | Event::WriteThroughCache {
+        device,
+        address,
+        ..
+    }) = &step.event
+    else {
+        return false;
+    };
+    *device == asked
+        && *address / 4096 > LAST_OF_THREE
+        && matches!(step.outcome, Outcome::Accepted(_))
+}
+
+/// How many accesses of the device were such.
+pub(crate) fn count_far(steps: &[Step], asked: DeviceId) -> usize {
+    steps.iter().filter(|step| is_far(step, asked)).count()
 }
 
 /// Whether each of the list comes in these steps as often as it says at least.

@@ -15,14 +15,15 @@ impl Draw {
         ensures { IsNoChoice result }
     {
         let device = self.device();
+        let size = self.size();
         let mode = match self.below(2) {
-            0 => Mode::Second,
-            _ => Mode::Both,
+            0 => Mode::Second(size),
+            _ => Mode::Both(size),
         };
         let is_other = device == self.ids().other;
         Event::Attach {
             device,
-            mode: if is_other { mode } else { Mode::First },
+            mode: if is_other { mode } else { Mode::First(size) },
             ats: (device == self.ids().raw) == (self.below(8) == 0),
         }
     }
@@ -61,7 +62,7 @@ impl Run {
         let question = step.question?;
         Some(Event::ReadThroughCache {
             device: question.device,
-            address: question.page % 8 * 4096 + NAME_AT,
+            address: question.page % (1 << 52) * 4096 + NAME_AT,
             len: 8,
         })
     }
@@ -139,7 +140,14 @@ impl Run {
         requires { IsNoChoice event }
     {
         match event {
-            Event::Attach { device, .. } | Event::Revive { device } => {
+            Event::Attach { device, mode, .. } => {
+                self.happen(event)?;
+                if self.is_done() && device == self.ids.other {
+                    self.guest = mode.size();
+                }
+                self.come_back(draw, device)
+            }
+            Event::Revive { device } => {
                 self.happen(event)?;
                 self.come_back(draw, device)
             }

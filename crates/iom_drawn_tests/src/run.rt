@@ -1,11 +1,13 @@
 // A run of the world, on which frame each access of it was, and which question each answer was to.
 
-ghost use Rattle.std.specs.Prelude.{◌≡◌, ◌<◌, true};
+ghost use Rattle.std.specs.Prelude.{◌≡◌, ◌<◌, ◌≤◌, true};
 ghost use Rattle.iom_composition.specs.Stays.{IsNoChoice};
 
-use crate::draw::{Draw, FIRST_FRAME, FRAMES, Ids, NAME_AT, bytes_of};
+use crate::draw::{
+    Draw, FIRST_FRAME, FRAMES, GUEST_TABLES, Ids, LOW_PAGES, NAME_AT, OPEN_LEAF, bytes_of,
+};
 use crate::messages::{Messages, Question, Said};
-use iom_base::{DeviceId, GrantRights, Mode};
+use iom_base::{DeviceId, GrantRights, Mode, Size};
 use iom_machine::{Event, NewDevice, Outcome};
 use iom_world::World;
 use std::alloc::Global;
@@ -87,7 +89,48 @@ pub(crate) struct Run {
     plan: Plan,
     pub(crate) ids: Ids,
     pub(crate) levels: u8,
+    /// The size of the tables of the device in the second stage or in both, and so of a guest's own.
+    pub(crate) guest: Size,
     pub(crate) steps: Vec<Step>,
+}
+
+/// The sizes of the modes in which the three devices are attached at first.
+#[derive(Clone, Copy)]
+struct Sizes {
+    first: Size,
+    other: Size,
+    raw: Size,
+}
+
+/// How many levels the guest's tables have.
+fn levels_in(guest: Size) -> u64
+    ensures some { 0 < result }
+    ensures few { result ≤ 4 }
+{
+    match guest {
+        Size::Sv39 => 3,
+        Size::Sv48 => 4,
+    }
+}
+
+/// The one for even numbers, and for odd ones.
+fn size_by(number: u64) -> Size {
+    if number % 2 == 0 {
+        Size::Sv39
+    } else {
+        Size::Sv48
+    }
+}
+
+impl Sizes {
+    /// Those of the run of this seed: all eight combinations come, in runs of each kind.
+    fn drawn(seed: u64) -> Sizes {
+        Sizes {
+            first: size_by(seed / 4),
+            other: size_by(seed / 8),
+            raw: size_by(seed / 16),
+        }
+    }
 }
 
 impl Run {
@@ -127,7 +170,7 @@ impl Run {
     }
 
     /// A world of 64 frames, to which nothing has happened. Where it is wide its directory has three levels, else one.
-    fn new(alloc: Global, plan: Plan, is_wide: bool) -> Result<Box<Run>, Fail> {
+    fn new(alloc: Global, plan: Plan, is_wide: bool, guest: Size) -> Result<Box<Run>, Fail> {
         let (ids, levels) = if is_wide { (WIDE, 3) } else { (NARROW, 1) };
         let world = World::new(alloc, 64, levels, &[])?;
         let run = Run {
@@ -137,12 +180,13 @@ impl Run {
             plan,
             ids,
             levels,
+            guest,
             steps: Vec::new(alloc),
         };
         Ok(Box::new(alloc, run)?)
     }
 
-    /// The device gets its first pages, so many of them. In the first three a guest's tables are to stand.
+    /// The device gets its first pages, so many of them. In the first four a guest's tables stand.
     pub(crate) fn grant_first(&mut self, device: DeviceId, count: u64) -> Result<(), Fail> {
         for page in 0..count {
             self.happen(Event::Grant {
@@ -165,34 +209,62 @@ impl Run {
     }
 
     /// Three raw devices, one in each mode.
-    fn plug_raw(&mut self) -> Result<(), Fail> {
+    fn plug_raw(&mut self, sizes: Sizes) -> Result<(), Fail> {
         let ids = self.ids;
-        self.plug_and_attach(ids.first, NewDevice::Raw, Mode::First, false)?;
-        self.plug_and_attach(ids.other, NewDevice::Raw, Mode::Both, false)?;
-        self.plug_and_attach(ids.raw, NewDevice::Raw, Mode::Second, false)
+        self.plug_and_attach(ids.first, NewDevice::Raw, Mode::First(sizes.first), false)?;
+        self.plug_and_attach(ids.other, NewDevice::Raw, Mode::Both(sizes.other), false)?;
+        self.plug_and_attach(ids.raw, NewDevice::Raw, Mode::Second(sizes.raw), false)
     }
 
-    /// Two devices with a cache, of which one is in this mode, and a raw one.
-    fn plug_caches(&mut self, other: Mode) -> Result<(), Fail> {
+    /// Two devices with a cache, of which one is in the second stage or in both, and a raw one.
+    fn plug_caches(&mut self, sizes: Sizes, is_both: bool) -> Result<(), Fail> {
         let ids = self.ids;
-        self.plug_and_attach(ids.first, NewDevice::Ats, Mode::First, true)?;
+        let other = if is_both {
+            Mode::Both(sizes.other)
+        } else {
+            Mode::Second(sizes.other)
+        };
+        self.plug_and_attach(ids.first, NewDevice::Ats, Mode::First(sizes.first), true)?;
         self.plug_and_attach(ids.other, NewDevice::Ats, other, true)?;
-        self.plug_and_attach(ids.raw, NewDevice::Raw, Mode::First, false)
+        self.plug_and_attach(ids.raw, NewDevice::Raw, Mode::First(sizes.raw), false)
     }
 
-    /// The three devices, the pages in which a guest's tables are to stand, and frames that name themselves.
-    fn begin(&mut self, other: Mode) -> Result<(), Fail> {
+    /// The processor writes an entry of the guest's table at this level.
+    fn write_entry(&mut self, level: u64, place: u64, entry: u64) -> Result<(), Fail>
+        requires { place < 512 }
+    {
+        let address = self.guest_frame(level) % 64 * 4096 + 8 * place;
+        let bytes = bytes_of(self.alloc, &[entry])?;
+        self.happen(Event::Poke { address, bytes })
+    }
+
+    /// The guest's tables lead from the lowest pages, and from those behind the last of three levels, to the lowest pages.
+    fn link_tables(&mut self) -> Result<(), Fail> {
+        let levels = levels_in(self.guest);
+        for level in 1..levels {
+            for place in [0, 256] {
+                self.write_entry(level - 1, place, level << 10 | 1)?;
+            }
+        }
+        for page in 0..LOW_PAGES {
+            self.write_entry(levels - 1, page, page << 10 | OPEN_LEAF)?;
+        }
+        Ok(())
+    }
+
+    /// The three devices, the pages in which a guest's tables stand, and frames that name themselves.
+    fn begin(&mut self, sizes: Sizes, is_both: bool) -> Result<(), Fail> {
         let ids = self.ids;
         if self.plan == Plan::Modes {
-            self.plug_raw()?;
+            self.plug_raw(sizes)?;
         } else {
-            self.plug_caches(other)?;
+            self.plug_caches(sizes, is_both)?;
         }
-        self.grant_first(ids.other, 3)?;
+        self.grant_first(ids.other, GUEST_TABLES)?;
         for frame in FIRST_FRAME..FIRST_FRAME + FRAMES {
             self.name(frame)?;
         }
-        Ok(())
+        self.link_tables()
     }
 
     /// The step at which the oldest access of the device was accepted whose frame hasn't shown yet.
@@ -275,14 +347,20 @@ impl Run {
         found
     }
 
-    /// The processor writes an entry of the guest's tables.
+    /// The processor writes an entry of the guest's tables. Above the last level it is the one for the lowest pages, or
+    /// for those behind the last of three levels.
     fn poke(&mut self, draw: &mut Draw) -> Result<(), Fail> {
-        let level = draw.below(3);
-        let place = if level < 2 { 0 } else { draw.below(8) };
-        let entry = draw.entry(level);
-        let address = self.guest_frame(level) % 64 * 4096 + 8 * place;
-        let bytes = bytes_of(self.alloc, &[entry])?;
-        self.happen(Event::Poke { address, bytes })
+        let levels = levels_in(self.guest);
+        let level = draw.below(levels);
+        let place = if level + 1 == levels {
+            draw.below(LOW_PAGES)
+        } else if draw.below(4) == 0 {
+            256
+        } else {
+            0
+        };
+        let entry = draw.entry(level, levels);
+        self.write_entry(level, place, entry)
     }
 
     /// The message at the place is lost. Where an invalidation waits for it, and nothing is done about that, a copy is
@@ -347,8 +425,8 @@ impl Run {
 
     /// A run of so many events drawn from the seed, beside those that show where accesses went; what is in
     /// flight at its end is made. One device is in the second stage or, in every other run, in both; of three raw
-    /// ones, one is in each mode. Of the
-    /// runs in which devices come and go, every other two have a directory of three levels.
+    /// ones, one is in each mode; and each has tables of either size. Of the runs in which devices come and go, every
+    /// other two have a directory of three levels.
     pub(crate) fn drawn(
         alloc: Global,
         plan: Plan,
@@ -356,13 +434,9 @@ impl Run {
         count: u64,
     ) -> Result<Box<Run>, Fail> {
         let is_wide = plan == Plan::Lifecycle && seed / 2 % 2 == 1;
-        let mut run = Run::new(alloc, plan, is_wide)?;
-        let other = if seed % 2 == 0 {
-            Mode::Second
-        } else {
-            Mode::Both
-        };
-        run.begin(other)?;
+        let sizes = Sizes::drawn(seed);
+        let mut run = Run::new(alloc, plan, is_wide, sizes.other)?;
+        run.begin(sizes, seed % 2 == 1)?;
         let mut draw = Draw::new(seed, run.ids);
         for number in 0..count {
             run.go_on(&mut draw, number + 1 << 32)?;

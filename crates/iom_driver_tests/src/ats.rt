@@ -1,5 +1,4 @@
-use crate::bench::{OK, Run, Start, Step, follow};
-use iom_base::Mode;
+use crate::bench::{BOTH, FIRST, OK, Run, SECOND, Start, Step, follow};
 use iom_ledger::Refusal;
 use iom_registers::Register;
 
@@ -11,7 +10,7 @@ static RUNS: [Run; 9] = [
         Start::Usual,
         &[
             Step::PlugTrusted(2, OK),
-            Step::AttachAts(2, Mode::First, OK),
+            Step::AttachAts(2, FIRST, OK),
             Step::Words(0x3c040, &[3, 0, 0x1000, 8 << 60 | 0x3b]),
         ],
     ),
@@ -21,7 +20,7 @@ static RUNS: [Run; 9] = [
         Start::Usual,
         &[
             Step::PlugTrusted(2, OK),
-            Step::Attach(2, Mode::First, OK),
+            Step::Attach(2, FIRST, OK),
             Step::Words(0x3c040, &[1]),
             Step::Grant(2, 3, 5, OK),
             Step::Release(2, 3, Ok(1)),
@@ -35,7 +34,7 @@ static RUNS: [Run; 9] = [
         Start::Usual,
         &[
             Step::PlugTrusted(2, OK),
-            Step::AttachAts(2, Mode::First, OK),
+            Step::AttachAts(2, FIRST, OK),
             Step::Grant(2, 3, 5, OK),
             Step::Release(2, 3, Ok(1)),
             Step::Words(
@@ -65,7 +64,7 @@ static RUNS: [Run; 9] = [
         Start::Usual,
         &[
             Step::PlugTrusted(2, OK),
-            Step::AttachAts(2, Mode::Second, OK),
+            Step::AttachAts(2, SECOND, OK),
             Step::Grant(2, 3, 5, OK),
             Step::Release(2, 3, Ok(1)),
             Step::Words(
@@ -86,7 +85,7 @@ static RUNS: [Run; 9] = [
         Start::Usual,
         &[
             Step::PlugTrusted(2, OK),
-            Step::AttachAts(2, Mode::Both, OK),
+            Step::AttachAts(2, BOTH, OK),
             Step::Grant(2, 3, 5, OK),
             Step::Release(2, 3, Ok(1)),
             Step::Words(
@@ -107,7 +106,7 @@ static RUNS: [Run; 9] = [
         Start::Usual,
         &[
             Step::PlugTrusted(2, OK),
-            Step::AttachAts(2, Mode::First, OK),
+            Step::AttachAts(2, FIRST, OK),
             Step::Detach(2, Ok(1)),
             Step::Words(0x3c040, &[0]),
             Step::Words(0x3f000, &[0x0000_0202_0000_0003]),
@@ -122,15 +121,15 @@ static RUNS: [Run; 9] = [
         Start::Usual,
         &[
             Step::Plug(1, OK),
-            Step::Attach(1, Mode::First, OK),
+            Step::Attach(1, FIRST, OK),
             Step::Plug(2, OK),
             Step::Plug(128, OK),
             Step::GrantEach(1, 0, 55),
             Step::Grant(1, 512, 55, OK),
-            Step::AttachAts(128, Mode::First, Err(Refusal::IdTooWide)),
-            Step::AttachAts(1, Mode::First, Err(Refusal::AlreadyAttached)),
-            Step::AttachAts(2, Mode::First, Err(Refusal::NotTrusted)),
-            Step::Attach(2, Mode::First, Err(Refusal::NoFrames)),
+            Step::AttachAts(128, FIRST, Err(Refusal::IdTooWide)),
+            Step::AttachAts(1, FIRST, Err(Refusal::AlreadyAttached)),
+            Step::AttachAts(2, FIRST, Err(Refusal::NotTrusted)),
+            Step::Attach(2, FIRST, Err(Refusal::NoFrames)),
         ],
     ),
     // The ring holds 255 commands, so 84 releases leave three places, which the next one takes.
@@ -139,7 +138,7 @@ static RUNS: [Run; 9] = [
         Start::Usual,
         &[
             Step::PlugTrusted(2, OK),
-            Step::AttachAts(2, Mode::First, OK),
+            Step::AttachAts(2, FIRST, OK),
             Step::ReleaseEach(2, 0, 84),
             Step::Grant(2, 84, 5, OK),
             Step::Register(Register::Cqt, 252),
@@ -153,9 +152,9 @@ static RUNS: [Run; 9] = [
         Start::Usual,
         &[
             Step::PlugTrusted(2, OK),
-            Step::AttachAts(2, Mode::First, OK),
+            Step::AttachAts(2, FIRST, OK),
             Step::Plug(1, OK),
-            Step::Attach(1, Mode::First, OK),
+            Step::Attach(1, FIRST, OK),
             Step::ReleaseEach(1, 0, 2),
             Step::Grant(1, 2, 6, OK),
             Step::ReleaseEach(2, 0, 83),

@@ -1,5 +1,4 @@
-use crate::bench::{OK, Run, Start, Step, follow};
-use iom_base::Mode;
+use crate::bench::{FIRST, OK, Run, Start, Step, follow};
 
 /// What an attach writes.
 static RUNS: [Run; 2] = [
@@ -9,7 +8,7 @@ static RUNS: [Run; 2] = [
         Start::Usual,
         &[
             Step::Plug(1, OK),
-            Step::Attach(1, Mode::First, OK),
+            Step::Attach(1, FIRST, OK),
             Step::Words(0x3c020, &[1, 0, 0x1000, 8 << 60 | 0x3b]),
         ],
     ),
@@ -20,7 +19,7 @@ static RUNS: [Run; 2] = [
         Start::Sized(4096, 3),
         &[
             Step::Plug(0xff_ffff, OK),
-            Step::Attach(0xff_ffff, Mode::First, OK),
+            Step::Attach(0xff_ffff, FIRST, OK),
             Step::Words(0xff_c7f8, &[0x3fec01]),
             Step::Words(0xff_bff8, &[0x3fe801]),
             Step::Words(0xff_afe0, &[1, 0, 0x1000, 8 << 60 | 0xff9]),

@@ -3,7 +3,7 @@ ghost use Rattle.std.specs.Prelude.{◌+◌, ◌<◌, ◌^◌};
 ghost use Rattle.iom_device.specs.Caches.{epoch_in};
 
 use crate::recording::Recording;
-use iom_base::{DeviceId, GrantRights, Mode};
+use iom_base::{DeviceId, GrantRights, Mode, Size};
 use iom_device::Device;
 use iom_driver::laws::stays_ready;
 use iom_driver::{Driver, Polled, Ticket};
@@ -27,6 +27,13 @@ pub(crate) type Done = Result<(), Refusal>;
 pub(crate) type Given = Result<u32, Refusal>;
 
 pub(crate) const OK: Done = Ok(());
+
+/// The modes, with tables of three levels.
+pub(crate) const FIRST: Mode = Mode::First(Size::Sv39);
+
+pub(crate) const SECOND: Mode = Mode::Second(Size::Sv39);
+
+pub(crate) const BOTH: Mode = Mode::Both(Size::Sv39);
 
 /// What a test does, with the answer, and what it looks at.
 #[derive(Clone, Copy)]

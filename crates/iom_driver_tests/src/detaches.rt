@@ -1,5 +1,4 @@
-use crate::bench::{OK, Run, Start, Step, follow};
-use iom_base::Mode;
+use crate::bench::{FIRST, OK, Run, Start, Step, follow};
 use iom_ledger::Refusal;
 
 /// What a detach writes and gives back.
@@ -11,7 +10,7 @@ static RUNS: [Run; 4] = [
         Start::Usual,
         &[
             Step::Plug(2, OK),
-            Step::Attach(2, Mode::First, OK),
+            Step::Attach(2, FIRST, OK),
             Step::Words(0x3c040, &[1]),
             Step::Detach(2, Ok(1)),
             Step::Words(0x3c040, &[0]),
@@ -34,7 +33,7 @@ static RUNS: [Run; 4] = [
         Start::Usual,
         &[
             Step::Plug(1, OK),
-            Step::Attach(1, Mode::First, OK),
+            Step::Attach(1, FIRST, OK),
             Step::Grant(1, 3, 5, OK),
             Step::Detach(1, Err(Refusal::StillGranted)),
             Step::Release(1, 3, Ok(1)),
@@ -50,9 +49,9 @@ static RUNS: [Run; 4] = [
         Start::Usual,
         &[
             Step::Plug(1, OK),
-            Step::Attach(1, Mode::First, OK),
+            Step::Attach(1, FIRST, OK),
             Step::Detach(1, Ok(1)),
-            Step::Attach(1, Mode::First, Err(Refusal::AlreadyAttached)),
+            Step::Attach(1, FIRST, Err(Refusal::AlreadyAttached)),
             Step::Grant(1, 3, 5, Err(Refusal::NotAttached)),
             Step::Detach(1, Err(Refusal::NotAttached)),
             Step::Poll(0, 0, false),
@@ -60,7 +59,7 @@ static RUNS: [Run; 4] = [
             Step::Complete(1),
             Step::Poll(1, 1, false),
             Step::Free(59, true),
-            Step::Attach(1, Mode::First, OK),
+            Step::Attach(1, FIRST, OK),
         ],
     ),
     // The number of a leaving device is its own until then: the next device has number 2, and the third 1.
@@ -69,14 +68,14 @@ static RUNS: [Run; 4] = [
         Start::Usual,
         &[
             Step::Plug(1, OK),
-            Step::Attach(1, Mode::First, OK),
+            Step::Attach(1, FIRST, OK),
             Step::Plug(2, OK),
             Step::Plug(3, OK),
             Step::Detach(1, Ok(1)),
-            Step::Attach(2, Mode::First, OK),
+            Step::Attach(2, FIRST, OK),
             Step::Complete(1),
             Step::Poll(1, 1, false),
-            Step::Attach(3, Mode::First, OK),
+            Step::Attach(3, FIRST, OK),
             Step::Words(0x3c050, &[0x2000]),
             Step::Words(0x3c070, &[0x1000]),
         ],

@@ -1,6 +1,5 @@
 // The numbers of fences, which are apart from those of tickets once the driver restarted.
-use crate::bench::{OK, Run, Start, Step, follow};
-use iom_base::Mode;
+use crate::bench::{FIRST, OK, Run, Start, Step, follow};
 
 /// For which fence a ticket waits.
 static RUNS: [Run; 3] = [
@@ -11,7 +10,7 @@ static RUNS: [Run; 3] = [
         Start::Usual,
         &[
             Step::Plug(1, OK),
-            Step::Attach(1, Mode::First, OK),
+            Step::Attach(1, FIRST, OK),
             Step::Restart(OK),
             Step::Words(0x3f020, &[0x0000_0001_0000_3402]),
             Step::Grant(1, 3, 5, OK),
@@ -29,7 +28,7 @@ static RUNS: [Run; 3] = [
         Start::Usual,
         &[
             Step::Plug(1, OK),
-            Step::Attach(1, Mode::First, OK),
+            Step::Attach(1, FIRST, OK),
             Step::Grant(1, 3, 5, OK),
             Step::Grant(1, 4, 6, OK),
             Step::Release(1, 3, Ok(1)),
@@ -48,7 +47,7 @@ static RUNS: [Run; 3] = [
         Start::Usual,
         &[
             Step::Plug(1, OK),
-            Step::Attach(1, Mode::First, OK),
+            Step::Attach(1, FIRST, OK),
             Step::Restart(OK),
             Step::Detach(1, Ok(1)),
             Step::Words(0x3f050, &[0x0000_0002_0000_3402]),
@@ -56,7 +55,7 @@ static RUNS: [Run; 3] = [
             Step::Poll(0, 0, false),
             Step::Complete(2),
             Step::Poll(1, 1, false),
-            Step::Attach(1, Mode::First, OK),
+            Step::Attach(1, FIRST, OK),
         ],
     ),
 ];

@@ -1,5 +1,4 @@
-use crate::bench::{OK, Run, Start, Step, follow};
-use iom_base::Mode;
+use crate::bench::{FIRST, OK, Run, Start, Step, follow};
 
 /// Which frames are free, and which are reserved.
 static RUNS: [Run; 3] = [
@@ -9,7 +8,7 @@ static RUNS: [Run; 3] = [
         Start::Usual,
         &[
             Step::Plug(1, OK),
-            Step::Attach(1, Mode::First, OK),
+            Step::Attach(1, FIRST, OK),
             Step::Free(5, true),
             Step::CountFree(59),
             Step::Grant(1, 3, 5, OK),
@@ -30,7 +29,7 @@ static RUNS: [Run; 3] = [
         &[
             Step::Free(59, true),
             Step::Plug(1, OK),
-            Step::Attach(1, Mode::First, OK),
+            Step::Attach(1, FIRST, OK),
             Step::Reserved(59, true),
             Step::Free(59, false),
             Step::Reserved(60, true),
@@ -46,7 +45,7 @@ static RUNS: [Run; 3] = [
         Start::Usual,
         &[
             Step::Plug(1, OK),
-            Step::Attach(1, Mode::First, OK),
+            Step::Attach(1, FIRST, OK),
             Step::Grant(1, 3, 58, OK),
             Step::Reserved(58, false),
             Step::Reserved(57, true),

@@ -1,7 +1,7 @@
-//! Tests of the driver: the bytes of its commands, tables and contexts in each mode against the standard's
-//! figures, with ATS and without, the order of its register writes, its refusals, for which fence a ticket
-//! waits, what a poll confirms and gives back, what it tells of faults, how a device is cut off and revived,
-//! and how the queue is restarted.
+//! Tests of the driver: the bytes of its commands, tables and contexts in each mode, of each size, against the
+//! standard's figures, with ATS and without, the order of its register writes, its refusals, for which fence a
+//! ticket waits, what a poll confirms and gives back, what it tells of faults, how a device is cut off and
+//! revived, and how the queue is restarted.
 //!
 //! The driver stands on memory and on registers with no IOMMU around them: a test takes its place, and
 //! writes what a fence would. The crate has tests alone, and nothing stands on it, since a crate with tests
@@ -37,6 +37,8 @@ mod reports;
 mod revivals;
 #[cfg(test)]
 mod second_stages;
+#[cfg(test)]
+mod sizes;
 #[cfg(test)]
 mod starts;
 

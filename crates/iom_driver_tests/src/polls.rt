@@ -1,5 +1,4 @@
-use crate::bench::{OK, Run, Start, Step, follow};
-use iom_base::Mode;
+use crate::bench::{FIRST, OK, Run, Start, Step, follow};
 
 /// What a poll confirms.
 static RUNS: [Run; 3] = [
@@ -9,7 +8,7 @@ static RUNS: [Run; 3] = [
         Start::Usual,
         &[
             Step::Plug(1, OK),
-            Step::Attach(1, Mode::First, OK),
+            Step::Attach(1, FIRST, OK),
             Step::ReleaseEach(1, 0, 3),
             Step::Poll(0, 0, false),
             Step::Complete(1),
@@ -26,7 +25,7 @@ static RUNS: [Run; 3] = [
         Start::Usual,
         &[
             Step::Plug(1, OK),
-            Step::Attach(1, Mode::First, OK),
+            Step::Attach(1, FIRST, OK),
             Step::ReleaseEach(1, 0, 3),
             Step::Complete(4_000_000_000),
             Step::Poll(1, 3, false),
@@ -41,7 +40,7 @@ static RUNS: [Run; 3] = [
         Start::Usual,
         &[
             Step::Plug(1, OK),
-            Step::Attach(1, Mode::First, OK),
+            Step::Attach(1, FIRST, OK),
             Step::ReleaseEach(1, 0, 3),
             Step::Complete(2),
             Step::TimeOut,

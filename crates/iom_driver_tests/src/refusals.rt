@@ -1,5 +1,4 @@
-use crate::bench::{OK, Run, Start, Step, follow};
-use iom_base::Mode;
+use crate::bench::{FIRST, OK, Run, Start, Step, follow};
 use iom_ledger::Refusal;
 
 /// For which reason a call is refused.
@@ -9,9 +8,9 @@ static RUNS: [Run; 6] = [
         "before the start",
         Start::Off,
         &[
-            Step::Attach(1, Mode::First, Err(Refusal::NotStarted)),
+            Step::Attach(1, FIRST, Err(Refusal::NotStarted)),
             Step::Plug(1, OK),
-            Step::Attach(1, Mode::First, Err(Refusal::NotStarted)),
+            Step::Attach(1, FIRST, Err(Refusal::NotStarted)),
             Step::Grant(1, 3, 5, Err(Refusal::NotStarted)),
             Step::Release(1, 3, Err(Refusal::NotStarted)),
             Step::Detach(1, Err(Refusal::NotStarted)),
@@ -48,12 +47,12 @@ static RUNS: [Run; 6] = [
         "of an attach",
         Start::Usual,
         &[
-            Step::Attach(128, Mode::First, Err(Refusal::NoSuchDevice)),
+            Step::Attach(128, FIRST, Err(Refusal::NoSuchDevice)),
             Step::Plug(128, OK),
-            Step::Attach(128, Mode::First, Err(Refusal::IdTooWide)),
+            Step::Attach(128, FIRST, Err(Refusal::IdTooWide)),
             Step::Plug(127, OK),
-            Step::Attach(127, Mode::First, OK),
-            Step::Attach(127, Mode::First, Err(Refusal::AlreadyAttached)),
+            Step::Attach(127, FIRST, OK),
+            Step::Attach(127, FIRST, Err(Refusal::AlreadyAttached)),
         ],
     ),
     // Each reason comes before those below it.
@@ -64,7 +63,7 @@ static RUNS: [Run; 6] = [
             Step::Grant(1, (1 << 26), 64, Err(Refusal::NoSuchDevice)),
             Step::Plug(1, OK),
             Step::Grant(1, (1 << 26), 64, Err(Refusal::NotAttached)),
-            Step::Attach(1, Mode::First, OK),
+            Step::Attach(1, FIRST, OK),
             Step::Grant(1, (1 << 26), 64, Err(Refusal::FrameOutOfRange)),
             Step::Grant(1, (1 << 26), 60, Err(Refusal::FrameReserved)),
             Step::Grant(1, (1 << 26), 5, Err(Refusal::IovaOutOfRange)),
@@ -80,7 +79,7 @@ static RUNS: [Run; 6] = [
         Start::Usual,
         &[
             Step::Plug(1, OK),
-            Step::Attach(1, Mode::First, OK),
+            Step::Attach(1, FIRST, OK),
             Step::GrantEach(1, 0, 54),
             Step::Free(56, true),
             Step::Grant(1, 54, 54, OK),
@@ -97,7 +96,7 @@ static RUNS: [Run; 6] = [
             Step::Release(1, 3, Err(Refusal::NoSuchDevice)),
             Step::Plug(1, OK),
             Step::Release(1, 3, Err(Refusal::NotAttached)),
-            Step::Attach(1, Mode::First, OK),
+            Step::Attach(1, FIRST, OK),
             Step::Release(1, 3, Err(Refusal::NotGranted)),
         ],
     ),

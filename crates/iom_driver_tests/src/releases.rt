@@ -1,5 +1,4 @@
-use crate::bench::{OK, Run, Start, Step, follow};
-use iom_base::Mode;
+use crate::bench::{FIRST, OK, Run, Start, Step, follow};
 use iom_ledger::Refusal;
 use iom_registers::Register;
 
@@ -12,7 +11,7 @@ static RUNS: [Run; 4] = [
         Start::Usual,
         &[
             Step::Plug(1, OK),
-            Step::Attach(1, Mode::First, OK),
+            Step::Attach(1, FIRST, OK),
             Step::Reserved(59, true),
             Step::Grant(1, 3, 5, OK),
             Step::Words(0x3b000, &[58 << 10 | 1]),
@@ -27,7 +26,7 @@ static RUNS: [Run; 4] = [
         Start::Usual,
         &[
             Step::Plug(1, OK),
-            Step::Attach(1, Mode::First, OK),
+            Step::Attach(1, FIRST, OK),
             Step::Grant(1, 3, 5, OK),
             Step::Release(1, 3, Ok(1)),
             Step::Words(
@@ -56,8 +55,8 @@ static RUNS: [Run; 4] = [
         &[
             Step::Plug(9, OK),
             Step::Plug(4, OK),
-            Step::Attach(9, Mode::First, OK),
-            Step::Attach(4, Mode::First, OK),
+            Step::Attach(9, FIRST, OK),
+            Step::Attach(4, FIRST, OK),
             Step::Grant(4, 3, 5, OK),
             Step::Release(4, 3, Ok(1)),
             Step::Words(0x3f000, &[0x0000_0001_0000_2401]),
@@ -69,7 +68,7 @@ static RUNS: [Run; 4] = [
         Start::Usual,
         &[
             Step::Plug(1, OK),
-            Step::Attach(1, Mode::First, OK),
+            Step::Attach(1, FIRST, OK),
             Step::ReleaseEach(1, 0, 127),
             Step::Grant(1, 127, 5, OK),
             Step::Release(1, 127, Err(Refusal::QueueFull)),

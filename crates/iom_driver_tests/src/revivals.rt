@@ -1,6 +1,6 @@
-use crate::bench::{Bench, OK, Step, started};
+use crate::bench::{BOTH, Bench, OK, Step, started};
 use crate::expect::expect;
-use iom_base::{DeviceId, Mode};
+use iom_base::DeviceId;
 use iom_device::Device;
 use iom_ledger::Refusal;
 use iom_machine::DeviceKind;
@@ -18,7 +18,7 @@ fn revived(bench: &mut Bench, alloc: Global, id: DeviceId) -> Option<(Result<(),
 /// Of a device in both stages with ATS: it is cut off; its ticket is confirmed; its context stands as before.
 static CUT_OFF: [Step; 3] = [
     Step::PlugTrusted(2, OK),
-    Step::AttachAts(2, Mode::Both, OK),
+    Step::AttachAts(2, BOTH, OK),
     Step::Quarantine(2, Ok(1)),
 ];
 

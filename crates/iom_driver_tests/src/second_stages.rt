@@ -1,5 +1,4 @@
-use crate::bench::{OK, Run, Start, Step, follow};
-use iom_base::Mode;
+use crate::bench::{BOTH, FIRST, OK, Run, SECOND, Start, Step, follow};
 use iom_ledger::Refusal;
 
 /// Of devices with a second stage.
@@ -11,7 +10,7 @@ static RUNS: [Run; 8] = [
         Start::Usual,
         &[
             Step::Plug(1, OK),
-            Step::Attach(1, Mode::Second, OK),
+            Step::Attach(1, SECOND, OK),
             Step::Words(0x3c020, &[1, 0x8000_1000_0000_0038, 0, 0]),
             Step::Free(55, true),
             Step::Reserved(56, true),
@@ -26,7 +25,7 @@ static RUNS: [Run; 8] = [
         Start::Usual,
         &[
             Step::Plug(1, OK),
-            Step::Attach(1, Mode::Both, OK),
+            Step::Attach(1, BOTH, OK),
             Step::Words(0x3c020, &[1, 0x8000_1000_0000_0038, 0x1000, 8 << 60]),
         ],
     ),
@@ -36,7 +35,7 @@ static RUNS: [Run; 8] = [
         Start::Usual,
         &[
             Step::Plug(1, OK),
-            Step::Attach(1, Mode::Second, OK),
+            Step::Attach(1, SECOND, OK),
             Step::Grant(1, 3, 5, OK),
             Step::Words(0x38000, &[55 << 10 | 1]),
             Step::Words(0x37000, &[54 << 10 | 1]),
@@ -51,7 +50,7 @@ static RUNS: [Run; 8] = [
         Start::Usual,
         &[
             Step::Plug(2, OK),
-            Step::Attach(2, Mode::Second, OK),
+            Step::Attach(2, SECOND, OK),
             Step::Grant(2, 3, 5, OK),
             Step::Release(2, 3, Ok(1)),
             Step::Words(
@@ -75,7 +74,7 @@ static RUNS: [Run; 8] = [
         Start::Usual,
         &[
             Step::Plug(2, OK),
-            Step::Attach(2, Mode::Both, OK),
+            Step::Attach(2, BOTH, OK),
             Step::Grant(2, 3, 5, OK),
             Step::Release(2, 3, Ok(1)),
             Step::Words(
@@ -99,7 +98,7 @@ static RUNS: [Run; 8] = [
         Start::Usual,
         &[
             Step::Plug(1, OK),
-            Step::Attach(1, Mode::Second, OK),
+            Step::Attach(1, SECOND, OK),
             Step::Detach(1, Ok(1)),
             Step::Reserved(56, true),
             Step::Reserved(59, true),
@@ -121,7 +120,7 @@ static RUNS: [Run; 8] = [
         Start::Sized(64, 3),
         &[
             Step::Plug(1, OK),
-            Step::Attach(1, Mode::First, OK),
+            Step::Attach(1, FIRST, OK),
             Step::Grant(1, 0, 0, OK),
             Step::Grant(1, 1, 4, OK),
             Step::Grant(1, 2, 8, OK),
@@ -137,9 +136,9 @@ static RUNS: [Run; 8] = [
             Step::GrantEach(1, 52, 55),
             Step::Plug(0x1_0000, OK),
             Step::Plug(2, OK),
-            Step::Attach(0x1_0000, Mode::Second, Err(Refusal::NoFrames)),
+            Step::Attach(0x1_0000, SECOND, Err(Refusal::NoFrames)),
             Step::Free(51, true),
-            Step::Attach(2, Mode::Both, OK),
+            Step::Attach(2, BOTH, OK),
             Step::Reserved(48, true),
             Step::Reserved(51, true),
         ],
@@ -154,7 +153,7 @@ static RUNS: [Run; 8] = [
         Start::Sized(64, 3),
         &[
             Step::Plug(1, OK),
-            Step::Attach(1, Mode::First, OK),
+            Step::Attach(1, FIRST, OK),
             Step::Grant(1, 0, 0, OK),
             Step::Grant(1, 1, 4, OK),
             Step::Grant(1, 2, 8, OK),
@@ -170,9 +169,9 @@ static RUNS: [Run; 8] = [
             Step::GrantEach(1, 52, 55),
             Step::Grant(1, 48, 48, OK),
             Step::Plug(2, OK),
-            Step::Attach(2, Mode::Second, Err(Refusal::NoFrames)),
-            Step::Attach(2, Mode::Both, Err(Refusal::NoFrames)),
-            Step::Attach(2, Mode::First, OK),
+            Step::Attach(2, SECOND, Err(Refusal::NoFrames)),
+            Step::Attach(2, BOTH, Err(Refusal::NoFrames)),
+            Step::Attach(2, FIRST, OK),
             Step::Reserved(51, true),
         ],
     ),

@@ -112,6 +112,18 @@ static WIDE: [Step; 4] = [
     ),
 ];
 
+/// Mode 9 in fsc: tables of four levels. The root's entry 5 leads to the frame 21, and from there on the tables are
+/// those that three levels have from their root on.
+static FOUR_LEVELS: [Step; 7] = [
+    Step::TurnOn(BASE_VALUE),
+    Step::Write(DDTP, ONE_LEVEL),
+    Step::Store(CONTEXT + 24, 0x9000_0000_0000_0011),
+    Step::Store(0x11028, 0x5401),
+    Step::Store(0x15000, 0x4801),
+    Step::GoesTo(0x280_0000_3010, b"", 32),
+    Step::Ask(DEVICE, 0x3010, b"", Reply::Fault(Cause::ReadPageFault)),
+];
+
 /// IODIR.INVAL_DDT of the devices 4 and 5.
 const OTHER_DEVICE: (u64, u64) = (0x0000_0402_0000_0003, 0);
 
@@ -142,6 +154,7 @@ static CACHED: [Step; 12] = [
 fn requests_are_answered(rt: HostRuntime) {
     follow(&rt, rt.alloc(), &WORDS, &SERVES);
     follow(&rt, rt.alloc(), &WORDS, &SERVES_BY_THREE);
+    follow(&rt, rt.alloc(), &WORDS, &FOUR_LEVELS);
     follow(&rt, rt.alloc(), &WORDS, &EDGES);
     follow(&rt, rt.alloc(), &WORDS, &WIDE);
     follow(&rt, rt.alloc(), &WORDS, &CACHED);

@@ -64,6 +64,42 @@ static THIRD: [Step; 4] = [
     Step::Ask(DEVICE, 0x3010, b"", NOT_THERE),
 ];
 
+/// In four levels the second stage's root leads to the frame 52 by its entry 4, that to 54, and that to the last table:
+/// guest physical addresses have 50 bits, and 2^41 is the first of that entry.
+static SECOND_OF_FOUR: [Step; 9] = [
+    Step::TurnOn(BASE_VALUE),
+    Step::Write(DDTP, ONE_LEVEL),
+    Step::Store(CONTEXT + 8, 0x9000_7000_0000_0030),
+    Step::Store(0x30020, 0xd001),
+    Step::Store(0x34000, 0xd801),
+    Step::Store(0x36000, 0xd401),
+    Step::GoesTo(0x200_0000_9010, b"", 32),
+    Step::Ask(DEVICE, 0x200_0000_3010, b"", NOT_THERE),
+    Step::Ask(DEVICE, 0x4_0200_0000_9010, b"", NOT_THERE),
+];
+
+/// The guest's tables have three levels, and are read through four.
+static THREE_OVER_FOUR: [Step; 7] = [
+    Step::TurnOn(BASE_VALUE),
+    Step::Write(DDTP, ONE_LEVEL),
+    Step::Store(CONTEXT + 8, 0x9000_7000_0000_0030),
+    Step::Store(CONTEXT + 24, GUEST_TABLES),
+    Step::Store(0x34000, 0xd801),
+    Step::Store(0x36000, 0xd401),
+    Step::GoesTo(0x3010, b"", 32),
+];
+
+/// They have four, of which the last is the guest's page 3, in the frame 39, and are read through three.
+static FOUR_OVER_THREE: [Step; 7] = [
+    Step::TurnOn(BASE_VALUE),
+    Step::Write(DDTP, ONE_LEVEL),
+    Step::Store(CONTEXT + 24, 0x9000_0000_0000_0000),
+    Step::Store(0x35018, 0x9cd7),
+    Step::Store(0x26000, 0xc01),
+    Step::Store(0x27018, 0x24d7),
+    Step::GoesTo(0x3010, b"", 32),
+];
+
 /// With this word as fsc, a read at the address goes to this frame after a command, where the second stage's leaf of
 /// the page that is cached was changed in memory before it.
 fn goes_after(
@@ -166,4 +202,11 @@ fn stages_serve(rt: HostRuntime) {
     follow(&rt, rt.alloc(), &WORDS, &SECOND);
     follow(&rt, rt.alloc(), &WORDS, &BOTH);
     follow(&rt, rt.alloc(), &WORDS, &THIRD);
+}
+
+#[test]
+fn stages_of_four_levels_serve(rt: HostRuntime) {
+    follow(&rt, rt.alloc(), &WORDS, &SECOND_OF_FOUR);
+    follow(&rt, rt.alloc(), &WORDS, &THREE_OVER_FOUR);
+    follow(&rt, rt.alloc(), &WORDS, &FOUR_OVER_THREE);
 }

@@ -100,7 +100,7 @@ fn is_refused(rt: &impl Abort, bench: &mut Bench, offset: u64, fault: RegFault) 
 #[test]
 fn registers_are_reached(rt: HostRuntime) {
     let mut bench = Bench::at_power_on(&rt, rt.alloc());
-    expect(&rt, bench.read_as(0, 8) == Ok(0x0000_0020_1202_0210));
+    expect(&rt, bench.read_as(0, 8) == Ok(0x0000_0020_1206_0610));
     is_refused(&rt, &mut bench, 24, RegFault::BadWidth);
     is_refused(&rt, &mut bench, 28, RegFault::BadOffset);
     expect(&rt, bench.write_as(24, 8, BASE_VALUE).is_ok());

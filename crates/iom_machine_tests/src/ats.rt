@@ -1,7 +1,7 @@
 // Address translation services: questions, accesses through a cache, and what a hostile device makes up.
 use crate::expect::expect;
 use crate::lines::{Comes, Does, Run, Way, are_judged};
-use iom_base::{Cause, GrantRights, Mode, Rights};
+use iom_base::{Cause, GrantRights, Mode, Rights, Size};
 use iom_ledger::Refusal;
 use iom_machine::DeviceKind;
 
@@ -13,7 +13,10 @@ static RUNS: [Run; 5] = [
         "cached",
         &[
             (Does::PlugAts(2), Comes::Done),
-            (Does::AttachAts(2, Mode::First, &[59]), Comes::Done),
+            (
+                Does::AttachAts(2, Mode::First(Size::Sv39), &[59]),
+                Comes::Done,
+            ),
             (
                 Does::Grant(2, 3, 5, GrantRights::ReadWrite, &[58, 57]),
                 Comes::Done,
@@ -326,7 +329,7 @@ static RUNS: [Run; 5] = [
         &[
             (Does::PlugAts(2), Comes::Done),
             (
-                Does::AttachAts(2, Mode::Both, &[56, 57, 58, 59]),
+                Does::AttachAts(2, Mode::Both(Size::Sv39), &[56, 57, 58, 59]),
                 Comes::Done,
             ),
             (
@@ -384,7 +387,7 @@ static RUNS: [Run; 5] = [
         &[
             (Does::PlugAts(2), Comes::Done),
             (
-                Does::AttachAts(2, Mode::Second, &[56, 57, 58, 59]),
+                Does::AttachAts(2, Mode::Second(Size::Sv39), &[56, 57, 58, 59]),
                 Comes::Done,
             ),
             (
@@ -437,7 +440,10 @@ static RUNS: [Run; 5] = [
         "eight cached",
         &[
             (Does::PlugAts(2), Comes::Done),
-            (Does::AttachAts(2, Mode::First, &[59]), Comes::Done),
+            (
+                Does::AttachAts(2, Mode::First(Size::Sv39), &[59]),
+                Comes::Done,
+            ),
             (
                 Does::Grant(2, 3, 5, GrantRights::ReadOnly, &[58, 57]),
                 Comes::Done,

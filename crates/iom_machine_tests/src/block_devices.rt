@@ -1,7 +1,7 @@
 // Block devices: their disks, their queues, and the accesses that their steps begin.
 use crate::expect::expect;
 use crate::lines::{Comes, Does, Run, are_judged};
-use iom_base::{Cause, GrantRights, Mode, Rights};
+use iom_base::{Cause, GrantRights, Mode, Rights, Size};
 use iom_ledger::Refusal;
 use iom_machine::{BlockStep, DeviceKind, NewDevice};
 use iom_virtqueue::ChainFault;
@@ -249,7 +249,10 @@ static RUNS: [Run; 4] = [
         "cached",
         &[
             (Does::PlugCachedBlock(2, 3), Comes::Done),
-            (Does::AttachAts(2, Mode::First, &[59]), Comes::Done),
+            (
+                Does::AttachAts(2, Mode::First(Size::Sv39), &[59]),
+                Comes::Done,
+            ),
             (
                 Does::Grant(2, 3, 5, GrantRights::ReadWrite, &[58, 57]),
                 Comes::Done,

@@ -24,3 +24,5 @@ mod modes;
 mod recovery;
 #[cfg(test)]
 mod script;
+#[cfg(test)]
+mod sizes;

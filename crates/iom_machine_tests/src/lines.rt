@@ -1,6 +1,6 @@
 // Lists of lines, as the tests write them, for the judge.
 use arrayvec::ArrayVec;
-use iom_base::{Access, AccessKind, Cause, DeviceId, GrantRights, Mode, Rights, Sequence};
+use iom_base::{Access, AccessKind, Cause, DeviceId, GrantRights, Mode, Rights, Sequence, Size};
 use iom_fabric::{PageNumber, Translation};
 use iom_ledger::Refusal;
 use iom_machine::{BlockStep, Choice, Event, FaultRecord, Fetched, NewDevice, Outcome, power_on};
@@ -147,8 +147,8 @@ fn event_of(rt: &impl Abort, alloc: Global, does: &Does) -> Event {
         Does::PlugAts(device) => plug(device, NewDevice::Ats),
         Does::PlugBlock(device, disk) => plug(device, NewDevice::Block { disk }),
         Does::PlugCachedBlock(device, disk) => plug(device, NewDevice::CachedBlock { disk }),
-        Does::Attach(device, _) => attach(device, Mode::First, false),
-        Does::AttachBelow(device, _, _) => attach(device, Mode::First, false),
+        Does::Attach(device, _) => attach(device, Mode::First(Size::Sv39), false),
+        Does::AttachBelow(device, _, _) => attach(device, Mode::First(Size::Sv39), false),
         Does::AttachIn(device, mode, _) => attach(device, mode, false),
         Does::AttachAts(device, mode, _) => attach(device, mode, true),
         Does::Detach(device) => Event::Detach { device },

@@ -1,6 +1,6 @@
 use crate::expect::expect;
 use crate::lines::{Comes, Does, Run, are_judged, judged, lines_of, push};
-use iom_base::{Cause, GrantRights, Mode};
+use iom_base::{Cause, GrantRights, Mode, Size};
 use iom_ledger::Refusal;
 use iom_machine_judge::Line;
 use std::alloc::Global;
@@ -14,7 +14,7 @@ static RUNS: [Run; 3] = [
         &[
             (Does::Plug(1), Comes::Done),
             (
-                Does::AttachIn(1, Mode::Second, &[56, 57, 58, 59]),
+                Does::AttachIn(1, Mode::Second(Size::Sv39), &[56, 57, 58, 59]),
                 Comes::Done,
             ),
             (
@@ -81,7 +81,7 @@ static RUNS: [Run; 3] = [
         &[
             (Does::Plug(1), Comes::Done),
             (
-                Does::AttachIn(1, Mode::Both, &[56, 57, 58, 59]),
+                Does::AttachIn(1, Mode::Both(Size::Sv39), &[56, 57, 58, 59]),
                 Comes::Done,
             ),
             (
@@ -121,7 +121,7 @@ static RUNS: [Run; 3] = [
         &[
             (Does::Plug(1), Comes::Done),
             (
-                Does::AttachIn(1, Mode::Both, &[56, 57, 58, 59]),
+                Does::AttachIn(1, Mode::Both(Size::Sv39), &[56, 57, 58, 59]),
                 Comes::Done,
             ),
             (
@@ -157,13 +157,13 @@ static RUNS: [Run; 3] = [
             // plenty of free runs
             (
                 1,
-                Does::AttachIn(1, Mode::Both, &[]),
+                Does::AttachIn(1, Mode::Both(Size::Sv39), &[]),
                 Comes::Refused(Refusal::NoFrames),
             ),
             // a root in a reserved frame
             (
                 1,
-                Does::AttachIn(1, Mode::Both, &[57, 58, 59, 60]),
+                Does::AttachIn(1, Mode::Both(Size::Sv39), &[57, 58, 59, 60]),
                 Comes::Done,
             ),
             // a frame that the device doesn't reach
@@ -235,12 +235,12 @@ fn refused_beside(rt: &impl Abort, alloc: Global, runs: u64, mode: Mode) -> Opti
 /// After so many runs are held, an attach in a mode is refused for want of frames at this line first, or may be.
 static WANTS: [(u64, Mode, Option<usize>); 5] = [
     // three runs are free, of which the directory may break two
-    (11, Mode::Second, Some(15)),
-    (11, Mode::Both, Some(15)),
+    (11, Mode::Second(Size::Sv39), Some(15)),
+    (11, Mode::Both(Size::Sv39), Some(15)),
     // two runs, and the other frames of the others
-    (12, Mode::Second, None),
-    (12, Mode::Both, None),
-    (12, Mode::First, Some(16)),
+    (12, Mode::Second(Size::Sv39), None),
+    (12, Mode::Both(Size::Sv39), None),
+    (12, Mode::First(Size::Sv39), Some(16)),
 ];
 
 #[test]

@@ -1,7 +1,7 @@
 // Devices that don't answer: they are cut off and attached again, and the queue goes on without them.
 use crate::expect::expect;
 use crate::lines::{Comes, Does, Run, Way, are_judged, judged, lines_of, push};
-use iom_base::{Cause, GrantRights, Mode};
+use iom_base::{Cause, GrantRights, Mode, Size};
 use iom_ledger::Refusal;
 use iom_machine::{CommandName, Fetched};
 use iom_machine_judge::Line;
@@ -120,7 +120,10 @@ static RUNS: [Run; 3] = [
             (Does::PlugAts(1), Comes::Done),
             (Does::Revive(2), Comes::Refused(Refusal::NoSuchDevice)),
             (Does::Revive(1), Comes::Refused(Refusal::NotAttached)),
-            (Does::AttachAts(1, Mode::First, &[59]), Comes::Done),
+            (
+                Does::AttachAts(1, Mode::First(Size::Sv39), &[59]),
+                Comes::Done,
+            ),
             (Does::Revive(1), Comes::Refused(Refusal::AlreadyAttached)),
             (
                 Does::Grant(1, 3, 5, GrantRights::ReadWrite, &[58, 57]),

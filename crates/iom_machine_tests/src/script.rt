@@ -1,6 +1,6 @@
 use crate::expect::expect;
 use crate::lines::{Comes, outcome_of};
-use iom_base::{Cause, GrantRights, Mode, Rights, Sequence};
+use iom_base::{Cause, GrantRights, Mode, Rights, Sequence, Size};
 use iom_ledger::Refusal;
 use iom_machine::{BlockStep, CommandName, Event, Fetched, NewDevice, Outcome, Trace};
 use iom_script::{LineBuffer, Script, ScriptFault, WorldSize, parse};
@@ -206,6 +206,9 @@ const EACH: &[u8] = b"\
     attach 00000a second\n\
     attach 00000a both\n\
     attach 00000a second ats\n\
+    attach 00000a first48\n\
+    attach 00000a second48 ats\n\
+    attach 00000a both48\n\
     grant 000001 3 5 rw\n\
     grant ffffff 18446744073709551615 0 r\n\
     release 000001 3\n\
@@ -236,7 +239,7 @@ const EACH: &[u8] = b"\
 type Told = (&'static str, [u64; 5]);
 
 /// The events of those lines.
-static EVENTS: [Told; 34] = [
+static EVENTS: [Told; 37] = [
     ("raw", [1, 0, 0, 0, 0]),
     ("ats", [10, 0, 0, 0, 0]),
     ("blk", [10, u64::MAX, 0, 0, 0]),
@@ -246,6 +249,9 @@ static EVENTS: [Told; 34] = [
     ("second", [10, 0, 0, 0, 0]),
     ("both", [10, 0, 0, 0, 0]),
     ("second", [10, 1, 0, 0, 0]),
+    ("first48", [10, 0, 0, 0, 0]),
+    ("second48", [10, 1, 0, 0, 0]),
+    ("both48", [10, 0, 0, 0, 0]),
     ("grant", [1, 3, 5, 1, 0]),
     ("grant", [0xffffff, u64::MAX, 0, 0, 0]),
     ("release", [1, 3, 0, 0, 0]),
@@ -312,9 +318,12 @@ fn plugged(device: u32, new: NewDevice) -> Told {
 
 fn attached(device: u32, mode: Mode, ats: bool) -> Told {
     let name = match mode {
-        Mode::First => "first",
-        Mode::Second => "second",
-        Mode::Both => "both",
+        Mode::First(Size::Sv39) => "first",
+        Mode::Second(Size::Sv39) => "second",
+        Mode::Both(Size::Sv39) => "both",
+        Mode::First(Size::Sv48) => "first48",
+        Mode::Second(Size::Sv48) => "second48",
+        Mode::Both(Size::Sv48) => "both48",
     };
     of_device(name, device, u64::from(ats))
 }
@@ -537,6 +546,12 @@ static BAD_SECOND: &[u8] = b"\
     |world 64 1\nattach 000001 firs\n\
     |world 64 1\nattach 000001 seconds\n\
     |world 64 1\nattach 000001 Both\n\
+    |world 64 1\nattach 000001 first4\n\
+    |world 64 1\nattach 000001 first39\n\
+    |world 64 1\nattach 000001 both 48\n\
+    |world 64 1\nattach 000001 48\n\
+    |world 64 1\nattach 000001 both480\n\
+    |world 64 1\nattach 000001 both48ats\n\
     |world 64 1\nattach 000001 ats\n\
     |world 64 1\nattach 000001 both at\n\
     |world 64 1\nattach 000001 both  ats\n\

@@ -1,6 +1,6 @@
 use crate::expect::expect;
 use bitflags::Flags;
-use iom_base::{AccessKind, Cause, Rights, Sequence, Span};
+use iom_base::{AccessKind, Cause, Mode, Rights, Sequence, Size, Span};
 use std::alloc::{AllocError, Global};
 use std::fmt::Display;
 use std::process::Abort;
@@ -21,6 +21,36 @@ fn other_bits_allow_nothing(rt: HostRuntime) {
         let rights = Rights::from_bits_retain(bits);
         expect(&rt, !rights.allows(AccessKind::Read));
         expect(&rt, !rights.allows(AccessKind::Write));
+    }
+}
+
+/// Levels of nine bits each: a page has 27 bits in three and 36 in four, of which the highest is 0 in the lower half.
+/// Each level below the root is a table that may be missing.
+static SIZES: [(Size, usize, u64, u32); 2] = [
+    (Size::Sv39, 3, 67_108_864, 2),
+    (Size::Sv48, 4, 34_359_738_368, 3),
+];
+
+#[test]
+fn sizes_have_their_limits(rt: HostRuntime) {
+    for (size, levels, pages, tables) in SIZES.iter() {
+        expect(&rt, size.levels() == *levels);
+        expect(&rt, size.page_limit() == *pages);
+        expect(&rt, size.table_limit() == *tables);
+    }
+}
+
+static MODES: [(Mode, Size, bool); 3] = [
+    (Mode::First(Size::Sv48), Size::Sv48, false),
+    (Mode::Second(Size::Sv39), Size::Sv39, false),
+    (Mode::Both(Size::Sv48), Size::Sv48, true),
+];
+
+#[test]
+fn modes_have_their_size(rt: HostRuntime) {
+    for (mode, size, is_both) in MODES.iter() {
+        expect(&rt, mode.size() == *size);
+        expect(&rt, mode.is_both() == *is_both);
     }
 }
 

@@ -1,6 +1,6 @@
 use crate::expect::expect;
 use bitflags::Flags;
-use iom_base::{AccessKind, Cause, Ppn, Rights};
+use iom_base::{AccessKind, Cause, Ppn, Rights, Size};
 use iom_phys_mem::{Bytes, Memory};
 use iom_stage_walk::{
     Entry, Pte, PteFlags, WalkFault, Walked, entry_at, laws, walk_both, walk_first, walk_second,
@@ -13,14 +13,14 @@ use std::process::Abort;
 enum Answer {
     /// A frame is reached, with rights.
     At(u32, Rights),
-    /// The same, by the guest's tables in the frames 0x40, 0x41 and 0x42.
-    AtByGuest(u32, Rights),
+    /// The same, by the guest's tables in the frames 0x40, 0x41 and 0x42, and in a fourth where there are four.
+    AtByGuest(u32, Rights, Option<u32>),
     Fault(Cause),
     /// A fault of the second stage, at a guest physical address, which is a guest table's or not.
     Guest(Cause, u64, bool),
 }
 
-/// What is stored, and the answers of walks then.
+/// What is stored, and the answers of walks then. Tables of one stage alone have the size that the test names.
 #[derive(Clone, Copy)]
 enum Step {
     Put(u64, u64),
@@ -32,8 +32,8 @@ enum Step {
     /// A read by the second stage whose root is in the frames from 0x30 on.
     SecondRead(u64, Answer),
     SecondWrite(u64, Answer),
-    /// A write at 0x3010 by the guest's tables in its page 0, and by that second stage.
-    Both(Answer),
+    /// A write at the address by the guest's tables in its page 0, and by that second stage, each of its size.
+    Both(Size, Size, u64, Answer),
 }
 
 type Walk = Result<Walked, WalkFault>;
@@ -57,8 +57,8 @@ fn refused(cause: Cause, gpa: u64, implicit: bool) -> Walk {
 fn is_answered(rt: &impl Abort, seen: Walk, answer: Answer) {
     let wanted = match answer {
         Answer::At(frame, rights) => reached(frame, rights, [None; 4]),
-        Answer::AtByGuest(frame, rights) => {
-            reached(frame, rights, [Some(0x40), Some(0x41), Some(0x42), None])
+        Answer::AtByGuest(frame, rights, last) => {
+            reached(frame, rights, [Some(0x40), Some(0x41), Some(0x42), last])
         }
         Answer::Fault(cause) => refused(cause, 0, false),
         Answer::Guest(cause, gpa, implicit) => refused(cause, gpa, implicit),
@@ -69,56 +69,74 @@ fn is_answered(rt: &impl Abort, seen: Walk, answer: Answer) {
 fn first(
     rt: &impl Abort,
     memory: &Memory,
+    size: Size,
     root: u64,
     address: u64,
     kind: AccessKind,
     answer: Answer,
 ) {
-    is_answered(rt, walk_first(memory, root, address, kind), answer);
+    is_answered(rt, walk_first(memory, size, root, address, kind), answer);
 }
 
-fn second(rt: &impl Abort, memory: &Memory, address: u64, kind: AccessKind, answer: Answer) {
-    is_answered(rt, walk_second(memory, 0x30, address, kind), answer);
+fn second(
+    rt: &impl Abort,
+    memory: &Memory,
+    size: Size,
+    address: u64,
+    kind: AccessKind,
+    answer: Answer,
+) {
+    is_answered(rt, walk_second(memory, size, 0x30, address, kind), answer);
 }
 
-fn both(rt: &impl Abort, memory: &Memory, answer: Answer) {
+fn both(
+    rt: &impl Abort,
+    memory: &Memory,
+    first_size: Size,
+    second_size: Size,
+    address: u64,
+    answer: Answer,
+) {
     let root = Ppn::new(0).expect(rt, "44 bits");
-    let seen = walk_both(memory, root, 0x30, 0x3010, AccessKind::Write);
+    let kind = AccessKind::Write;
+    let seen = walk_both(memory, first_size, root, second_size, 0x30, address, kind);
     is_answered(rt, seen, answer);
 }
 
-fn does(rt: &impl Abort, memory: &mut Memory, step: Step) {
+fn does(rt: &impl Abort, memory: &mut Memory, size: Size, step: Step) {
     match step {
         Step::Put(address, word) => expect(rt, memory.store_u64(address, word).is_some()),
         Step::EntryAt(frame, index, entry) => {
             expect(rt, entry_at(memory, frame, index) == entry);
         }
         Step::Read(root, address, answer) => {
-            first(rt, memory, root, address, AccessKind::Read, answer);
+            first(rt, memory, size, root, address, AccessKind::Read, answer);
         }
         Step::Write(root, address, answer) => {
-            first(rt, memory, root, address, AccessKind::Write, answer);
+            first(rt, memory, size, root, address, AccessKind::Write, answer);
         }
         Step::SecondRead(address, answer) => {
-            second(rt, memory, address, AccessKind::Read, answer);
+            second(rt, memory, size, address, AccessKind::Read, answer);
         }
         Step::SecondWrite(address, answer) => {
-            second(rt, memory, address, AccessKind::Write, answer);
+            second(rt, memory, size, address, AccessKind::Write, answer);
         }
-        Step::Both(answer) => both(rt, memory, answer),
+        Step::Both(first_size, second_size, address, answer) => {
+            both(rt, memory, first_size, second_size, address, answer);
+        }
     }
 }
 
-fn takes(rt: &impl Abort, memory: &mut Memory, steps: &[Step]) {
+fn takes(rt: &impl Abort, memory: &mut Memory, size: Size, steps: &[Step]) {
     for step in steps.iter() {
-        does(rt, memory, *step);
+        does(rt, memory, size, *step);
     }
 }
 
 /// A memory of so many frames takes the steps.
-fn follow(rt: &impl Abort, alloc: Global, frames: u32, steps: &[Step]) {
+fn follow(rt: &impl Abort, alloc: Global, frames: u32, size: Size, steps: &[Step]) {
     let mut memory = Memory::new(alloc, frames).expect(rt, "memory for the frames");
-    takes(rt, &mut memory, steps);
+    takes(rt, &mut memory, size, steps);
 }
 
 /// The bits of an entry's flags.
@@ -191,7 +209,7 @@ static GRANTED: [Step; 8] = [
 
 #[test]
 fn a_granted_page_is_reached_until_it_is_released(rt: HostRuntime) {
-    follow(&rt, rt.alloc(), 64, &GRANTED);
+    follow(&rt, rt.alloc(), 64, Size::Sv39, &GRANTED);
 }
 
 /// `grant 000001 67108863 5 r` besides: the last page of the lower half has tables in frames 56 and 55.
@@ -214,7 +232,39 @@ static LAST_PAGE: [Step; 10] = [
 
 #[test]
 fn the_last_granted_page_may_be_read(rt: HostRuntime) {
-    follow(&rt, rt.alloc(), 64, &LAST_PAGE);
+    follow(&rt, rt.alloc(), 64, Size::Sv39, &LAST_PAGE);
+}
+
+/// Tables of four levels, in frames 59, 58, 57 and 56: the root has nine bits of the address from bit 39 on. Of its
+/// entries 5 and 261 the second is that of the same address with bit 47 set, and bits 63:48 have to be as that one. A
+/// pointer in the last table leads nowhere.
+static FOUR_LEVELS: [Step; 13] = [
+    Step::Put(0x3_b028, 0xe801),
+    Step::Put(0x3_a038, 0xe401),
+    Step::Put(0x3_9058, 0xe001),
+    Step::Put(0x3_8068, 0x14d7),
+    Step::Read(59, 0x281_c160_dff8, Answer::At(5, Rights::RW)),
+    Step::Write(59, 0x281_c160_dff8, Answer::At(5, Rights::RW)),
+    Step::Read(
+        59,
+        0xffff_0281_c160_dff8,
+        Answer::Fault(Cause::ReadPageFault),
+    ),
+    Step::Put(0x3_b828, 0xe801),
+    Step::Read(59, 0xffff_8281_c160_dff8, Answer::At(5, Rights::RW)),
+    Step::Read(59, 0x8281_c160_dff8, Answer::Fault(Cause::ReadPageFault)),
+    Step::Read(
+        59,
+        0xfffe_8281_c160_dff8,
+        Answer::Fault(Cause::ReadPageFault),
+    ),
+    Step::Put(0x3_8068, 0x1401),
+    Step::Write(59, 0x281_c160_dff8, Answer::Fault(Cause::WritePageFault)),
+];
+
+#[test]
+fn an_address_of_four_levels_has_48_bits(rt: HostRuntime) {
+    follow(&rt, rt.alloc(), 64, Size::Sv48, &FOUR_LEVELS);
 }
 
 /// The root 1: entry 0 is a leaf of 1 GiB at page 0, entry 1 leads to the table 2, whose entry 3 is one of 2 MiB at
@@ -239,7 +289,25 @@ static SUPERPAGES: [Step; 15] = [
 
 #[test]
 fn a_superpage_has_a_frame_for_each_page(rt: HostRuntime) {
-    follow(&rt, rt.alloc(), 2048, &SUPERPAGES);
+    follow(&rt, rt.alloc(), 2048, Size::Sv39, &SUPERPAGES);
+}
+
+/// A leaf in the root of four levels is one of 512 GiB, at a multiple of 2^27 pages: 0, and 2^27, where there is no
+/// memory. Half of that isn't aligned.
+static LARGEST: [Step; 8] = [
+    Step::Put(0x1000, 0xd7),
+    Step::Read(1, 0, Answer::At(0, Rights::RW)),
+    Step::Read(1, 0x3_fff8, Answer::At(63, Rights::RW)),
+    Step::Read(1, 0x7f_ffff_fff8, Answer::Fault(Cause::ReadAccessFault)),
+    Step::Put(0x1008, 0x20_0000_00d7),
+    Step::Read(1, 0x80_0000_0000, Answer::Fault(Cause::ReadAccessFault)),
+    Step::Put(0x1008, 0x10_0000_00d7),
+    Step::Read(1, 0x80_0000_0000, Answer::Fault(Cause::ReadPageFault)),
+];
+
+#[test]
+fn a_superpage_of_the_root_is_aligned(rt: HostRuntime) {
+    follow(&rt, rt.alloc(), 64, Size::Sv48, &LARGEST);
 }
 
 /// A root outside memory is an access fault, where the address isn't refused before.
@@ -251,7 +319,7 @@ static OUTSIDE: [Step; 3] = [
 
 #[test]
 fn a_root_outside_memory_is_an_access_fault(rt: HostRuntime) {
-    follow(&rt, rt.alloc(), 64, &OUTSIDE);
+    follow(&rt, rt.alloc(), 64, Size::Sv39, &OUTSIDE);
 }
 
 /// As an emulated processor and an emulated IOMMU answer: of a root of four frames from page 0x30 on, entry
@@ -272,7 +340,34 @@ static UPPER: [Step; 8] = [
 
 #[test]
 fn a_second_stage_translates_41_bits(rt: HostRuntime) {
-    follow(&rt, rt.alloc(), 64, &UPPER);
+    follow(&rt, rt.alloc(), 64, Size::Sv39, &UPPER);
+}
+
+/// As they answer too, of four levels: the entries 511, 512 and 2,047 of the root stand at the end of its first frame,
+/// at the beginning of its second and at the end of its fourth, and an address of 51 bits is refused.
+static WIDER: [Step; 11] = [
+    Step::Put(0x3_0ff8, 0xd001),
+    Step::Put(0x3_4008, 0xd401),
+    Step::Put(0x3_5010, 0xd801),
+    Step::Put(0x3_6018, 0x80d7),
+    Step::SecondWrite(0xff80_4040_3010, Answer::At(0x20, Rights::RW)),
+    Step::SecondRead(
+        0x1_0000_4040_3010,
+        Answer::Guest(Cause::ReadGuestPageFault, 0x1_0000_4040_3010, false),
+    ),
+    Step::Put(0x3_1000, 0xd001),
+    Step::SecondRead(0x1_0000_4040_3010, Answer::At(0x20, Rights::RW)),
+    Step::Put(0x3_3ff8, 0xd001),
+    Step::SecondRead(0x3_ff80_4040_3010, Answer::At(0x20, Rights::RW)),
+    Step::SecondWrite(
+        0x5_0000_4040_3010,
+        Answer::Guest(Cause::WriteGuestPageFault, 0x5_0000_4040_3010, false),
+    ),
+];
+
+#[test]
+fn a_second_stage_of_four_levels_translates_50_bits(rt: HostRuntime) {
+    follow(&rt, rt.alloc(), 64, Size::Sv48, &WIDER);
 }
 
 /// The guest's tables are its pages 0, 1 and 2, and lead the page 3 to its page 9. The second stage has the four in
@@ -287,17 +382,100 @@ static BOTH: [Step; 15] = [
     Step::Put(0x3_5008, 0x1_04d7),
     Step::Put(0x3_5010, 0x1_08d7),
     Step::Put(0x3_5048, 0x80d7),
-    Step::Both(Answer::AtByGuest(0x20, Rights::RW)),
+    Step::Both(
+        Size::Sv39,
+        Size::Sv39,
+        0x3010,
+        Answer::AtByGuest(0x20, Rights::RW, None),
+    ),
     Step::Put(0x3_5010, 0),
-    Step::Both(Answer::Guest(Cause::WriteGuestPageFault, 0x2018, true)),
+    Step::Both(
+        Size::Sv39,
+        Size::Sv39,
+        0x3010,
+        Answer::Guest(Cause::WriteGuestPageFault, 0x2018, true),
+    ),
     Step::Put(0x3_5010, 0x1_08d7),
     Step::Put(0x3_5048, 0),
-    Step::Both(Answer::Guest(Cause::WriteGuestPageFault, 0x9010, false)),
+    Step::Both(
+        Size::Sv39,
+        Size::Sv39,
+        0x3010,
+        Answer::Guest(Cause::WriteGuestPageFault, 0x9010, false),
+    ),
 ];
 
 #[test]
 fn both_stages_lead_to_a_frame(rt: HostRuntime) {
-    follow(&rt, rt.alloc(), 128, &BOTH);
+    follow(&rt, rt.alloc(), 128, Size::Sv39, &BOTH);
+}
+
+/// A guest's tables of four levels, its pages 0 to 3 in frames 0x40 to 0x43, lead to its page 0x24_0205, through a
+/// second stage of three. As they answer too.
+static FOUR_OVER_THREE: [Step; 16] = [
+    Step::Put(0x4_0028, 0x401),
+    Step::Put(0x4_1038, 0x801),
+    Step::Put(0x4_2058, 0xc01),
+    Step::Put(0x4_3068, 0x9008_14d7),
+    Step::Put(0x3_0000, 0xd001),
+    Step::Put(0x3_4000, 0xd401),
+    Step::Put(0x3_5000, 0x1_00d7),
+    Step::Put(0x3_5008, 0x1_04d7),
+    Step::Put(0x3_5010, 0x1_08d7),
+    Step::Put(0x3_5018, 0x1_0cd7),
+    Step::Put(0x3_0048, 0xd801),
+    Step::Put(0x3_6008, 0xdc01),
+    Step::Put(0x3_7028, 0x80d7),
+    Step::Both(
+        Size::Sv48,
+        Size::Sv39,
+        0x281_c160_d010,
+        Answer::AtByGuest(0x20, Rights::RW, Some(0x43)),
+    ),
+    Step::Put(0x3_5018, 0),
+    Step::Both(
+        Size::Sv48,
+        Size::Sv39,
+        0x281_c160_d010,
+        Answer::Guest(Cause::WriteGuestPageFault, 0x3068, true),
+    ),
+];
+
+/// A guest's tables of three levels, in frames 0x40 to 0x42, lead to its page 0x4804_0205, through a second stage of
+/// four. As they answer too.
+static THREE_OVER_FOUR: [Step; 16] = [
+    Step::Put(0x4_0038, 0x401),
+    Step::Put(0x4_1058, 0x801),
+    Step::Put(0x4_2068, 0x120_1008_14d7),
+    Step::Put(0x3_0000, 0xd001),
+    Step::Put(0x3_4000, 0xd401),
+    Step::Put(0x3_5000, 0xd801),
+    Step::Put(0x3_6000, 0x1_00d7),
+    Step::Put(0x3_6008, 0x1_04d7),
+    Step::Put(0x3_6010, 0x1_08d7),
+    Step::Put(0x3_0048, 0xdc01),
+    Step::Put(0x3_7008, 0xe001),
+    Step::Put(0x3_8008, 0xe401),
+    Step::Put(0x3_9028, 0x80d7),
+    Step::Both(
+        Size::Sv39,
+        Size::Sv48,
+        0x1_c160_d010,
+        Answer::AtByGuest(0x20, Rights::RW, None),
+    ),
+    Step::Put(0x3_9028, 0),
+    Step::Both(
+        Size::Sv39,
+        Size::Sv48,
+        0x1_c160_d010,
+        Answer::Guest(Cause::WriteGuestPageFault, 0x480_4020_5010, false),
+    ),
+];
+
+#[test]
+fn each_stage_has_its_own_size(rt: HostRuntime) {
+    follow(&rt, rt.alloc(), 128, Size::Sv48, &FOUR_OVER_THREE);
+    follow(&rt, rt.alloc(), 128, Size::Sv39, &THREE_OVER_FOUR);
 }
 
 #[test]

@@ -104,10 +104,10 @@ fn end_of(done: Result<(), RunFault>) -> End {
     }
 }
 
-/// Runs a script without disks, and writes its lines without counts.
-fn ends(alloc: Global, reader: &mut Slow, writer: &mut Stingy) -> End {
+/// Runs a script without disks, and writes its lines, with counts or without.
+fn ends(alloc: Global, reader: &mut Slow, writer: &mut Stingy, counts: bool) -> End {
     let disks = Vec::<MemoryDisk>::new(alloc);
-    end_of(run(alloc, reader, writer, disks, false))
+    end_of(run(alloc, reader, writer, disks, counts))
 }
 
 /// A run: its script; how many bytes are read and how many are written at once, and after how many interruptions; after
@@ -115,6 +115,8 @@ fn ends(alloc: Global, reader: &mut Slow, writer: &mut Stingy) -> End {
 #[derive(Clone, Copy)]
 struct Play<'a> {
     script: &'a [u8],
+    /// Whether the counts are written behind each line.
+    counts: bool,
     read: usize,
     written: usize,
     interruptions: usize,
@@ -143,7 +145,8 @@ fn is_so(alloc: Global, play: &Play) -> bool {
         interruptions: play.interruptions,
         takes_nothing: play.takes_nothing,
     };
-    ends(alloc, &mut reader, &mut writer) == play.end && writer.got.as_slice() == play.lines
+    ends(alloc, &mut reader, &mut writer, play.counts) == play.end
+        && writer.got.as_slice() == play.lines
 }
 
 static FIRST_PATH: &[u8] = b"\
@@ -174,10 +177,46 @@ static FIRST_PATH_LINES: &[u8] = b"\
     confirmed 1-1\n\
     fault 13\n";
 
+/// An answer that comes when the page is released already, and its ticket confirmed.
+static LATE_ANSWER: &[u8] = b"\
+    world 64 1\n\
+    device 000002 ats\n\
+    attach 000002 first ats\n\
+    grant 000002 3 5 rw\n\
+    ask 000002 3\n\
+    deliver 0\n\
+    release 000002 3\n\
+    fetch\n\
+    fetch\n\
+    deliver 1\n\
+    deliver 1\n\
+    fetch\n\
+    poll\n\
+    deliver 0\n\
+    aread 000002 0x3000 4\n";
+
+static LATE_ANSWER_LINES: &[u8] = b"\
+    ok\n\
+    ok\n\
+    ok\n\
+    ok\n\
+    sent\n\
+    answer 5 rw\n\
+    ticket 1\n\
+    did iotinval.vma\n\
+    did ats.inval\n\
+    invalidated 1\n\
+    closed 1\n\
+    did iofence.c\n\
+    confirmed 1-1\n\
+    stale\n\
+    miss\n";
+
 /// The first path, read and written whole.
 fn whole() -> Play<'static> {
     Play {
         script: FIRST_PATH,
+        counts: false,
         read: usize::MAX,
         written: usize::MAX,
         interruptions: 1,
@@ -255,32 +294,57 @@ fn interruptions_are_outlasted(rt: HostRuntime) {
     expect(&rt, is_so(rt.alloc(), &play));
 }
 
+/// Three scripts of different kinds, one with counts, and their lines.
+fn rows() -> [(&'static [u8], bool, &'static [u8]); 3] {
+    [
+        (FIRST_PATH, false, FIRST_PATH_LINES),
+        (LATE_ANSWER, false, LATE_ANSWER_LINES),
+        (COUNTED, true, COUNTED_LINES),
+    ]
+}
+
+/// How many calls read the script, 30 bytes at once: the last one finds its end.
+fn calls_for(script: &[u8]) -> usize {
+    script.len().saturating_add(29) / 30 + 1
+}
+
 #[test]
 fn a_failing_read_writes_nothing(rt: HostRuntime) {
-    for calls in 0..9usize {
-        let play = Play {
-            read: 30,
-            written: 7,
-            calls,
-            end: End::Reading,
-            lines: b"",
-            ..whole()
-        };
-        expect(&rt, is_so(rt.alloc(), &play));
+    for (script, counts, lines) in rows() {
+        let calls_in_all = calls_for(script);
+        for calls in 0..=calls_in_all {
+            let fails = calls < calls_in_all;
+            let play = Play {
+                script,
+                counts,
+                read: 30,
+                written: 7,
+                interruptions: 0,
+                calls,
+                end: if fails { End::Reading } else { End::Done },
+                lines: if fails { b"" } else { lines },
+                ..whole()
+            };
+            expect(&rt, is_so(rt.alloc(), &play));
+        }
     }
 }
 
 #[test]
 fn a_failing_write_leaves_a_beginning(rt: HostRuntime) {
-    for room in 0..FIRST_PATH_LINES.len() {
-        let play = Play {
-            written: 10,
-            room,
-            end: End::Writing,
-            lines: FIRST_PATH_LINES.get(..room).unwrap_or(b""),
-            ..whole()
-        };
-        expect(&rt, is_so(rt.alloc(), &play));
+    for (script, counts, lines) in rows() {
+        for room in 0..lines.len() {
+            let play = Play {
+                script,
+                counts,
+                written: 10,
+                room,
+                end: End::Writing,
+                lines: lines.get(..room).unwrap_or(b""),
+                ..whole()
+            };
+            expect(&rt, is_so(rt.alloc(), &play));
+        }
     }
 }
 

@@ -1,7 +1,7 @@
 ghost use Rattle.iom_composition.specs.Stays.{IsNoChoice};
 
 use crate::expect::expect;
-use iom_base::{AccessKind, DeviceId, GrantRights, Mode};
+use iom_base::{AccessKind, DeviceId, GrantRights, Mode, Size};
 use iom_machine::{BlockStep, Event, NewDevice, Outcome};
 use iom_world::{KeptOutcomes, World};
 use std::alloc::Global;
@@ -84,7 +84,7 @@ fn a_block_device_rests_begins_and_tells_its_status(rt: HostRuntime) {
         },
         Event::Attach {
             device: 1,
-            mode: Mode::First,
+            mode: Mode::First(Size::Sv39),
             ats: false,
         },
         Event::Grant {

@@ -1,14 +1,14 @@
 use crate::expect::expect;
-use iom_base::{Cause, Ppn};
+use iom_base::{Cause, Ppn, Size};
 use iom_device_dir::{
     CONTEXT_SIZE, Context, FirstStage, GuestRoot, NonLeafEntry, Pscid, SecondStage,
 };
 use std::process::Abort;
 
-/// The words tc, iohgatp, ta and fsc of a context of address space 1, whose root is in page 59.
+/// The words tc, iohgatp, ta and fsc of a context of address space 1, whose root is in page 59, in Sv39.
 static LAWFUL: [u64; 4] = [1, 0, 0x1000, 0x8000_0000_0000_003b];
 
-/// The words of a context of a second stage alone: guest 1, whose root begins in page 56.
+/// The words of a context of a second stage alone, in Sv39x4: guest 1, whose root begins in page 56.
 static SECOND: [u64; 4] = [1, 0x8000_1000_0000_0038, 0x1000, 0];
 
 // The bytes of four words, the least byte of each first.
@@ -31,12 +31,14 @@ fn both_ways(rt: &impl Abort, words: [u64; 4], context: Context) {
     expect(rt, context.encode() == bytes_of(words));
 }
 
-fn first_stage(rt: &impl Abort, root: u64) -> FirstStage {
-    FirstStage::Sv39(Ppn::new(root).expect(rt, "44 bits"))
+fn first_stage(rt: &impl Abort, size: Size, root: u64) -> FirstStage {
+    let root = Ppn::new(root).expect(rt, "44 bits");
+    FirstStage::Tables { size, root }
 }
 
-fn second_stage(rt: &impl Abort, root: u64) -> SecondStage {
-    SecondStage::Sv39x4(GuestRoot::new(root).expect(rt, "aligned, 44 bits"))
+fn second_stage(rt: &impl Abort, size: Size, root: u64) -> SecondStage {
+    let root = GuestRoot::new(root).expect(rt, "aligned, 44 bits");
+    SecondStage::Tables { size, root }
 }
 
 // A context of a device with no stage, whose address space has number 1.
@@ -51,9 +53,9 @@ fn bare(rt: &impl Abort) -> Context {
 }
 
 // The same with a first stage alone.
-fn first_stage_at(rt: &impl Abort, root: u64) -> Context {
+fn first_stage_at(rt: &impl Abort, size: Size, root: u64) -> Context {
     Context {
-        first_stage: first_stage(rt, root),
+        first_stage: first_stage(rt, size, root),
         ..bare(rt)
     }
 }
@@ -62,14 +64,14 @@ fn first_stage_at(rt: &impl Abort, root: u64) -> Context {
 // one in page 4,089; the same with ATS; no stage at all.
 #[test]
 fn contexts_have_their_words(rt: HostRuntime) {
-    let context = first_stage_at(&rt, 59);
+    let context = first_stage_at(&rt, Size::Sv39, 59);
     both_ways(&rt, LAWFUL, context);
     let asks = Context {
         en_ats: true,
         ..context
     };
     both_ways(&rt, [3, 0, 0x1000, 0x8000_0000_0000_003b], asks);
-    let other = first_stage_at(&rt, 4089);
+    let other = first_stage_at(&rt, Size::Sv39, 4089);
     both_ways(&rt, [1, 0, 0x1000, 0x8000_0000_0000_0ff9], other);
     both_ways(&rt, [1, 0, 0x1000, 0], bare(&rt));
 }
@@ -80,16 +82,16 @@ fn a_widest_context_has_its_words(rt: HostRuntime) {
     let widest = Context {
         pscid: Pscid::new(0xf_ffff).expect(&rt, "20 bits"),
         gscid: 0xffff,
-        ..first_stage_at(&rt, 0xfff_ffff_ffff)
+        ..first_stage_at(&rt, Size::Sv39, 0xfff_ffff_ffff)
     };
     let words = [1, 0x0fff_f000_0000_0000, 0xffff_f000, 0x8000_0fff_ffff_ffff];
     both_ways(&rt, words, widest);
 }
 
 // A context with a second stage whose root begins in this page.
-fn second_stage_at(rt: &impl Abort, root: u64, gscid: u16) -> Context {
+fn second_stage_at(rt: &impl Abort, size: Size, root: u64, gscid: u16) -> Context {
     Context {
-        second_stage: second_stage(rt, root),
+        second_stage: second_stage(rt, size, root),
         gscid,
         ..bare(rt)
     }
@@ -99,15 +101,36 @@ fn second_stage_at(rt: &impl Abort, root: u64, gscid: u16) -> Context {
 // widest fields.
 #[test]
 fn second_stages_have_their_words(rt: HostRuntime) {
-    both_ways(&rt, SECOND, second_stage_at(&rt, 0x38, 1));
+    both_ways(&rt, SECOND, second_stage_at(&rt, Size::Sv39, 0x38, 1));
     let both = Context {
-        first_stage: first_stage(&rt, 0),
-        ..second_stage_at(&rt, 0x30, 7)
+        first_stage: first_stage(&rt, Size::Sv39, 0),
+        ..second_stage_at(&rt, Size::Sv39, 0x30, 7)
     };
     let words = [1, 0x8000_7000_0000_0030, 0x1000, 0x8000_0000_0000_0000];
     both_ways(&rt, words, both);
-    let widest = second_stage_at(&rt, 0xfff_ffff_fffc, 0xffff);
+    let widest = second_stage_at(&rt, Size::Sv39, 0xfff_ffff_fffc, 0xffff);
     both_ways(&rt, [1, 0x8fff_ffff_ffff_fffc, 0x1000, 0], widest);
+}
+
+// By the same figures, of four levels: mode 9 is Sv48 in fsc and Sv48x4 in iohgatp. Each stage has its own.
+#[test]
+fn mode_9_has_four_levels(rt: HostRuntime) {
+    let first = first_stage_at(&rt, Size::Sv48, 59);
+    both_ways(&rt, [1, 0, 0x1000, 0x9000_0000_0000_003b], first);
+    let second = second_stage_at(&rt, Size::Sv48, 0x38, 1);
+    both_ways(&rt, [1, 0x9000_1000_0000_0038, 0x1000, 0], second);
+    let four_over_three = Context {
+        first_stage: first_stage(&rt, Size::Sv48, 0),
+        ..second_stage_at(&rt, Size::Sv39, 0x30, 7)
+    };
+    let words = [1, 0x8000_7000_0000_0030, 0x1000, 0x9000_0000_0000_0000];
+    both_ways(&rt, words, four_over_three);
+    let three_over_four = Context {
+        first_stage: first_stage(&rt, Size::Sv39, 0),
+        ..second_stage_at(&rt, Size::Sv48, 0x30, 7)
+    };
+    let words = [1, 0x9000_7000_0000_0030, 0x1000, 0x8000_0000_0000_0000];
+    both_ways(&rt, words, three_over_four);
 }
 
 /// Pages at which no root of a second stage begins: it has 16 KiB, and is aligned to that.
@@ -130,6 +153,7 @@ fn roots_in_a_context_are_aligned(rt: HostRuntime) {
     is_refused(&rt, [1, 0x8000_1000_0000_0039, 0x1000, 0], MISCONFIGURED);
     is_refused(&rt, [1, 0x8000_1000_0000_003a, 0x1000, 0], MISCONFIGURED);
     is_refused(&rt, [1, 0x8000_1000_0000_003b, 0x1000, 0], MISCONFIGURED);
+    is_refused(&rt, [1, 0x9000_1000_0000_003a, 0x1000, 0], MISCONFIGURED);
     is_refused(&rt, [1, 0x1000_0000_003b, 0x1000, 0], None);
 }
 
@@ -158,9 +182,9 @@ fn turned_in(rt: &impl Abort, lawful: &[u64; 4], bits: &Bits) {
 }
 
 /// Each bit of the four words by itself: V; EN_ATS; the other bits of tc; PPN and GSCID of iohgatp; the reserved
-/// bits of ta, and PSCID; PPN of fsc, and its reserved bits; the modes' bits, of which the highest alone leaves a
-/// mode that is offered.
-static FIRST_BITS: [Bits; 12] = [
+/// bits of ta, and PSCID; PPN of fsc, and its reserved bits; the modes' bits, of which the highest leaves a mode that
+/// is offered, Sv39x4 for Bare and Bare for Sv39, and of fsc the lowest too, Sv48 for Sv39.
+static FIRST_BITS: [Bits; 14] = [
     (0, 0, 0, NOT_VALID),
     (0, 1, 1, None),
     (0, 2, 63, MISCONFIGURED),
@@ -171,7 +195,9 @@ static FIRST_BITS: [Bits; 12] = [
     (2, 12, 31, None),
     (2, 32, 63, MISCONFIGURED),
     (3, 0, 43, None),
-    (3, 44, 62, MISCONFIGURED),
+    (3, 44, 59, MISCONFIGURED),
+    (3, 60, 60, None),
+    (3, 61, 62, MISCONFIGURED),
     (3, 63, 63, None),
 ];
 
@@ -182,11 +208,12 @@ fn each_bit_by_itself(rt: HostRuntime) {
     }
 }
 
-/// The bits of iohgatp where its mode is Sv39x4: the two lowest of PPN make its root one that isn't aligned.
+/// The bits of iohgatp where its mode is Sv39x4: the two lowest of PPN make its root one that isn't aligned, and the
+/// lowest of the mode makes it Sv48x4.
 static SECOND_BITS: [Bits; 4] = [
     (1, 0, 1, MISCONFIGURED),
-    (1, 2, 59, None),
-    (1, 60, 62, MISCONFIGURED),
+    (1, 2, 60, None),
+    (1, 61, 62, MISCONFIGURED),
     (1, 63, 63, None),
 ];
 

@@ -37,7 +37,7 @@ fn root_of(memory: &Memory, mode: DirectoryMode, ppn: u64, id: DeviceId) -> Resu
 {
     match locate(memory, DirectoryPointer { mode, ppn }, id)?.first_stage {
         FirstStage::Bare => Ok(0),
-        FirstStage::Sv39(root) => Ok(root.number()),
+        FirstStage::Tables { root, .. } => Ok(root.number()),
     }
 }
 

@@ -6,7 +6,7 @@ use std::process::Abort;
 // What a read of so many bytes at an offset answers at power-on.
 fn answer(offset: u64, width: u32) -> Result<u64, RegFault> {
     let (own, value) = match offset {
-        0 => (8, 0x0000_0020_1202_0210),
+        0 => (8, 0x0000_0020_1206_0610),
         8 => (4, 2),
         16 | 24 | 40 => (8, 0),
         32 | 36 | 48 | 52 | 72 | 76 | 84 => (4, 0),
@@ -42,8 +42,8 @@ fn each_width_at_each_offset(rt: HostRuntime) {
 
 // A mode of 15 doesn't exist, and queues of two entries have one bit of an index.
 static ONES_AND_ZEROS: [(Step, u64, u64); 24] = [
-    (Step::Write(0, u64::MAX), 0, 0x0000_0020_1202_0210),
-    (Step::Write(0, 0), 0, 0x0000_0020_1202_0210),
+    (Step::Write(0, u64::MAX), 0, 0x0000_0020_1206_0610),
+    (Step::Write(0, 0), 0, 0x0000_0020_1206_0610),
     (Step::Write(8, u64::MAX), 8, 2),
     (Step::Write(8, 0), 8, 2),
     (Step::Write(16, u64::MAX), 16, 0),

@@ -11,4 +11,4 @@ returns-clause-spare g c =
     λ f lt.
     let here : slice_get c.in-Ok.memory f ≡ Some zeroed = ap (λ frames. slice_get frames f) is ∙ zero_frame 64 f (omega arith) in
     let root : slice_get c.in-Ok.memory 59 ≡ Some zeroed = ap (λ frames. slice_get frames 59) is ∙ zero_frame 64 59 (omega arith) in
-    (here, λ h. let e = (zeroed_frames c.in-Ok.memory 59 root f).0 h in omega (arith, e))
+    (here, λ h. let e = (zeroed_frames c.args.size c.in-Ok.memory 59 root f).0 h in omega (arith, e))
