@@ -5,7 +5,7 @@ use std::alloc::Global;
 use std::fs;
 
 /// The worked scripts of `data/rows`. A new one is its two files and a line here.
-static ROWS: [&str; 50] = [
+static ROWS: [&str; 59] = [
     "empty-script",
     "first-path",
     "grant-boundaries",
@@ -56,6 +56,15 @@ static ROWS: [&str; 50] = [
     "own-bytes-after-a-reset",
     "index-far-ahead",
     "counts-of-a-block-device",
+    "full-fabric",
+    "sv48-first",
+    "sv48-second",
+    "two-sizes",
+    "three-tables",
+    "tables-shared",
+    "guest-sizes",
+    "guests-of-both-sizes",
+    "another-size",
 ];
 
 /// The rows that are run with `--trace`.

@@ -4,7 +4,8 @@
 // is told by its record.
 //
 // `data/vectors/first.tsv` is about first-stage tables, `directory.tsv` about directories and contexts, `second.tsv` and
-// `both.tsv` about a second stage and both, and so is `random.tsv`, with tables drawn at random. They have a case a line:
+// `both.tsv` about a second stage and both, and so is `random.tsv`, with tables drawn at random. The files whose names end in
+// `48` are the same with tables of four levels, through both stages of each mix of sizes. They have a case a line:
 // group, name, ddtp, device id, address, `r` or `w`, the words of memory (`address=value`, hexadecimal; all other bytes of
 // its 2,048 frames are zero), the wanted answer, and who confirmed it. The first line names the columns.
 mod case;
@@ -97,6 +98,11 @@ pub(crate) fn tell(rt: &HostRuntime) -> anyhow::Result<()> {
             ("second stage", "vectors/second.tsv"),
             ("both stages", "vectors/both.tsv"),
             ("random", "vectors/random.tsv"),
+            ("first stage, Sv48", "vectors/first48.tsv"),
+            ("directory, Sv48", "vectors/directory48.tsv"),
+            ("second stage, Sv48x4", "vectors/second48.tsv"),
+            ("both stages, both sizes", "vectors/both48.tsv"),
+            ("random, both sizes", "vectors/random48.tsv"),
         ] {
             let text = fs::read_to_string(rt, file)?;
             let tally = tally_of(rt.alloc(), &mut memory, text.as_str(), by);

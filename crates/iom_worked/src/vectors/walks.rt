@@ -55,15 +55,25 @@ fn translate(memory: &Memory, context: &Context, case: Case<'_>) -> Answer {
     let (address, kind) = (case.address, case.kind);
     match (context.first_stage, context.second_stage) {
         (FirstStage::Bare, SecondStage::Bare) => untranslated(memory, case),
-        (FirstStage::Sv39(root), SecondStage::Bare) => {
-            led(walk_first(memory, root.number(), address, kind), case)
+        (FirstStage::Tables { size, root }, SecondStage::Bare) => {
+            led(walk_first(memory, size, root.number(), address, kind), case)
         }
-        (FirstStage::Bare, SecondStage::Sv39x4(root)) => {
-            led(walk_second(memory, root.number(), address, kind), case)
-        }
-        (FirstStage::Sv39(first), SecondStage::Sv39x4(second)) => {
+        (FirstStage::Bare, SecondStage::Tables { size, root }) => {
             led(
-                walk_both(memory, first, second.number(), address, kind),
+                walk_second(memory, size, root.number(), address, kind),
+                case,
+            )
+        }
+        (
+            FirstStage::Tables { size, root },
+            SecondStage::Tables {
+                size: guest_size,
+                root: guest_root,
+            },
+        ) => {
+            let number = guest_root.number();
+            led(
+                walk_both(memory, size, root, guest_size, number, address, kind),
                 case,
             )
         }
