@@ -10,7 +10,7 @@ trap 'rm -rf "$work"' EXIT
 program=$here/../../crates/iommu_run/out/iommu_run
 
 cd "$work"
-for name in hot miss churn polls both text tiny ats disk; do
+for name in hot miss deep churn polls both text tiny ats disk; do
     awk -v name=$name -f "$here/workloads.awk"
     "$program" <"$name.script" | cmp - "$name.lines" || { echo "$name: other lines"; exit 1; }
     took=$(valgrind --tool=callgrind --callgrind-out-file=/dev/null "$program" "$name.script" 2>&1 >/dev/null | sed -n 's/.*Collected : //p')

@@ -1,5 +1,5 @@
 #!/bin/sh
-# Builds the program, runs it on nine scripts of about a megabyte, compares what it prints with what it
+# Builds the program, runs it on ten scripts of about a megabyte, compares what it prints with what it
 # must, and times whole processes, the best of 20, beside `sha256sum` of the same script.
 set -eu
 here=$(cd "$(dirname "$0")" && pwd)
@@ -22,7 +22,7 @@ best() {
 
 cd "$work"
 echo "workload  events  program/us  sha256sum/us"
-for name in hot miss churn polls both text tiny ats disk; do
+for name in hot miss deep churn polls both text tiny ats disk; do
     awk -v name=$name -f "$here/workloads.awk"
     script=$work/$name.script
     "$program" <"$script" | cmp - "$name.lines" || { echo "$name: other lines"; exit 1; }

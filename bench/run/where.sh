@@ -11,7 +11,7 @@ program=$here/../../crates/iommu_run/out/iommu_run
 work=$(mktemp -d)
 trap 'rm -rf "$work"' EXIT
 if [ $# -eq 0 ]; then
-    (cd "$work" && for name in hot miss churn polls both text tiny ats disk; do awk -v name=$name -f "$here/workloads.awk"; done)
+    (cd "$work" && for name in hot miss deep churn polls both text tiny ats disk; do awk -v name=$name -f "$here/workloads.awk"; done)
     set -- "$work"/*.script
 fi
 

@@ -11,17 +11,26 @@ function granted(pages, frames, p) {
     for (p = 0; p < pages; p++) say("grant 000001 " p " " 4 + p % frames " rw", "ok")
 }
 
+# A number in hexadecimal, also one of more than 32 bits, which not every awk prints so.
+function hexadecimal(number) {
+    if (number < 16777216) return sprintf("%x", number)
+    return sprintf("%x%06x", int(number / 16777216), number % 16777216)
+}
+
 # One read and its commit, of eight bytes at a place of the page that changes from read to read.
 function read_page(page, i) {
-    say(sprintf("read 000001 0x%x 8", 4096 * page + 8 * (i * 181 % 512)), "accepted " i)
+    say("read 000001 0x" hexadecimal(4096 * page + 8 * (i * 181 % 512)) " 8", "accepted " i)
     say("commit 000001", "read 0000000000000000")
 }
 
-function started(frames) {
+function started(frames, mode) {
     say("world " frames " 1", "ok")
     say("device 000001 raw", "ok")
-    say("attach 000001 first", "ok")
+    say("attach 000001 " (mode == "" ? "first" : mode), "ok")
 }
+
+# The page of this number of 2,048, which lie behind four entries of the root of tables of four levels.
+function deep_page(i) { return 134217728 * int(i / 512) + i % 512 }
 
 # The next access of the block device, and what its commit tells.
 function made(told) {
@@ -62,6 +71,13 @@ BEGIN {
 
     # 2,048 pages, no two reads of one page close together.
     if (name == "miss") { started(512); granted(2048, 500); for (i = 1; ; i++) read_page(i * 577 % 2048, i) }
+
+    # As `miss`, with tables of four levels.
+    if (name == "deep") {
+        started(512, "first48")
+        for (p = 0; p < 2048; p++) say("grant 000001 " deep_page(p) " " 4 + p % 490 " rw", "ok")
+        for (i = 1; ; i++) read_page(deep_page(i * 577 % 2048), i)
+    }
 
     # A page granted, released and waited for, each time another.
     if (name == "churn") {
