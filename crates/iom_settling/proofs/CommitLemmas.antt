@@ -1,0 +1,61 @@
+-- A commit of the first device that has something in flight makes one access.
+use Rattle.std.proofs.Common.{◌≡◌, ◌∙◌, ℕ, suc, List, [], ◌∷◌, Contains, Option, Some, None, sym, ap, subst, inl, inr}
+use Rattle.std.proofs.lemmas.Bool.Decides.{eqb_tells}
+use Rattle.iom_copies.proofs.ListLemmas.{in_none, cons_cases, contains_head, contains_tail}
+use Rattle.iom_device.specs.declared.device.Device.{Device}
+use Rattle.iom_inflight.specs.declared.made.MadeAt.{MadeAt}
+use Rattle.iom_inflight.specs.Calls.{Makes}
+use Rattle.iom_inflight.specs.Flights.{NumberedAccess, FlightRow, Flights, row_of, count_all, first_busy}
+use Rattle.iom_inflight.specs.Sound.{AreFlights}
+use Rattle.iom_iommu.specs.Parts.{flights_of}
+use Rattle.iom_machine.specs.declared.outcome.Outcome.{Outcome}
+use Rattle.iom_composition.specs.Commits.{CommitsAccess}
+use Rattle.iom_composition.specs.Parts.{Parts}
+use Rattle.iom_composition.specs.Sound.{AreSound, ids_of, row_ids}
+use Rattle.iom_settling.proofs.IdleLemmas.{IsBusyRow, busy_where, one_less}
+
+-- a device that has a row is there
+row_there : (rows : List FlightRow) (id : ℕ) (row : FlightRow) → row_of rows id ≡ Some row → Contains (row_ids rows) id
+row_there [] id row at = cc
+row_there (first ∷ others) id row at = elim (eqb_tells first.device id) [
+  | inl e ↦ subst (λ (n : ℕ). Contains (row_ids (first ∷ others)) n) e.1 (contains_head first.device (row_ids others))
+  | inr ne ↦ contains_tail first.device (row_ids others) id (row_there others id row (rw ne.0 at at))
+]
+
+with_id : (devices : List Device) (id : ℕ) → Contains (ids_of devices) id → (device : Device) × Contains devices device × (device.id ≡ id)
+with_id [] id there = absurd (in_none id there)
+with_id (first ∷ others) id there = elim (cons_cases first.id (ids_of others) id there) [
+  | inl same ↦ (first, contains_head first others, same)
+  | inr later ↦ let rest = with_id others id later in (rest.0, contains_tail first others rest.0 rest.1, rest.2)
+]
+
+-- where the row isn't idle, one access is made
+made_one : (memory memory' : List (List ℕ)) (old new : Flights) (id : ℕ) (made : Option MadeAt) → Makes memory old id made memory' new → (busy : IsBusyRow old.rows id)
+    → suc (count_all new.rows) ≡ count_all old.rows
+made_one memory memory' old new id None makes busy =
+    let same : Some makes.0.row ≡ Some busy.row = sym makes.0.stands ∙ busy.stands in
+    let is : makes.0.row ≡ busy.row = cc in
+    let none : ◌≡◌ {A = List NumberedAccess} [] (busy.oldest ∷ busy.later) = sym makes.0.idle ∙ ap (λ (r : FlightRow). r.waiting) is ∙ busy.waiting in
+    cc
+made_one memory memory' old new id (Some made) is busy =
+    ap (λ (f : Flights). suc (count_all f.rows)) is.after ∙ one_less old.rows id is.row is.oldest is.later is.stands is.waiting
+
+-- A COMMIT
+pub committed : (old new : Parts) (events id : ℕ) (told : Outcome) → AreSound old events → AreFlights (flights_of old.iommu) → first_busy (flights_of old.iommu).rows ≡ Some id
+    → CommitsAccess old id told new → suc (count_all (flights_of new.iommu).rows) ≡ count_all (flights_of old.iommu).rows
+committed old new events id told sound flights found commits = by commits
+  where
+    busy : IsBusyRow (flights_of old.iommu).rows id
+    busy = busy_where (flights_of old.iommu).rows id flights.distinct found
+
+    there : (device : Device) × Contains old.devices device × (device.id ≡ id)
+    there = with_id old.devices id (subst (λ (ids : List ℕ). Contains ids id) sound.known.iommu (row_there (flights_of old.iommu).rows id busy.row busy.stands))
+
+    by : CommitsAccess old id told new → suc (count_all (flights_of new.iommu).rows) ≡ count_all (flights_of old.iommu).rows
+    by (inl unknown) = absurd (unknown.absent there.0 there.1 there.2)
+    by (inr makes) = made_one old.memory new.memory (flights_of old.iommu) (flights_of new.iommu) id makes.made makes.call.makes busy
+
+-- the driver stays
+pub commit_drives : (old new : Parts) (id : ℕ) (told : Outcome) → CommitsAccess old id told new → new.driver ≡ old.driver
+commit_drives old new id told (inl unknown) = ap (λ (p : Parts). p.driver) unknown.same
+commit_drives old new id told (inr makes) = makes.driver

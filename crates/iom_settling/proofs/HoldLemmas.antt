@@ -1,0 +1,82 @@
+-- What each device holds is as before, after a run of events of settling.
+use Rattle.std.proofs.Common.{◌≡◌, ◌∙◌, ◌-◌, inl, inr, ℕ, zero, suc, List, [], ◌∷◌, slice_get, refl, ap}
+use Rattle.iom_ledger.specs.History.{History, held_at, confirmed_from}
+use Rattle.iom_machine.specs.declared.event.Event.{Event}
+use Rattle.iom_machine.specs.declared.event.Event.TheVariants as events
+use Rattle.iom_machine.specs.declared.outcome.Outcome.{Outcome}
+use Rattle.iom_machine.specs.declared.outcome.Outcome.TheVariants as outcome
+use Rattle.iom_machine.specs.declared.state.Device.{Device}
+use Rattle.iom_machine.specs.declared.state.State.{State}
+use Rattle.iom_machine.specs.Kinds.{is_any_kind}
+use Rattle.iom_machine.specs.Machine.{Makes, Commits, Restarts, Fetches, Polls, Step, Run}
+use Rattle.iom_machine.specs.Messages.{Delivers}
+use Rattle.iom_machine.proofs.InFlightLemmas.{act_cases, some_case}
+use Rattle.iom_settling.specs.Settles.{AreAll, IsSettling, HoldAsBefore}
+
+-- a confirmation ends no holding
+held_confirmed : (first n : ℕ) (history : History) (device page : ℕ) → held_at (confirmed_from first n history) device page ≡ held_at history device page
+held_confirmed first zero history device page = refl
+held_confirmed first (suc n) history device page = held_confirmed first n history device page
+
+same_holds : (old new : State) → new.history ≡ old.history → HoldAsBefore old.history new.history
+same_holds old new same device page = ap (λ (h : History). held_at h device page) same
+
+is_same : (old new : State) → new ≡ old → HoldAsBefore old.history new.history
+is_same old new same = same_holds old new (ap (λ (s : State). s.history) same)
+
+-- a commit
+made_holds : (old new : State) (device : Device) (told : Outcome) → Makes old device told new → HoldAsBefore old.history new.history
+made_holds old new device (outcome.Read bytes) made =
+    let one = some_case (slice_get device.in_flight 0) _ made in same_holds old new (ap (λ (s : State). s.history) one.2.1)
+made_holds old new device (outcome.Wrote len) made =
+    let one = some_case (slice_get device.in_flight 0) _ made in same_holds old new (ap (λ (s : State). s.history) one.2.1)
+made_holds old new device outcome.NothingInFlight made = is_same old new made.1
+made_holds old new device _ made = absurd made
+
+commit_holds : (old new : State) (id : ℕ) (told : Outcome) → Commits old id told new → HoldAsBefore old.history new.history
+commit_holds old new id told commits = elim (act_cases is_any_kind (λ device. Makes old device told new) old id told new commits) [
+  | inl (why, told_so, same) ↦ is_same old new same
+  | inr (device, at, makes) ↦ made_holds old new device told makes
+]
+
+deliver_holds : (old new : State) (asker page : ℕ) (told : Outcome) → Delivers asker page old told new → HoldAsBefore old.history new.history
+deliver_holds old new asker page (outcome.Answered answer) delivers = is_same old new delivers.1
+deliver_holds old new asker page outcome.Kept delivers = is_same old new delivers
+deliver_holds old new asker page outcome.Stale delivers = is_same old new delivers
+deliver_holds old new asker page outcome.AnswerRefused delivers = is_same old new delivers
+deliver_holds old new asker page outcome.Ignored delivers = is_same old new delivers
+deliver_holds old new asker page (outcome.Invalidated serial) delivers = is_same old new delivers
+deliver_holds old new asker page (outcome.Closed serial) delivers = is_same old new delivers
+deliver_holds old new asker page (outcome.NotClosed serial) delivers = is_same old new delivers
+deliver_holds old new asker page outcome.NoMessage delivers = is_same old new delivers
+deliver_holds old new asker page _ delivers = absurd delivers
+
+restart_holds : (old new : State) (told : Outcome) → Restarts old told new → HoldAsBefore old.history new.history
+restart_holds old new outcome.Done restarts = is_same old new restarts
+restart_holds old new (outcome.Refused why) restarts = is_same old new restarts.1
+restart_holds old new _ restarts = absurd restarts
+
+fetch_holds : (old new : State) (told : Outcome) → Fetches old told new → HoldAsBefore old.history new.history
+fetch_holds old new (outcome.Fetched result) fetches = is_same old new fetches
+fetch_holds old new _ fetches = absurd fetches
+
+poll_holds : (old new : State) (told : Outcome) → Polls old told new → HoldAsBefore old.history new.history
+poll_holds old new (outcome.Confirmed first last timed_out) polls = λ device page.
+    ap (λ (s : State). held_at s.history device page) polls.1 ∙ held_confirmed first (suc (last - first)) old.history device page
+poll_holds old new (outcome.NoneConfirmed timed_out) polls = is_same old new polls
+poll_holds old new _ polls = absurd polls
+
+step_holds : (old new : State) (event : Event) (told : Outcome) → IsSettling event → Step old event told new → HoldAsBefore old.history new.history
+step_holds old new (events.Commit id) told is (choice, step) = commit_holds old new id told step
+step_holds old new (events.Deliver place) told is (choice, step) = deliver_holds old new choice.device choice.page told step
+step_holds old new events.Restart told is (choice, step) = restart_holds old new told step
+step_holds old new events.Fetch told is (choice, step) = fetch_holds old new told step
+step_holds old new events.Poll told is (choice, step) = poll_holds old new told step
+step_holds old new _ told is step = absurd is
+
+pub run_holds : (old new : State) (events : List Event) (outcomes : List Outcome) → Run old events outcomes new → AreAll IsSettling events → HoldAsBefore old.history new.history
+run_holds old new [] [] run all = is_same old new run
+run_holds old new [] (told ∷ outcomes) run all = absurd run
+run_holds old new (event ∷ events) [] run all = absurd run
+run_holds old new (event ∷ events) (told ∷ outcomes) run all = λ device page.
+    run_holds run.0 new events outcomes run.2 all.1 device page ∙ step_holds old run.0 event told all.0 run.1 device page

@@ -1,0 +1,14 @@
+pub mod WeightLemmas
+pub mod WordLemmas
+pub mod IdleLemmas
+pub mod CommandLemmas
+pub mod CommitLemmas
+pub mod DeliverLemmas
+pub mod RestartLemmas
+pub mod FetchLemmas
+pub mod PollLemmas
+pub mod LawLemmas
+pub mod OrderLemmas
+pub mod WentLemmas
+pub mod LoopLemmas
+pub mod HoldLemmas

@@ -1,0 +1,340 @@
+-- The loops of settling, one event more: over whatever takes events as a world does.
+use Rattle.std.proofs.Common.{◌≡◌, ◌+◌, ◌*◌, ◌^◌, ◌<◌, ◌≤◌, ◌∙◌, ◌==◌, ◌≢◌, inl, inr, ℕ, suc, Bool, true, false, not, nat_le, nat_lt, List, [], ◌∷◌, length, Option, None, Some, Result, Ok, Err, refl, sym, ap, subst, arith}
+use Rattle.std.proofs.lemmas.Bool.{false≢true, leb-true, leb-false}
+use Rattle.iom_command_queue.specs.declared.command.Command.{Command}
+use Rattle.iom_driver.specs.Fences.{last_fence}
+use Rattle.iom_driver.specs.Restarts.{all_requeued, AnswersRestart}
+use Rattle.iom_driver.specs.State.{DriverState}
+use Rattle.iom_fabric.specs.declared.fabric.OnLink.{OnLink}
+use Rattle.iom_fabric.specs.declared.message.Message.{Message}
+use Rattle.iom_fabric.specs.declared.message.Message.TheVariants as sent
+use Rattle.iom_inflight.specs.Flights.{count_all, first_busy}
+use Rattle.iom_inflight.specs.Sound.{AreFlights}
+use Rattle.iom_iommu.specs.Parts.{flights_of, mmio}
+use Rattle.iom_ledger.specs.declared.refusal.Refusal.{Refusal}
+use Rattle.iom_ledger.specs.declared.refusal.Refusal.TheVariants.{NotStarted, NumbersUsedUp}
+use Rattle.iom_ledger.specs.Refusals.{first_that_applies}
+use Rattle.iom_machine.specs.declared.event.Event.{Event}
+use Rattle.iom_machine.specs.declared.event.Event.TheVariants as events
+use Rattle.iom_machine.specs.declared.outcome.Outcome.{Outcome}
+use Rattle.iom_composition.specs.Does.{Does, FetchesNext}
+use Rattle.iom_composition.specs.Parts.{Parts}
+use Rattle.iom_composition.specs.Recovery.{RestartsQueue}
+use Rattle.iom_composition.specs.Sound.{AreSound}
+use Rattle.iom_composition.specs.Stays.{KeepsCommands}
+use Rattle.iom_composition.proofs.DriverLemmas.{IsSoundDriver}
+use Rattle.iom_settling.specs.declared.told.Told.{Told}
+use Rattle.iom_settling.specs.declared.told.Told.TheVariants.{Waits, Empty, Other}
+use Rattle.iom_settling.specs.CatchingUp.{IsIdle, CatchesUp, HasCaughtUp}
+use Rattle.iom_settling.specs.Commands.{requests_in}
+use Rattle.iom_settling.specs.Settles.{IsCommit, IsDelivery, AreAll, AreQuieting, AreFetches, AreFetching, AreCatchingUp, AreSettling, AreInOrder, Went}
+use Rattle.iom_settling.specs.Stages.{brief, IsUnderWay, IsAfter, FollowsFetch, FetchedOnce, IsCommitting, IsDelivering, IsWorking, Settled}
+use Rattle.iom_settling.specs.Weights.{weight, weights}
+use Rattle.iom_settling.proofs.LawLemmas.{commits_make_one, at_most_128, deliveries_get_lighter, restarts_catch_up, few_are_requeued, fetches_do_one, fences_end, fetches_find_none, deliveries_catch_up, polls_confirm_all}
+use Rattle.iom_settling.proofs.CommitLemmas.{commit_drives}
+use Rattle.iom_settling.proofs.IdleLemmas.{count_some}
+use Rattle.iom_settling.proofs.OrderLemmas.{AreBegun, all_both, fetch_first, fetches_both, are_fetching, are_begun, are_catching_up, are_settling}
+use Rattle.iom_settling.proofs.WentLemmas.{went_none, went_once, went_more, went_both, went_as}
+
+-- what a trait says of whatever takes events
+pub record ActsAsWorld {S : Type 0} (parts : S → Parts) (counted : S → ℕ) (happens : S → Event → Outcome → S → Type 0) : Type 0 where
+  pub does : (x y : S) (event : Event) (told : Outcome) → happens x event told y → (disks : List ℕ) × Does disks (parts x) event told (parts y)
+  pub commands : (x y : S) (event : Event) (told : Outcome) → happens x event told y → KeepsCommands event (parts x) (parts y)
+  pub counts : (x y : S) (event : Event) (told : Outcome) → happens x event told y → counted y ≡ counted x + 1
+  pub sound : (x : S) → AreSound (parts x) (counted x)
+  pub own : (x : S) → IsSoundDriver (parts x).driver
+
+-- where a device has something in flight, something is
+busy_some : (p : Parts) (device : ℕ) → AreFlights (flights_of p.iommu) → first_busy (flights_of p.iommu).rows ≡ Some device → 1 ≤ count_all (flights_of p.iommu).rows
+busy_some p device flights found = count_some (flights_of p.iommu).rows device found
+
+-- a message is under way where it isn't quiet
+pub some_under_way : (fabric : List OnLink) (quiet : Bool) → quiet ≡ (length fabric == 0) → quiet ≡ false → (on : OnLink) × (others : List OnLink) × (fabric ≡ on ∷ others)
+some_under_way [] quiet is some = absurd (false≢true (sym some ∙ is))
+some_under_way (on ∷ others) quiet is some = (on, others, refl)
+
+some_weight : (message : Message) → 1 ≤ weight message
+some_weight (sent.Ask epoch page) = omega arith
+some_weight (sent.Answer epoch page answer) = omega arith
+some_weight (sent.InvReq serial range) = omega arith
+some_weight (sent.InvDone serial) = omega arith
+
+pub under_way_few : (p : Parts) (so_far : ℕ) → IsUnderWay p so_far → so_far ≤ 82
+under_way_few p so_far (inl queue) = let few = queue.few in omega (arith, few)
+under_way_few p so_far (inr (inl fence)) = let few = fence.few in omega (arith, few)
+under_way_few p so_far (inr (inr behind)) = behind.few
+
+module _ {S : Type 0} (parts : S → Parts) (counted : S → ℕ) (happens : S → Event → Outcome → S → Type 0) (acts : ActsAsWorld parts counted happens) where
+  -- COMMITS
+  pub commits_begin : (first : S) → AreFlights (flights_of (parts first).iommu) → IsCommitting parts counted happens first first 0
+  commits_begin first flights =
+      let few = at_most_128 (parts first) flights in
+      record { went = went_none happens (AreAll IsCommit) first tt; driver = refl; left = omega (arith, few); counted = omega arith }
+
+  pub one_in_flight_less : (mid new : S) (device : ℕ) (told : Outcome) → AreFlights (flights_of (parts mid).iommu) → first_busy (flights_of (parts mid).iommu).rows ≡ Some device
+      → happens mid (events.Commit device) told new → count_all (flights_of (parts new).iommu).rows + 1 ≡ count_all (flights_of (parts mid).iommu).rows
+  one_in_flight_less mid new device told flights found happen =
+      commits_make_one (parts mid) (parts new) (counted mid) device told (acts.sound mid) flights found (acts.does mid new (events.Commit device) told happen).1
+
+  pub commits_more : (first mid new : S) (n device : ℕ) (told : Outcome) → IsCommitting parts counted happens first mid n → AreFlights (flights_of (parts mid).iommu)
+      → first_busy (flights_of (parts mid).iommu).rows ≡ Some device → happens mid (events.Commit device) told new → IsCommitting parts counted happens first new (n + 1)
+  commits_more first mid new n device told so_far flights found happen =
+      let less = one_in_flight_less mid new device told flights found happen in
+      let left = so_far.left in
+      let before = so_far.counted in
+      let one = acts.counts mid new (events.Commit device) told happen in
+      record {
+        went = went_more happens (AreAll IsCommit) (AreAll IsCommit) first mid new n (events.Commit device) told
+            (λ these are. all_both IsCommit these (events.Commit device ∷ []) are (tt, tt)) so_far.went happen;
+        driver = commit_drives (parts mid) (parts new) device told (acts.does mid new (events.Commit device) told happen).1 ∙ so_far.driver;
+        left = omega (arith, less, left);
+        counted = omega (arith, before, one);
+      }
+
+  pub commits_room : (first mid : S) (n device : ℕ) → IsCommitting parts counted happens first mid n → counted first + 128 < 2 ^ 64 → AreFlights (flights_of (parts mid).iommu)
+      → first_busy (flights_of (parts mid).iommu).rows ≡ Some device → counted mid + 1 < 2 ^ 64
+  commits_room first mid n device so_far room flights found =
+      let left = so_far.left in
+      let before = so_far.counted in
+      let some = busy_some (parts mid) device flights found in
+      omega (arith, left, before, some, room)
+
+  -- DELIVERIES
+  pub deliveries_begin : (first : S) → IsDelivering parts counted happens first first 0
+  deliveries_begin first = record { went = went_none happens (AreAll IsDelivery) first tt; left = omega arith; idle = λ idle. idle; driver = refl; catches = λ number commands catches. catches; counted = omega arith }
+
+  pub deliveries_more : (first mid new : S) (n : ℕ) (told : Outcome) (on : OnLink) (others : List OnLink) → IsDelivering parts counted happens first mid n → (parts mid).fabric ≡ on ∷ others
+      → happens mid (events.Deliver 0) told new → IsDelivering parts counted happens first new (n + 1)
+  deliveries_more first mid new n told on others so_far is happen =
+      let does = (acts.does mid new (events.Deliver 0) told happen).1 in
+      let by = deliveries_get_lighter (parts mid) (parts new) told on others is does in
+      let lighter = by.lighter in
+      let left = so_far.left in
+      let before = so_far.counted in
+      let one = acts.counts mid new (events.Deliver 0) told happen in
+      record {
+        went = went_more happens (AreAll IsDelivery) (AreAll IsDelivery) first mid new n (events.Deliver 0) told
+            (λ these are. all_both IsDelivery these (events.Deliver 0 ∷ []) are (refl, tt)) so_far.went happen;
+        left = omega (arith, lighter, left);
+        idle = λ idle. by.idle (so_far.idle idle);
+        driver = by.driver ∙ so_far.driver;
+        catches = λ number commands catches. deliveries_catch_up (parts mid) (parts new) (counted mid) (counted new) number commands told on others (acts.sound mid) (acts.sound new)
+            (so_far.catches number commands catches) is does (acts.commands mid new (events.Deliver 0) told happen);
+        counted = omega (arith, before, one);
+      }
+
+  pub one_message_less : (mid new : S) (told : Outcome) (on : OnLink) (others : List OnLink) → (parts mid).fabric ≡ on ∷ others → happens mid (events.Deliver 0) told new
+      → weights (parts new).fabric + 1 ≤ weights (parts mid).fabric
+  one_message_less mid new told on others is happen = (deliveries_get_lighter (parts mid) (parts new) told on others is (acts.does mid new (events.Deliver 0) told happen).1).lighter
+
+  pub deliveries_room : (first mid : S) (n : ℕ) (on : OnLink) (others : List OnLink) → IsDelivering parts counted happens first mid n → counted first + weights (parts first).fabric < 2 ^ 64
+      → (parts mid).fabric ≡ on ∷ others → counted mid + 1 < 2 ^ 64
+  deliveries_room first mid n on others so_far room is =
+      let left = so_far.left in
+      let before = so_far.counted in
+      let some = some_weight on.message in
+      let all : weights (parts mid).fabric ≡ weight on.message + weights others = ap weights is in
+      omega (arith, left, before, some, all, room)
+
+  -- A FETCH, by what it told
+  module _ (mid new : S) (so_far : ℕ) (told : Outcome) (happen : happens mid events.Fetch told new) where
+    fetches : FetchesNext (parts mid) told (parts new)
+    fetches = (acts.does mid new events.Fetch told happen).1
+
+    abbrev number : ℕ
+    number = last_fence (parts mid).driver
+
+    same_number : last_fence (parts new).driver ≡ last_fence (parts mid).driver
+    same_number = ap (λ (d : DriverState). last_fence d) fetches.driver
+
+    small : last_fence (parts mid).driver < 2 ^ 32
+    small = let numbered = (acts.own mid).fences.numbered in omega (arith, numbered)
+
+    catches_now : (commands : List Command) → CatchesUp (parts new) (last_fence (parts mid).driver) commands → CatchesUp (parts new) (last_fence (parts new).driver) commands
+    catches_now commands catches = subst (λ n. CatchesUp (parts new) n commands) (sym same_number) catches
+
+    caught_now : HasCaughtUp (parts new) (last_fence (parts mid).driver) → HasCaughtUp (parts new) (last_fence (parts new).driver)
+    caught_now caught = subst (HasCaughtUp (parts new)) (sym same_number) caught
+
+    told_as : (t : Told) → brief told ≡ t → IsAfter t (parts new) (so_far + 1) → IsAfter (brief told) (parts new) (so_far + 1)
+    told_as t is after = subst (λ (b : Told). IsAfter b (parts new) (so_far + 1)) (sym is) after
+
+    at_fence : CatchesUp (parts mid) (last_fence (parts mid).driver) [] → (so_far + weights (parts mid).fabric ≤ 81) → ((parts mid).fabric ≢ [] → so_far + weights (parts mid).fabric ≤ 80) → IsAfter (brief told) (parts new) (so_far + 1)
+    at_fence catches few fewer = elim (fences_end (parts mid) (parts new) (counted mid) number told small (acts.sound mid) (acts.own mid) catches fetches) [
+      | inl waits ↦
+          let light = fewer waits.under_way in
+          let same : weights (parts new).fabric ≡ weights (parts mid).fabric = ap weights waits.fabric in
+          told_as Waits (ap brief waits.told_so) (catches_now [] waits.still, omega (arith, light, same), omega (arith, light, same))
+      | inr done ↦ told_as Other (ap brief done.told_so) (inr (inr (record { done = caught_now done.done; few = omega (arith, few) })))
+    ]
+
+    in_queue : (commands : List Command) → CatchesUp (parts mid) (last_fence (parts mid).driver) commands → so_far + length commands + weights (parts mid).fabric + 2 * requests_in commands ≤ 80
+        → IsAfter (brief told) (parts new) (so_far + 1)
+    in_queue [] catches few = at_fence catches (omega (arith, few)) (λ some. omega (arith, few))
+    in_queue (command ∷ commands) catches few =
+        let one = fetches_do_one (parts mid) (parts new) (counted mid) number command commands told (acts.sound mid) (acts.own mid) catches fetches in
+        let heavier = one.heavier in
+        told_as Other (ap brief one.told_so) (inl (record { commands = commands; catches = catches_now commands one.rest; few = omega (arith, few, heavier) }))
+
+    pub fetched : IsUnderWay (parts mid) so_far → IsAfter (brief told) (parts new) (so_far + 1)
+    fetched (inl queue) = in_queue queue.commands queue.catches queue.few
+    fetched (inr (inl fence)) =
+        let few = fence.few in
+        let light : weights (parts mid).fabric ≡ 0 = ap weights fence.quiet in
+        at_fence fence.catches (omega (arith, few, light)) (λ some. absurd (some fence.quiet))
+    fetched (inr (inr behind)) =
+        let none = fetches_find_none (parts mid) (parts new) (counted mid) number told (acts.sound mid) (acts.own mid) behind.done fetches in
+        let few = behind.few in
+        told_as Empty (ap brief none.0) (caught_now none.1, omega (arith, few))
+
+  -- WHAT FOLLOWS IT, where the fence waits
+  pub waited : (mid new : S) (so_far more : ℕ) → IsAfter Waits (parts mid) so_far → Went happens (AreAll IsDelivery) mid more new → more ≤ weights (parts mid).fabric → (parts new).fabric ≡ []
+      → (parts new).driver ≡ (parts mid).driver → ((number : ℕ) (commands : List Command) → CatchesUp (parts mid) number commands → CatchesUp (parts new) number commands)
+      → counted new ≡ counted mid + more → FollowsFetch parts counted happens mid so_far (Some (so_far + more)) new
+  waited mid new so_far more after went few quiet driver catches count =
+      let light = after.1 in (
+        more,
+        refl,
+        went,
+        count,
+        inr (inl (record {
+          catches = subst (λ n. CatchesUp (parts new) n []) (sym (ap (λ (d : DriverState). last_fence d) driver)) (catches (last_fence (parts mid).driver) [] after.0);
+          quiet = quiet;
+          few = omega (arith, few, light);
+        })),
+      )
+
+  pub went_on : (mid : S) (so_far : ℕ) → IsAfter Other (parts mid) so_far → FollowsFetch parts counted happens mid so_far (Some so_far) mid
+  went_on mid so_far after = (0, omega arith, went_none happens (AreAll IsDelivery) mid tt, omega arith, after)
+
+  -- A FETCH AND WHAT FOLLOWS IT
+  pub once : (old mid new : S) (so_far : ℕ) (told : Outcome) (answer : Option ℕ) → happens old events.Fetch told mid → FollowsFetch parts counted happens mid (so_far + 1) answer new
+      → FetchedOnce parts counted happens old so_far answer new
+  once old mid new so_far told None happen follows =
+      let one = acts.counts old mid events.Fetch told happen in
+      let few = follows.2 in (
+        (told, subst (λ s. happens old events.Fetch told s) (sym follows.0) happen),
+        ap counted follows.0 ∙ one,
+        follows.1,
+        omega (arith, few),
+      )
+  once old mid new so_far told (Some now) happen follows =
+      let one = acts.counts old mid events.Fetch told happen in
+      let is = follows.1 in
+      let count = follows.3 in (
+        1 + follows.0,
+        omega (arith, is),
+        omega arith,
+        went_both happens (λ (these : List Event). these ≡ events.Fetch ∷ []) (AreAll IsDelivery) AreFetches old mid new 1 follows.0 fetch_first
+            (went_once happens old mid events.Fetch told happen) follows.2,
+        omega (arith, one, count),
+        follows.4,
+      )
+
+  -- THE QUEUE IS WORKED OFF
+  pub work_begins : (first : S) → IsUnderWay (parts first) 0 → IsWorking parts counted happens first first 0
+  work_begins first stage = record { went = went_none happens AreFetches first tt; stage = stage; counted = omega arith }
+
+  pub work_more : (first mid new : S) (n now : ℕ) → IsWorking parts counted happens first mid n → FetchedOnce parts counted happens mid n (Some now) new → IsWorking parts counted happens first new now
+  work_more first mid new n now so_far once =
+      let is = once.1 in
+      let before = so_far.counted in
+      let count = once.4 in
+      record {
+        went = subst (λ k. Went happens AreFetches first k new) (sym is) (went_both happens AreFetches AreFetches AreFetches first mid new n once.0 fetches_both so_far.went once.3);
+        stage = once.5;
+        counted = omega (arith, is, before, count);
+      }
+
+  pub work_ends : (first mid new : S) (n : ℕ) → IsWorking parts counted happens first mid n → FetchedOnce parts counted happens mid n None new → Went happens AreFetching first (n + 1) new
+  work_ends first mid new n so_far once = went_more happens AreFetches AreFetching first mid new n events.Fetch once.0.0 are_fetching so_far.went once.0.1
+
+  -- A RESTART
+  restart_answers : (d : DriverState) (why : Refusal) → d.started ≡ true → nat_le 4294967295 (last_fence d) ≡ false
+      → first_that_applies ((not d.started, NotStarted) ∷ (nat_le 4294967295 (last_fence d), NumbersUsedUp) ∷ []) ≡ Some why → ⊥
+  restart_answers d why started left refused = by d.started (nat_le 4294967295 (last_fence d)) started left refused
+    where
+      by : (s u : Bool) → s ≡ true → u ≡ false → first_that_applies ((not s, NotStarted) ∷ (u, NumbersUsedUp) ∷ []) ≡ Some why → ⊥
+      by false u started left is = false≢true started
+      by true true started left is = false≢true (sym left)
+      by true false started left is = cc
+
+  pub restarts : (mid new : S) (told : Outcome) → IsIdle (parts mid) → (parts mid).fabric ≡ [] → nat_le 4294967295 (last_fence (parts mid).driver) ≡ false → happens mid events.Restart told new
+      → IsUnderWay (parts new) 0
+  restarts mid new told idle quiet left happen = by does.answer does.call
+    where
+      does : RestartsQueue (parts mid) told (parts new)
+      does = (acts.does mid new events.Restart told happen).1
+
+      by : (answer : Result (Unit {0}) Refusal) → AnswersRestart mmio (parts mid).driver (parts mid).memory (parts mid).iommu answer (parts new).driver (parts new).memory (parts new).iommu → IsUnderWay (parts new) 0
+      by (Ok done) (admitted, queues) =
+          let catches = restarts_catch_up (parts mid) (parts new) (counted mid) (counted new) (acts.sound mid) (acts.sound new) (acts.own mid) idle quiet queues does.devices does.fabric in
+          let few = few_are_requeued (parts mid) (acts.own mid) in
+          let long = few.0 in
+          let requests = few.1 in
+          let number : last_fence (parts new).driver ≡ last_fence (parts mid).driver + 1 = ap (λ (d : DriverState). last_fence d) queues.driver ∙ omega arith in
+          let light : weights (parts new).fabric ≡ 0 = ap weights (does.fabric ∙ quiet) in
+          inl (record {
+            commands = all_requeued (parts mid).driver.devices;
+            catches = subst (λ n. CatchesUp (parts new) n (all_requeued (parts mid).driver.devices)) (sym number) catches;
+            few = omega (arith, long, requests, light);
+          })
+      by (Err why) (refused, driver, memory, iommu) = absurd (restart_answers (parts mid).driver why (acts.sound mid).started left refused)
+
+  -- THE POLL
+  pub polls : (mid new : S) (told : Outcome) → HasCaughtUp (parts mid) (last_fence (parts mid).driver) → happens mid events.Poll told new → (parts new).driver.confirmed ≡ (parts new).driver.given
+  polls mid new told caught happen =
+      polls_confirm_all (parts mid) (parts new) (last_fence (parts mid).driver) told caught (acts.own mid) (acts.own new) (acts.sound mid).started (acts.does mid new events.Poll told happen).1
+
+  pub polls_idle : (mid new : S) (told : Outcome) → HasCaughtUp (parts mid) (last_fence (parts mid).driver) → happens mid events.Poll told new → IsIdle (parts new)
+  polls_idle mid new told caught happen = rw ((acts.does mid new events.Poll told happen).1.iommu) caught.idle
+
+  -- SETTLING
+  pub caught_up : (old mid late new : S) (k : ℕ) (told last : Outcome) → happens old events.Restart told mid → Went happens AreFetching mid k late → happens late events.Poll last new
+      → Went happens AreCatchingUp old (k + 2) new
+  caught_up old mid late new k told last restart work poll =
+      let first = went_once happens old mid events.Restart told restart in
+      let through = went_both happens (λ (these : List Event). these ≡ events.Restart ∷ []) AreFetching AreBegun old mid late 1 k are_begun first work in
+      let whole = went_more happens AreBegun AreCatchingUp old late new (1 + k) events.Poll last are_catching_up through poll in
+      let same : 1 + k + 1 ≡ k + 2 = omega arith in
+      subst (λ c. Went happens AreCatchingUp old c new) same whole
+
+  -- whether a ticket was unconfirmed, which commits and deliveries leave
+  pending_before : (old mid : S) (pending told : Bool) → (parts mid).driver ≡ (parts old).driver → pending ≡ nat_lt (parts mid).driver.confirmed (parts mid).driver.given → pending ≡ told
+      → told ≡ nat_lt (parts old).driver.confirmed (parts old).driver.given
+  pending_before old mid pending told driver is so = sym so ∙ is ∙ ap (λ (d : DriverState). nat_lt d.confirmed d.given) driver
+
+  pub settled_at_once : (old new : S) (n : ℕ) (pending : Bool) → Went happens AreQuieting old n new → n ≤ 256 → (parts new).driver ≡ (parts old).driver → IsIdle (parts new)
+      → pending ≡ nat_lt (parts new).driver.confirmed (parts new).driver.given → pending ≡ false → Settled parts happens old (Ok n) new
+  settled_at_once old new n pending went few driver idle is none =
+      let all : (parts new).driver.given < suc (parts new).driver.confirmed = leb-false (suc (parts new).driver.confirmed) (parts new).driver.given (sym is ∙ none) in
+      let high = (acts.own new).tickets.ordered in (
+        went_as happens AreQuieting (AreInOrder (nat_lt (parts old).driver.confirmed (parts old).driver.given)) old new n
+            (λ these are. subst (λ (b : Bool). AreInOrder b these) (pending_before old new pending false driver is none) are) went,
+        omega (arith, few),
+        idle,
+        omega (arith, all, high),
+      )
+
+  pub settled_never : (old new : S) (n : ℕ) (pending used : Bool) → Went happens AreQuieting old n new → IsIdle (parts new) → (parts new).fabric ≡ []
+      → pending ≡ nat_lt (parts new).driver.confirmed (parts new).driver.given → pending ≡ true
+      → used ≡ nat_le 4294967295 (last_fence (parts new).driver) → used ≡ true → Settled parts happens old (Err NumbersUsedUp) new
+  settled_never old new n pending used went idle quiet is some at up = (
+    refl,
+    (n, went),
+    (idle, quiet),
+    leb-true (suc (parts new).driver.confirmed) (parts new).driver.given (sym is ∙ some),
+    leb-true 4294967295 (last_fence (parts new).driver) (sym at ∙ up),
+  )
+
+  pub settled_then : (old mid new : S) (n k : ℕ) (pending : Bool) → Went happens AreQuieting old n mid → n ≤ 256 → (parts mid).driver ≡ (parts old).driver
+      → pending ≡ nat_lt (parts mid).driver.confirmed (parts mid).driver.given → pending ≡ true → Went happens AreCatchingUp mid k new → k ≤ 85 → IsIdle (parts new)
+      → (parts new).driver.confirmed ≡ (parts new).driver.given → Settled parts happens old (Ok (n + k)) new
+  settled_then old mid new n k pending quiet few driver is some work short idle confirmed = (
+    went_as happens AreSettling (AreInOrder (nat_lt (parts old).driver.confirmed (parts old).driver.given)) old new (n + k)
+        (λ these are. subst (λ (b : Bool). AreInOrder b these) (pending_before old mid pending true driver is some) are)
+        (went_both happens AreQuieting AreCatchingUp AreSettling old mid new n k are_settling quiet work),
+    omega (arith, few, short),
+    idle,
+    confirmed,
+  )

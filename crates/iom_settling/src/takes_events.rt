@@ -1,0 +1,70 @@
+ghost use Rattle.std.specs.Prelude.{◌≡◌, ◌==◌, ◌+◌, ◌<◌, ◌≤◌, ◌^◌, ℕ, List, length, nat_le, nat_lt};
+ghost use Rattle.iom_driver.specs.Fences.{last_fence};
+ghost use Rattle.iom_inflight.specs.Flights.{first_busy};
+ghost use Rattle.iom_inflight.specs.Sound.{AreFlights};
+ghost use Rattle.iom_iommu.specs.Parts.{flights_of};
+ghost use Rattle.iom_machine.specs.declared.event.Event as spec;
+ghost use Rattle.iom_machine.specs.declared.outcome.Outcome.{Outcome};
+ghost use Rattle.iom_composition.specs.Does.{Does};
+ghost use Rattle.iom_composition.specs.Parts.{Parts};
+ghost use Rattle.iom_composition.specs.Sound.{AreSound};
+ghost use Rattle.iom_composition.specs.Stays.{KeepsCommands};
+ghost use Rattle.iom_composition.proofs.DriverLemmas.{IsSoundDriver};
+ghost use Rattle.iom_settling.specs.Stages.{brief};
+
+use crate::told::Told;
+use iom_base::DeviceId;
+use iom_machine::Event;
+
+/// What takes events as a world does: a world with its block devices.
+pub trait TakesEvents {
+    /// Memory, IOMMU, driver, devices and messages.
+    ghost parts: { Self → Parts };
+
+    /// How many events there were.
+    ghost counted: { Self → ℕ };
+
+    /// The event is answered so, and makes of the first the second.
+    ghost happens: { Self → spec.Event → Outcome → Self → Type 0 };
+
+    /// What holds of accesses in flight and of messages, whatever events there were. It does nothing.
+    fn facts(&self)
+        ensures flights { AreFlights (flights_of (parts self.now).iommu) }
+        ensures messages { length (parts self.now).fabric ≤ 64 };
+
+    /// The first device, in the order of plugging, that has an access in flight.
+    fn first_busy(&self) -> Option<DeviceId>
+        ensures { result ≡ first_busy (flights_of (parts self.now).iommu).rows };
+
+    /// Whether no message is under way.
+    fn is_quiet(&self) -> bool
+        ensures { result ≡ (length (parts self.now).fabric == 0) };
+
+    /// Whether a ticket isn't confirmed.
+    fn has_pending(&self) -> bool
+        ensures { result ≡ nat_lt (parts self.now).driver.confirmed (parts self.now).driver.given };
+
+    /// Whether the numbers of fences are used up.
+    fn has_used_up(&self) -> bool
+        ensures { result ≡ nat_le 4294967295 (last_fence (parts self.now).driver) };
+
+    /// One event.
+    fn take(&mut self, event: &Event) -> Told
+        requires count { counted self.old + 1 < 2 ^ 64 }
+        ensures { (told : Outcome) × happens self.old event.now told self.new × (result ≡ brief told) };
+
+    /// An event does what the call behind it says.
+    ghost does: { (x y : Self) (event : spec.Event) (told : Outcome) → happens x event told y → (disks : List ℕ) × Does disks (parts x) event told (parts y) };
+
+    /// The commands that wait change by some events alone.
+    ghost commands: { (x y : Self) (event : spec.Event) (told : Outcome) → happens x event told y → KeepsCommands event (parts x) (parts y) };
+
+    /// Each event is counted.
+    ghost counts: { (x y : Self) (event : spec.Event) (told : Outcome) → happens x event told y → counted y ≡ counted x + 1 };
+
+    /// The parts are always sound.
+    ghost sound: { (x : Self) → AreSound (parts x) (counted x) };
+
+    /// And so is the driver by itself.
+    ghost own: { (x : Self) → IsSoundDriver (parts x).driver };
+}
