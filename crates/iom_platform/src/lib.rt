@@ -15,6 +15,7 @@ mod for_blocks;
 mod one_step;
 mod platform;
 mod run;
+mod settling;
 mod start;
 mod stepping;
 

@@ -1,4 +1,4 @@
-//! Runs of a platform into a sink that fails. What comes of events, of a platform's own block devices too, is told by the
+//! Runs of a platform into a sink that fails, and platforms that settle. What comes of events, of a platform's own block devices too, is told by the
 //! worked scripts of `iom_worked`.
 ghost use Rattle.std.specs.Prelude.{◌≡◌, ◌+◌, ◌≤◌, false, length};
 
@@ -6,6 +6,7 @@ use crate::expect::expect;
 use iom_machine::{Event, Outcome, Sink, Trace};
 use iom_platform::Platform;
 use iom_runner::program_disks;
+use iom_script::parse;
 use iom_virtio_blk::MemoryDisk;
 use std::alloc::Global;
 use std::process::Abort;
@@ -63,4 +64,57 @@ fn a_run_stops_where_the_sink_fails(rt: HostRuntime) {
     let events = [Event::Fetch, Event::Poll, Event::Fetch, Event::Poll];
     expect(&rt, left(&mut platform, &events, 2) == (0, false, 3));
     expect(&rt, left(&mut platform, &events[..2], 9) == (7, true, 5));
+}
+
+/// A platform to which these lines have happened, of fewer than a thousand; how many events settled it, and how many there were
+/// in all. None where the lines are no script, or it doesn't settle.
+fn settled(rt: &impl Abort, alloc: Global, lines: &[u8]) -> Option<(u32, u64)> {
+    let script = parse(alloc, lines).ok()?;
+    let mut platform = opened(rt, alloc);
+    let mut sink = Room { left: 1000 };
+    let events = script.events.as_slice();
+    if events.len() > 1000 || platform.events() > 1000 {
+        return None;
+    }
+    platform.run(events, &mut sink).ok()?;
+    if platform.events() > 10000 {
+        return None;
+    }
+    let count = platform.settle().ok()?;
+    Some((count, platform.events()))
+}
+
+/// Lines, and how many events settle the platform to which they happened: nothing was done; eight accesses are in flight; a
+/// message was lost and the fence given up; a device is cut off while its message is lost.
+static SETTLED: [(&[u8], u32, u64); 4] = [
+    (b"world 64 1\n", 0, 0),
+    (
+        b"world 64 1\ndevice 000001 raw\nattach 000001 first\ngrant 000001 3 5 rw\n\
+        read 000001 0x3000 1\nread 000001 0x3000 1\nread 000001 0x3000 1\nread 000001 0x3000 1\nread 000001 0x3000 1\n\
+        read 000001 0x3000 1\nread 000001 0x3000 1\nread 000001 0x3000 1\nread 000001 0x3000 1\n",
+        8,
+        20,
+    ),
+    (
+        b"world 64 1\ndevice 000002 ats\nattach 000002 first ats\ngrant 000002 3 5 rw\nrelease 000002 3\nfetch\nfetch\n\
+        drop 0\nfetch\ntimeout\n",
+        10,
+        19,
+    ),
+    (
+        b"world 64 1\ndevice 000002 ats\nattach 000002 first ats\ngrant 000002 3 5 rw\nrelease 000002 3\nfetch\nfetch\n\
+        drop 0\nquarantine 000002\n",
+        6,
+        14,
+    ),
+];
+
+#[test]
+fn a_platform_settles(rt: HostRuntime) {
+    for (lines, count, events) in SETTLED.iter() {
+        expect(
+            &rt,
+            settled(&rt, rt.alloc(), lines) == Some((*count, *events)),
+        );
+    }
 }

@@ -1,8 +1,9 @@
 // What a world tells of itself, beside the outcomes of its events.
-ghost use Rattle.std.specs.Prelude.{◌≡◌, ◌==◌, length, nat_le, nat_lt, slice_get};
+ghost use Rattle.std.specs.Prelude.{◌≡◌, ◌==◌, ◌≤◌, length, nat_le, nat_lt, slice_get};
 ghost use Rattle.iom_driver.specs.Fences.{last_fence};
 ghost use Rattle.iom_driver.specs.Seen.{state_of};
 ghost use Rattle.iom_inflight.specs.Flights.{first_busy, oldest_in, row_of};
+ghost use Rattle.iom_inflight.specs.Sound.{AreFlights};
 ghost use Rattle.iom_iommu.specs.Parts.{flights_of};
 ghost use Rattle.iom_machine.specs.declared.state.State.{State};
 ghost use Rattle.iom_world.specs.Counts.{IsTraceOf, oldest_number};
@@ -26,6 +27,15 @@ impl World {
         }
         let later = (in_flight - 1) as u64;
         Some(self.iommu.accepted(id).saturating_sub(later))
+    }
+
+    /// What holds of accesses in flight and of messages, whatever events there were. It does nothing.
+    pub fn facts(&self)
+        ensures flights { AreFlights (flights_of self.now.iommu) }
+        ensures messages { length self.now.fabric ≤ 64 }
+    {
+        self.iommu.facts();
+        self.fabric.facts();
     }
 
     /// The access that a commit of the device would make. None where nothing of it is in flight, or no device has the id.

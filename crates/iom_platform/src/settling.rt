@@ -1,0 +1,83 @@
+// Settling: events of the driver and the hardware alone, after which no ticket is unconfirmed.
+ghost use Rattle.std.specs.Prelude.{◌≡◌, ◌+◌, ◌<◌, ◌^◌};
+ghost use Rattle.iom_composition.proofs.DriverLemmas.{sound_driver};
+ghost use Rattle.iom_platform.specs.Happens.{HappensHere};
+ghost use Rattle.iom_platform.specs.Seen.{platform_seen};
+ghost use Rattle.iom_settling.specs.Stages.{Settled, brief};
+ghost use Rattle.iom_world.specs.Seen.{disks_of, parts_of};
+
+use crate::platform::Platform;
+use iom_base::DeviceId;
+use iom_ledger::Refusal;
+use iom_machine::{Event, Fetched, Outcome};
+use iom_settling::{TakesEvents, Told, settle};
+use iom_virtio_blk::Disk;
+
+/// What settling wants to know of the outcome.
+fn brief(outcome: &Outcome) -> Told
+    ensures { result ≡ brief outcome.now }
+{
+    match outcome {
+        Outcome::Fetched(Fetched::Waiting) => Told::Waits,
+        Outcome::Fetched(Fetched::Empty) => Told::Empty,
+        _ => Told::Other,
+    }
+}
+
+/// A platform takes events, its block devices along: what is made of their accesses they hear.
+impl<D: Disk> TakesEvents for Platform<D> {
+    ghost parts = { λ platform. parts_of platform.world };
+
+    ghost counted = { λ platform. platform.world.events };
+
+    ghost happens = { λ old event told new. HappensHere (platform_seen D.seen old) event told (platform_seen D.seen new) };
+
+    ghost does = { λ old new event told happens. (disks_of old.world, happens.0.does) };
+
+    ghost commands = { λ old new event told happens. happens.0.commands };
+
+    ghost counts = { λ old new event told happens. happens.0.events };
+
+    ghost sound = { λ platform. platform.world.sound };
+
+    ghost own = { λ platform. sound_driver platform.world.driver };
+
+    fn facts(&self) {
+        self.world.facts();
+    }
+
+    fn first_busy(&self) -> Option<DeviceId> {
+        self.world.first_busy()
+    }
+
+    fn is_quiet(&self) -> bool {
+        self.world.is_quiet()
+    }
+
+    fn has_pending(&self) -> bool {
+        self.world.has_pending()
+    }
+
+    fn has_used_up(&self) -> bool {
+        self.world.has_used_up()
+    }
+
+    fn take(&mut self, event: &Event) -> Told {
+        brief(&self.step(event))
+    }
+}
+
+impl<D: Disk> Platform<D> {
+    /// Drives the platform until no ticket is unconfirmed: commits of each device in the order of plugging, while it has
+    /// accesses in flight; deliveries of the oldest message, while there is one; and where a ticket is unconfirmed then, a
+    /// restart, fetches until the queue is empty, with deliveries behind each that waits, and a poll. None of these events
+    /// is a loss, a timeout or a reset, and what is held stays held. How many events that were: at most 341.
+    /// `NumbersUsedUp` where a restart has no number left for its fence; then the commits and the first deliveries have
+    /// happened, and nothing else.
+    pub fn settle(&mut self) -> Result<u32, Refusal>
+        requires count { self.old.world.events + 400 < 2 ^ 64 }
+        ensures { Settled (λ platform. parts_of platform.world) (λ old event told new. HappensHere (platform_seen D.seen old) event told (platform_seen D.seen new)) self.old result self.new }
+    {
+        settle(self)
+    }
+}
