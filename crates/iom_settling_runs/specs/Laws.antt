@@ -1,0 +1,21 @@
+-- What settling a platform is for the ledger machine.
+use Rattle.std.specs.Prelude.{ℕ, Result}
+use Rattle.iom_ledger.specs.declared.refusal.Refusal.{Refusal}
+use Rattle.iom_machine.specs.declared.event.Event.{Event}
+use Rattle.iom_machine.specs.declared.outcome.Outcome.{Outcome}
+use Rattle.iom_machine.specs.declared.state.State.{State}
+use Rattle.iom_platform.specs.declared.platform.Platform.{Platform}
+use Rattle.iom_platform.specs.Happens.{HappensHere}
+use Rattle.iom_platform.specs.Seen.{platform_seen}
+use Rattle.iom_settling.specs.Settles.{Settles}
+use Rattle.iom_settling.specs.Stages.{Settled}
+use Rattle.iom_virtio_blk.specs.declared.disk.Disk.{Ghosts}
+use Rattle.iom_world.specs.Seen.{parts_of}
+use Rattle.iom_world.specs.Shows.{Shows}
+
+-- WHAT SETTLES A PLATFORM IS A RUN of the ledger machine, from every state that it shows to one that it shows then, as the machine settles by that answer
+abbrev pub SettlingsAreRuns : {D : Type 0} → Ghosts D → Type 0
+SettlingsAreRuns {D} d = (old new : Platform D d) (answer : Result ℕ Refusal) (state : State) → Shows old.world state
+    → Settled (λ (platform : Platform D d). parts_of platform.world)
+    (λ (before : Platform D d) (event : Event) (told : Outcome) (after : Platform D d). HappensHere (platform_seen d.seen before) event told (platform_seen d.seen after)) old answer new
+    → (last : State) × Shows new.world last × Settles state answer last
