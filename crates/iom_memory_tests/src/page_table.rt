@@ -221,70 +221,19 @@ fn the_last_page_of_four_levels_has_its_bytes(rt: HostRuntime) {
 // In four levels pages share the three tables besides the root, two, one and none.
 #[test]
 fn pages_share_tables_of_four_levels(rt: HostRuntime) {
-    let mut memory = empty(&rt, Size::Sv48);
-    let top = map_page(
-        &rt,
-        &mut memory,
-        Size::Sv48,
-        59,
-        34_359_738_367,
-        5,
-        Rights::R,
-    );
-    let top = map_page(
-        &rt,
-        &mut memory,
-        Size::Sv48,
-        top,
-        34_359_738_366,
-        6,
-        Rights::RW,
-    );
+    let size = Size::Sv48;
+    let mut memory = empty(&rt, size);
+    let top = map_page(&rt, &mut memory, size, 59, 34_359_738_367, 5, Rights::R);
+    let top = map_page(&rt, &mut memory, size, top, 34_359_738_366, 6, Rights::RW);
     expect(&rt, top == 56);
-    let top = map_page(
-        &rt,
-        &mut memory,
-        Size::Sv48,
-        top,
-        34_359_737_855,
-        7,
-        Rights::RW,
-    );
+    let top = map_page(&rt, &mut memory, size, top, 34_359_737_855, 7, Rights::RW);
     expect(&rt, top == 55);
-    let top = map_page(
-        &rt,
-        &mut memory,
-        Size::Sv48,
-        top,
-        34_359_476_223,
-        8,
-        Rights::RW,
-    );
+    let top = map_page(&rt, &mut memory, size, top, 34_359_476_223, 8, Rights::RW);
     expect(&rt, top == 53);
-    let top = map_page(
-        &rt,
-        &mut memory,
-        Size::Sv48,
-        top,
-        34_225_520_639,
-        9,
-        Rights::RW,
-    );
+    let top = map_page(&rt, &mut memory, size, top, 34_225_520_639, 9, Rights::RW);
     expect(&rt, top == 50);
-    writes(
-        &rt,
-        &memory,
-        Size::Sv48,
-        0x7f7f_ffff_f000,
-        at(9, Rights::RW),
-    );
-    reads(
-        &rt,
-        &memory,
-        Size::Sv48,
-        0x7fff_ffff_e000,
-        at(6, Rights::RW),
-    );
+    writes(&rt, &memory, size, 0x7f7f_ffff_f000, at(9, Rights::RW));
+    reads(&rt, &memory, size, 0x7fff_ffff_e000, at(6, Rights::RW));
 }
 
 #[test]
