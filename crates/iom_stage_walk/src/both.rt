@@ -13,7 +13,7 @@ ghost use Rattle.iom_stage_walk.specs.declared.walked.WalkFault.{WalkFault};
 
 use crate::entry::{Entry, entry_at};
 use crate::second::{lead, report};
-use crate::walk::{first_indices, is_canonical, judge_leaf, last_indices};
+use crate::walk::{first_indices, is_canonical, judge_leaf};
 use crate::walked::{WalkFault, Walked};
 use iom_base::{AccessKind, Cause, ENTRY_SIZE, PAGE_SIZE, Ppn, Rights, Size};
 use iom_phys_mem::Bytes;
@@ -74,6 +74,7 @@ fn guest_entry<B: Bytes>(
 }
 
 /// Follows the indices, one a level, from the guest's table at `root`.
+#[inline(always)]
 fn walk_guest<B: Bytes>(
     memory: &B,
     size: Size,
@@ -154,6 +155,7 @@ fn final_access<B: Bytes>(
 }
 
 /// Both stages, with as many levels of the first as there are indices, those of the address.
+#[inline(always)]
 fn walk_both_levels<B: Bytes>(
     memory: &B,
     first: Ppn,
@@ -175,6 +177,32 @@ fn walk_both_levels<B: Bytes>(
     final_access(memory, size, second, leaf, address, kind)
 }
 
+/// Both stages, the first of the size that stands before its root.
+// A slice of a known length for each size, so that the loop over it is unrolled.
+#[inline(always)]
+fn walk_both_sized<B: Bytes>(
+    memory: &B,
+    first_size: Size,
+    first: Ppn,
+    second_size: Size,
+    second: u64,
+    address: u64,
+    kind: AccessKind,
+) -> Result<Walked, WalkFault>
+    ensures ok { IfOk result (ReachesBoth (levels_of first_size) (levels_of second_size) (B.frames_of memory.now) first.number second address kind) }
+    ensures err { IfErr result (StopsBoth (levels_of first_size) (levels_of second_size) (B.frames_of memory.now) first.number second address kind) }
+{
+    let all = first_indices(address / PAGE_SIZE);
+    match first_size {
+        Size::Sv39 => {
+            walk_both_levels(memory, first, second_size, second, address, &all[1..], kind)
+        }
+        Size::Sv48 => {
+            walk_both_levels(memory, first, second_size, second, address, &all[0..], kind)
+        }
+    }
+}
+
 /// The walk of both stages: the first stage's root table is at the guest physical page `first`, the second's begins at
 /// the page number `second`; each stage has the size that stands before its root. Ok exactly where the path of the
 /// address reaches through both, with the frame, what both allow, and the frames from which the guest's tables were
@@ -194,7 +222,13 @@ pub fn walk_both<B: Bytes>(
     ensures stopped { (fault : WalkFault) → (result ≡ Err fault)
         ↔ StopsBoth (levels_of first_size) (levels_of second_size) (B.frames_of memory.now) first.number second address kind fault }
 {
-    let all = first_indices(address / PAGE_SIZE);
-    let indices = last_indices(first_size, &all);
-    walk_both_levels(memory, first, second_size, second, address, indices, kind)
+    walk_both_sized(
+        memory,
+        first_size,
+        first,
+        second_size,
+        second,
+        address,
+        kind,
+    )
 }

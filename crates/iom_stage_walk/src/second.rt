@@ -5,9 +5,7 @@ ghost use Rattle.iom_stage_walk.specs.Second.{second_widths, IsGuestPhysical, Le
 ghost use Rattle.iom_stage_walk.specs.declared.walked.Walked.{Walked};
 ghost use Rattle.iom_stage_walk.specs.declared.walked.WalkFault.{WalkFault};
 
-use crate::walk::{
-    Faults, MAX_LEVELS, SPAN_OF_THREE, SPAN_OF_TWO, first_indices, last_indices, walk,
-};
+use crate::walk::{Faults, MAX_LEVELS, SPAN_OF_THREE, SPAN_OF_TWO, first_indices, walk};
 use crate::walked::{WalkFault, Walked};
 use iom_base::{AccessKind, Cause, PAGE_SIZE, Rights, Size, TABLE_ENTRIES};
 use iom_phys_mem::Bytes;
@@ -49,6 +47,7 @@ fn is_guest_physical(levels: usize, address: u64) -> bool
 }
 
 /// A second stage of as many levels as there are indices, those of the address.
+#[inline(always)]
 fn lead_levels<B: Bytes>(
     memory: &B,
     root: u64,
@@ -115,14 +114,11 @@ pub(crate) fn lead<B: Bytes>(
     ensures err { IfErr result (LeadsNowhere (levels_of size) (B.frames_of memory.now) root address kind original) }
 {
     let all = second_indices(size, address / PAGE_SIZE);
-    lead_levels(
-        memory,
-        root,
-        address,
-        last_indices(size, &all),
-        kind,
-        original,
-    )
+    // A slice of a known length for each size, so that the loop over it is unrolled.
+    match size {
+        Size::Sv39 => lead_levels(memory, root, address, &all[1..], kind, original),
+        Size::Sv48 => lead_levels(memory, root, address, &all[0..], kind, original),
+    }
 }
 
 /// The walk of a second stage of the size, Sv39x4 or Sv48x4, whose root table begins at the page number `root`: Ok

@@ -1,4 +1,4 @@
-ghost use Rattle.std.specs.Prelude.{◌≡◌, ◌≢◌, ◌↔◌, ℕ, ◌+◌, ◌-◌, ◌*◌, ◌/◌, ◌%◌, ◌^◌, ◌<◌, ◌≤◌, ◌⊎◌, IsTrue, IfOk, IfErr, IfSome, IfNone, Ok, Err, length, drop};
+ghost use Rattle.std.specs.Prelude.{◌≡◌, ◌≢◌, ◌↔◌, ℕ, ◌+◌, ◌*◌, ◌/◌, ◌%◌, ◌^◌, ◌<◌, ◌≤◌, ◌⊎◌, IsTrue, IfOk, IfErr, IfSome, IfNone, Ok, Err, length};
 ghost use Rattle.std.specs.Prelude.{slice_index, EachIndex, true, false};
 ghost use Rattle.iom_base.specs.Rights.{allows};
 ghost use Rattle.iom_base.specs.Sizes.{page_size, levels_of};
@@ -82,6 +82,7 @@ pub(crate) struct Faults {
 }
 
 /// Follows the indices, one a level, from the table at `root`: one load a level and no more.
+#[inline(always)]
 pub(crate) fn walk<B: Bytes>(
     memory: &B,
     root: u64,
@@ -120,6 +121,7 @@ pub(crate) fn is_canonical(levels: usize, address: u64) -> bool
 }
 
 /// A walk of a first stage of as many levels as there are indices, those of the address.
+#[inline(always)]
 fn walk_levels<B: Bytes>(
     memory: &B,
     root: u64,
@@ -163,13 +165,23 @@ pub fn first_indices(page: u64) -> [u16; MAX_LEVELS]
     ]
 }
 
-/// The last of four indices, as many as tables of the size have levels.
-pub(crate) fn last_indices(size: Size, all: &[u16; MAX_LEVELS]) -> &[u16]
-    ensures { result.now ≡ drop (4 - levels_of size) all.now }
+/// A walk of a first stage of the size.
+// A slice of a known length for each size, so that the loop over it is unrolled.
+#[inline(always)]
+fn walk_sized<B: Bytes>(
+    memory: &B,
+    size: Size,
+    root: u64,
+    address: u64,
+    kind: AccessKind,
+) -> Result<Walked, Cause>
+    ensures ok { IfOk result (ReachesFirst (levels_of size) (B.frames_of memory.now) root address kind) }
+    ensures err { IfErr result (StopsAt (levels_of size) (B.frames_of memory.now) root address kind) }
 {
+    let all = first_indices(address / PAGE_SIZE);
     match size {
-        Size::Sv39 => &all[1..],
-        Size::Sv48 => &all[0..],
+        Size::Sv39 => walk_levels(memory, root, address, &all[1..], kind),
+        Size::Sv48 => walk_levels(memory, root, address, &all[0..], kind),
     }
 }
 
@@ -186,8 +198,7 @@ pub fn walk_first<B: Bytes>(
     ensures reached { (walked : Walked) → (result ≡ Ok walked) ↔ ReachesFirst (levels_of size) (B.frames_of memory.now) root address kind walked }
     ensures stopped { (fault : WalkFault) → (result ≡ Err fault) ↔ StopsFirst (levels_of size) (B.frames_of memory.now) root address kind fault }
 {
-    let all = first_indices(address / PAGE_SIZE);
-    match walk_levels(memory, root, address, last_indices(size, &all), kind) {
+    match walk_sized(memory, size, root, address, kind) {
         Ok(walked) => Ok(walked),
         Err(cause) => Err(WalkFault {
             cause,
