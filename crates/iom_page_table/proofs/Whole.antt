@@ -13,27 +13,18 @@ use Rattle.iom_page_table.specs.declared.leaf.PageLeaf.{PageLeaf}
 use Rattle.std.specs.Prelude.{◌↔◌, ◌==◌, is_some, if◌then◌else◌}
 use Rattle.std.specs.List.{Contains}
 use Rattle.std.proofs.lemmas.List.{get_or_default, take_all}
-use Rattle.iom_stage_walk.specs.Paths.{path_of, first_widths}
+use Rattle.iom_stage_walk.specs.Paths.{path_of}
 use Rattle.iom_page_table.specs.Leaves.{leaf_of}
 use Rattle.iom_page_table.specs.Trees.{shape_of}
 use Rattle.iom_page_table.proofs.Mapping.{Sets, sets, no_table, last_entry, is_last_entry, last_table, whole_table, lowest_inside}
 use Rattle.iom_page_table.proofs.Steps.{fills_next}
 use Rattle.iom_page_table.proofs.Words.{inside_of}
 use Rattle.iom_page_table.proofs.Prefixes.{leaf_below}
-use Rattle.iom_page_table.proofs.Pages.{is_page, path_shaped, path_long, shape_long, leaves_after, translated_low, translated_leaf}
+use Rattle.iom_page_table.proofs.Pages.{is_page, path_shaped, path_long, leaves_after, translated_low, translated_leaf}
 
 -- a page's indices: those above the last level, and the last
 abbrev pub Splits : Size → ℕ → List ℕ → Type 0
 Splits size page upper = upper ++ page % 512 ∷ [] ≡ path_of (shape_of size) page
-
--- the shape of the tables, by how many indices stand above the last
-pub shape_by_upper : (size : Size) (page : ℕ) (upper : List ℕ) → Splits size page upper → first_widths (length upper + 1) ≡ shape_of size
-shape_by_upper size page upper splits = ap first_widths ((is_page size page (page % 512) upper splits).long ∙ shape_long size)
-
-pub built_in : (size : Size) (old mid : List (List ℕ)) (root page table : ℕ) (upper frames : List ℕ) → Splits size page upper
-    → Built (first_widths (length upper + 1)) old mid root upper (length upper) table frames (length frames) → Built (shape_of size) old mid root upper (length upper) table frames (length frames)
-built_in size old mid root page table upper frames splits b =
-    subst (λ shape. Built shape old mid root upper (length upper) table frames (length frames)) (shape_by_upper size page upper splits) b
 
 -- the entry of a page at the last level of a tree lies in memory
 pub entry_inside : (size : Size) (frames : List (List ℕ)) (root page table : ℕ) (upper : List ℕ) → IsTree (shape_of size) (entries frames) root → Splits size page upper → IsTableAt (entries frames) root upper table → slot table (page % 512) / 512 < length frames

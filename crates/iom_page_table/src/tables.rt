@@ -9,21 +9,12 @@ ghost use Rattle.iom_page_table.specs.Leaves.{leaf_of};
 ghost use Rattle.iom_page_table.specs.FirstTables.{IsRoot, HasTable, missing_for, IsLeafEntry, FillsEntry, ChangesLeaf, KeepsOutside, mapped, unmapped};
 ghost use Rattle.iom_page_table.specs.Trees.{shape_of, AreFresh};
 
-use crate::build::{build, count_missing, leaf_word, put, table_under};
+use crate::above_last::{build, count_missing, last_table};
+use crate::build::{leaf_word, put};
 use crate::leaf::PageLeaf;
 use iom_base::{Size, TABLE_ENTRIES};
 use iom_phys_mem::Bytes;
-use iom_stage_walk::{Entry, MAX_LEVELS, entry_at, first_indices};
-
-/// The indices of a page in the tables of the size above the last, of its four.
-fn upper_of(size: Size, all: &[u16; MAX_LEVELS]) -> &[u16]
-    ensures { (page : ℕ) → all.now ≡ path_of (first_widths 4) page → result.now ++ page % table_entries ∷ [] ≡ path_of (shape_of size) page }
-{
-    match size {
-        Size::Sv39 => &all[1..3],
-        Size::Sv48 => &all[0..3],
-    }
-}
+use iom_stage_walk::{Entry, entry_at, first_indices};
 
 /// How many tables are missing for a leaf of the page: fewer than its tables have levels. Of the page's number the
 /// low bits count that they translate. At most one load for each level but the last.
@@ -31,7 +22,7 @@ pub fn missing<B: Bytes>(memory: &B, size: Size, root: u32, page: u64) -> usize
     ensures { result ≡ missing_for size (B.frames_of memory.now) root page }
 {
     let all = first_indices(page);
-    count_missing(memory, root, upper_of(size, &all))
+    count_missing(memory, size, root, &all)
 }
 
 /// Whether the page has a leaf. At most one load a level.
@@ -41,7 +32,7 @@ pub fn is_mapped<B: Bytes>(memory: &B, size: Size, root: u32, page: u64) -> bool
     ensures { result ≡ is_some (leaf_of (levels_of size) (B.frames_of memory.now) root page) }
 {
     let all = first_indices(page);
-    match table_under(memory, root, upper_of(size, &all)) {
+    match last_table(memory, size, root, &all) {
         Some(table) => match entry_at(memory, table, (page % TABLE_ENTRIES) as u16) {
             Entry::Leaf(_, _) => true,
             _ => false,
@@ -82,7 +73,7 @@ pub fn map<B: Bytes>(
 {
     let last = (page % TABLE_ENTRIES) as u16;
     let all = first_indices(page);
-    let table = build(memory, root, upper_of(size, &all), last, frames);
+    let table = build(memory, size, root, &all, last, frames);
     put(memory, table, last, leaf_word(leaf));
 }
 
@@ -106,7 +97,7 @@ pub fn unmap<B: Bytes>(memory: &mut B, size: Size, root: u32, page: u64)
     ensures whole { B.frames_of memory.new ≡ unmapped size (B.frames_of memory.old) root page }
 {
     let all = first_indices(page);
-    match table_under(memory, root, upper_of(size, &all)) {
+    match last_table(memory, size, root, &all) {
         Some(table) => put(memory, table, (page % TABLE_ENTRIES) as u16, 0),
         None => {}
     }
