@@ -15,14 +15,14 @@ use Rattle.iom_copies.specs.Attachments.{caches_translations, may_forge}
 use Rattle.iom_copies.specs.DriverCalls.{with_kind}
 use Rattle.iom_copies.specs.Faithful.{IsFaithful}
 use Rattle.iom_copies.specs.Fetches.{next_invalidation}
-use Rattle.iom_copies.specs.Laws.{AccessesAlwaysMay, scene_at_power_on}
+use Rattle.iom_copies.specs.Laws.{AccessesAlwaysMay, scene_after_fence}
 use Rattle.iom_copies.specs.Occurrences.{Accept, Attach, CarryMessages, CompleteFence, Confirm, DeliverAnswer, DeliverCompletion, DeliverRequest, Detach, FetchAtsInval, FetchIodir, FetchIotinval, Grant, KeepContext, KeepTranslation, Make, OccurInTurn, Occurrence, Occurs, Plug, Quarantine, Release, Reset, Restart, Revive, TakeStock, TimeOut}
 use Rattle.iom_copies.specs.Scene.{Answer, InvalidateCompletion, InvalidateRequest, Question, Scene, Stock}
 use Rattle.iom_machine.specs.declared.state.DeviceKind.{DeviceKind}
 
--- power-on
-pub faithful_at_power_on : IsFaithful scene_at_power_on
-faithful_at_power_on = record {
+-- power-on, with all numbers of fences up to one used up
+pub faithful_after_fence : (number : ℕ) → IsFaithful (scene_after_fence number)
+faithful_after_fence number = record {
   order = record {
     fences = omega arith;
     tickets = omega arith;
@@ -125,4 +125,4 @@ turns_keep_facts [] old new faithful is = so new old is faithful
 turns_keep_facts (first ∷ others) old new faithful (between, now, later) = turns_keep_facts others between new (occurrences_keep_facts first old between faithful now) later
 
 pub accesses_always_may : AccessesAlwaysMay
-accesses_always_may occurrences scene run = accesses_may scene (turns_keep_facts occurrences scene_at_power_on scene faithful_at_power_on run)
+accesses_always_may number occurrences scene run = accesses_may scene (turns_keep_facts occurrences (scene_after_fence number) scene (faithful_after_fence number) run)

@@ -40,6 +40,10 @@ scene_at_power_on = record {
   last_serial = 0;
 }
 
+-- the same, with all numbers of fences up to one used up
+abbrev pub scene_after_fence : ℕ → Scene
+scene_after_fence number = record scene_at_power_on { last_fence = number }
+
 -- Whatever occurs, all facts stay.
 abbrev pub OccurrencesKeepFacts : Type 0
 OccurrencesKeepFacts = (occurrence : Occurrence) (old new : Scene) → IsFaithful old → Occurs occurrence old new → IsFaithful new
@@ -62,9 +66,9 @@ AccessesMay scene = (access : AccessInFlight) → Contains scene.in_flight acces
 abbrev pub FaithfulAccessesMay : Type 0
 FaithfulAccessesMay = (scene : Scene) → IsFaithful scene → AccessesMay scene
 
--- After any occurrences from power-on each access in flight may still reach its frame.
+-- After any occurrences from power-on, whatever numbers of fences are used up then, each access in flight may still reach its frame.
 abbrev pub AccessesAlwaysMay : Type 0
-AccessesAlwaysMay = (occurrences : List Occurrence) (scene : Scene) → OccurInTurn scene_at_power_on occurrences scene → AccessesMay scene
+AccessesAlwaysMay = (number : ℕ) (occurrences : List Occurrence) (scene : Scene) → OccurInTurn (scene_after_fence number) occurrences scene → AccessesMay scene
 
 -- What a copy names.
 

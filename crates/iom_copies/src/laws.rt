@@ -1,18 +1,19 @@
 //! What the facts on copies give the layers above.
+ghost use Rattle.std.specs.Prelude.{ℕ};
 ghost use Rattle.iom_copies.specs.Faithful.{IsFaithful};
-ghost use Rattle.iom_copies.specs.Laws.{scene_at_power_on, OccurrencesKeepFacts, TurnsKeepFacts, FactsAreOfAllHistories, FaithfulAccessesMay, AccessesAlwaysMay};
+ghost use Rattle.iom_copies.specs.Laws.{scene_after_fence, OccurrencesKeepFacts, TurnsKeepFacts, FactsAreOfAllHistories, FaithfulAccessesMay, AccessesAlwaysMay};
 ghost use Rattle.iom_copies.specs.Laws.{OfTranslations, OfEntries, OfAnswers, NamesReachable, NamesHeld};
 ghost use Rattle.iom_copies.specs.Laws.{ContextsAreNotOver, IsOfKnown, AccessesAreKnown};
 ghost use Rattle.iom_copies.specs.Laws.{OpenSlotsHoldFences, StoppedQueuesHoldFences, DoneFencesAreGone};
 ghost use Rattle.iom_copies.specs.Worked.{StaleWritesOccur, RevivalsOccur};
 
-/// The facts hold at power-on, and whatever hardware or driver does keeps them, one thing or several in turn:
-/// each copy names what is held, or what lingers under a ticket that can't be confirmed before the copy is
-/// gone. So each access in flight may still reach its frame, where the facts hold, and so after anything that
-/// can occur from power-on. If the facts hold of one history with which a ledger agrees, they do of each that
-/// confirms no later ticket.
+/// The facts hold at power-on, whatever numbers of fences are used up by then, and whatever hardware or driver
+/// does keeps them, one thing or several in turn: each copy names what is held, or what lingers under a ticket
+/// that can't be confirmed before the copy is gone. So each access in flight may still reach its frame, where the
+/// facts hold, and so after anything that can occur from power-on. If the facts hold of one history with which a
+/// ledger agrees, they do of each that confirms no later ticket.
 pub fn reclaim_law()
-    ensures opening { IsFaithful scene_at_power_on }
+    ensures opening { (number : ℕ) → IsFaithful (scene_after_fence number) }
     ensures kept { OccurrencesKeepFacts }
     ensures in_turn { TurnsKeepFacts }
     ensures history { FactsAreOfAllHistories }

@@ -1,6 +1,6 @@
 -- What each call answers, what it leaves, and what stays: over the driver, memory, and whatever has registers. Attach, detach, quarantine, revive,
 -- restart and poll have files of their own.
-use Rattle.std.specs.Prelude.{◌≡◌, ◌≢◌, ℕ, ◌+◌, ◌<◌, Bool, true, false, List, [], ◌∷◌, ◌++◌, length, map, Some, Result, Ok, Err, Option, slice_get, slice_set}
+use Rattle.std.specs.Prelude.{◌≡◌, ◌≢◌, ℕ, ◌+◌, ◌-◌, ◌<◌, Bool, true, false, List, [], ◌∷◌, ◌++◌, length, map, Some, Result, Ok, Err, Option, slice_get, slice_set}
 use Rattle.iom_base.specs.GrantRights.{rights_of}
 use Rattle.iom_base.specs.Modes.{size_in}
 use Rattle.iom_base.specs.declared.grant_rights.GrantRights.{GrantRights}
@@ -58,6 +58,10 @@ pub record Starts {M : Type 0} (g : Ghosts M) (d : DriverState) (memory : List (
   pub registers : io' ≡ turned_on g (length memory) (g.after io Ddtp (ddtp_of (length memory) d.levels))
   pub empty : commands_in memory' (g.registers io') ≡ []
   pub unreported : records_in memory' (g.registers io') ≡ []
+
+-- START FROM a fence's number: a driver starts of which all numbers below that one are used up, by nobody's ticket
+abbrev pub StartsFrom : {M : Type 0} → Ghosts M → ℕ → DriverState → List (List ℕ) → M → DriverState → List (List ℕ) → M → Type 0
+StartsFrom g first_fence d memory io d' memory' io' = Starts g (record d { restarts = first_fence - 1 }) memory io d' memory' io'
 
 -- PLUG: one more device, trusted or not, and attached to nothing; or a refusal, which changes nothing
 abbrev pub AnswersPlug : DriverState → ℕ → Bool → Result (Unit {0}) Refusal → DriverState → Type 0

@@ -1,5 +1,5 @@
--- The numbers of fences, beside those of tickets. Each ticket took the next number of a fence, and so did each restart, whose fence all tickets wait for
--- that weren't confirmed then.
+-- The numbers of fences, beside those of tickets. Numbers below the first may be used up at the start. Then each ticket took the next number of a fence,
+-- and so did each restart, whose fence all tickets wait for that weren't confirmed then.
 use Rattle.std.specs.Prelude.{ℕ, ◌+◌, ◌-◌, nat_lt, min, max, if◌then◌else◌}
 use Rattle.iom_driver.specs.State.{DriverState}
 

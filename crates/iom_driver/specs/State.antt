@@ -5,7 +5,8 @@ use Rattle.iom_ledger.specs.declared.ledger.Ledger.{Ledger}
 use Rattle.iom_driver.specs.declared.device.Device.{Device}
 
 -- what is held and what lingers; whose each frame is; the devices in the order of plugging; the levels of the device directory; whether it was started;
--- the last ticket that was given, and that was confirmed; how often the driver restarted; and the last ticket that was given when it did last
+-- the last ticket that was given, and that was confirmed; how many numbers of fences no ticket took: those below the first, and one for each restart; and
+-- the last ticket that was given when it restarted last
 pub record DriverState : Type 0 where
   pub ledger : Ledger
   pub marks : List (Option Owner)

@@ -1,5 +1,5 @@
-/// The ticket of a release, a detach or a quarantine: a number from 1 on, one above the last. Until the driver
-/// restarts it is also the number of its fence.
+/// The ticket of a release, a detach or a quarantine: a number from 1 on, one above the last. In a driver that
+/// was started from the first number it is also the number of its fence, until the driver restarts.
 #[derive(Clone, Copy, PartialEq, Eq, Debug)]
 pub struct Ticket(pub u32);
 

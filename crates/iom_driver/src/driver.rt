@@ -24,7 +24,8 @@ pub struct Driver {
     pub(crate) given: u32,
     /// The last ticket that was confirmed.
     pub(crate) confirmed: u32,
-    /// How often it restarted. Each restart took a fence's number, as each ticket did.
+    /// How many numbers of fences no ticket took: those below the first, which were used up when it started, and one
+    /// for each restart.
     pub(crate) restarts: u32,
     /// The last ticket that was given when it restarted last: the ones up to it wait for the fence of that restart.
     pub(crate) restarted: u32,

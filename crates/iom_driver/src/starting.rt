@@ -2,7 +2,7 @@
 ghost use Rattle.std.specs.Prelude.{◌≡◌, ◌<◌, ◌≤◌, length, false, Some, slice_get, slice_set};
 ghost use Rattle.iom_phys_mem.specs.Words.{zeroed};
 ghost use Rattle.iom_registers.specs.declared.register.Register.TheVariants.{Ddtp};
-ghost use Rattle.iom_driver.specs.Calls.{Starts, IsOff};
+ghost use Rattle.iom_driver.specs.Calls.{Starts, StartsFrom, IsOff};
 ghost use Rattle.iom_driver.specs.Layout.{directory_frame, ddtp_of};
 ghost use Rattle.iom_driver.specs.Ready.{IsReady};
 ghost use Rattle.iom_driver.specs.Seen.{state_of};
@@ -56,5 +56,20 @@ impl Driver {
         write(io, Register::Fqb, fqb_of(self.frames));
         write(io, Register::Fqcsr, ON);
         self.started = true;
+    }
+
+    /// The same for a driver that has given no ticket, with all fence numbers below the first used up: its first
+    /// fence has that number. From 1 it is what `start` does to a new driver.
+    pub fn start_from<M: Mmio>(&mut self, first_fence: u32, memory: &mut Memory, io: &mut M)
+        requires first { 1 ≤ first_fence }
+        requires idle { (state_of self.old).started ≡ false }
+        requires unnumbered { (state_of self.old).given ≡ 0 }
+        requires size { length memory.old ≡ length (state_of self.old).marks }
+        requires off { IsOff (M.registers io.old) }
+        ensures effect { StartsFrom M.Mmio first_fence (state_of self.old) memory.old io.old (state_of self.new) memory.new io.new }
+        ensures ready { IsReady (state_of self.new) memory.new (M.registers io.new) }
+    {
+        self.restarts = first_fence - 1;
+        self.start(memory, io);
     }
 }
