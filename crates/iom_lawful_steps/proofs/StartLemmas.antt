@@ -9,10 +9,10 @@ use Rattle.iom_base.specs.Bytes.{with_bytes}
 use Rattle.iom_base.specs.declared.owner.Owner.{Owner}
 use Rattle.iom_base.specs.declared.owner.Owner.TheVariants.{System}
 use Rattle.iom_device_dir.specs.declared.context.Context.{Context}
-use Rattle.iom_copies.specs.Laws.{scene_at_power_on}
-use Rattle.iom_copies.proofs.OccurrenceLemmas.{faithful_at_power_on}
+use Rattle.iom_copies.specs.Laws.{scene_after_fence}
+use Rattle.iom_copies.proofs.OccurrenceLemmas.{faithful_after_fence}
 use Rattle.iom_driver.specs.Fences.{last_fence, fence_of}
-use Rattle.iom_driver.specs.Calls.{IsOpening, Starts, turned_on}
+use Rattle.iom_driver.specs.Calls.{IsOpening, StartsFrom, turned_on}
 use Rattle.iom_driver.specs.Devices.{attachment_of}
 use Rattle.iom_driver.specs.Layout.{completion_address, directory_frame, ddtp_of, cqb_of, fqb_of}
 use Rattle.iom_driver.specs.Ready.{IsReady}
@@ -37,7 +37,7 @@ use Rattle.iom_device.specs.declared.device.Device.{Device}
 use Rattle.iom_composition.specs.Queued.{completed_in, AreQueuedAs, pending_after}
 use Rattle.iom_composition.specs.Devices.{shown_attachment}
 use Rattle.iom_composition.specs.Parts.{Parts}
-use Rattle.iom_composition.specs.PowerOn.{IsStartedIommu}
+use Rattle.iom_composition.specs.PowerOn.{IsStartedIommu, IsStartedDriver}
 use Rattle.iom_composition.specs.Read.{space_at, values_of, accesses_of}
 use Rattle.iom_composition.specs.Scenes.{IsSceneOf}
 use Rattle.iom_composition.specs.Frames.{ShowsFrames}
@@ -184,19 +184,19 @@ none_written stay slots none = ap (λ (s : OpenSlots). if stay then s else recor
     by true = refl
     by false = refl
 
--- the parts of a world whose driver has just been started
-pub record IsStarted (n levels : ℕ) (first next : DriverState) (before memory : List (List ℕ)) (power iommu : Iommu) (devices : List Device) (fabric : List OnLink) : Type 0 where
+-- the parts of a world whose driver has just been started from a fence's number
+pub record IsStarted (first_fence n levels : ℕ) (first next : DriverState) (before memory : List (List ℕ)) (power iommu : Iommu) (devices : List Device) (fabric : List OnLink) : Type 0 where
   pub size : IsMemorySize n
   pub opening_driver : IsOpening n levels first
   pub zeros : before ≡ replicate n zeroed
   pub power_on : IsAtPowerOn n power
-  pub starts : Starts mmio first before power next memory iommu
+  pub starts : StartsFrom mmio first_fence first before power next memory iommu
   pub ready : IsReady next memory (registers_of iommu)
   pub unplugged : devices ≡ []
   pub quiet : fabric ≡ []
 
-module _ (n levels : ℕ) (first next : DriverState) (before memory : List (List ℕ)) (power iommu : Iommu) (devices : List Device) (fabric : List OnLink)
-    (started : IsStarted n levels first next before memory power iommu devices fabric) where
+module _ (first_fence n levels : ℕ) (first next : DriverState) (before memory : List (List ℕ)) (power iommu : Iommu) (devices : List Device) (fabric : List OnLink)
+    (started : IsStarted first_fence n levels first next before memory power iommu devices fabric) where
   abbrev parts : Parts
   parts = record { memory = memory; iommu = iommu; driver = next; devices = devices; fabric = fabric }
 
@@ -211,8 +211,8 @@ module _ (n levels : ℕ) (first next : DriverState) (before memory : List (List
   completed : completed_in memory ≡ 0
   completed = ap completed_in memory_is ∙ completed_zero n started.size.0
 
-  driver_is : next ≡ record first { marks = opening_marks n; devices = []; levels = levels; started = true; given = 0; confirmed = 0; restarts = 0; restarted = 0 }
-  driver_is = started.starts.driver ∙ ap (λ (d : DriverState). record d { started = true }) started.opening_driver.rest
+  driver_is : next ≡ record first { marks = opening_marks n; devices = []; levels = levels; started = true; given = 0; confirmed = 0; restarts = first_fence - 1; restarted = 0 }
+  driver_is = started.starts.driver ∙ ap (λ (d : DriverState). record d { started = true; restarts = first_fence - 1 }) started.opening_driver.rest
 
   agrees : Agrees next.ledger []
   agrees = subst (λ d. Agrees d.ledger []) (sym started.starts.driver) started.opening_driver.ledger
@@ -280,12 +280,12 @@ module _ (n levels : ℕ) (first next : DriverState) (before memory : List (List
       (none_written (is_command_queue_on two) (slots_after one (slots_of power))
       (none_written (is_command_queue_on one) (slots_of power) started.power_on.slots))))
 
-  scene_shows : IsSceneOf (values_of parts) scene_at_power_on
+  scene_shows : IsSceneOf (values_of parts) (scene_after_fence (first_fence - 1))
   scene_shows = record {
     ledger = agrees;
     waiting = subst (λ l. AreQueuedAs (completion_address (length memory)) (space_at next.devices) l []) (sym started.starts.empty) tt;
     completed = sym completed;
-    last_fence = sym (ap (λ (d : DriverState). last_fence d) driver_is);
+    last_fence = sym (ap (λ (d : DriverState). last_fence d) driver_is ∙ omega arith);
     pending = sym (ap (pending_after (fence_of next) next.confirmed) {x = next.given - next.confirmed} {y = 0} (omega (arith, given_none)));
     given = sym given_none;
     confirmed = sym confirmed_none;
@@ -326,7 +326,7 @@ module _ (n levels : ℕ) (first next : DriverState) (before memory : List (List
     small = rw given_none (omega arith);
     counted = rw none_accepted (omega arith);
     contexts = λ id context cached. absurd (no_context id context cached);
-    copies = ∣ (scene_at_power_on, scene_shows, faithful_at_power_on) ∣₁;
+    copies = ∣ (scene_after_fence (first_fence - 1), scene_shows, faithful_after_fence (first_fence - 1)) ∣₁;
   }
 
   -- the IOMMU was at power-on, and was started since
@@ -338,6 +338,10 @@ module _ (n levels : ℕ) (first next : DriverState) (before memory : List (List
         ∙ ap (λ k. turned_on mmio k (mmio.after power Ddtp (ddtp_of k first.levels))) long
         ∙ ap (λ (d : DriverState). turned_on mmio n (mmio.after power Ddtp (ddtp_of n d.levels))) started.opening_driver.rest,
   )
+
+  -- the driver was new, and was started since
+  pub driver_started : IsStartedDriver first_fence n levels next
+  driver_started = (first, started.opening_driver, started.starts.driver)
 
   pub shows_started : (disks : List ℕ) → PartsShow parts (opening n levels disks)
   shows_started disks = record {

@@ -1,10 +1,10 @@
 // A platform at power-on.
-ghost use Rattle.std.specs.Prelude.{◌≡◌, ◌↔◌, ◌++◌, [], IfOk, IsErrOf, IsTrue, map};
+ghost use Rattle.std.specs.Prelude.{◌≡◌, ◌↔◌, ◌≤◌, ◌++◌, [], IfOk, IsErrOf, IsTrue, map};
 ghost use Rattle.iom_driver.specs.Layout.{IsLevels};
 ghost use Rattle.iom_phys_mem.specs.Sizes.{IsMemorySize};
 ghost use Rattle.iom_phys_mem.specs.declared.memory.MemError.TheVariants.{BadSize};
 ghost use Rattle.iom_platform.specs.Agreement.{numbers_of};
-ghost use Rattle.iom_platform.specs.PowerOn.{BeginsAt};
+ghost use Rattle.iom_platform.specs.PowerOn.{BeginsAt, BeginsFrom};
 ghost use Rattle.iom_platform.specs.Numbered.{numbered};
 ghost use Rattle.iom_platform.specs.Seen.{platform_seen, disks_seen, states_of};
 
@@ -66,6 +66,23 @@ impl<D: Disk> Platform<D> {
         ensures size { IfOk result (λ platform. IsMemorySize frames × IsLevels levels) }
         ensures bad_size { (IsErrOf result BadSize) ↔ ¬ (IsMemorySize frames × IsLevels levels) }
     {
+        Platform::new_from(alloc, 1, frames, levels, disks)
+    }
+
+    /// The same with all numbers of fences below the first used up: the first fence gets that number, and none
+    /// comes after 4,294,967,295.
+    pub fn new_from(
+        alloc: Global,
+        first_fence: u32,
+        frames: u32,
+        levels: u8,
+        disks: Vec<D>,
+    ) -> Result<Platform<D>, MemError>
+        requires first { 1 ≤ first_fence }
+        ensures begins { IfOk result (λ platform. BeginsFrom first_fence frames levels (states_of D.seen disks.items) (platform_seen D.seen platform)) }
+        ensures size { IfOk result (λ platform. IsMemorySize frames × IsLevels levels) }
+        ensures bad_size { (IsErrOf result BadSize) ↔ ¬ (IsMemorySize frames × IsLevels levels) }
+    {
         // First of all: a size that there isn't is told as that, whatever memory there is for the lists.
         if !is_size(frames, levels) {
             return Err(MemError::BadSize);
@@ -79,7 +96,7 @@ impl<D: Disk> Platform<D> {
         let Ok(blocks) = Vec::with_capacity(alloc, MAX_DEVICES) else {
             return Err(MemError::OutOfMemory);
         };
-        let world = World::new(alloc, frames, levels, &numbers)?;
+        let world = World::new_from(alloc, first_fence, frames, levels, &numbers)?;
         Ok(Platform {
             world,
             blocks,

@@ -8,15 +8,19 @@ use Rattle.iom_world.specs.declared.world.World.{World}
 use Rattle.iom_world.specs.Seen.{commands_of}
 use Rattle.iom_world.specs.Shows.{Shows}
 
--- the world begins, with so many frames of memory and levels of the device directory, and disks of these numbers: it shows the machine at power-on; each byte of memory is zero, those
--- of the system's frames too; its IOMMU was at power-on, and its driver was new, and the driver started both; no device is plugged in, no command waits,
--- no message is under way, and no event was counted
-pub record BeginsAt (frames levels : ℕ) (disks : List ℕ) (world : World) : Type 0 where
+-- the world begins, with so many frames of memory and levels of the device directory, disks of these numbers, and all numbers of fences below the first
+-- used up: it shows the machine at power-on; each byte of memory is zero, those of the system's frames too; its IOMMU was at power-on, and its driver was
+-- new, and the driver started both, from that fence; no device is plugged in, no command waits, no message is under way, and no event was counted
+pub record BeginsFrom (first_fence frames levels : ℕ) (disks : List ℕ) (world : World) : Type 0 where
   pub shows : Shows world (opening frames levels disks)
   pub memory : world.memory ≡ replicate frames zeroed
   pub iommu : IsStartedIommu frames levels world.iommu
-  pub driver : IsStartedDriver frames levels (state_of world.driver)
+  pub driver : IsStartedDriver first_fence frames levels (state_of world.driver)
   pub devices : world.devices.items ≡ []
   pub commands : commands_of world ≡ []
   pub fabric : world.fabric ≡ []
   pub events : world.events ≡ 0
+
+-- the same, with no number of a fence used up: the first fence has number 1
+abbrev pub BeginsAt : ℕ → ℕ → List ℕ → World → Type 0
+BeginsAt = BeginsFrom 1

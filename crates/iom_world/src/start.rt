@@ -1,10 +1,10 @@
 // A world at power-on.
-ghost use Rattle.std.specs.Prelude.{◌≡◌, ◌↔◌, IfOk, IsErrOf};
+ghost use Rattle.std.specs.Prelude.{◌≡◌, ◌↔◌, ◌≤◌, IfOk, IsErrOf};
 ghost use Rattle.iom_phys_mem.specs.Sizes.{IsMemorySize};
 ghost use Rattle.iom_phys_mem.specs.declared.memory.MemError.TheVariants.{BadSize};
 ghost use Rattle.iom_driver.specs.Layout.{IsLevels};
 ghost use Rattle.iom_iommu.specs.Parts.{IsAtPowerOn};
-ghost use Rattle.iom_world.specs.PowerOn.{BeginsAt};
+ghost use Rattle.iom_world.specs.PowerOn.{BeginsAt, BeginsFrom};
 
 use crate::world::World;
 use iom_base::MAX_DEVICES;
@@ -43,6 +43,23 @@ impl World {
         ensures size { IfOk result (λ world. IsMemorySize frames × IsLevels levels) }
         ensures bad_size { (IsErrOf result BadSize) ↔ ¬ (IsMemorySize frames × IsLevels levels) }
     {
+        World::new_from(alloc, 1, frames, levels, disks)
+    }
+
+    /// The same with all numbers of fences below the first used up: the first fence gets that number, and none
+    /// comes after 4,294,967,295.
+    pub fn new_from(
+        alloc: Global,
+        first_fence: u32,
+        frames: u32,
+        levels: u8,
+        disks: &[u64],
+    ) -> Result<World, MemError>
+        requires first { 1 ≤ first_fence }
+        ensures begins { IfOk result (BeginsFrom first_fence frames levels disks.now) }
+        ensures size { IfOk result (λ world. IsMemorySize frames × IsLevels levels) }
+        ensures bad_size { (IsErrOf result BadSize) ↔ ¬ (IsMemorySize frames × IsLevels levels) }
+    {
         let mut driver = Driver::new(alloc, frames, levels)?;
         let mut memory = Memory::new(alloc, frames)?;
         let Ok(devices) = Vec::with_capacity(alloc, MAX_DEVICES) else {
@@ -54,7 +71,7 @@ impl World {
         let Ok(mut iommu) = iommu_at_power_on(alloc, frames) else {
             return Err(MemError::OutOfMemory);
         };
-        driver.start(&mut memory, &mut iommu);
+        driver.start_from(first_fence, &mut memory, &mut iommu);
         let fabric = Fabric::new();
         Ok(World {
             memory,

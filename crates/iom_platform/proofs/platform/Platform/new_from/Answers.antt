@@ -4,7 +4,7 @@ use Rattle.iom_platform.specs.Agreement.{entries_of, known_blocks, numbers_of}
 use Rattle.iom_platform.specs.Numbered.{number_of}
 use Rattle.iom_platform.specs.Seen.{blocks_seen}
 use Rattle.iom_platform.proofs.StartLemmas.{none_shown, numbers_seen}
-use Rattle.iom_platform.proofs.platform.Platform.new.Goals as goal
+use Rattle.iom_platform.proofs.platform.Platform.new_from.Goals as goal
 
 pub invariant_of-result : goal.invariant_of-result
 invariant_of-result g c =
@@ -22,7 +22,7 @@ returns-clause-begins g c =
     let numbers = c.deref-2.ensures.value ∙ c.in-Ok-numbers_of.ensures ∙ ap numbers_of c.deref.ensures.value
     ∙ numbers_seen g.D.Disk.seen c.in-Ok.at_hand.items ∙ ap (λ all. map number_of all) c.in-Ok.ensures in
     record {
-      world = subst (λ (disks : List ℕ). world.BeginsAt c.args.frames c.args.levels disks c.in_ok-world.world) numbers c.in_ok-world.ensures.begins;
+      world = subst (λ (disks : List ℕ). world.BeginsFrom c.args.first_fence c.args.frames c.args.levels disks c.in_ok-world.world) numbers c.in_ok-world.ensures.begins;
       blocks = ap (λ blocks. blocks_seen g.D.Disk.seen blocks) c.in-Ok-with_capacity.ensures.items;
       at_hand = c.in-Ok.ensures;
     }
