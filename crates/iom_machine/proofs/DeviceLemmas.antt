@@ -519,7 +519,7 @@ flows-run old new (event ∷ events) (outcome ∷ outcomes) (mid, step, run) id 
     flows_on (accepted_by event outcome id) (accepted_in events outcomes id) (made_by event outcome id) (made_in events outcomes id) _ (device_of mid id) _
     (flows-change event outcome old mid (devices-step old mid event outcome step) id) (flows-run mid new events outcomes run id)
 
-own_ids-run : (old new : State) (events : List Event) (outcomes : List Outcome) → Run old events outcomes new → HaveOwnIds old.devices → HaveOwnIds new.devices
+pub own_ids-run : (old new : State) (events : List Event) (outcomes : List Outcome) → Run old events outcomes new → HaveOwnIds old.devices → HaveOwnIds new.devices
 own_ids-run old new [] [] run own = subst (λ (s : State). HaveOwnIds s.devices) (sym run) own
 own_ids-run old new [] (outcome ∷ outcomes) run own = absurd run
 own_ids-run old new (event ∷ events) [] run own = absurd run

@@ -12,3 +12,5 @@ pub mod OrderLemmas
 pub mod WentLemmas
 pub mod LoopLemmas
 pub mod HoldLemmas
+pub mod FewLemmas
+pub mod EveryState

@@ -1,6 +1,7 @@
 -- What each event of settling gives, over the parts of a world: how much is left to be done becomes less by it, and in the end no ticket is unconfirmed.
--- Each speaks of parts that are sound before and after the event, of drivers that are sound, and of an event that does what `Does` says.
-use Rattle.std.specs.Prelude.{◌≡◌, ◌≢◌, ◌⊎◌, ℕ, ◌+◌, ◌*◌, ◌^◌, ◌<◌, ◌≤◌, true, List, [], ◌∷◌, length, None, Some}
+-- Each speaks of parts that are sound before and after the event, of drivers that are sound, and of an event that does what `Does` says. The last law is of
+-- the ledger machine alone.
+use Rattle.std.specs.Prelude.{◌≡◌, ◌≢◌, ◌⊎◌, ℕ, ◌+◌, ◌*◌, ◌^◌, ◌<◌, ◌≤◌, true, List, [], ◌∷◌, length, None, Some, Result}
 use Rattle.iom_command_queue.specs.declared.command.Command.{Command}
 use Rattle.iom_driver.specs.Fences.{last_fence}
 use Rattle.iom_driver.specs.Restarts.{all_requeued, QueuesRestart}
@@ -8,10 +9,13 @@ use Rattle.iom_fabric.specs.declared.fabric.OnLink.{OnLink}
 use Rattle.iom_inflight.specs.Flights.{count_all, first_busy}
 use Rattle.iom_inflight.specs.Sound.{AreFlights}
 use Rattle.iom_iommu.specs.Parts.{flights_of, mmio}
+use Rattle.iom_ledger.specs.declared.refusal.Refusal.{Refusal}
 use Rattle.iom_machine.specs.declared.outcome.Outcome.{Outcome}
 use Rattle.iom_machine.specs.declared.outcome.Outcome.TheVariants as outcome
 use Rattle.iom_machine.specs.declared.outcome.CommandName.TheVariants as names
 use Rattle.iom_machine.specs.declared.outcome.Fetched.TheVariants as tells
+use Rattle.iom_machine.specs.declared.state.State.{State}
+use Rattle.iom_machine.specs.Laws.{IsReached}
 use Rattle.iom_composition.specs.Commits.{CommitsAccess}
 use Rattle.iom_composition.specs.Deliveries.{DeliversMessage}
 use Rattle.iom_composition.specs.Does.{name_of_command, FetchesNext, PollsTickets}
@@ -21,6 +25,7 @@ use Rattle.iom_composition.specs.Stays.{waiting_in}
 use Rattle.iom_composition.proofs.DriverLemmas.{IsSoundDriver}
 use Rattle.iom_settling.specs.CatchingUp.{IsIdle, CatchesUp, HasCaughtUp}
 use Rattle.iom_settling.specs.Commands.{requests_by, requests_in}
+use Rattle.iom_settling.specs.Settles.{Settles}
 use Rattle.iom_settling.specs.Weights.{weights}
 
 -- COMMITS. Of the first device that has something in flight one access is made, and so there is one less; at most 128 are in flight, and where nobody has
@@ -100,3 +105,8 @@ DeliveriesCatchUp = (old new : Parts) (events later number : ℕ) (commands : Li
 abbrev pub PollsConfirmAll : Type 0
 PollsConfirmAll = (old new : Parts) (number : ℕ) (told : Outcome) → HasCaughtUp old number → IsSoundDriver old.driver → IsSoundDriver new.driver → old.driver.started ≡ true
     → PollsTickets old told new → new.driver.confirmed ≡ new.driver.given
+
+-- EVERY STATE SETTLES. From each state that the ledger machine reaches there is an answer, and a state that settling may leave with it. Where a ticket is
+-- unconfirmed this doesn't say which answer.
+abbrev pub EveryStateSettles : Type 0
+EveryStateSettles = (state : State) → IsReached state → (answer : Result ℕ Refusal) × (next : State) × Settles state answer next

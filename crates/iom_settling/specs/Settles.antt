@@ -124,3 +124,14 @@ pub record RefusesToSettle (old : State) (why : Refusal) (new : State) : Type 0 
 abbrev pub Settles : State → Result ℕ Refusal → State → Type 0
 Settles old (Ok count) new = SettlesBy old count new
 Settles old (Err why) new = RefusesToSettle old why new
+
+-- events that happen to the machine one after another, from this state to that
+pub record Ran (old new : State) : Type 0 where
+  pub events : List Event
+  pub outcomes : List Outcome
+  pub run : Run old events outcomes new
+
+-- the events of a settling
+abbrev pub ran_in : (old : State) (answer : Result ℕ Refusal) (new : State) → Settles old answer new → Ran old new
+ran_in old (Ok count) new settles = record { events = settles.events; outcomes = settles.outcomes; run = settles.run }
+ran_in old (Err why) new settles = record { events = settles.events; outcomes = settles.outcomes; run = settles.run }

@@ -117,6 +117,7 @@ fn catch_up<T: TakesEvents>(world: &mut T) -> u32
     ensures few { result ≤ 85 }
     ensures idle { IsIdle (T.parts world.new) }
     ensures confirmed { (T.parts world.new).driver.confirmed ≡ (T.parts world.new).driver.given }
+    ensures counted { T.counted world.new ≡ T.counted world.old + result }
 {
     world.take(&Event::Restart);
     let events = work_off(world);
@@ -131,7 +132,8 @@ fn catch_up<T: TakesEvents>(world: &mut T) -> u32
 /// have happened.
 pub fn settle<T: TakesEvents>(world: &mut T) -> Result<u32, Refusal>
     requires count { T.counted world.old + 400 < 2 ^ 64 }
-    ensures { Settled T.parts T.happens world.old result world.new }
+    ensures settled { Settled T.parts T.happens world.old result world.new }
+    ensures counted { T.counted world.new ≤ T.counted world.old + 341 }
 {
     let events = quiet_down(world);
     if !world.has_pending() {
