@@ -3,11 +3,12 @@ use Rattle.std.proofs.Common.{◌≡◌, ◌-◌, ◌<◌, ◌++◌, ◌∙◌, 
 use Rattle.std.proofs.lemmas.List.{take_all}
 use Rattle.std.specs.Io.KnownBytes.{Appends, Keeps}
 use Rattle.std.proofs.KnownBytes.{Appends-nil, Appends-trans, Appends-kept}
+use Rattle.iom_ledger.specs.declared.refusal.Refusal.{Refusal}
 use Rattle.iom_machine.specs.declared.outcome.Outcome.{Outcome}
 use Rattle.iom_machine.specs.declared.outcome.Trace.{Trace}
-use Rattle.iom_script.specs.Lines.{line_of, trace_line}
+use Rattle.iom_script.specs.Lines.{line_of, settled_line, trace_line}
 use Rattle.iom_line_writer.specs.declared.writing.LineWriter.{LineWriter}
-use Rattle.iom_line_writer.specs.Told.{told_line, told_lines}
+use Rattle.iom_line_writer.specs.Told.{told_line, told_lines, told_settled}
 use Rattle.iom_line_writer.specs.Writing.{AppendsFront, AppendsPart, TakesText, FailsAt, FailsWriting}
 
 -- nothing is written of a text
@@ -77,6 +78,12 @@ pub fails-line : {W : Type 0} (contents : W → Option (List ℕ)) (old new : Li
     → FailsWriting contents old outcome trace new
 fails-line contents old new outcome None failed = failed
 fails-line contents old new outcome (Some trace) failed = fails-longer contents old new (line_of outcome) (trace_line trace) failed
+
+-- the same of the line of what settling answers
+pub fails-answer : {W : Type 0} (contents : W → Option (List ℕ)) (old new : LineWriter W) (answer : Result ℕ Refusal) (trace : Option Trace)
+    → FailsAt contents old (settled_line answer) new → FailsAt contents old (told_settled answer trace) new
+fails-answer contents old new answer None failed = failed
+fails-answer contents old new answer (Some trace) failed = fails-longer contents old new (settled_line answer) (trace_line trace) failed
 
 -- a sink takes a text, and fails at another
 pub fails-later : {W : Type 0} (contents : W → Option (List ℕ)) (old mid new : LineWriter W) (text more : List ℕ) → TakesText contents old text mid → FailsAt contents mid more new

@@ -1,12 +1,18 @@
 -- The lines that tell outcomes: of each its own, and behind that the line of its counts, where there are any.
-use Rattle.std.specs.Prelude.{ℕ, List, [], ◌∷◌, ◌++◌, Option, None, Some}
+use Rattle.std.specs.Prelude.{ℕ, List, [], ◌∷◌, ◌++◌, Option, None, Some, Result}
+use Rattle.iom_ledger.specs.declared.refusal.Refusal.{Refusal}
 use Rattle.iom_machine.specs.declared.outcome.Outcome.{Outcome}
 use Rattle.iom_machine.specs.declared.outcome.Trace.{Trace}
-use Rattle.iom_script.specs.Lines.{line_of, trace_line}
+use Rattle.iom_script.specs.Lines.{line_of, settled_line, trace_line}
 
 abbrev pub told_line : Outcome → Option Trace → List ℕ
 told_line outcome None = line_of outcome
 told_line outcome (Some trace) = line_of outcome ++ trace_line trace
+
+-- and the line that tells what settling answers, with that of its counts
+abbrev pub told_settled : Result ℕ Refusal → Option Trace → List ℕ
+told_settled answer None = settled_line answer
+told_settled answer (Some trace) = settled_line answer ++ trace_line trace
 
 abbrev pub told_lines : List Outcome → List (Option Trace) → List ℕ
 told_lines [] traces = []

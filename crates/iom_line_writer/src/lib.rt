@@ -3,7 +3,8 @@
 //!
 //! A [`LineWriter`] is a sink of outcomes ([`iom_machine::Sink`]). The layer above may rely on this: what it wrote and
 //! what stands in its buffer are the lines of the outcomes that it took, in order and complete; where the writer fails,
-//! what was written is a beginning of those lines, and not all of them.
+//! what was written is a beginning of those lines, and not all of them. What settling answers is no outcome: its line is
+//! put by [`LineWriter::put_settled`], of which the same is so.
 #![tactic(auto)]
 
 mod writing;

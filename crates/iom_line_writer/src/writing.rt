@@ -3,9 +3,11 @@ ghost use Rattle.std.specs.Prelude.{◌≡◌, ◌≢◌, [], OnOk, OnErr, IfErr
 ghost use Rattle.std.specs.Io.{WritesAtMost};
 ghost use Rattle.std.specs.IoError.{error_kind};
 ghost use Rattle.std.specs.Io.KnownBytes.{Appends, WriteAppends};
-ghost use Rattle.iom_script.specs.Lines.{line_of, trace_line};
+ghost use Rattle.iom_script.specs.Lines.{line_of, settled_line, trace_line};
+ghost use Rattle.iom_line_writer.specs.Told.{told_settled};
 ghost use Rattle.iom_line_writer.specs.Writing.{AppendsPart, KeepsWriter, wants_counts, TakesText, FailsAt, TakesLine, FailsWriting};
 
+use iom_ledger::Refusal;
 use iom_machine::{Outcome, Sink, Trace};
 use iom_script::LineBuffer;
 use std::io::{self, ErrorKind, Write};
@@ -105,6 +107,34 @@ impl<'a, W: Write> LineWriter<'a, W> {
         }
         self.buffer.append_line(outcome);
         Ok(())
+    }
+
+    /// Puts the line of what settling answers into the buffer.
+    fn put_answer(&mut self, answer: Result<u32, Refusal>) -> Result<(), WriteFault>
+        ensures taken { OnOk result (TakesText W.contents self.old (settled_line answer) self.new) }
+        ensures failed { OnErr result (FailsAt W.contents self.old (settled_line answer) self.new) }
+    {
+        if !self.buffer.has_room() {
+            self.write_out()?;
+        }
+        self.buffer.append_settled(answer);
+        Ok(())
+    }
+
+    /// Puts the line of what settling answers into the buffer, and behind it that of its counts, where there are any.
+    pub fn put_settled(
+        &mut self,
+        answer: Result<u32, Refusal>,
+        trace: Option<Trace>,
+    ) -> Result<(), WriteFault>
+        ensures taken { OnOk result (TakesText W.contents self.old (told_settled answer trace) self.new) }
+        ensures failed { OnErr result (FailsAt W.contents self.old (told_settled answer trace) self.new) }
+    {
+        self.put_answer(answer)?;
+        match trace {
+            None => Ok(()),
+            Some(trace) => self.put_trace(&trace),
+        }
     }
 
     /// Puts the line of the counts into the buffer.

@@ -3,7 +3,7 @@ use crate::lines::{Comes, outcome_of};
 use iom_base::{Cause, GrantRights, Mode, Rights, Sequence, Size};
 use iom_ledger::Refusal;
 use iom_machine::{BlockStep, CommandName, Event, Fetched, NewDevice, Outcome, Trace};
-use iom_script::{LineBuffer, Script, ScriptFault, WorldSize, parse};
+use iom_script::{LineBuffer, Script, ScriptFault, ScriptLine, WorldSize, parse};
 use iom_virtqueue::ChainFault;
 use std::alloc::Global;
 use std::process::Abort;
@@ -166,6 +166,32 @@ fn counts_stand_beside_an_outcome(rt: HostRuntime) {
     expect(&rt, out.as_slice() == line);
 }
 
+/// Ends the test where another line tells what settling answers.
+fn is_settled(rt: &impl Abort, out: &mut LineBuffer, answer: Result<u32, Refusal>, line: &[u8]) {
+    out.clear();
+    out.append_settled(answer);
+    expect(rt, out.as_slice() == line);
+}
+
+#[test]
+fn what_settling_answers_has_its_line(rt: HostRuntime) {
+    let mut out = LineBuffer::new(rt.alloc()).expect(&rt, "memory for a buffer");
+    is_settled(&rt, &mut out, Ok(0), b"settled 0\n");
+    is_settled(&rt, &mut out, Ok(6), b"settled 6\n");
+    is_settled(&rt, &mut out, Ok(u32::MAX), b"settled 4294967295\n");
+    let refused = b"refused 14 NumbersUsedUp\n";
+    is_settled(&rt, &mut out, Err(Refusal::NumbersUsedUp), refused);
+}
+
+// It goes behind what stands in the buffer, as the line of an outcome does.
+#[test]
+fn what_settling_answers_goes_last(rt: HostRuntime) {
+    let mut out = LineBuffer::new(rt.alloc()).expect(&rt, "memory for a buffer");
+    out.append_line(&Outcome::Done);
+    out.append_settled(Ok(6));
+    expect(&rt, out.as_slice() == b"ok\nsettled 6\n".as_slice());
+}
+
 #[test]
 fn a_buffer_has_room_until_it_is_nearly_full(rt: HostRuntime) {
     let mut out = LineBuffer::new(rt.alloc()).expect(&rt, "memory for a buffer");
@@ -183,7 +209,7 @@ fn a_buffer_has_room_until_it_is_nearly_full(rt: HostRuntime) {
 fn says_nothing(rt: &impl Abort, alloc: Global, bytes: &[u8]) {
     let script = script_of(rt, alloc, bytes);
     expect(rt, script.world.is_none());
-    expect(rt, script.events.as_slice().is_empty());
+    expect(rt, script.lines.as_slice().is_empty());
 }
 
 #[test]
@@ -233,13 +259,15 @@ const EACH: &[u8] = b"\
     faults\n\
     poke 0x5000 00f1\n\
     peek 0xffffffffffffffff 18446744073709551615\n\
-    free 63\n";
+    free 63\n\
+    settle\n";
 
-/// An event as its name and its numbers. Bytes are a number too, the first of them the highest digits, after their count.
+/// What a line says, as its name and its numbers. Bytes are a number too, the first of them the highest digits, after
+/// their count.
 type Told = (&'static str, [u64; 5]);
 
-/// The events of those lines.
-static EVENTS: [Told; 37] = [
+/// What those lines say, behind that of the world.
+static TOLD_OF_EACH: [Told; 38] = [
     ("raw", [1, 0, 0, 0, 0]),
     ("ats", [10, 0, 0, 0, 0]),
     ("blk", [10, u64::MAX, 0, 0, 0]),
@@ -277,6 +305,7 @@ static EVENTS: [Told; 37] = [
     ("poke", [0x5000, 2, 0xf1, 0, 0]),
     ("peek", [u64::MAX, u64::MAX, 0, 0, 0]),
     ("free", [63, 0, 0, 0, 0]),
+    ("settle", [0, 0, 0, 0, 0]),
 ];
 
 fn number_of(bytes: &Sequence<u8>) -> u64 {
@@ -430,11 +459,19 @@ fn told_of_others(event: &Event) -> Told {
     }
 }
 
-/// Ends the test where an event isn't told so.
-fn are_read(rt: &impl Abort, events: &[Event], expected: &[Told]) {
-    expect(rt, events.len() == expected.len());
-    for (event, (name, numbers)) in events.iter().zip(expected.iter()) {
-        let (told_name, told_numbers) = told(event);
+/// An event, or that the world settles.
+fn told_of_line(line: &ScriptLine) -> Told {
+    match line {
+        ScriptLine::Event(event) => told(event),
+        ScriptLine::Settle => one("settle", 0),
+    }
+}
+
+/// Ends the test where a line isn't told so.
+fn are_read(rt: &impl Abort, lines: &[ScriptLine], expected: &[Told]) {
+    expect(rt, lines.len() == expected.len());
+    for (line, (name, numbers)) in lines.iter().zip(expected.iter()) {
+        let (told_name, told_numbers) = told_of_line(line);
         expect(rt, told_name == *name);
         expect(rt, told_numbers == *numbers);
     }
@@ -443,7 +480,14 @@ fn are_read(rt: &impl Abort, events: &[Event], expected: &[Told]) {
 #[test]
 fn each_line_is_read(rt: HostRuntime) {
     let script = script_of(&rt, rt.alloc(), EACH);
-    are_read(&rt, script.events.as_slice(), &EVENTS);
+    are_read(&rt, script.lines.as_slice(), &TOLD_OF_EACH);
+}
+
+#[test]
+fn a_script_may_settle_alone(rt: HostRuntime) {
+    let script = script_of(&rt, rt.alloc(), b"world 64 1\nsettle\n");
+    expect(&rt, is_world(script.world, 64, 1));
+    are_read(&rt, script.lines.as_slice(), &[("settle", [0, 0, 0, 0, 0])]);
 }
 
 /// Worlds of each number of levels.
@@ -472,6 +516,7 @@ fn is_world(world: Option<WorldSize>, frames: u64, levels: u64) -> bool {
 /// Scripts that are refused at their first line, with a bar between.
 static BAD_FIRST: &[u8] = b"\
     fetch\n\
+    |settle\n\
     |world 63 1\n\
     |world 4097 1\n\
     |world 64 4\n\
@@ -536,6 +581,14 @@ static BAD_SECOND: &[u8] = b"\
     |world 64 1\ndevice 00000A raw\n\
     |world 64 1\ndevice 00000g raw\n\
     |world 64 1\ndevice 000001 raw raw\n\
+    |world 64 1\nsettle 1\n\
+    |world 64 1\nsettled\n\
+    |world 64 1\n settle\n\
+    |world 64 1\nsettle \n\
+    |world 64 1\nsettle\
+    |world 64 1\nsettle\r\n\
+    |world 64 1\nSettle\n\
+    |world 64 1\nsettl\n\
     |world 64 1\npolls\n\
     |world 64 1\nfault\n\
     |world 64 1\nfaults \n\
@@ -653,7 +706,7 @@ fn long_scripts_are_judged(rt: HostRuntime) -> Result<(), Fail> {
 #[test]
 fn a_refused_allocation_is_told(rt: HostRuntime) {
     match parse(rt.alloc(), b"world 64 1\nwrite 000001 0x0 00\nfetch\n") {
-        Ok(script) => expect(&rt, script.events.as_slice().len() == 2),
+        Ok(script) => expect(&rt, script.lines.as_slice().len() == 2),
         Err(ScriptFault::Memory) => {}
         Err(ScriptFault::Line(_)) => expect(&rt, false),
     }

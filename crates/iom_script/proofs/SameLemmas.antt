@@ -17,9 +17,11 @@ use Rattle.iom_base.specs.declared.mode.Mode.TheVariants.{First, Second, Both}
 use Rattle.iom_base.specs.declared.size.Size.TheVariants.{Sv39, Sv48}
 use Rattle.iom_script.specs.declared.script.WorldSize.{WorldSize}
 use Rattle.iom_script.specs.declared.script.Script.{Script}
+use Rattle.iom_script.specs.declared.script.ScriptLine.{ScriptLine}
+use Rattle.iom_script.specs.declared.script.ScriptLine.TheVariants as says
 use Rattle.iom_script.specs.Digits.{hex_digits}
 use Rattle.iom_script.specs.Words.{◌␣◌, IsWithout, IsDevice, IsNumber, IsPage, IsAddress, IsRight, IsMode, IsKind, IsHex}
-use Rattle.iom_script.specs.Grammar.{IsEventLine, IsWorldLine, SayEvents, Says}
+use Rattle.iom_script.specs.Grammar.{IsEventLine, IsScriptLine, IsWorldLine, SayLines, Says}
 use Rattle.iom_script.proofs.CutLemmas.{cut_is_one, cut_has_separator}
 use Rattle.iom_script.proofs.HexLemmas.{same_hex, length_hex}
 use Rattle.iom_script.proofs.HexBytesLemmas.{same_hex_of}
@@ -290,38 +292,53 @@ world_same line s t p q =
     (followed_same IsNumber IsNumber number_without_space number_same number_same text (numbers_of s) (numbers_of t)
     (world_words text s (p.0, p.1, p.2, p.3, p.4, refl)) (world_words text t (subst (λ l. IsWorldLine l t) p.5 q)))
 
--- lines say one list of events
-events_same : (lines : List (List ℕ)) (xs ys : List Event) → SayEvents lines xs → SayEvents lines ys → xs ≡ ys
-events_same [] [] [] p q = refl
-events_same [] [] (y ∷ ys) p q = absurd q
-events_same [] (x ∷ xs) ys p q = absurd p
-events_same (l ∷ ls) [] ys p q = absurd p
-events_same (l ∷ ls) (x ∷ xs) [] p q = absurd q
-events_same (l ∷ ls) (x ∷ xs) (y ∷ ys) p q =
-    ap (λ e. e ∷ xs) (event_same l x y p.0 q.0) ∙ ap (λ es. y ∷ es) (events_same ls xs ys p.1 q.1)
+-- a line that says that the world settles says no event
+settle_apart : (event : Event) → IsEventLine (codes "settle") event → ⊥
+settle_apart (Step device) q = other_line (codes "settle") [] (Step device) refl q
+settle_apart event q = other_line (codes "settle") [] event refl q
+
+pub no_event_settles : (line : List ℕ) (event : Event) → line ≡ codes "settle" → IsEventLine line event → ⊥
+no_event_settles line event is q = settle_apart event (subst (λ l. IsEventLine l event) is q)
+
+-- a line behind that of the world says one thing
+pub line_same : (line : List ℕ) (a b : ScriptLine) → IsScriptLine line a → IsScriptLine line b → a ≡ b
+line_same line (says.Event a) (says.Event b) p q = ap says.Event (event_same line a b p q)
+line_same line (says.Event a) says.Settle p q = absurd (no_event_settles line a q p)
+line_same line says.Settle (says.Event b) p q = absurd (no_event_settles line b p q)
+line_same line says.Settle says.Settle p q = refl
+
+-- and so do several
+lines_same : (lines : List (List ℕ)) (xs ys : List ScriptLine) → SayLines lines xs → SayLines lines ys → xs ≡ ys
+lines_same [] [] [] p q = refl
+lines_same [] [] (y ∷ ys) p q = absurd q
+lines_same [] (x ∷ xs) ys p q = absurd p
+lines_same (l ∷ ls) [] ys p q = absurd p
+lines_same (l ∷ ls) (x ∷ xs) [] p q = absurd q
+lines_same (l ∷ ls) (x ∷ xs) (y ∷ ys) p q =
+    ap (λ e. e ∷ xs) (line_same l x y p.0 q.0) ∙ ap (λ es. y ∷ es) (lines_same ls xs ys p.1 q.1)
 
 -- two scripts with the same parts
-same_script : (s t : Script) → s.world ≡ t.world → s.events ≡ t.events → s ≡ t
-same_script s t world events =
-    ap (λ (w : Option WorldSize). let a : Script = record { world = w; events = s.events } in a) world
-    ∙ ap (λ (es : List Event). let a : Script = record { world = t.world; events = es } in a) events
+same_script : (s t : Script) → s.world ≡ t.world → s.lines ≡ t.lines → s ≡ t
+same_script s t world lines =
+    ap (λ (w : Option WorldSize). let a : Script = record { world = w; lines = s.lines } in a) world
+    ∙ ap (λ (ls : List ScriptLine). let a : Script = record { world = t.world; lines = ls } in a) lines
 
 -- lines say one script
 pub says_same : (lines : List (List ℕ)) (s t : Script) → Says lines s → Says lines t → s ≡ t
 says_same [] s t p q = same_script s t (p.0 ∙ sym q.0) (p.1 ∙ sym q.1)
 says_same (l ∷ ls) s t p q =
-    same_script s t (p.1 ∙ ap Some (world_same l p.0 q.0 p.2 q.2) ∙ sym q.1) (events_same ls s.events t.events p.3 q.3)
+    same_script s t (p.1 ∙ ap Some (world_same l p.0 q.0 p.2 q.2) ∙ sym q.1) (lines_same ls s.lines t.lines p.3 q.3)
 
--- a front of lines that say events says some
-events_front : (xs ys : List (List ℕ)) (events : List Event) → SayEvents (xs ++ ys) events → (front : List Event) × SayEvents xs front
-events_front [] ys events say = ([], tt)
-events_front (x ∷ xs) ys [] say = absurd say
-events_front (x ∷ xs) ys (e ∷ es) say = let more = events_front xs ys es say.1 in (e ∷ more.0, (say.0, more.1))
+-- a front of lines that all say something says something
+lines_front : (xs ys : List (List ℕ)) (all : List ScriptLine) → SayLines (xs ++ ys) all → (front : List ScriptLine) × SayLines xs front
+lines_front [] ys all say = ([], tt)
+lines_front (x ∷ xs) ys [] say = absurd say
+lines_front (x ∷ xs) ys (a ∷ rest) say = let more = lines_front xs ys rest say.1 in (a ∷ more.0, (say.0, more.1))
 
 -- a front of lines that say a script says one
 pub says_front : (xs ys : List (List ℕ)) (script : Script) → Says (xs ++ ys) script → (front : Script) × Says xs front
-says_front [] ys script say = let nothing : Script = record { world = None; events = [] } in (nothing, (refl, refl))
+says_front [] ys script say = let nothing : Script = record { world = None; lines = [] } in (nothing, (refl, refl))
 says_front (x ∷ xs) ys script say =
-    let events = events_front xs ys script.events say.3 in
-    let front : Script = record { world = Some say.0; events = events.0 } in
-    (front, (say.0, refl, say.2, events.1))
+    let others = lines_front xs ys script.lines say.3 in
+    let front : Script = record { world = Some say.0; lines = others.0 } in
+    (front, (say.0, refl, say.2, others.1))
