@@ -35,6 +35,11 @@ GoesThrough state old (event ∷ events) (outcome ∷ outcomes) (trace ∷ trace
     × GoesThrough next mid events outcomes traces last rest new
 GoesThrough state old _ _ _ last run new = ⊥
 
+-- no counts beside any of these
+abbrev pub uncounted : List Event → List (Option Trace)
+uncounted [] = []
+uncounted (event ∷ events) = None ∷ uncounted events
+
 -- the events have these outcomes, with these counts: those of a run of the ledger machine to this state, which the platform goes through; and of that run,
 -- where it is from a state that events from power-on lead to, the sentences of the headline hold
 pub record AreOutcomes (state : State) (old : Seen) (events : List Event) (outcomes : List Outcome) (traces : List (Option Trace)) (last : State) (new : Seen) : Type 0 where

@@ -1,7 +1,9 @@
 // A list of events, one after another.
 ghost use Rattle.std.specs.Prelude.{◌≡◌, ◌+◌, ◌<◌, ◌≤◌, ◌^◌, true, length, Option, is_some, OnOk, OnErr};
+ghost use Rattle.iom_machine.specs.declared.outcome.Outcome as spec;
 ghost use Rattle.iom_machine.specs.declared.outcome.Trace as counts;
 ghost use Rattle.iom_machine.specs.declared.state.State.{State};
+ghost use Rattle.iom_platform.specs.Happens.{HappensHere};
 ghost use Rattle.iom_platform.specs.Runs.{AreCounts, RunsTo, FailsAfter};
 ghost use Rattle.iom_platform.specs.Seen.{platform_seen};
 ghost use Rattle.iom_world.specs.Counts.{IsTraceOf};
@@ -61,6 +63,25 @@ impl<D: Disk> Platform<D> {
         }
     }
 
+    /// One event happens, as [`Platform::step`] says, and its outcome goes to the sink, with the counts beside it where
+    /// it wants them.
+    // Written into the loop of a run, by whoever has one.
+    #[inline(always)]
+    pub fn run_one<S: Sink>(
+        &mut self,
+        event: &Event,
+        kept: &mut KeptOutcomes,
+        sink: &mut S,
+    ) -> Result<(), S::Fault>
+        requires count { self.old.world.events + 1 < 2 ^ 64 }
+        ensures { (outcome : spec.Outcome) × HappensHere (platform_seen D.seen self.old) event.now outcome (platform_seen D.seen self.new)
+            × (trace : Option counts.Trace) × (is_some trace ≡ S.wants sink.old) × ((state : State) → Shows self.new.world state → AreCounts state self.new.world trace)
+            × OnOk result (S.takes sink.old outcome trace sink.new) × OnErr result (S.fails sink.old outcome trace sink.new) }
+    {
+        let outcome = self.take(event, kept);
+        self.tell(outcome, sink)
+    }
+
     /// The events, one after another: the sink takes the outcome of each, with the counts beside it where it
     /// wants them, and the run stops at the first that it fails at. The outcomes, also those up to a failure, are
     /// those of a run of the ledger machine over the events, from every state that the world shows; the world
@@ -80,8 +101,7 @@ impl<D: Disk> Platform<D> {
     {
         let mut kept = KeptOutcomes::new();
         for event in events {
-            let outcome = self.take(event, &mut kept);
-            self.tell(outcome, sink)?;
+            self.run_one(event, &mut kept, sink)?;
         }
         Ok(())
     }

@@ -1,5 +1,5 @@
 // Settling: events of the driver and the hardware alone, after which no ticket is unconfirmed.
-ghost use Rattle.std.specs.Prelude.{◌≡◌, ◌+◌, ◌<◌, ◌^◌};
+ghost use Rattle.std.specs.Prelude.{◌≡◌, ◌+◌, ◌<◌, ◌≤◌, ◌^◌};
 ghost use Rattle.iom_composition.proofs.DriverLemmas.{sound_driver};
 ghost use Rattle.iom_platform.specs.Happens.{HappensHere};
 ghost use Rattle.iom_platform.specs.Seen.{platform_seen};
@@ -76,7 +76,8 @@ impl<D: Disk> Platform<D> {
     /// happened, and nothing else.
     pub fn settle(&mut self) -> Result<u32, Refusal>
         requires count { self.old.world.events + 400 < 2 ^ 64 }
-        ensures { Settled (λ platform. parts_of platform.world) (λ old event told new. HappensHere (platform_seen D.seen old) event told (platform_seen D.seen new)) self.old result self.new }
+        ensures settled { Settled (λ platform. parts_of platform.world) (λ old event told new. HappensHere (platform_seen D.seen old) event told (platform_seen D.seen new)) self.old result self.new }
+        ensures counted { self.new.world.events ≤ self.old.world.events + 341 }
     {
         settle(self)
     }

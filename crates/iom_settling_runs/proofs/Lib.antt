@@ -1,1 +1,1 @@
-mod RunLemmas
+pub mod RunLemmas

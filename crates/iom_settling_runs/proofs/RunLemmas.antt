@@ -14,14 +14,17 @@ use Rattle.iom_machine.specs.Machine.{Run}
 use Rattle.iom_machine.specs.Tickets.{pending_tickets}
 use Rattle.iom_machine.specs.Traces.{count_in_flight}
 use Rattle.iom_settling.specs.Idle.{AreIdle}
-use Rattle.iom_settling.specs.Settles.{AreInOrder, Takes, Settles}
+use Rattle.iom_platform.specs.Happens.{HappensHere}
+use Rattle.iom_platform.specs.Runs.{GoesThrough, uncounted}
+use Rattle.iom_platform.specs.Seen.{Seen}
+use Rattle.iom_settling.specs.Settles.{AreInOrder, Takes, Settles, ran_in}
 use Rattle.iom_settling.specs.Stages.{Settled}
 use Rattle.iom_settling.proofs.HoldLemmas.{run_holds}
 use Rattle.iom_settling.proofs.OrderLemmas.{all_settling}
-use Rattle.iom_world.specs.Happens.{Happens}
 use Rattle.iom_world.specs.declared.world.World.{World}
 use Rattle.iom_world.specs.Seen.{parts_of}
 use Rattle.iom_world.specs.Shows.{Shows}
+use Rattle.iom_settling_runs.specs.Laws.{GoesThroughAll}
 
 -- where nothing is in flight in the IOMMU's rows, nothing is in the machine's devices
 idle_in : (rows : List FlightRow) (id : ℕ) → AreIdle rows → in_flight_of rows id ≡ []
@@ -61,52 +64,61 @@ still_pending world state shows =
     ∙ ap (λ n. nat_lt 0 (n - (parts_of world).driver.confirmed)) (sym shows.0.given)
     ∙ ap (λ n. nat_lt 0 (state.last_ticket - n)) (sym shows.0.confirmed)
 
-module _ {S : Type 0} (world_of : S → World) (happens : S → Event → Outcome → S → Type 0)
-    (acts : (old new : S) (event : Event) (told : Outcome) → happens old event told new → Happens (world_of old) event told (world_of new)) where
-  -- events that a world took one after another are a run of the machine
-  ran : (old new : S) (events : List Event) (outcomes : List Outcome) (state : State) → Shows (world_of old) state → Takes happens old events outcomes new
-      → (last : State) × Shows (world_of new) last × Run state events outcomes last
-  ran old new [] [] state shows takes = (state, subst (λ (s : S). Shows (world_of s) state) (sym takes) shows, refl)
+module _ {S : Type 0} (seen_of : S → Seen) where
+  -- the event does so to what is seen as a platform
+  abbrev Does : S → Event → Outcome → S → Type 0
+  Does old event told new = HappensHere (seen_of old) event told (seen_of new)
+
+  -- events that it took one after another are a run of the machine, which it goes through
+  ran : (old new : S) (events : List Event) (outcomes : List Outcome) (state : State) → Shows (seen_of old).world state → Takes Does old events outcomes new
+      → (last : State) × (run : Run state events outcomes last) × Shows (seen_of new).world last
+      × GoesThrough state (seen_of old) events outcomes (uncounted events) last run (seen_of new)
+  ran old new [] [] state shows takes =
+      let still = subst (λ (s : S). Shows (seen_of s).world state) (sym takes) shows in (state, refl, still, (still, ap seen_of takes))
   ran old new [] (told ∷ outcomes) state shows takes = absurd takes
   ran old new (event ∷ events) [] state shows takes = absurd takes
   ran old new (event ∷ events) (told ∷ outcomes) state shows takes =
-      let next = (acts old takes.0 event told takes.1).step state shows in
+      let next = takes.1.0.step state shows in
       let rest = ran takes.0 new events outcomes next.0 next.2 takes.2 in
-      (rest.0, rest.1, (next.0, next.1, rest.2))
+      (rest.0, (next.0, next.1, rest.1), rest.2, (shows, seen_of takes.0, takes.1, tt, rest.3))
 
-  pub settles : (old new : S) (answer : Result ℕ Refusal) (state : State) → Shows (world_of old) state → Settled (λ (s : S). parts_of (world_of s)) happens old answer new
-      → (last : State) × Shows (world_of new) last × Settles state answer last
+  pub settles : (old new : S) (answer : Result ℕ Refusal) (state : State) → Shows (seen_of old).world state
+      → Settled (λ (s : S). parts_of (seen_of s).world) (λ (before : S) (event : Event) (told : Outcome) (after : S). HappensHere (seen_of before) event told (seen_of after)) old answer new
+      → (last : State) × (by_it : Settles state answer last) × Shows (seen_of new).world last
+      × GoesThroughAll state (seen_of old) last (ran_in state answer last by_it) (seen_of new)
   settles old new (Ok count) state shows (went, few, idle, confirmed) =
       let run = ran old new went.events went.outcomes state shows went.takes in
-      let given = run.1.0.given in
-      let last = run.1.0.confirmed in (
+      let given = run.2.0.given in
+      let last = run.2.0.confirmed in (
         run.0,
-        run.1,
         record {
           events = went.events;
           outcomes = went.outcomes;
-          run = run.2;
-          order = subst (λ (b : Bool). AreInOrder b went.events) (still_pending (world_of old) state shows) went.order;
+          run = run.1;
+          order = subst (λ (b : Bool). AreInOrder b went.events) (still_pending (seen_of old).world state shows) went.order;
           counted = went.counted;
           few = omega (arith, few);
-          idle = ap count_in_flight run.1.0.devices ∙ idle_all _ _ (parts_of (world_of new)).devices idle;
+          idle = ap count_in_flight run.2.0.devices ∙ idle_all _ _ (parts_of (seen_of new).world).devices idle;
           confirmed = omega (arith, given, last, confirmed);
-          held = run_holds state run.0 went.events went.outcomes run.2 (all_settling _ went.events went.order);
+          held = run_holds state run.0 went.events went.outcomes run.1 (all_settling _ went.events went.order);
         },
+        run.2,
+        run.3,
       )
   settles old new (Err why) state shows (used_up, went, (idle, quiet), unconfirmed, high) =
       let run = ran old new went.1.events went.1.outcomes state shows went.1.takes in
-      let given = run.1.0.given in
-      let last = run.1.0.confirmed in (
+      let given = run.2.0.given in
+      let last = run.2.0.confirmed in (
         run.0,
-        run.1,
         record {
           events = went.1.events;
           outcomes = went.1.outcomes;
-          run = run.2;
+          run = run.1;
           order = went.1.order;
-          idle = ap count_in_flight run.1.0.devices ∙ idle_all _ _ (parts_of (world_of new)).devices idle;
+          idle = ap count_in_flight run.2.0.devices ∙ idle_all _ _ (parts_of (seen_of new).world).devices idle;
           used_up = used_up;
           unconfirmed = omega (arith, given, last, unconfirmed);
         },
+        run.2,
+        run.3,
       )
