@@ -1,4 +1,4 @@
--- Every event has an answer, in every state that is reached: so each run goes on to the end of the events.
+-- Every line has an answer, in every state that is reached: so each run goes on to the end of the lines.
 use Rattle.std.proofs.Common.{◌≡◌, ◌≢◌, ◌+◌, ◌%◌, ◌≤◌, ◌⊎◌, ◌++◌, ◌∙◌, ℕ, inl, inr, Bool, true, false, List, [], ◌∷◌, length, Option, Some, None, MatchOption, is_some, unwrap_or, refl, sym, ap, subst, arith}
 use Rattle.std.proofs.lemmas.Bool.{cases_lt, cases_eq, false≢true}
 use Rattle.std.proofs.lemmas.List.Elements.{All-nil, All-cons}
@@ -32,7 +32,7 @@ use Rattle.iom_machine.specs.Frames.{IsFree}
 use Rattle.iom_machine.specs.Laws.{IsReached}
 use Rattle.iom_machine.specs.Leaving.{leaving_under}
 use Rattle.iom_machine.specs.Kinds.{disk_of, is_block_device, sends_untranslated, forges, sends_through_cache, asks_questions, is_any_kind}
-use Rattle.iom_machine.specs.Machine.{Step, Acts, Requests, RequestsTranslated, RequestsThroughCache, Resets, InsertsDisk, SetsQueue, Steps, TellsStatus, Run, plugged_device}
+use Rattle.iom_machine.specs.Machine.{Step, Acts, Requests, RequestsTranslated, RequestsThroughCache, Resets, InsertsDisk, SetsQueue, Steps, TellsStatus, plugged_device}
 use Rattle.iom_machine.specs.BlockDevices.{Inserts, with_disk, MaySet, IsStatus, TakesStep}
 use Rattle.iom_machine.specs.Disks.{is_among, without_disk}
 use Rattle.iom_machine.specs.Messages.{Sends}
@@ -50,6 +50,11 @@ use Rattle.iom_machine.proofs.ProcessorLemmas.{poke_is_answered, peek_is_answere
 use Rattle.iom_lawful_steps.proofs.EventLemmas.{no_access, no_choice, frame_chosen}
 use Rattle.iom_virtqueue.specs.declared.layout.Layout.{Layout}
 use Rattle.iom_virtqueue.specs.Layouts.{IsLayout, layout_of}
+use Rattle.iom_script.specs.declared.script.ScriptLine.{ScriptLine}
+use Rattle.iom_script.specs.declared.script.ScriptLine.TheVariants as says
+use Rattle.iom_settling.specs.Settles.{Ran}
+use Rattle.iom_settling.proofs.EveryState.{can_settle}
+use Rattle.iom_runner.specs.LineRuns.{Answer, LineStep, LineRun, unrolled_line, run_after, unrolled}
 use Rattle.iom_runner.specs.Text.{AreThere, AreTraces}
 use Rattle.iom_runner.proofs.CountedLemmas.{some_trace}
 
@@ -372,32 +377,27 @@ is_answered state (events.Poke address bytes) reached = let told = poke_is_answe
 is_answered state (events.Peek address len) reached = let told = peek_is_answered state address len reached in (told.0, told.1, (no_choice, told.2))
 is_answered state (events.Free frame) reached = let told = free_is_answered state frame in (told.0, told.1, (no_choice, told.2))
 
--- a run goes on by a step at its end
-run_more : (old mid new : State) (events : List Event) (outcomes : List Outcome) (event : Event) (outcome : Outcome)
-    → Run old events outcomes mid → Step mid event outcome new → Run old (events ++ event ∷ []) (outcomes ++ outcome ∷ []) new
-run_more old mid new [] [] event outcome ran step =
-    (new, subst (λ (state : State). Step state event outcome new) ran step, refl)
-run_more old mid new [] (other ∷ outcomes) event outcome ran step = absurd ran
-run_more old mid new (other ∷ events) [] event outcome ran step = absurd ran
-run_more old mid new (first ∷ events) (told ∷ outcomes) event outcome ran step =
-    (ran.0, ran.1, run_more ran.0 mid new events outcomes event outcome ran.2 step)
+-- and so is every line
+line_is_answered : (state : State) (line : ScriptLine) → IsReached state → (answer : Answer) × (new : State) × LineStep state line answer new
+line_is_answered state (says.Event event) reached = let told = is_answered state event reached in (inl told.0, told.1, told.2)
+line_is_answered state says.Settle reached = let told = can_settle state reached in (inr told.0, told.1, told.2)
 
--- a state that is reached, after one more step
-reached-step : (old new : State) (event : Event) (outcome : Outcome) → IsReached old → Step old event outcome new → IsReached new
-reached-step old new event outcome (events, outcomes, (frames, levels, disks, run)) step =
-    (events ++ event ∷ [], outcomes ++ outcome ∷ [], (frames, levels, disks, run_more (opening frames levels disks) old new events outcomes event outcome run step))
+-- a state that is reached, after events
+reached-ran : (old new : State) → IsReached old → Ran old new → IsReached new
+reached-ran old new (events, outcomes, (frames, levels, disks, run)) ran =
+    (events ++ ran.events, outcomes ++ ran.outcomes, (frames, levels, disks, run_after (opening frames levels disks) old new events ran.events outcomes ran.outcomes run ran.run))
 
--- a run, and the counts beside its outcomes
-abbrev pub CountedRun : State → List Event → List Outcome → List (Option Trace) → State → Type 0
-CountedRun state events outcomes traces last = (run : Run state events outcomes last) × AreTraces state events outcomes traces last run
+-- a run, and the counts beside its answers
+abbrev pub CountedRun : State → List ScriptLine → List Answer → List (Option Trace) → State → Type 0
+CountedRun state lines answers traces last = (run : LineRun state lines answers last) × AreTraces state lines answers traces last run
 
--- every list of events has a run, with counts or without
-has_run : (counts : Bool) (state : State) (events : List Event) → IsReached state
-    → (outcomes : List Outcome) × (traces : List (Option Trace)) × (last : State) × CountedRun state events outcomes traces last × AreThere counts traces
+-- every list of lines has a run, with counts or without
+has_run : (counts : Bool) (state : State) (lines : List ScriptLine) → IsReached state
+    → (answers : List Answer) × (traces : List (Option Trace)) × (last : State) × CountedRun state lines answers traces last × AreThere counts traces
 has_run counts state [] reached = ([], [], state, (refl, tt), All-nil (λ (trace : Option Trace). is_some trace ≡ counts))
-has_run counts state (event ∷ events) reached =
-    let told = is_answered state event reached in
-    let rest = has_run counts told.1 events (reached-step state told.1 event told.0 reached told.2) in
+has_run counts state (line ∷ lines) reached =
+    let told = line_is_answered state line reached in
+    let rest = has_run counts told.1 lines (reached-ran state told.1 reached (unrolled_line state line told.0 told.1 told.2)) in
     let trace = some_trace counts told.1 in (
       told.0 ∷ rest.0,
       trace.0 ∷ rest.1,
@@ -407,22 +407,22 @@ has_run counts state (event ∷ events) reached =
     )
 
 -- a run, and then another
-run-append : (old mid new : State) (events later : List Event) (outcomes told : List Outcome) (traces more : List (Option Trace))
-    → CountedRun old events outcomes traces mid → CountedRun mid later told more new → CountedRun old (events ++ later) (outcomes ++ told) (traces ++ more) new
+run-append : (old mid new : State) (lines later : List ScriptLine) (answers told : List Answer) (traces more : List (Option Trace))
+    → CountedRun old lines answers traces mid → CountedRun mid later told more new → CountedRun old (lines ++ later) (answers ++ told) (traces ++ more) new
 run-append old mid new [] later [] told [] more ran rest = subst (λ (s : State). CountedRun s later told more new) ran.0 rest
 run-append old mid new [] later [] told (trace ∷ traces) more ran rest = absurd ran.1
-run-append old mid new [] later (outcome ∷ outcomes) told traces more ran rest = absurd ran.0
-run-append old mid new (event ∷ events) later [] told traces more ran rest = absurd ran.0
-run-append old mid new (event ∷ events) later (outcome ∷ outcomes) told [] more ran rest = absurd ran.1
-run-append old mid new (event ∷ events) later (outcome ∷ outcomes) told (trace ∷ traces) more ((next, step, run), are) rest =
-    let all = run-append next mid new events later outcomes told traces more (run, are.1) rest in
+run-append old mid new [] later (answer ∷ answers) told traces more ran rest = absurd ran.0
+run-append old mid new (line ∷ lines) later [] told traces more ran rest = absurd ran.0
+run-append old mid new (line ∷ lines) later (answer ∷ answers) told [] more ran rest = absurd ran.1
+run-append old mid new (line ∷ lines) later (answer ∷ answers) told (trace ∷ traces) more ((next, step, run), are) rest =
+    let all = run-append next mid new lines later answers told traces more (run, are.1) rest in
     ((next, step, all.0), (are.0, all.1))
 
--- each run from power-on over some events goes on over later ones
-pub goes_on : (counts : Bool) (frames levels : ℕ) (disks : List ℕ) (mid : State) (events later : List Event) (outcomes : List Outcome) (traces : List (Option Trace))
-    → CountedRun (opening frames levels disks) events outcomes traces mid
-    → (told : List Outcome) × (more : List (Option Trace)) × (last : State)
-    × CountedRun (opening frames levels disks) (events ++ later) (outcomes ++ told) (traces ++ more) last × AreThere counts more
-goes_on counts frames levels disks mid events later outcomes traces ran =
-    let rest = has_run counts mid later (events, outcomes, (frames, levels, disks, ran.0)) in
-    (rest.0, rest.1, rest.2, run-append (opening frames levels disks) mid rest.2 events later outcomes rest.0 traces rest.1 ran rest.3, rest.4)
+-- each run over some lines, from a state that is reached, goes on over later ones
+pub goes_on : (counts : Bool) (old mid : State) (lines later : List ScriptLine) (answers : List Answer) (traces : List (Option Trace))
+    → IsReached old → CountedRun old lines answers traces mid
+    → (told : List Answer) × (more : List (Option Trace)) × (last : State)
+    × CountedRun old (lines ++ later) (answers ++ told) (traces ++ more) last × AreThere counts more
+goes_on counts old mid lines later answers traces reached ran =
+    let rest = has_run counts mid later (reached-ran old mid reached (unrolled old lines answers mid ran.0)) in
+    (rest.0, rest.1, rest.2, run-append old mid rest.2 lines later answers rest.0 traces rest.1 ran rest.3, rest.4)

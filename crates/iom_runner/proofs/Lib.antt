@@ -1,6 +1,7 @@
 pub mod ReadingLemmas
 pub mod CountedLemmas
 pub mod AnswerLemmas
+pub mod ToldLemmas
+pub mod AlongLemmas
 pub mod RunLemmas
 pub mod TextLemmas
-pub mod SinkLemmas

@@ -1,11 +1,12 @@
 -- The text of a script, and what a fault says of it.
-use Rattle.std.proofs.Common.{◌≡◌, ◌≢◌, ◌<◌, ◌∙◌, ℕ, Bool, inl, inr, List, [], take, Option, None, Some, MatchOption, IfSome, Result, Ok, Err, OnOk, OnErr, IfErr, unwrap_or, refl, sym, ap, subst, subst₂}
+use Rattle.std.proofs.Common.{◌≡◌, ◌≢◌, ◌<◌, ◌≤◌, ◌++◌, ◌∙◌, ℕ, suc, Bool, true, false, cond, inl, inr, List, [], ◌∷◌, length, take, Option, None, Some, MatchOption, IfSome, Result, Ok, Err, OnOk, OnErr, IfErr, unwrap_or, refl, sym, ap, subst, subst₂, arith}
+use Rattle.std.proofs.lemmas.List.{length-append}
 use Rattle.std.proofs.KnownBytes.{Keeps-refl}
 use Rattle.std.specs.Io.KnownBytes.{Appends}
-use Rattle.iom_machine.specs.declared.event.Event.{Event}
 use Rattle.iom_script.specs.declared.script.Script.{Script}
+use Rattle.iom_script.specs.declared.script.ScriptLine.{ScriptLine}
 use Rattle.iom_script.specs.declared.script.WorldSize.{WorldSize}
-use Rattle.iom_script.specs.Grammar.{IsScript}
+use Rattle.iom_script.specs.Grammar.{IsScript, SayLines, Says, is_spoken, spoken, bytes_of_lines}
 use Rattle.iom_script.specs.BadLines.{IsFirstBadLine}
 use Rattle.iom_script.proofs.LimitLemmas.{front_script, front_fault}
 use Rattle.iom_command_line.specs.declared.fault.ArgsFault.{ArgsFault}
@@ -24,14 +25,49 @@ use Rattle.iom_line_writer.specs.Writing.{AppendsFront, AppendsPart}
 use Rattle.iom_runner.proofs.RunLemmas.{machine_run}
 
 -- what tells a run from power-on tells a script with a world of that size
-pub of_script : (Tells : WorldSize → List Event → List ℕ → Type 0) (Grows : List ℕ → Type 0) (script : Script) (size : WorldSize) (events : List Event)
-    → script.world ≡ Some size → events ≡ script.events → (text : List ℕ) × Tells size events text × Grows text
+pub of_script : (Tells : WorldSize → List ScriptLine → List ℕ → Type 0) (Grows : List ℕ → Type 0) (script : Script) (size : WorldSize) (lines : List ScriptLine)
+    → script.world ≡ Some size → lines ≡ script.lines → (text : List ℕ) × Tells size lines text × Grows text
     → (text : List ℕ) × IsTextOf Tells script text × Grows text
-of_script Tells Grows script size events is same (text, tells, grows) = (
+of_script Tells Grows script size lines is same (text, tells, grows) = (
   text,
-  subst (λ world. MatchOption world (text ≡ []) (λ s. Tells s script.events text)) (sym is) (subst (λ (es : List Event). Tells size es text) same tells),
+  subst (λ world. MatchOption world (text ≡ []) (λ s. Tells s script.lines text)) (sym is) (subst (λ (ls : List ScriptLine). Tells size ls text) same tells),
   grows,
 )
+
+-- a script has fewer lines than bytes
+say_as_many : (lines : List (List ℕ)) (said : List ScriptLine) → SayLines lines said → length said ≡ length lines
+say_as_many [] [] say = refl
+say_as_many [] (line ∷ said) say = absurd say
+say_as_many (line ∷ lines) [] say = absurd say
+say_as_many (line ∷ lines) (one ∷ said) say = ap (λ n. suc n) (say_as_many lines said say.1)
+
+spoken_fewer : (lines : List (List ℕ)) → length (spoken lines) ≤ length lines
+spoken_fewer [] = omega arith
+spoken_fewer (line ∷ lines) = by (is_spoken line) (spoken_fewer lines)
+  where
+    by : (b : Bool) → length (spoken lines) ≤ length lines → length (cond b (line ∷ spoken lines) (spoken lines)) ≤ length (line ∷ lines)
+    by true few = omega (arith, few)
+    by false few = omega (arith, few)
+
+each_has_a_byte : (lines : List (List ℕ)) → length lines ≤ length (bytes_of_lines lines)
+each_has_a_byte [] = omega arith
+each_has_a_byte (line ∷ lines) =
+    let few = each_has_a_byte lines in
+    let all = length-append (line ++ 10 ∷ []) (bytes_of_lines lines) in
+    let one = length-append line (10 ∷ []) in
+    omega (arith, few, all, one)
+
+says_few : (lines : List (List ℕ)) (script : Script) → Says lines script → length script.lines ≤ length lines
+says_few [] script (world, none) = let few : length script.lines ≡ 0 = ap (λ (l : List ScriptLine). length l) none in omega (arith, few)
+says_few (line ∷ lines) script (size, world, is, say) = let same = say_as_many lines script.lines say in omega (arith, same)
+
+pub few_lines : (bytes : List ℕ) (script : Script) → IsScript bytes script → length script.lines ≤ 1048576
+few_lines bytes script (lines, make, is) =
+    let said = says_few (spoken lines) script make.says in
+    let fewer = spoken_fewer lines in
+    let each = each_has_a_byte lines in
+    let short = make.short in
+    omega (arith, said, fewer, each, short)
 
 -- the bytes that a reader had left: those that are known, or these
 abbrev pub input_of : Option (List ℕ) → List ℕ → List ℕ
@@ -68,15 +104,15 @@ pub unparsed : (setting : Setting) (known : Option (List ℕ)) (bytes : List ℕ
 unparsed setting known bytes limit written result fault big read explains is =
     subst (λ r. RunsBytes setting (input_of known bytes) r written written) (sym is) (explained setting known bytes limit written fault big read explains)
 
--- a text that tells a run which a platform goes through tells a run of the machine
-told_of_machine : (setting : Setting) (events : List Event) (text : List ℕ) (world : Option WorldSize)
-    → MatchOption world (text ≡ []) (λ size. TellsPlatform setting size events text) → MatchOption world (text ≡ []) (λ size. TellsRun setting size events text)
-told_of_machine setting events text None none = none
-told_of_machine setting events text (Some size) tells = machine_run setting size events text tells
+-- a text that tells a run which a platform goes along tells a run of the machine
+told_of_machine : (setting : Setting) (lines : List ScriptLine) (text : List ℕ) (world : Option WorldSize)
+    → MatchOption world (text ≡ []) (λ size. TellsPlatform setting size lines text) → MatchOption world (text ≡ []) (λ size. TellsRun setting size lines text)
+told_of_machine setting lines text None none = none
+told_of_machine setting lines text (Some size) tells = machine_run setting size lines text tells
 
 -- what is written of a script is the text of a run of the machine
 lines_written : (setting : Setting) (script : Script) (old new : Option (List ℕ)) → WritesText setting script old new → WritesLines setting script old new
-lines_written setting script old new (text, is, appends) = (text, told_of_machine setting script.events text script.world is, appends)
+lines_written setting script old new (text, is, appends) = (text, told_of_machine setting script.lines text script.world is, appends)
 
 -- bytes that are a script are told as one
 pub runs_script : (setting : Setting) (input : List ℕ) (script : Script) (result : Result (Unit {0}) RunFault) (old new : Option (List ℕ)) → IsScript input script → TellsScript setting script result old new
@@ -115,13 +151,13 @@ pub untold : (setting : Setting) (script : Script) (size : WorldSize) (written :
 untold setting script size written result fault there is memory =
     subst (λ r. TellsScript setting script r written written) (sym (is ∙ ap (λ f. Err f) memory)) ((λ none. cc), Keeps-refl written)
 
--- a run of the events of a script, in a world of its size, tells the script
-pub told_script : (setting : Setting) (script : Script) (size : WorldSize) (events : List Event) (result : Result (Unit {0}) RunFault) (old new : Option (List ℕ))
-    → script.world ≡ Some size → events ≡ script.events → OnOk result (WritesRun setting size events old new) → OnErr result (BeginsRun setting size events old new)
-    → OnErr result (BeginsRunSoFar setting size events old new) → IfErr result (λ fault. fault ≡ faults.Writing) → TellsScript setting script result old new
-told_script setting script size events (Ok done) old new is same told front so_far writing = of_script (TellsPlatform setting) (Appends old new) script size events is same told
-told_script setting script size events (Err fault) old new is same told front so_far writing =
-    subst (λ f. TellsScript setting script (Err f) old new) (sym writing) (of_script (TellsRun setting) (AppendsFront old new) script size events is same front, of_script (TellsSoFar setting) (AppendsPart old new) script size events is same so_far)
+-- a run of the lines of a script, in a world of its size, tells the script
+pub told_script : (setting : Setting) (script : Script) (size : WorldSize) (lines : List ScriptLine) (result : Result (Unit {0}) RunFault) (old new : Option (List ℕ))
+    → script.world ≡ Some size → lines ≡ script.lines → OnOk result (WritesRun setting size lines old new) → OnErr result (BeginsRun setting size lines old new)
+    → OnErr result (BeginsRunSoFar setting size lines old new) → IfErr result (λ fault. fault ≡ faults.Writing) → TellsScript setting script result old new
+told_script setting script size lines (Ok done) old new is same told front so_far writing = of_script (TellsPlatform setting) (Appends old new) script size lines is same told
+told_script setting script size lines (Err fault) old new is same told front so_far writing =
+    subst (λ f. TellsScript setting script (Err f) old new) (sym writing) (of_script (TellsRun setting) (AppendsFront old new) script size lines is same front, of_script (TellsSoFar setting) (AppendsPart old new) script size lines is same so_far)
 
 -- what is told by way of a writer, where the writer began and ended so
 pub told_by : {W : Type 0} (contents : W → Option (List ℕ)) (Tells : Option (List ℕ) → Option (List ℕ) → Type 0) (old start end new : W) → start ≡ old → end ≡ new

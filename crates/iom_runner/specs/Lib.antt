@@ -1,7 +1,9 @@
 pub mod Reading
 pub mod Statuses
+pub mod LineRuns
 pub mod Text
 pub mod PlatformText
+pub mod Going
 pub mod Bytes
 pub mod Runs
 pub mod Disks

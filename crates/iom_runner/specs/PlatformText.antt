@@ -1,47 +1,72 @@
--- The text of a script, told of a run that a platform goes through; and what is written of it where writing fails.
-use Rattle.std.specs.Prelude.{◌≡◌, ℕ, List, ◌∷◌, take, Option}
+-- The text of a script, told of a run that a platform goes along; and what is written of it where writing fails.
+use Rattle.std.specs.Prelude.{◌≡◌, ℕ, ◌≤◌, ⊤, List, [], ◌∷◌, take, Option, Ok, Err}
 use Rattle.std.specs.Io.KnownBytes.{Appends}
-use Rattle.iom_machine.specs.declared.event.Event.{Event}
-use Rattle.iom_machine.specs.declared.outcome.Outcome.{Outcome}
+use Rattle.std.proofs.Common.{inl, inr}
 use Rattle.iom_machine.specs.declared.outcome.Trace.{Trace}
 use Rattle.iom_machine.specs.declared.state.State.{State}
-use Rattle.iom_machine.specs.Reclaim.{Reclaims}
+use Rattle.iom_driver.specs.Fences.{last_fence}
+use Rattle.iom_driver.specs.Seen.{state_of}
 use Rattle.iom_platform.specs.PowerOn.{BeginsAt}
-use Rattle.iom_platform.specs.Runs.{AreCounts, AreOutcomes}
+use Rattle.iom_platform.specs.Runs.{AreCounts}
 use Rattle.iom_platform.specs.Seen.{Seen}
 use Rattle.iom_script.specs.declared.script.Script.{Script}
+use Rattle.iom_script.specs.declared.script.ScriptLine.{ScriptLine}
 use Rattle.iom_script.specs.declared.script.WorldSize.{WorldSize}
+use Rattle.iom_settling_runs.specs.Laws.{GoesThroughAll}
+use Rattle.iom_world.specs.Shows.{Shows}
 use Rattle.iom_line_writer.specs.Writing.{AppendsFront, AppendsPart}
+use Rattle.iom_runner.specs.LineRuns.{Answer, LineStep, LineRun, unrolled_line, unrolled, ReclaimsIn}
 use Rattle.iom_runner.specs.Text.{Setting, power_on, run_text, AreThere, TellsRun, IsTextOf}
 
--- the text of a run over the events from power-on that a platform goes through from its own, and of which the sentences of the headline hold; each event
--- also does to the platform what the machine doesn't see, and the counts are also those of the messages under way
-abbrev pub TellsPlatform : Setting → WorldSize → List Event → List ℕ → Type 0
-TellsPlatform setting size events text =
-    (old new : Seen) × (outcomes : List Outcome) × (last : State) × (first : Option Trace) × (traces : List (Option Trace))
+-- settling is refused only where the numbers of fences are used up
+abbrev pub IsRefusedRightly : Answer → Seen → Type 0
+IsRefusedRightly (inl outcome) new = ⊤
+IsRefusedRightly (inr (Ok count)) new = ⊤
+IsRefusedRightly (inr (Err why)) new = 4294967295 ≤ last_fence (state_of new.world.driver)
+
+-- the platform goes through the events of a line that is answered so
+abbrev pub GoesBy : (state : State) → Seen → (line : ScriptLine) (answer : Answer) (last : State) → LineStep state line answer last → Seen → Type 0
+GoesBy state old line answer last step new = GoesThroughAll state old last (unrolled_line state line answer last step) new × IsRefusedRightly answer new
+
+-- the platform goes through the events of each line, and is this one in the end: it shows the states that the run is in, each event does to it what it may,
+-- and the counts beside each answer are those of the state then
+abbrev pub GoesAlong : (state : State) → Seen → (lines : List ScriptLine) (answers : List Answer) → List (Option Trace) → (last : State)
+    → LineRun state lines answers last → Seen → Type 0
+GoesAlong state old [] [] [] last run new = Shows new.world last × (new ≡ old)
+GoesAlong state old (line ∷ lines) (answer ∷ answers) (trace ∷ traces) last (mid, step, rest) new =
+    (later : Seen) × GoesBy state old line answer mid step later × AreCounts mid later.world trace
+    × GoesAlong mid later lines answers traces last rest new
+GoesAlong state old _ _ _ last run new = ⊥
+
+-- the text of a run over the lines from power-on that a platform goes along from its own, and of whose events, those of each settling in its place, the
+-- sentences of the headline hold; each event also does to the platform what the machine doesn't see, and the counts are also those of the messages under way
+abbrev pub TellsPlatform : Setting → WorldSize → List ScriptLine → List ℕ → Type 0
+TellsPlatform setting size lines text =
+    (old new : Seen) × (answers : List Answer) × (last : State) × (first : Option Trace) × (traces : List (Option Trace))
     × BeginsAt size.frames size.levels setting.disks old
-    × (are : AreOutcomes (power_on setting size) old events outcomes traces last new)
-    × Reclaims (power_on setting size) events outcomes last are.run
+    × (run : LineRun (power_on setting size) lines answers last)
+    × GoesAlong (power_on setting size) old lines answers traces last run new
+    × ReclaimsIn (power_on setting size) last (unrolled (power_on setting size) lines answers last run)
     × AreThere setting.counts (first ∷ traces) × AreCounts (power_on setting size) old.world first
-    × (text ≡ run_text first outcomes traces)
+    × (text ≡ run_text first answers traces)
 
--- the text of such a run over some of the events, from the first on
-abbrev pub TellsSoFar : Setting → WorldSize → List Event → List ℕ → Type 0
-TellsSoFar setting size events text = (count : ℕ) × TellsPlatform setting size (take count events) text
+-- the text of such a run over some of the lines, from the first on
+abbrev pub TellsSoFar : Setting → WorldSize → List ScriptLine → List ℕ → Type 0
+TellsSoFar setting size lines text = (count : ℕ) × TellsPlatform setting size (take count lines) text
 
--- known contents grow by the text of a run over the events that a platform goes through
-abbrev pub WritesRun : Setting → WorldSize → List Event → Option (List ℕ) → Option (List ℕ) → Type 0
-WritesRun setting size events old new = (text : List ℕ) × TellsPlatform setting size events text × Appends old new text
+-- known contents grow by the text of a run over the lines that a platform goes along
+abbrev pub WritesRun : Setting → WorldSize → List ScriptLine → Option (List ℕ) → Option (List ℕ) → Type 0
+WritesRun setting size lines old new = (text : List ℕ) × TellsPlatform setting size lines text × Appends old new text
 
--- known contents grow by a beginning of the text of a run over the events
-abbrev pub BeginsRun : Setting → WorldSize → List Event → Option (List ℕ) → Option (List ℕ) → Type 0
-BeginsRun setting size events old new = (text : List ℕ) × TellsRun setting size events text × AppendsFront old new text
+-- known contents grow by a beginning of the text of a run over the lines
+abbrev pub BeginsRun : Setting → WorldSize → List ScriptLine → Option (List ℕ) → Option (List ℕ) → Type 0
+BeginsRun setting size lines old new = (text : List ℕ) × TellsRun setting size lines text × AppendsFront old new text
 
--- known contents grow by a beginning, but not by all, of the text of a run over the first events that a platform goes through
-abbrev pub BeginsRunSoFar : Setting → WorldSize → List Event → Option (List ℕ) → Option (List ℕ) → Type 0
-BeginsRunSoFar setting size events old new = (text : List ℕ) × TellsSoFar setting size events text × AppendsPart old new text
+-- known contents grow by a beginning, but not by all, of the text of a run over the first lines that a platform goes along
+abbrev pub BeginsRunSoFar : Setting → WorldSize → List ScriptLine → Option (List ℕ) → Option (List ℕ) → Type 0
+BeginsRunSoFar setting size lines old new = (text : List ℕ) × TellsSoFar setting size lines text × AppendsPart old new text
 
--- known contents grow by a text of the script, told of a run that a platform goes through
+-- known contents grow by a text of the script, told of a run that a platform goes along
 abbrev pub WritesText : Setting → Script → Option (List ℕ) → Option (List ℕ) → Type 0
 WritesText setting script old new = (text : List ℕ) × IsTextOf (TellsPlatform setting) script text × Appends old new text
 
@@ -49,6 +74,6 @@ WritesText setting script old new = (text : List ℕ) × IsTextOf (TellsPlatform
 abbrev pub BeginsText : Setting → Script → Option (List ℕ) → Option (List ℕ) → Type 0
 BeginsText setting script old new = (text : List ℕ) × IsTextOf (TellsRun setting) script text × AppendsFront old new text
 
--- known contents grow by a beginning, but not by all, of a text of the script's first events, told of a run that a platform goes through
+-- known contents grow by a beginning, but not by all, of a text of the script's first lines, told of a run that a platform goes along
 abbrev pub BeginsTextSoFar : Setting → Script → Option (List ℕ) → Option (List ℕ) → Type 0
 BeginsTextSoFar setting script old new = (text : List ℕ) × IsTextOf (TellsSoFar setting) script text × AppendsPart old new text

@@ -1,20 +1,19 @@
 -- The text of a script, told of a run of the ledger machine: what is right to print for it.
 use Rattle.std.specs.Prelude.{◌≡◌, ℕ, Bool, ⊤, List, [], ◌∷◌, ◌++◌, map, All, Option, MatchOption, IfSome, is_some}
 use Rattle.std.specs.Io.KnownBytes.{Appends}
-use Rattle.iom_machine.specs.declared.event.Event.{Event}
-use Rattle.iom_machine.specs.declared.outcome.Outcome.{Outcome}
+use Rattle.std.proofs.Common.{inl, inr}
 use Rattle.iom_machine.specs.declared.outcome.Outcome.TheVariants.{Done}
 use Rattle.iom_machine.specs.declared.outcome.Trace.{Trace}
 use Rattle.iom_machine.specs.declared.state.State.{State}
-use Rattle.iom_machine.specs.Machine.{Run}
 use Rattle.iom_machine.specs.PowerOn.{opening}
-use Rattle.iom_machine.specs.Reclaim.{Reclaims}
 use Rattle.iom_machine.specs.Traces.{IsTrace}
 use Rattle.iom_platform.specs.Numbered.{numbered, number_of}
 use Rattle.iom_script.specs.declared.script.Script.{Script}
+use Rattle.iom_script.specs.declared.script.ScriptLine.{ScriptLine}
 use Rattle.iom_script.specs.declared.script.WorldSize.{WorldSize}
 use Rattle.iom_virtio_blk.specs.DiskStates.{DiskState}
-use Rattle.iom_line_writer.specs.Told.{told_line, told_lines}
+use Rattle.iom_line_writer.specs.Told.{told_line, told_settled}
+use Rattle.iom_runner.specs.LineRuns.{Answer, LineRun, unrolled, ReclaimsIn}
 
 -- what scripts are run with: the disks that are at hand, whose numbers are their places from 0, and whether the counts stand behind each line
 pub record Setting : Type 0 where
@@ -25,34 +24,45 @@ pub record Setting : Type 0 where
 abbrev pub power_on : Setting → WorldSize → State
 power_on setting size = opening size.frames size.levels (map number_of (numbered 0 setting.disks))
 
--- a line for the world, `ok`, and one for each outcome, each with the line of its counts, where there are any
-abbrev pub run_text : Option Trace → List Outcome → List (Option Trace) → List ℕ
-run_text first outcomes traces = told_line Done first ++ told_lines outcomes traces
+-- the line of an answer, with that of its counts, where there are any
+abbrev pub told_answer : Answer → Option Trace → List ℕ
+told_answer (inl outcome) trace = told_line outcome trace
+told_answer (inr answer) trace = told_settled answer trace
+
+abbrev pub told_answers : List Answer → List (Option Trace) → List ℕ
+told_answers [] traces = []
+told_answers (answer ∷ answers) [] = []
+told_answers (answer ∷ answers) (trace ∷ traces) = told_answer answer trace ++ told_answers answers traces
+
+-- a line for the world, `ok`, and one for each answer, each with the line of its counts, where there are any
+abbrev pub run_text : Option Trace → List Answer → List (Option Trace) → List ℕ
+run_text first answers traces = told_line Done first ++ told_answers answers traces
 
 -- there are counts each time, or never
 abbrev pub AreThere : Bool → List (Option Trace) → Type 0
 AreThere counts traces = All (λ (trace : Option Trace). is_some trace ≡ counts) traces
 
--- the counts beside each outcome of a run are those of the state that its event leads to
-abbrev pub AreTraces : (state : State) (events : List Event) (outcomes : List Outcome) → List (Option Trace) → (last : State) → Run state events outcomes last → Type 0
+-- the counts beside each answer of a run are those of the state that its line leads to
+abbrev pub AreTraces : (state : State) (lines : List ScriptLine) (answers : List Answer) → List (Option Trace) → (last : State) → LineRun state lines answers last → Type 0
 AreTraces state [] [] [] last run = ⊤
-AreTraces state (event ∷ events) (outcome ∷ outcomes) (trace ∷ traces) last (next, step, rest) =
-    IfSome trace (IsTrace next) × AreTraces next events outcomes traces last rest
+AreTraces state (line ∷ lines) (answer ∷ answers) (trace ∷ traces) last (next, step, rest) =
+    IfSome trace (IsTrace next) × AreTraces next lines answers traces last rest
 AreTraces state _ _ _ last run = ⊥
 
--- the text of a run over the events from power-on, of which the sentences of the headline hold; the counts are those of its states, from power-on on
-abbrev pub TellsRun : Setting → WorldSize → List Event → List ℕ → Type 0
-TellsRun setting size events text =
-    (outcomes : List Outcome) × (last : State) × (first : Option Trace) × (traces : List (Option Trace))
-    × (run : Run (power_on setting size) events outcomes last)
-    × Reclaims (power_on setting size) events outcomes last run
+-- the text of a run over the lines from power-on, of whose events, those of each settling in its place, the sentences of the headline hold; the counts are
+-- those of its states, from power-on on
+abbrev pub TellsRun : Setting → WorldSize → List ScriptLine → List ℕ → Type 0
+TellsRun setting size lines text =
+    (answers : List Answer) × (last : State) × (first : Option Trace) × (traces : List (Option Trace))
+    × (run : LineRun (power_on setting size) lines answers last)
+    × ReclaimsIn (power_on setting size) last (unrolled (power_on setting size) lines answers last run)
     × AreThere setting.counts (first ∷ traces) × IfSome first (IsTrace (power_on setting size))
-    × AreTraces (power_on setting size) events outcomes traces last run
-    × (text ≡ run_text first outcomes traces)
+    × AreTraces (power_on setting size) lines answers traces last run
+    × (text ≡ run_text first answers traces)
 
--- The text of a script, by what tells the text of events in a world of some size: nothing where the script says nothing; else that of its events.
-abbrev pub IsTextOf : (WorldSize → List Event → List ℕ → Type 0) → Script → List ℕ → Type 0
-IsTextOf Tells script text = MatchOption script.world (text ≡ []) (λ size. Tells size script.events text)
+-- The text of a script, by what tells the text of lines in a world of some size: nothing where the script says nothing; else that of its lines.
+abbrev pub IsTextOf : (WorldSize → List ScriptLine → List ℕ → Type 0) → Script → List ℕ → Type 0
+IsTextOf Tells script text = MatchOption script.world (text ≡ []) (λ size. Tells size script.lines text)
 
 -- known contents grow by a text of the script, told of a run of the ledger machine: what this says needs no platform
 abbrev pub WritesLines : Setting → Script → Option (List ℕ) → Option (List ℕ) → Type 0

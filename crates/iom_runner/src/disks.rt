@@ -1,5 +1,5 @@
 // A script that is run with the program's own disks.
-ghost use Rattle.std.specs.Prelude.{◌≡◌, List, ℕ, IfOk, IfSome};
+ghost use Rattle.std.specs.Prelude.{◌≡◌, ◌≤◌, List, ℕ, length, IfOk, IfSome};
 ghost use Rattle.iom_platform.specs.Seen.{states_of};
 ghost use Rattle.iom_script.specs.Grammar.{IsWorldSize};
 ghost use Rattle.iom_virtio_blk.specs.MemoryDisks.{state_of};
@@ -38,6 +38,7 @@ fn tell_with_disks<W: Write>(
     writer: &mut W,
 ) -> Result<(), RunFault>
     requires world { IfSome script.now.world IsWorldSize }
+    requires few { length script.now.lines ≤ 1048576 }
     ensures { TellsScript (program_setting counts) script.now result (W.contents writer.old) (W.contents writer.new) }
 {
     if script.world.is_none() {

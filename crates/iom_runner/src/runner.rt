@@ -1,24 +1,31 @@
 // A script, from its bytes to the bytes of its lines.
-ghost use Rattle.std.specs.Prelude.{◌≡◌, ◌+◌, ◌<◌, ◌^◌, List, [], ℕ, length, OnOk, OnErr, IfOk, IfErr, IfSome};
+ghost use Rattle.std.specs.Prelude.{◌≡◌, ◌+◌, ◌*◌, ◌<◌, ◌≤◌, ◌^◌, List, [], ℕ, length, Option, OnOk, OnErr, IfOk, IfErr, IfSome, is_some};
+ghost use Rattle.iom_machine.specs.declared.outcome.Trace.{Trace};
+ghost use Rattle.iom_machine.specs.declared.state.State.{State};
 ghost use Rattle.iom_platform.specs.PowerOn.{BeginsAt};
 ghost use Rattle.iom_platform.specs.Seen.{platform_seen, states_of};
+ghost use Rattle.iom_script.specs.declared.script.ScriptLine.TheVariants as says;
 ghost use Rattle.iom_script.specs.declared.script.WorldSize.{WorldSize};
 ghost use Rattle.iom_script.specs.Grammar.{IsScript, IsWorldSize};
 ghost use Rattle.iom_runner.specs.Bytes.{ExplainsUnparsed};
 ghost use Rattle.iom_runner.specs.Disks.{setting_of};
+ghost use Rattle.iom_runner.specs.Going.{LineHappens, RunsAlong, FailsAlong};
+ghost use Rattle.iom_runner.specs.LineRuns.{Answer};
 ghost use Rattle.iom_runner.specs.Reading.{ConsumesAtMost, FailsWithin};
 ghost use Rattle.iom_runner.specs.Runs.{TellsScript, RunsBytes, AreLeft};
-ghost use Rattle.iom_runner.specs.Text.{Setting};
+ghost use Rattle.iom_runner.specs.Text.{Setting, told_answer};
 ghost use Rattle.iom_runner.specs.PlatformText.{WritesRun, BeginsRun, BeginsRunSoFar};
-ghost use Rattle.iom_line_writer.specs.Writing.{KeepsWriter};
+ghost use Rattle.iom_line_writer.specs.Writing.{KeepsWriter, TakesText, FailsAt};
+ghost use Rattle.iom_world.specs.Shows.{Shows};
 
 use crate::faults::RunFault;
 use crate::reading::read_script;
 use iom_line_writer::{LineWriter, WriteFault};
-use iom_machine::{Event, Outcome, Sink};
+use iom_machine::{Outcome, Sink};
 use iom_platform::Platform;
-use iom_script::{LineBuffer, Script, WorldSize, parse};
+use iom_script::{LineBuffer, Script, ScriptLine, WorldSize, parse};
 use iom_virtio_blk::Disk;
+use iom_world::KeptOutcomes;
 use std::alloc::Global;
 use std::io::{Read, Write};
 
@@ -26,6 +33,7 @@ use std::io::{Read, Write};
 pub(crate) fn script_of(alloc: Global, bytes: &[u8]) -> Result<Script, RunFault>
     ensures script { IfOk result (IsScript bytes.now) }
     ensures world { IfOk result (λ script. IfSome script.world IsWorldSize) }
+    ensures few { IfOk result (λ script. length script.lines ≤ 1048576) }
     ensures fault { IfErr result (ExplainsUnparsed bytes.now) }
 {
     Ok(parse(alloc, bytes)?)
@@ -44,49 +52,106 @@ fn platform_of<D: Disk>(
     Platform::new(alloc, size.frames as u32, size.levels as u8, disks).map_err(|_| RunFault::Memory)
 }
 
-/// Writes the line of the world, and that of each event, which happens in it.
-fn tell_events<W: Write, D: Disk>(
+/// The platform settles, and what it answers goes to the lines, with the counts behind it where these are wanted.
+// Apart from the loop of a run, which seldom settles.
+#[inline(never)]
+fn tell_settling<W: Write, D: Disk>(
     platform: &mut Platform<D>,
-    events: &[Event],
     lines: &mut LineWriter<'_, W>,
 ) -> Result<(), WriteFault>
-    requires count { platform.old.world.events + length events.now < 2 ^ 64 }
+    requires count { platform.old.world.events + 400 < 2 ^ 64 }
+    ensures told { (answer : Answer) × (trace : Option Trace) × LineHappens (platform_seen D.seen platform.old) says.Settle answer trace (platform_seen D.seen platform.new)
+        × (is_some trace ≡ lines.old.counts) × OnOk result (TakesText W.contents lines.old (told_answer answer trace) lines.new)
+        × OnErr result (FailsAt W.contents lines.old (told_answer answer trace) lines.new) }
+    ensures counted { platform.new.world.events ≤ platform.old.world.events + 400 }
+{
+    let answer = platform.settle();
+    let trace = platform.trace_for(lines);
+    lines.put_settled(answer, trace)
+}
+
+/// What the line says happens, and its answer goes to the lines, with the counts behind it where these are wanted.
+#[inline(always)]
+fn tell_line<W: Write, D: Disk>(
+    platform: &mut Platform<D>,
+    line: &ScriptLine,
+    kept: &mut KeptOutcomes,
+    lines: &mut LineWriter<'_, W>,
+) -> Result<(), WriteFault>
+    requires count { platform.old.world.events + 400 < 2 ^ 64 }
+    ensures told { (answer : Answer) × (trace : Option Trace) × LineHappens (platform_seen D.seen platform.old) line.now answer trace (platform_seen D.seen platform.new)
+        × (is_some trace ≡ lines.old.counts) × OnOk result (TakesText W.contents lines.old (told_answer answer trace) lines.new)
+        × OnErr result (FailsAt W.contents lines.old (told_answer answer trace) lines.new) }
+    ensures counted { platform.new.world.events ≤ platform.old.world.events + 400 }
+{
+    match line {
+        ScriptLine::Event(event) => platform.run_one(event, kept, lines),
+        ScriptLine::Settle => tell_settling(platform, lines),
+    }
+}
+
+/// The same of each line of a script, up to the first at which writing fails.
+fn tell_lines<W: Write, D: Disk>(
+    platform: &mut Platform<D>,
+    script: &[ScriptLine],
+    lines: &mut LineWriter<'_, W>,
+) -> Result<(), WriteFault>
+    requires count { platform.old.world.events + 400 * length script.now < 2 ^ 64 }
+    ensures ran { (state : State) → Shows platform.old.world state
+        → OnOk result (RunsAlong W.contents state (platform_seen D.seen platform.old) script.now lines.old lines.new (platform_seen D.seen platform.new)) }
+    ensures failed { (state : State) → Shows platform.old.world state
+        → OnErr result (FailsAlong W.contents state (platform_seen D.seen platform.old) script.now lines.old lines.new (platform_seen D.seen platform.new)) }
+{
+    let mut kept = KeptOutcomes::new();
+    for line in script {
+        tell_line(platform, line, &mut kept, lines)?;
+    }
+    Ok(())
+}
+
+/// Writes the line of the world, and those of the script, which happens in it.
+fn tell_all<W: Write, D: Disk>(
+    platform: &mut Platform<D>,
+    script: &[ScriptLine],
+    lines: &mut LineWriter<'_, W>,
+) -> Result<(), WriteFault>
+    requires count { platform.old.world.events + 400 * length script.now < 2 ^ 64 }
     requires empty { lines.old.buffer ≡ [] }
     ensures same_writer { (setting : Setting) (size : WorldSize) → BeginsAt size.frames size.levels setting.disks (platform_seen D.seen platform.old)
         → KeepsWriter lines.old lines.new }
     ensures told { (setting : Setting) (size : WorldSize) → BeginsAt size.frames size.levels setting.disks (platform_seen D.seen platform.old)
-        → lines.old.counts ≡ setting.counts → OnOk result (WritesRun setting size events.now (W.contents lines.old.writer.now) (W.contents lines.new.writer.now)) }
+        → lines.old.counts ≡ setting.counts → OnOk result (WritesRun setting size script.now (W.contents lines.old.writer.now) (W.contents lines.new.writer.now)) }
     ensures front { (setting : Setting) (size : WorldSize) → BeginsAt size.frames size.levels setting.disks (platform_seen D.seen platform.old)
-        → lines.old.counts ≡ setting.counts → OnErr result (BeginsRun setting size events.now (W.contents lines.old.writer.now) (W.contents lines.new.writer.now)) }
+        → lines.old.counts ≡ setting.counts → OnErr result (BeginsRun setting size script.now (W.contents lines.old.writer.now) (W.contents lines.new.writer.now)) }
     ensures so_far { (setting : Setting) (size : WorldSize) → BeginsAt size.frames size.levels setting.disks (platform_seen D.seen platform.old)
-        → lines.old.counts ≡ setting.counts → OnErr result (BeginsRunSoFar setting size events.now (W.contents lines.old.writer.now) (W.contents lines.new.writer.now)) }
+        → lines.old.counts ≡ setting.counts → OnErr result (BeginsRunSoFar setting size script.now (W.contents lines.old.writer.now) (W.contents lines.new.writer.now)) }
 {
     let trace = platform.trace_for(lines);
     lines.put(&Outcome::Done, trace)?;
-    platform.run(events, lines)?;
+    tell_lines(platform, script, lines)?;
     lines.write_out()
 }
 
 /// The same, to the writer, by way of the buffer; with the counts or without.
 fn tell_run<W: Write, D: Disk>(
     platform: &mut Platform<D>,
-    events: &[Event],
+    script: &[ScriptLine],
     counts: bool,
     buffer: LineBuffer,
     writer: &mut W,
 ) -> Result<(), RunFault>
-    requires count { platform.old.world.events + length events.now < 2 ^ 64 }
+    requires count { platform.old.world.events + 400 * length script.now < 2 ^ 64 }
     requires empty { buffer ≡ [] }
     ensures told { (setting : Setting) (size : WorldSize) → BeginsAt size.frames size.levels setting.disks (platform_seen D.seen platform.old)
-        → counts ≡ setting.counts → OnOk result (WritesRun setting size events.now (W.contents writer.old) (W.contents writer.new)) }
+        → counts ≡ setting.counts → OnOk result (WritesRun setting size script.now (W.contents writer.old) (W.contents writer.new)) }
     ensures front { (setting : Setting) (size : WorldSize) → BeginsAt size.frames size.levels setting.disks (platform_seen D.seen platform.old)
-        → counts ≡ setting.counts → OnErr result (BeginsRun setting size events.now (W.contents writer.old) (W.contents writer.new)) }
+        → counts ≡ setting.counts → OnErr result (BeginsRun setting size script.now (W.contents writer.old) (W.contents writer.new)) }
     ensures so_far { (setting : Setting) (size : WorldSize) → BeginsAt size.frames size.levels setting.disks (platform_seen D.seen platform.old)
-        → counts ≡ setting.counts → OnErr result (BeginsRunSoFar setting size events.now (W.contents writer.old) (W.contents writer.new)) }
+        → counts ≡ setting.counts → OnErr result (BeginsRunSoFar setting size script.now (W.contents writer.old) (W.contents writer.new)) }
     ensures fault { IfErr result (λ fault. fault ≡ RunFault.Writing) }
 {
     let mut lines = LineWriter::new(buffer, writer, counts);
-    let told = tell_events(platform, events, &mut lines);
+    let told = tell_all(platform, script, &mut lines);
     let LineWriter {
         buffer: _,
         writer,
@@ -117,6 +182,7 @@ pub(crate) fn tell<W: Write, D: Disk>(
     writer: &mut W,
 ) -> Result<(), RunFault>
     requires world { IfSome script.now.world IsWorldSize }
+    requires few { length script.now.lines ≤ 1048576 }
     ensures { TellsScript (setting_of D.seen disks.items counts) script.now result (W.contents writer.old) (W.contents writer.new) }
 {
     let Some(size) = script.world else {
@@ -126,15 +192,15 @@ pub(crate) fn tell<W: Write, D: Disk>(
     let mut platform = platform_of(alloc, size, disks)?;
     tell_run(
         &mut platform,
-        script.events.as_slice(),
+        script.lines.as_slice(),
         counts,
         buffer,
         writer,
     )
 }
 
-/// Reads a script, runs its events in a world at power-on, with these disks, and writes a line for the world
-/// and one for each event; with `trace` each is followed by the line of the counts that stand there. Of bytes
+/// Reads a script, runs its lines in a world at power-on, with these disks, and writes a line for the world
+/// and one for each of them; with `trace` each is followed by the line of the counts that stand there. Of bytes
 /// that aren't a script it writes nothing, and names their first bad line. Where writing fails, what was written
 /// is a beginning of the text; where reading fails, or memory, nothing is written.
 pub fn run<R: Read, W: Write, D: Disk>(

@@ -11,6 +11,8 @@ mod disks;
 #[cfg(test)]
 mod expect;
 #[cfg(test)]
+mod fences;
+#[cfg(test)]
 mod platform;
 #[cfg(test)]
 mod runner;

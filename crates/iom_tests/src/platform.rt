@@ -6,8 +6,9 @@ use crate::expect::expect;
 use iom_machine::{Event, Outcome, Sink, Trace};
 use iom_platform::Platform;
 use iom_runner::program_disks;
-use iom_script::parse;
+use iom_script::{ScriptLine, parse};
 use iom_virtio_blk::MemoryDisk;
+use iom_world::KeptOutcomes;
 use std::alloc::Global;
 use std::process::Abort;
 
@@ -72,11 +73,16 @@ fn settled(rt: &impl Abort, alloc: Global, lines: &[u8]) -> Option<(u32, u64)> {
     let script = parse(alloc, lines).ok()?;
     let mut platform = opened(rt, alloc);
     let mut sink = Room { left: 1000 };
-    let events = script.events.as_slice();
-    if events.len() > 1000 || platform.events() > 1000 {
-        return None;
+    let mut kept = KeptOutcomes::new();
+    for line in script.lines.as_slice() {
+        let ScriptLine::Event(event) = line else {
+            return None;
+        };
+        if platform.events() > 1000 {
+            return None;
+        }
+        platform.run_one(event, &mut kept, &mut sink).ok()?;
     }
-    platform.run(events, &mut sink).ok()?;
     if platform.events() > 10000 {
         return None;
     }

@@ -294,9 +294,19 @@ fn interruptions_are_outlasted(rt: HostRuntime) {
     expect(&rt, is_so(rt.alloc(), &play));
 }
 
-/// Three scripts of different kinds, one with counts, and their lines.
-fn rows() -> [(&'static [u8], bool, &'static [u8]); 3] {
+/// A message is lost, and its device cut off; then the platform settles, twice.
+static SETTLING: &[u8] = b"world 64 1\ndevice 000002 ats\nattach 000002 first ats\n\
+    grant 000002 3 5 rw\nrelease 000002 3\nfetch\nfetch\ndrop 0\nquarantine 000002\nsettle\nfree 5\nsettle\n";
+
+static SETTLING_LINES: &[u8] =
+    b"ok\nok\nok\nok\nticket 1\ndid iotinval.vma\ndid ats.inval\ndropped\n\
+    ticket 2\nsettled 6\nfree yes\nsettled 0\n";
+
+/// Scripts of different kinds, one with counts, and their lines.
+fn rows() -> [(&'static [u8], bool, &'static [u8]); 5] {
     [
+        (b"world 64 1\nsettle\n", false, b"ok\nsettled 0\n"),
+        (SETTLING, false, SETTLING_LINES),
         (FIRST_PATH, false, FIRST_PATH_LINES),
         (LATE_ANSWER, false, LATE_ANSWER_LINES),
         (COUNTED, true, COUNTED_LINES),
@@ -338,6 +348,8 @@ fn a_failing_write_leaves_a_beginning(rt: HostRuntime) {
                 script,
                 counts,
                 written: 10,
+                // What is written behind the failure would be taken.
+                interruptions: 0,
                 room,
                 end: End::Writing,
                 lines: lines.get(..room).unwrap_or(b""),

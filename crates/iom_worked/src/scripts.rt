@@ -67,8 +67,20 @@ static ROWS: [&str; 59] = [
     "another-size",
 ];
 
+/// Those whose scripts have a line `settle`, which a trace hasn't: these aren't judged.
+static SETTLING: [&str; 4] = [
+    "settle-nothing",
+    "settle-eight",
+    "settle-after-timeout",
+    "quarantine-with-lost-message",
+];
+
 /// The rows that are run with `--trace`.
-static COUNTED: [&str; 2] = ["lost-message-to-quarantine", "counts-of-a-block-device"];
+static COUNTED: [&str; 3] = [
+    "lost-message-to-quarantine",
+    "counts-of-a-block-device",
+    "quarantine-with-lost-message",
+];
 
 /// The scripts of `data/examples`, in the order in which they are best read.
 static EXAMPLES: [&str; 20] = [
@@ -158,6 +170,12 @@ pub(crate) fn tell_rows(rt: &HostRuntime) -> anyhow::Result<()> {
         let script = fs::read_to_string(rt, format!(in rt.alloc(); "rows/{name}.script")?)?;
         let wanted = fs::read_to_string(rt, format!(in rt.alloc(); "rows/{name}.out")?)?;
         tell(rt, name, &script, &wanted)?;
+    }
+    for name in &SETTLING {
+        let script = fs::read_to_string(rt, format!(in rt.alloc(); "rows/{name}.script")?)?;
+        let wanted = fs::read_to_string(rt, format!(in rt.alloc(); "rows/{name}.out")?)?;
+        let compared = compared(rt, &script, &wanted, COUNTED.contains(name))?;
+        println!(rt; "{name}: {compared}")?;
     }
     Ok(())
 }

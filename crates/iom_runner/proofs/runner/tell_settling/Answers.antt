@@ -1,0 +1,19 @@
+-- The platform settles, and the line tells it.
+use Rattle.std.proofs.Common.{inr, arith}
+use Rattle.iom_platform.specs.Seen.{platform_seen}
+use Rattle.iom_runner.proofs.AlongLemmas.{settling_happens}
+use Rattle.iom_runner.proofs.runner.tell_settling.Goals as goal
+
+pub returns-clause-told : goal.returns-clause-told
+returns-clause-told g c =
+    let counts = c.trace_for-trace.ensures in (
+      inr c.settle-answer.result,
+      c.trace_for-trace.result,
+      settling_happens (platform_seen g.D.Disk.seen) c.args.platform.now c.settle-answer.new.self c.settle-answer.result c.trace_for-trace.result c.settle-answer.ensures.settled counts.counts,
+      counts.wanted,
+      c.put_settled.ensures.taken,
+      c.put_settled.ensures.failed,
+    )
+
+pub returns-clause-counted : goal.returns-clause-counted
+returns-clause-counted g c = let few = c.settle-answer.ensures.counted in omega (arith, few)

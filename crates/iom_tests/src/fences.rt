@@ -1,0 +1,118 @@
+//! A platform that begins at the last number of a fence: one ticket is left.
+use crate::expect::expect;
+use iom_machine::{Fetched, Outcome};
+use iom_platform::Platform;
+use iom_runner::program_disks;
+use iom_script::{ScriptLine, parse};
+use iom_virtio_blk::MemoryDisk;
+use std::alloc::Global;
+use std::process::Abort;
+
+/// An outcome, as far as the test looks at it; refusals by their numbers.
+#[derive(Clone, Copy, PartialEq, Eq)]
+enum Answer {
+    Done,
+    Ticket(u32),
+    Refused(u8),
+    Accepted(u64),
+    Did,
+    NothingInFlight,
+    Confirmed(u32, u32),
+    Other,
+}
+
+/// The outcome, as far as the test looks at it.
+fn answer_of(outcome: &Outcome) -> Answer {
+    match outcome {
+        Outcome::Done => Answer::Done,
+        Outcome::Ticket(ticket) => Answer::Ticket(*ticket),
+        Outcome::Refused(why) => Answer::Refused(why.number()),
+        Outcome::Accepted(number) => Answer::Accepted(*number),
+        Outcome::Fetched(Fetched::Did(_)) => Answer::Did,
+        Outcome::NothingInFlight => Answer::NothingInFlight,
+        Outcome::Confirmed { first, last, .. } => Answer::Confirmed(*first, *last),
+        _ => Answer::Other,
+    }
+}
+
+/// A platform of 64 frames, with the program's disks, whose first fence has the last number.
+fn at_the_last(rt: &impl Abort, alloc: Global) -> Box<Platform<MemoryDisk>> {
+    let disks = program_disks(alloc).expect(rt, "memory for the disks");
+    let platform = Platform::new_from(alloc, u32::MAX, 64, 1, disks).expect(
+        rt,
+        "memory for a platform",
+    );
+    Box::new(alloc, platform).expect(rt, "memory for a platform")
+}
+
+/// Whether the line is an event, and the platform answers it so.
+fn answers(platform: &mut Platform<MemoryDisk>, line: &ScriptLine, answer: Answer) -> bool {
+    let ScriptLine::Event(event) = line else {
+        return false;
+    };
+    platform.events() < 1000000 && answer_of(&platform.step(event)) == answer
+}
+
+/// Whether the platform answers the events of the lines so, one after another.
+fn answers_all(
+    alloc: Global,
+    platform: &mut Platform<MemoryDisk>,
+    lines: &[u8],
+    all: &[Answer],
+) -> bool {
+    let Ok(script) = parse(alloc, lines) else {
+        return false;
+    };
+    let script = script.lines.as_slice();
+    if script.len() != all.len() {
+        return false;
+    }
+    for k in 0..script.len() {
+        if !answers(platform, &script[k], all[k]) {
+            return false;
+        }
+    }
+    true
+}
+
+/// Whether settling is refused, with this refusal's number.
+fn refuses_to_settle(platform: &mut Platform<MemoryDisk>, number: u8) -> bool {
+    platform.events() < 1000000 && matches!(platform.settle(), Err(why) if why.number() == number)
+}
+
+/// The first release takes the last number of a fence, and nothing else gets one. What was accepted before is made by a
+/// settling that is refused, and the ticket can still be confirmed.
+#[test]
+fn the_last_fence_is_given_once(rt: HostRuntime) {
+    let alloc = rt.alloc();
+    let mut platform = at_the_last(&rt, alloc);
+    let before =
+        b"world 64 1\ndevice 000001 raw\nattach 000001 first\ngrant 000001 3 5 rw\ngrant 000001 4 6 rw\n\
+        read 000001 0x4000 4\nrelease 000001 3\nrelease 000001 4\nrestart\n";
+    let answers_before = [
+        Answer::Done,
+        Answer::Done,
+        Answer::Done,
+        Answer::Done,
+        Answer::Accepted(1),
+        Answer::Ticket(1),
+        Answer::Refused(14),
+        Answer::Refused(14),
+    ];
+    expect(
+        &rt,
+        answers_all(alloc, &mut platform, before, &answers_before),
+    );
+    expect(&rt, refuses_to_settle(&mut platform, 14));
+    let after = b"world 64 1\ncommit 000001\nfetch\nfetch\npoll\n";
+    let answers_after = [
+        Answer::NothingInFlight,
+        Answer::Did,
+        Answer::Did,
+        Answer::Confirmed(1, 1),
+    ];
+    expect(
+        &rt,
+        answers_all(alloc, &mut platform, after, &answers_after),
+    );
+}
