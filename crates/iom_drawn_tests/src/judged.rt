@@ -28,10 +28,10 @@ fn lawful(alloc: Global, run: &Run) -> Result<usize, AllocError> {
     Ok(run.steps.len())
 }
 
-/// Whether the judge finds each step of a run of 2,000 events lawful, and the world counts its events.
+/// Whether the judge finds each step of a run of 2,000 events lawful, the world counts its events, and it settles at the end.
 fn is_lawful(alloc: Global, plan: Plan, seed: u64) -> Result<bool, Fail> {
-    let run = Run::drawn(alloc, plan, seed, 2000)?;
-    Ok(run.has_count() && lawful(alloc, &run)? == run.steps.len())
+    let mut run = Run::drawn(alloc, plan, seed, 2000)?;
+    Ok(run.has_count() && lawful(alloc, &run)? == run.steps.len() && run.settles()?)
 }
 
 /// Ends the test where that isn't so of one of a hundred runs.

@@ -1,4 +1,4 @@
-//! Drawn runs of worlds, judged step by step by the ledger machine's own judge.
+//! Drawn runs of worlds, judged step by step by the ledger machine's own judge, and settled at their end.
 //!
 //! The crate has tests alone, and nothing stands on it. Three kinds of runs are drawn (`Plan`). In the first there are
 //! three raw devices, one in each mode: a guest's own tables (hypervisor extension, "Two-Stage Address Translation") are
@@ -37,3 +37,5 @@ mod notes;
 mod recovering;
 #[cfg(test)]
 mod run;
+#[cfg(test)]
+mod settled;

@@ -7,9 +7,11 @@ use crate::draw::{
     Draw, FIRST_FRAME, FRAMES, GUEST_TABLES, Ids, LOW_PAGES, NAME_AT, OPEN_LEAF, bytes_of,
 };
 use crate::messages::{Messages, Question, Said};
+use crate::settled::settles;
 use iom_base::{DeviceId, GrantRights, Mode, Size};
 use iom_machine::{Event, NewDevice, Outcome};
-use iom_world::World;
+use iom_platform::Platform;
+use iom_virtio_blk::MemoryDisk;
 use std::alloc::Global;
 use std::test::Fail;
 
@@ -84,7 +86,7 @@ fn last_word(bytes: &[u8]) -> u64 {
 #[derive(Drop)]
 pub(crate) struct Run {
     alloc: Global,
-    world: Box<World>,
+    world: Box<Platform<MemoryDisk>>,
     pub(crate) messages: Messages,
     plan: Plan,
     pub(crate) ids: Ids,
@@ -153,6 +155,11 @@ impl Run {
         Ok(())
     }
 
+    /// Whether it settles from where it ended, as [`settles`] says. Nothing is to happen after that.
+    pub(crate) fn settles(&mut self) -> Result<bool, Fail> {
+        Ok(settles(self.alloc, &mut self.world, &self.steps)?)
+    }
+
     /// Whether the world counts the events that happened to it.
     pub(crate) fn has_count(&self) -> bool {
         self.world.events() == self.steps.len() as u64
@@ -172,7 +179,7 @@ impl Run {
     /// A world of 64 frames, to which nothing has happened. Where it is wide its directory has three levels, else one.
     fn new(alloc: Global, plan: Plan, is_wide: bool, guest: Size) -> Result<Box<Run>, Fail> {
         let (ids, levels) = if is_wide { (WIDE, 3) } else { (NARROW, 1) };
-        let world = World::new(alloc, 64, levels, &[])?;
+        let world = Platform::new(alloc, 64, levels, Vec::new(alloc))?;
         let run = Run {
             alloc,
             world: Box::new(alloc, world)?,
