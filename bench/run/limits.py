@@ -34,6 +34,7 @@ KINDS = [
     (RAW, "free 6", [], "free yes"),
     (RAW, "fetch", [], "empty"),
     (RAW, "timeout", [], "no effect"),
+    (RAW, "settle", [], "settled 0"),
     (RAW, "read 000001 0x3000 4", [f"accepted {n}" for n in range(1, 9)], "busy"),
     (RAW, "read 000001 0x4000 4", [], "fault 13"),
     (RAW, "read 000001 0x3fff 2", [], "badspan"),
