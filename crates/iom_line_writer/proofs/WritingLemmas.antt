@@ -8,7 +8,7 @@ use Rattle.iom_machine.specs.declared.outcome.Outcome.{Outcome}
 use Rattle.iom_machine.specs.declared.outcome.Trace.{Trace}
 use Rattle.iom_script.specs.Lines.{line_of, settled_line, trace_line}
 use Rattle.iom_line_writer.specs.declared.writing.LineWriter.{LineWriter}
-use Rattle.iom_line_writer.specs.Told.{told_line, told_lines, told_settled}
+use Rattle.iom_line_writer.specs.Told.{told_line, told_settled}
 use Rattle.iom_line_writer.specs.Writing.{AppendsFront, AppendsPart, TakesText, FailsAt, FailsWriting}
 
 -- nothing is written of a text
@@ -57,16 +57,6 @@ takes-more contents old mid new text more (same, written, wrote, is) (same_later
   sym (append_assoc old.buffer text more) ∙ ap (λ l. l ++ more) is ∙ append_assoc written mid.buffer more ∙ ap (λ l. written ++ l) is_later
       ∙ sym (append_assoc written written_later new.buffer),
 )
-
--- the lines of outcomes, and of later ones
-pub lines-append : (outcomes later : List Outcome) (traces more : List (Option Trace)) → length outcomes ≡ length traces
-    → told_lines (outcomes ++ later) (traces ++ more) ≡ told_lines outcomes traces ++ told_lines later more
-lines-append [] later [] more same = refl
-lines-append [] later (trace ∷ traces) more same = cc
-lines-append (outcome ∷ outcomes) later [] more same = cc
-lines-append (outcome ∷ outcomes) later (trace ∷ traces) more same =
-    let rest : length outcomes ≡ length traces = cc in
-    ap (λ l. told_line outcome trace ++ l) (lines-append outcomes later traces more rest) ∙ sym (append_assoc (told_line outcome trace) (told_lines outcomes traces) (told_lines later more))
 
 -- a sink fails at a text, and so at a longer one
 pub fails-longer : {W : Type 0} (contents : W → Option (List ℕ)) (old new : LineWriter W) (text more : List ℕ) → FailsAt contents old text new → FailsAt contents old (text ++ more) new

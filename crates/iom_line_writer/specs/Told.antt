@@ -1,5 +1,5 @@
--- The lines that tell outcomes: of each its own, and behind that the line of its counts, where there are any.
-use Rattle.std.specs.Prelude.{ℕ, List, [], ◌∷◌, ◌++◌, Option, None, Some, Result}
+-- The line that tells an outcome, and behind that the line of its counts, where there are any.
+use Rattle.std.specs.Prelude.{ℕ, List, ◌++◌, Option, None, Some, Result}
 use Rattle.iom_ledger.specs.declared.refusal.Refusal.{Refusal}
 use Rattle.iom_machine.specs.declared.outcome.Outcome.{Outcome}
 use Rattle.iom_machine.specs.declared.outcome.Trace.{Trace}
@@ -13,8 +13,3 @@ told_line outcome (Some trace) = line_of outcome ++ trace_line trace
 abbrev pub told_settled : Result ℕ Refusal → Option Trace → List ℕ
 told_settled answer None = settled_line answer
 told_settled answer (Some trace) = settled_line answer ++ trace_line trace
-
-abbrev pub told_lines : List Outcome → List (Option Trace) → List ℕ
-told_lines [] traces = []
-told_lines (outcome ∷ outcomes) [] = []
-told_lines (outcome ∷ outcomes) (trace ∷ traces) = told_line outcome trace ++ told_lines outcomes traces

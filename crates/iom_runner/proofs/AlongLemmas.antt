@@ -23,7 +23,7 @@ use Rattle.iom_line_writer.specs.declared.writing.LineWriter.{LineWriter}
 use Rattle.iom_line_writer.specs.Writing.{TakesText, FailsAt}
 use Rattle.iom_line_writer.proofs.WritingLemmas.{takes-more, fails-later}
 use Rattle.iom_runner.specs.Going.{LineHappens, WentAlong, RunsAlong, FailsAlong}
-use Rattle.iom_runner.specs.LineRuns.{Answer, LineStep, LineRun}
+use Rattle.iom_runner.specs.LineRuns.{Answer, LineLeads, LineRun}
 use Rattle.iom_runner.specs.PlatformText.{IsRefusedRightly, GoesAlong, GoesBy}
 use Rattle.iom_runner.specs.Text.{AreTraces, told_answer, told_answers}
 use Rattle.iom_runner.proofs.ToldLemmas.{traces_as_many, answers_more}
@@ -77,7 +77,7 @@ settling_happens seen_of old new answer trace settled counts = λ state shows.
 -- ONE LINE MORE
 -- a step by a line, which the platform goes through
 abbrev Goes : State → Seen → ScriptLine → Answer → State → Seen → Type 0
-Goes state old line answer last new = (step : LineStep state line answer last) × GoesBy state old line answer last step new
+Goes state old line answer last new = (step : LineLeads state line answer last) × GoesBy state old line answer last step new
 
 -- a run that a platform goes along
 abbrev RanAlong : State → Seen → List ScriptLine → List Answer → List (Option Trace) → State → Seen → Type 0

@@ -54,7 +54,7 @@ use Rattle.iom_script.specs.declared.script.ScriptLine.{ScriptLine}
 use Rattle.iom_script.specs.declared.script.ScriptLine.TheVariants as says
 use Rattle.iom_settling.specs.Settles.{Ran}
 use Rattle.iom_settling.proofs.EveryState.{can_settle}
-use Rattle.iom_runner.specs.LineRuns.{Answer, LineStep, LineRun, unrolled_line, run_after, unrolled}
+use Rattle.iom_runner.specs.LineRuns.{Answer, LineLeads, LineRun, unrolled_line, run_after, unrolled}
 use Rattle.iom_runner.specs.Text.{AreThere, AreTraces}
 use Rattle.iom_runner.proofs.CountedLemmas.{some_trace}
 
@@ -378,7 +378,7 @@ is_answered state (events.Peek address len) reached = let told = peek_is_answere
 is_answered state (events.Free frame) reached = let told = free_is_answered state frame in (told.0, told.1, (no_choice, told.2))
 
 -- and so is every line
-line_is_answered : (state : State) (line : ScriptLine) → IsReached state → (answer : Answer) × (new : State) × LineStep state line answer new
+line_is_answered : (state : State) (line : ScriptLine) → IsReached state → (answer : Answer) × (new : State) × LineLeads state line answer new
 line_is_answered state (says.Event event) reached = let told = is_answered state event reached in (inl told.0, told.1, told.2)
 line_is_answered state says.Settle reached = let told = can_settle state reached in (inr told.0, told.1, told.2)
 

@@ -9,7 +9,7 @@ use Rattle.iom_script.specs.declared.script.ScriptLine.{ScriptLine}
 use Rattle.iom_world.specs.Shows.{Shows}
 use Rattle.iom_line_writer.specs.declared.writing.LineWriter.{LineWriter}
 use Rattle.iom_line_writer.specs.Writing.{TakesText, FailsAt}
-use Rattle.iom_runner.specs.LineRuns.{Answer, LineStep, LineRun}
+use Rattle.iom_runner.specs.LineRuns.{Answer, LineLeads, LineRun}
 use Rattle.iom_runner.specs.PlatformText.{GoesAlong, GoesBy}
 use Rattle.iom_runner.specs.Text.{told_answers, AreThere}
 
@@ -17,7 +17,7 @@ use Rattle.iom_runner.specs.Text.{told_answers, AreThere}
 -- the platform goes through.
 abbrev pub LineHappens : Seen → ScriptLine → Answer → Option Trace → Seen → Type 0
 LineHappens old line answer trace new = (state : State) → Shows old.world state
-    → (last : State) × (step : LineStep state line answer last) × GoesBy state old line answer last step new
+    → (last : State) × (step : LineLeads state line answer last) × GoesBy state old line answer last step new
     × AreCounts last new.world trace × Shows new.world last
 
 -- the platform went along these lines, with counts or without

@@ -15,19 +15,19 @@ abbrev pub Answer : Type 0
 Answer = Outcome ⊎ Result ℕ Refusal
 
 -- a line that is answered so leads the machine from this state to that
-abbrev pub LineStep : State → ScriptLine → Answer → State → Type 0
-LineStep old (says.Event event) (inl outcome) new = Step old event outcome new
-LineStep old says.Settle (inr answer) new = Settles old answer new
-LineStep old _ _ new = ⊥
+abbrev pub LineLeads : State → ScriptLine → Answer → State → Type 0
+LineLeads old (says.Event event) (inl outcome) new = Step old event outcome new
+LineLeads old says.Settle (inr answer) new = Settles old answer new
+LineLeads old _ _ new = ⊥
 
 -- and lines, one after another
 abbrev pub LineRun : State → List ScriptLine → List Answer → State → Type 0
 LineRun old [] [] new = new ≡ old
-LineRun old (line ∷ lines) (answer ∷ answers) new = (mid : State) × LineStep old line answer mid × LineRun mid lines answers new
+LineRun old (line ∷ lines) (answer ∷ answers) new = (mid : State) × LineLeads old line answer mid × LineRun mid lines answers new
 LineRun old _ _ new = ⊥
 
 -- THE EVENTS OF A LINE: one, or those of the settling
-abbrev pub unrolled_line : (old : State) (line : ScriptLine) (answer : Answer) (new : State) → LineStep old line answer new → Ran old new
+abbrev pub unrolled_line : (old : State) (line : ScriptLine) (answer : Answer) (new : State) → LineLeads old line answer new → Ran old new
 unrolled_line old (says.Event event) (inl outcome) new step = record { events = event ∷ []; outcomes = outcome ∷ []; run = (new, step, refl) }
 unrolled_line old says.Settle (inr answer) new step = ran_in old answer new step
 unrolled_line old (says.Event event) (inr answer) new step = absurd step

@@ -15,7 +15,7 @@ use Rattle.iom_script.specs.declared.script.WorldSize.{WorldSize}
 use Rattle.iom_settling_runs.specs.Laws.{GoesThroughAll}
 use Rattle.iom_world.specs.Shows.{Shows}
 use Rattle.iom_line_writer.specs.Writing.{AppendsFront, AppendsPart}
-use Rattle.iom_runner.specs.LineRuns.{Answer, LineStep, LineRun, unrolled_line, unrolled, ReclaimsIn}
+use Rattle.iom_runner.specs.LineRuns.{Answer, LineLeads, LineRun, unrolled_line, unrolled, ReclaimsIn}
 use Rattle.iom_runner.specs.Text.{Setting, power_on, run_text, AreThere, TellsRun, IsTextOf}
 
 -- settling is refused only where the numbers of fences are used up
@@ -25,7 +25,7 @@ IsRefusedRightly (inr (Ok count)) new = ⊤
 IsRefusedRightly (inr (Err why)) new = 4294967295 ≤ last_fence (state_of new.world.driver)
 
 -- the platform goes through the events of a line that is answered so
-abbrev pub GoesBy : (state : State) → Seen → (line : ScriptLine) (answer : Answer) (last : State) → LineStep state line answer last → Seen → Type 0
+abbrev pub GoesBy : (state : State) → Seen → (line : ScriptLine) (answer : Answer) (last : State) → LineLeads state line answer last → Seen → Type 0
 GoesBy state old line answer last step new = GoesThroughAll state old last (unrolled_line state line answer last step) new × IsRefusedRightly answer new
 
 -- the platform goes through the events of each line, and is this one in the end: it shows the states that the run is in, each event does to it what it may,

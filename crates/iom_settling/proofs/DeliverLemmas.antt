@@ -30,7 +30,7 @@ use Rattle.iom_composition.specs.Messages.{with_sent}
 use Rattle.iom_composition.specs.OwnIommu.{Iommu}
 use Rattle.iom_composition.specs.Parts.{Parts}
 use Rattle.iom_composition.proofs.CacheSets.{kind_set}
-use Rattle.iom_settling.specs.CatchingUp.{HasCache, IsIdle, IsTaking}
+use Rattle.iom_settling.specs.CatchingUp.{HasCache, NothingIsInFlight, TakesCommands}
 use Rattle.iom_settling.specs.Weights.{weight, weights}
 use Rattle.iom_settling.specs.Words.{is_word_of, HaveWords}
 use Rattle.iom_settling.proofs.WeightLemmas.{weights_push}
@@ -169,10 +169,10 @@ delivered old new told on others is delivers =
     (by.0, omega (arith, light, all))
 
 -- what was idle is idle still, and commands are taken still
-pub still_idle : (old new : Parts) → CarriesOn old new → IsIdle old → IsIdle new
+pub still_idle : (old new : Parts) → CarriesOn old new → NothingIsInFlight old → NothingIsInFlight new
 still_idle old new carries idle = rw (carries.flights) idle
 
-pub still_taking : (old new : Parts) → CarriesOn old new → IsTaking old → IsTaking new
+pub still_taking : (old new : Parts) → CarriesOn old new → TakesCommands old → TakesCommands new
 still_taking old new carries taking = rw (carries.status) taking
 
 -- SLOTS AND WORDS

@@ -22,7 +22,7 @@ use Rattle.iom_machine.proofs.DeviceLemmas.{HaveOwnIds, own_ids-run}
 use Rattle.iom_machine.proofs.HeadlineLemmas.{commits_are_answered}
 use Rattle.iom_machine.proofs.InFlightLemmas.{able_act, some_case}
 use Rattle.iom_machine.proofs.SoundLemmas.{SameLedger}
-use Rattle.iom_settling.specs.Settles.{IsCommit, AreAll, AreQuieting, AreInOrder, SettlesBy, RefusesToSettle, Settles}
+use Rattle.iom_settling.specs.Settles.{IsCommit, AreAll, AreQuieting, AreInSettlingOrder, SettlesBy, RefusesToSettle, Settles}
 use Rattle.iom_settling.proofs.FewLemmas.{few_if_reached, few_in_flight}
 
 -- A RUN, and one event more
@@ -171,7 +171,7 @@ settles_idle old count few none all =
       events = all.events;
       outcomes = all.outcomes;
       run = all.run;
-      order = subst (λ b. AreInOrder b all.events) (sym none) (are_commits all.events all.committed);
+      order = subst (λ b. AreInSettlingOrder b all.events) (sym none) (are_commits all.events all.committed);
       counted = all.counted;
       few = few;
       idle = all.idle;

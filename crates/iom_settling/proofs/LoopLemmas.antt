@@ -25,10 +25,11 @@ use Rattle.iom_composition.specs.Stays.{KeepsCommands}
 use Rattle.iom_composition.proofs.DriverLemmas.{IsSoundDriver}
 use Rattle.iom_settling.specs.declared.told.Told.{Told}
 use Rattle.iom_settling.specs.declared.told.Told.TheVariants.{Waits, Empty, Other}
-use Rattle.iom_settling.specs.CatchingUp.{IsIdle, CatchesUp, HasCaughtUp}
-use Rattle.iom_settling.specs.Commands.{requests_in}
-use Rattle.iom_settling.specs.Settles.{IsCommit, IsDelivery, AreAll, AreQuieting, AreFetches, AreFetching, AreCatchingUp, AreSettling, AreInOrder, Went}
-use Rattle.iom_settling.specs.Stages.{brief, IsUnderWay, IsAfter, FollowsFetch, FetchedOnce, IsCommitting, IsDelivering, IsWorking, Settled}
+use Rattle.iom_settling.specs.CatchingUp.{NothingIsInFlight, CatchesUp, HasCaughtUp}
+use Rattle.iom_settling.specs.Commands.{requests_among}
+use Rattle.iom_settling.specs.Settles.{IsCommit, IsDelivery, AreAll, AreQuieting, AreFetches, AreFetching, AreCatchingUp, AreSettling, AreInSettlingOrder}
+use Rattle.iom_settling.specs.Went.{Went}
+use Rattle.iom_settling.specs.Stages.{brief, IsInProgress, IsAfter, FollowsFetch, FetchedOnce, IsCommitting, IsDelivering, IsWorking, Settled}
 use Rattle.iom_settling.specs.Weights.{weight, weights}
 use Rattle.iom_settling.proofs.LawLemmas.{commits_make_one, at_most_128, deliveries_get_lighter, restarts_catch_up, few_are_requeued, fetches_do_one, fences_end, fetches_find_none, deliveries_catch_up, polls_confirm_all}
 use Rattle.iom_settling.proofs.CommitLemmas.{commit_drives}
@@ -59,7 +60,7 @@ some_weight (sent.Answer epoch page answer) = omega arith
 some_weight (sent.InvReq serial range) = omega arith
 some_weight (sent.InvDone serial) = omega arith
 
-pub under_way_few : (p : Parts) (so_far : ℕ) → IsUnderWay p so_far → so_far ≤ 82
+pub under_way_few : (p : Parts) (so_far : ℕ) → IsInProgress p so_far → so_far ≤ 82
 under_way_few p so_far (inl queue) = let few = queue.few in omega (arith, few)
 under_way_few p so_far (inr (inl fence)) = let few = fence.few in omega (arith, few)
 under_way_few p so_far (inr (inr behind)) = behind.few
@@ -168,7 +169,7 @@ module _ {S : Type 0} (parts : S → Parts) (counted : S → ℕ) (happens : S �
       | inr done ↦ told_as Other (ap brief done.told_so) (inr (inr (record { done = caught_now done.done; few = omega (arith, few) })))
     ]
 
-    in_queue : (commands : List Command) → CatchesUp (parts mid) (last_fence (parts mid).driver) commands → so_far + length commands + weights (parts mid).fabric + 2 * requests_in commands ≤ 80
+    in_queue : (commands : List Command) → CatchesUp (parts mid) (last_fence (parts mid).driver) commands → so_far + length commands + weights (parts mid).fabric + 2 * requests_among commands ≤ 80
         → IsAfter (brief told) (parts new) (so_far + 1)
     in_queue [] catches few = at_fence catches (omega (arith, few)) (λ some. omega (arith, few))
     in_queue (command ∷ commands) catches few =
@@ -176,7 +177,7 @@ module _ {S : Type 0} (parts : S → Parts) (counted : S → ℕ) (happens : S �
         let heavier = one.heavier in
         told_as Other (ap brief one.told_so) (inl (record { commands = commands; catches = catches_now commands one.rest; few = omega (arith, few, heavier) }))
 
-    pub fetched : IsUnderWay (parts mid) so_far → IsAfter (brief told) (parts new) (so_far + 1)
+    pub fetched : IsInProgress (parts mid) so_far → IsAfter (brief told) (parts new) (so_far + 1)
     fetched (inl queue) = in_queue queue.commands queue.catches queue.few
     fetched (inr (inl fence)) =
         let few = fence.few in
@@ -232,7 +233,7 @@ module _ {S : Type 0} (parts : S → Parts) (counted : S → ℕ) (happens : S �
       )
 
   -- THE QUEUE IS WORKED OFF
-  pub work_begins : (first : S) → IsUnderWay (parts first) 0 → IsWorking parts counted happens first first 0
+  pub work_begins : (first : S) → IsInProgress (parts first) 0 → IsWorking parts counted happens first first 0
   work_begins first stage = record { went = went_none happens AreFetches first tt; stage = stage; counted = omega arith }
 
   pub work_more : (first mid new : S) (n now : ℕ) → IsWorking parts counted happens first mid n → FetchedOnce parts counted happens mid n (Some now) new → IsWorking parts counted happens first new now
@@ -259,14 +260,14 @@ module _ {S : Type 0} (parts : S → Parts) (counted : S → ℕ) (happens : S �
       by true true started left is = false≢true (sym left)
       by true false started left is = cc
 
-  pub restarts : (mid new : S) (told : Outcome) → IsIdle (parts mid) → (parts mid).fabric ≡ [] → nat_le 4294967295 (last_fence (parts mid).driver) ≡ false → happens mid events.Restart told new
-      → IsUnderWay (parts new) 0
+  pub restarts : (mid new : S) (told : Outcome) → NothingIsInFlight (parts mid) → (parts mid).fabric ≡ [] → nat_le 4294967295 (last_fence (parts mid).driver) ≡ false → happens mid events.Restart told new
+      → IsInProgress (parts new) 0
   restarts mid new told idle quiet left happen = by does.answer does.call
     where
       does : RestartsQueue (parts mid) told (parts new)
       does = (acts.does mid new events.Restart told happen).1
 
-      by : (answer : Result (Unit {0}) Refusal) → AnswersRestart mmio (parts mid).driver (parts mid).memory (parts mid).iommu answer (parts new).driver (parts new).memory (parts new).iommu → IsUnderWay (parts new) 0
+      by : (answer : Result (Unit {0}) Refusal) → AnswersRestart mmio (parts mid).driver (parts mid).memory (parts mid).iommu answer (parts new).driver (parts new).memory (parts new).iommu → IsInProgress (parts new) 0
       by (Ok done) (admitted, queues) =
           let catches = restarts_catch_up (parts mid) (parts new) (counted mid) (counted new) (acts.sound mid) (acts.sound new) (acts.own mid) idle quiet queues does.devices does.fabric in
           let few = few_are_requeued (parts mid) (acts.own mid) in
@@ -286,7 +287,7 @@ module _ {S : Type 0} (parts : S → Parts) (counted : S → ℕ) (happens : S �
   polls mid new told caught happen =
       polls_confirm_all (parts mid) (parts new) (last_fence (parts mid).driver) told caught (acts.own mid) (acts.own new) (acts.sound mid).started (acts.does mid new events.Poll told happen).1
 
-  pub polls_idle : (mid new : S) (told : Outcome) → HasCaughtUp (parts mid) (last_fence (parts mid).driver) → happens mid events.Poll told new → IsIdle (parts new)
+  pub polls_idle : (mid new : S) (told : Outcome) → HasCaughtUp (parts mid) (last_fence (parts mid).driver) → happens mid events.Poll told new → NothingIsInFlight (parts new)
   polls_idle mid new told caught happen = rw ((acts.does mid new events.Poll told happen).1.iommu) caught.idle
 
   -- SETTLING
@@ -304,19 +305,19 @@ module _ {S : Type 0} (parts : S → Parts) (counted : S → ℕ) (happens : S �
       → told ≡ nat_lt (parts old).driver.confirmed (parts old).driver.given
   pending_before old mid pending told driver is so = sym so ∙ is ∙ ap (λ (d : DriverState). nat_lt d.confirmed d.given) driver
 
-  pub settled_at_once : (old new : S) (n : ℕ) (pending : Bool) → Went happens AreQuieting old n new → n ≤ 256 → (parts new).driver ≡ (parts old).driver → IsIdle (parts new)
+  pub settled_at_once : (old new : S) (n : ℕ) (pending : Bool) → Went happens AreQuieting old n new → n ≤ 256 → (parts new).driver ≡ (parts old).driver → NothingIsInFlight (parts new)
       → pending ≡ nat_lt (parts new).driver.confirmed (parts new).driver.given → pending ≡ false → Settled parts happens old (Ok n) new
   settled_at_once old new n pending went few driver idle is none =
       let all : (parts new).driver.given < suc (parts new).driver.confirmed = leb-false (suc (parts new).driver.confirmed) (parts new).driver.given (sym is ∙ none) in
       let high = (acts.own new).tickets.ordered in (
-        went_as happens AreQuieting (AreInOrder (nat_lt (parts old).driver.confirmed (parts old).driver.given)) old new n
-            (λ these are. subst (λ (b : Bool). AreInOrder b these) (pending_before old new pending false driver is none) are) went,
+        went_as happens AreQuieting (AreInSettlingOrder (nat_lt (parts old).driver.confirmed (parts old).driver.given)) old new n
+            (λ these are. subst (λ (b : Bool). AreInSettlingOrder b these) (pending_before old new pending false driver is none) are) went,
         omega (arith, few),
         idle,
         omega (arith, all, high),
       )
 
-  pub settled_never : (old new : S) (n : ℕ) (pending used : Bool) → Went happens AreQuieting old n new → IsIdle (parts new) → (parts new).fabric ≡ []
+  pub settled_never : (old new : S) (n : ℕ) (pending used : Bool) → Went happens AreQuieting old n new → NothingIsInFlight (parts new) → (parts new).fabric ≡ []
       → pending ≡ nat_lt (parts new).driver.confirmed (parts new).driver.given → pending ≡ true
       → used ≡ nat_le 4294967295 (last_fence (parts new).driver) → used ≡ true → Settled parts happens old (Err NumbersUsedUp) new
   settled_never old new n pending used went idle quiet is some at up = (
@@ -328,11 +329,11 @@ module _ {S : Type 0} (parts : S → Parts) (counted : S → ℕ) (happens : S �
   )
 
   pub settled_then : (old mid new : S) (n k : ℕ) (pending : Bool) → Went happens AreQuieting old n mid → n ≤ 256 → (parts mid).driver ≡ (parts old).driver
-      → pending ≡ nat_lt (parts mid).driver.confirmed (parts mid).driver.given → pending ≡ true → Went happens AreCatchingUp mid k new → k ≤ 85 → IsIdle (parts new)
+      → pending ≡ nat_lt (parts mid).driver.confirmed (parts mid).driver.given → pending ≡ true → Went happens AreCatchingUp mid k new → k ≤ 85 → NothingIsInFlight (parts new)
       → (parts new).driver.confirmed ≡ (parts new).driver.given → Settled parts happens old (Ok (n + k)) new
   settled_then old mid new n k pending quiet few driver is some work short idle confirmed = (
-    went_as happens AreSettling (AreInOrder (nat_lt (parts old).driver.confirmed (parts old).driver.given)) old new (n + k)
-        (λ these are. subst (λ (b : Bool). AreInOrder b these) (pending_before old mid pending true driver is some) are)
+    went_as happens AreSettling (AreInSettlingOrder (nat_lt (parts old).driver.confirmed (parts old).driver.given)) old new (n + k)
+        (λ these are. subst (λ (b : Bool). AreInSettlingOrder b these) (pending_before old mid pending true driver is some) are)
         (went_both happens AreQuieting AreCatchingUp AreSettling old mid new n k are_settling quiet work),
     omega (arith, few, short),
     idle,

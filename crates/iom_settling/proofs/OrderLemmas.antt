@@ -2,7 +2,7 @@
 use Rattle.std.proofs.Common.{◌≡◌, Bool, true, false, List, [], ◌∷◌, ◌++◌, refl, sym, ap, subst}
 use Rattle.iom_machine.specs.declared.event.Event.{Event}
 use Rattle.iom_machine.specs.declared.event.Event.TheVariants as events
-use Rattle.iom_settling.specs.Settles.{IsCommit, IsDelivery, IsFetchOrDelivery, IsSettling, AreAll, AreQuieting, AreFetches, AreFetching, AreCatchingUp, AreSettling, AreInOrder}
+use Rattle.iom_settling.specs.Settles.{IsCommit, IsDelivery, IsFetchOrDelivery, IsSettling, AreAll, AreQuieting, AreFetches, AreFetching, AreCatchingUp, AreSettling, AreInSettlingOrder}
 
 -- EACH OF THEM IS SO
 pub all_both : (Is : Event → Type 0) (these those : List Event) → AreAll Is these → AreAll Is those → AreAll Is (these ++ those)
@@ -92,7 +92,7 @@ catching_settles all are =
     subst (AreAll IsSettling) (sym are.are)
     (tt, all_both IsSettling are.between (events.Poll ∷ []) (fetching_settles are.between are.fetching) (tt, tt))
 
-pub all_settling : (pending : Bool) (all : List Event) → AreInOrder pending all → AreAll IsSettling all
+pub all_settling : (pending : Bool) (all : List Event) → AreInSettlingOrder pending all → AreAll IsSettling all
 all_settling false all are = quieting_settles all are
 all_settling true all are =
     subst (AreAll IsSettling) (sym are.are)

@@ -36,13 +36,13 @@ use Rattle.iom_composition.specs.Scenes.{IsSceneOf}
 use Rattle.iom_composition.specs.Sound.{AreSound}
 use Rattle.iom_composition.proofs.DriverLemmas.{IsSoundDriver}
 use Rattle.iom_soundness.proofs.ReleaseKeeps.{IsRung, rung_all}
-use Rattle.iom_settling.specs.CatchingUp.{HasCache, IsIdle, WaitFor, CatchesUp}
-use Rattle.iom_settling.specs.Commands.{requests_in, ArePlain}
+use Rattle.iom_settling.specs.CatchingUp.{HasCache, NothingIsInFlight, WaitFor, CatchesUp}
+use Rattle.iom_settling.specs.Commands.{requests_among, ArePlain}
 use Rattle.iom_settling.proofs.CommandLemmas.{requests_append, plain_append}
 use Rattle.iom_settling.proofs.WordLemmas.{words_of_none}
 
 -- THE COMMANDS of a restart: of each device three at most, and one request to invalidate at most
-requests_reset : (id : ℕ) (ats : Bool) → requests_in (device_reset id ats) ≤ 1
+requests_reset : (id : ℕ) (ats : Bool) → requests_among (device_reset id ats) ≤ 1
 requests_reset id true = omega arith
 requests_reset id false = omega arith
 
@@ -54,7 +54,7 @@ length_reset : (id : ℕ) (ats : Bool) → length (device_reset id ats) ≤ 1
 length_reset id true = omega arith
 length_reset id false = omega arith
 
-requests_stage : (id : ℕ) (ats : Bool) (mode : Mode) (number : ℕ) → requests_in (context_invalidation id ∷ space_invalidation mode number ∷ device_reset id ats) ≤ 1
+requests_stage : (id : ℕ) (ats : Bool) (mode : Mode) (number : ℕ) → requests_among (context_invalidation id ∷ space_invalidation mode number ∷ device_reset id ats) ≤ 1
 requests_stage id ats (First size) number = let reset = requests_reset id ats in omega (arith, reset)
 requests_stage id ats (Second size) number = let reset = requests_reset id ats in omega (arith, reset)
 requests_stage id ats (Both size) number = let reset = requests_reset id ats in omega (arith, reset)
@@ -65,7 +65,7 @@ plain_stage Obeys id ats (First size) number obeys = (tt, (tt, plain_reset Obeys
 plain_stage Obeys id ats (Second size) number obeys = (tt, (tt, plain_reset Obeys id ats obeys))
 plain_stage Obeys id ats (Both size) number obeys = (tt, (tt, plain_reset Obeys id ats obeys))
 
-requests_one : (id : ℕ) (stages : Option Stages) (ats : Bool) → requests_in (requeued_for id stages ats) ≤ 1
+requests_one : (id : ℕ) (stages : Option Stages) (ats : Bool) → requests_among (requeued_for id stages ats) ≤ 1
 requests_one id None ats = omega arith
 requests_one id (Some stage) ats = requests_stage id ats stage.mode stage.number
 
@@ -77,7 +77,7 @@ plain_one : (Obeys : ℕ → Type 0) (id : ℕ) (stages : Option Stages) (ats : 
 plain_one Obeys id None ats obeys = tt
 plain_one Obeys id (Some stage) ats obeys = plain_stage Obeys id ats stage.mode stage.number obeys
 
-pub requests_all : (devices : List Device) → requests_in (all_requeued devices) ≤ length devices
+pub requests_all : (devices : List Device) → requests_among (all_requeued devices) ≤ length devices
 requests_all [] = omega arith
 requests_all (device ∷ others) =
     let first = requests_one device.id (owned_stages device.attachment) (has_ats device.attachment) in
@@ -147,7 +147,7 @@ known_few : (parts : Parts) (events : ℕ) → AreSound parts events → IsSound
 known_few parts events sound own = own.few
 
 -- A RESTART
-pub restarted : (old new : Parts) (events later : ℕ) → AreSound old events → AreSound new later → IsSoundDriver old.driver → IsIdle old → old.fabric ≡ []
+pub restarted : (old new : Parts) (events later : ℕ) → AreSound old events → AreSound new later → IsSoundDriver old.driver → NothingIsInFlight old → old.fabric ≡ []
     → QueuesRestart mmio old.driver old.memory old.iommu new.driver new.memory new.iommu → new.devices ≡ old.devices → new.fabric ≡ old.fabric
     → CatchesUp new (last_fence old.driver + 1) (all_requeued old.driver.devices)
 restarted old new events later sound after own idle quiet queues devices fabric =

@@ -2,7 +2,7 @@
 use Rattle.std.proofs.Common.{◌≡◌, ◌+◌, ℕ, List, [], ◌∷◌, ◌++◌, length, refl, sym, subst, arith}
 use Rattle.iom_machine.specs.declared.event.Event.{Event}
 use Rattle.iom_machine.specs.declared.outcome.Outcome.{Outcome}
-use Rattle.iom_settling.specs.Settles.{Takes, Went}
+use Rattle.iom_settling.specs.Went.{Takes, Went}
 
 -- none
 pub went_none : {S : Type 0} (happens : S → Event → Outcome → S → Type 0) (Are : List Event → Type 0) (old : S) → Are [] → Went happens Are old 0 old

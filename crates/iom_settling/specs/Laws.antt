@@ -23,8 +23,8 @@ use Rattle.iom_composition.specs.Parts.{Parts}
 use Rattle.iom_composition.specs.Sound.{AreSound}
 use Rattle.iom_composition.specs.Stays.{waiting_in}
 use Rattle.iom_composition.proofs.DriverLemmas.{IsSoundDriver}
-use Rattle.iom_settling.specs.CatchingUp.{IsIdle, CatchesUp, HasCaughtUp}
-use Rattle.iom_settling.specs.Commands.{requests_by, requests_in}
+use Rattle.iom_settling.specs.CatchingUp.{NothingIsInFlight, CatchesUp, HasCaughtUp}
+use Rattle.iom_settling.specs.Commands.{requests_by, requests_among}
 use Rattle.iom_settling.specs.Settles.{Settles}
 use Rattle.iom_settling.specs.Weights.{weights}
 
@@ -39,12 +39,12 @@ abbrev pub AtMost128 : Type 0
 AtMost128 = (parts : Parts) → AreFlights (flights_of parts.iommu) → count_all (flights_of parts.iommu).rows ≤ 128
 
 abbrev pub NobodyIsBusy : Type 0
-NobodyIsBusy = (parts : Parts) → first_busy (flights_of parts.iommu).rows ≡ None → IsIdle parts
+NobodyIsBusy = (parts : Parts) → first_busy (flights_of parts.iommu).rows ≡ None → NothingIsInFlight parts
 
 -- DELIVERIES. Each has a reply at most, and replies have none. Nothing that was idle isn't, and the driver is the same.
 pub record DeliversLighter (old new : Parts) : Type 0 where
   pub lighter : weights new.fabric + 1 ≤ weights old.fabric
-  pub idle : IsIdle old → IsIdle new
+  pub idle : NothingIsInFlight old → NothingIsInFlight new
   pub driver : new.driver ≡ old.driver
 
 abbrev pub DeliveriesGetLighter : Type 0
@@ -56,14 +56,14 @@ AtMostTwiceAsMany = (fabric : List OnLink) → weights fabric ≤ 2 * length fab
 
 -- A RESTART, where nothing is in flight and no message under way.
 abbrev pub RestartsCatchUp : Type 0
-RestartsCatchUp = (old new : Parts) (events later : ℕ) → AreSound old events → AreSound new later → IsSoundDriver old.driver → IsIdle old → old.fabric ≡ []
+RestartsCatchUp = (old new : Parts) (events later : ℕ) → AreSound old events → AreSound new later → IsSoundDriver old.driver → NothingIsInFlight old → old.fabric ≡ []
     → QueuesRestart mmio old.driver old.memory old.iommu new.driver new.memory new.iommu → new.devices ≡ old.devices → new.fabric ≡ old.fabric
     → CatchesUp new (last_fence old.driver + 1) (all_requeued old.driver.devices)
 
 -- it queues 48 commands before its fence at most, and 16 of them at most are requests to invalidate
 abbrev pub FewAreRequeued : Type 0
 FewAreRequeued = (parts : Parts) → IsSoundDriver parts.driver
-    → (length (all_requeued parts.driver.devices) ≤ 48) × (requests_in (all_requeued parts.driver.devices) ≤ 16)
+    → (length (all_requeued parts.driver.devices) ≤ 48) × (requests_among (all_requeued parts.driver.devices) ≤ 16)
 
 -- FETCHES. A command before the fence is done, and at most one message is sent for it.
 pub record FetchesOne (old new : Parts) (number : ℕ) (command : Command) (commands : List Command) (told : Outcome) : Type 0 where
@@ -83,13 +83,13 @@ pub record FenceWaits (old new : Parts) (number : ℕ) (told : Outcome) : Type 0
   pub under_way : old.fabric ≢ []
 
 -- or it is done
-pub record FenceIsDone (new : Parts) (number : ℕ) (told : Outcome) : Type 0 where
+pub record FenceWasDone (new : Parts) (number : ℕ) (told : Outcome) : Type 0 where
   pub told_so : told ≡ outcome.Fetched (tells.Did names.IofenceC)
   pub done : HasCaughtUp new number
 
 abbrev pub FencesEnd : Type 0
 FencesEnd = (old new : Parts) (events number : ℕ) (told : Outcome) → number < 2 ^ 32 → AreSound old events → IsSoundDriver old.driver
-    → CatchesUp old number [] → FetchesNext old told new → FenceWaits old new number told ⊎ FenceIsDone new number told
+    → CatchesUp old number [] → FetchesNext old told new → FenceWaits old new number told ⊎ FenceWasDone new number told
 
 -- then the queue is empty
 abbrev pub FetchesFindNone : Type 0

@@ -75,22 +75,9 @@ pub record AreSettling (all : List Event) : Type 0 where
   pub catching_up : AreCatchingUp late
 
 -- THE ORDER OF ITS EVENTS: all of these where a ticket was unconfirmed, and else commits and deliveries alone
-abbrev pub AreInOrder : Bool → List Event → Type 0
-AreInOrder false all = AreQuieting all
-AreInOrder true all = AreSettling all
-
--- WENT: whatever takes events, in the way that `happens` says, took so many events one after another, of which this is true, with these outcomes
-abbrev pub Takes : {S : Type 0} → (S → Event → Outcome → S → Type 0) → S → List Event → List Outcome → S → Type 0
-Takes happens old [] [] new = new ≡ old
-Takes {S} happens old (event ∷ events) (outcome ∷ outcomes) new = (mid : S) × happens old event outcome mid × Takes happens mid events outcomes new
-Takes happens old _ _ new = ⊥
-
-pub record Went {S : Type 0} (happens : S → Event → Outcome → S → Type 0) (Are : List Event → Type 0) (old : S) (count : ℕ) (new : S) : Type 0 where
-  pub events : List Event
-  pub outcomes : List Outcome
-  pub takes : Takes happens old events outcomes new
-  pub order : Are events
-  pub counted : length events ≡ count
+abbrev pub AreInSettlingOrder : Bool → List Event → Type 0
+AreInSettlingOrder false all = AreQuieting all
+AreInSettlingOrder true all = AreSettling all
 
 -- what each device holds is as before
 abbrev pub HoldAsBefore : History → History → Type 0
@@ -102,7 +89,7 @@ pub record SettlesBy (old : State) (count : ℕ) (new : State) : Type 0 where
   pub events : List Event
   pub outcomes : List Outcome
   pub run : Run old events outcomes new
-  pub order : AreInOrder (nat_lt 0 (pending_tickets old)) events
+  pub order : AreInSettlingOrder (nat_lt 0 (pending_tickets old)) events
   pub counted : length events ≡ count
   pub few : count ≤ 400
   pub idle : count_in_flight new.devices ≡ 0

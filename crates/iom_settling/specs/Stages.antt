@@ -15,9 +15,10 @@ use Rattle.iom_machine.specs.declared.outcome.Fetched.TheVariants as tells
 use Rattle.iom_composition.specs.Parts.{Parts}
 use Rattle.iom_settling.specs.declared.told.Told.{Told}
 use Rattle.iom_settling.specs.declared.told.Told.TheVariants.{Waits, Empty, Other}
-use Rattle.iom_settling.specs.CatchingUp.{IsIdle, CatchesUp, HasCaughtUp}
-use Rattle.iom_settling.specs.Commands.{requests_in}
-use Rattle.iom_settling.specs.Settles.{IsCommit, IsDelivery, AreAll, AreQuieting, AreFetches, AreInOrder, Went}
+use Rattle.iom_settling.specs.CatchingUp.{NothingIsInFlight, CatchesUp, HasCaughtUp}
+use Rattle.iom_settling.specs.Commands.{requests_among}
+use Rattle.iom_settling.specs.Settles.{IsCommit, IsDelivery, AreAll, AreQuieting, AreFetches, AreInSettlingOrder}
+use Rattle.iom_settling.specs.Went.{Went}
 use Rattle.iom_settling.specs.Weights.{weights}
 
 -- what settling wants to know of an outcome
@@ -30,7 +31,7 @@ brief _ = Other
 pub record IsInQueue (parts : Parts) (so_far : ℕ) : Type 0 where
   pub commands : List Command
   pub catches : CatchesUp parts (last_fence parts.driver) commands
-  pub few : so_far + length commands + weights parts.fabric + 2 * requests_in commands ≤ 80
+  pub few : so_far + length commands + weights parts.fabric + 2 * requests_among commands ≤ 80
 
 -- the fence alone is left, and waits for nothing
 pub record IsAtFence (parts : Parts) (so_far : ℕ) : Type 0 where
@@ -44,14 +45,14 @@ pub record IsBehind (parts : Parts) (so_far : ℕ) : Type 0 where
   pub few : so_far ≤ 82
 
 -- one of the three
-abbrev pub IsUnderWay : Parts → ℕ → Type 0
-IsUnderWay parts so_far = IsInQueue parts so_far ⊎ IsAtFence parts so_far ⊎ IsBehind parts so_far
+abbrev pub IsInProgress : Parts → ℕ → Type 0
+IsInProgress parts so_far = IsInQueue parts so_far ⊎ IsAtFence parts so_far ⊎ IsBehind parts so_far
 
 -- after a fetch, by what it told: the fence waits; or the queue is empty; or a command was done
 abbrev pub IsAfter : Told → Parts → ℕ → Type 0
 IsAfter Waits parts so_far = CatchesUp parts (last_fence parts.driver) [] × (so_far + weights parts.fabric ≤ 81) × (weights parts.fabric ≤ 80)
 IsAfter Empty parts so_far = HasCaughtUp parts (last_fence parts.driver) × (so_far ≤ 83)
-IsAfter Other parts so_far = IsUnderWay parts so_far
+IsAfter Other parts so_far = IsInProgress parts so_far
 
 -- THE LOOPS, over whatever takes events
 
@@ -66,7 +67,7 @@ pub record IsCommitting {S : Type 0} (parts : S → Parts) (count_of : S → ℕ
 pub record IsDelivering {S : Type 0} (parts : S → Parts) (count_of : S → ℕ) (happens : S → Event → Outcome → S → Type 0) (first now : S) (events : ℕ) : Type 0 where
   pub went : Went happens (AreAll IsDelivery) first events now
   pub left : events + weights (parts now).fabric ≤ weights (parts first).fabric
-  pub idle : IsIdle (parts first) → IsIdle (parts now)
+  pub idle : NothingIsInFlight (parts first) → NothingIsInFlight (parts now)
   pub driver : (parts now).driver ≡ (parts first).driver
   pub catches : (number : ℕ) (commands : List Command) → CatchesUp (parts first) number commands → CatchesUp (parts now) number commands
   pub counted : count_of now ≡ count_of first + events
@@ -74,25 +75,25 @@ pub record IsDelivering {S : Type 0} (parts : S → Parts) (count_of : S → ℕ
 -- the queue is worked off, and so many events that took
 pub record IsWorking {S : Type 0} (parts : S → Parts) (count_of : S → ℕ) (happens : S → Event → Outcome → S → Type 0) (first now : S) (events : ℕ) : Type 0 where
   pub went : Went happens AreFetches first events now
-  pub stage : IsUnderWay (parts now) events
+  pub stage : IsInProgress (parts now) events
   pub counted : count_of now ≡ count_of first + events
 
 -- what follows a fetch: the deliveries that the fence waits for
 abbrev pub FollowsFetch : {S : Type 0} → (S → Parts) → (S → ℕ) → (S → Event → Outcome → S → Type 0) → S → ℕ → Option ℕ → S → Type 0
 FollowsFetch parts counted happens old so_far (Some now) new =
-    (more : ℕ) × (now ≡ so_far + more) × Went happens (AreAll IsDelivery) old more new × (counted new ≡ counted old + more) × IsUnderWay (parts new) now
+    (more : ℕ) × (now ≡ so_far + more) × Went happens (AreAll IsDelivery) old more new × (counted new ≡ counted old + more) × IsInProgress (parts new) now
 FollowsFetch parts counted happens old so_far None new = (new ≡ old) × HasCaughtUp (parts new) (last_fence (parts new).driver) × (so_far ≤ 83)
 
 -- a fetch, with the deliveries that it waits for: with these the events so far, or none where the queue was found empty
 abbrev pub FetchedOnce : {S : Type 0} → (S → Parts) → (S → ℕ) → (S → Event → Outcome → S → Type 0) → S → ℕ → Option ℕ → S → Type 0
 FetchedOnce parts counted happens old so_far (Some now) new =
-    (more : ℕ) × (now ≡ so_far + more) × (1 ≤ more) × Went happens AreFetches old more new × (counted new ≡ counted old + more) × IsUnderWay (parts new) now
+    (more : ℕ) × (now ≡ so_far + more) × (1 ≤ more) × Went happens AreFetches old more new × (counted new ≡ counted old + more) × IsInProgress (parts new) now
 FetchedOnce parts counted happens old so_far None new =
     ((told : Outcome) × happens old Fetch told new) × (counted new ≡ counted old + 1) × HasCaughtUp (parts new) (last_fence (parts new).driver) × (so_far ≤ 82)
 
 -- WHAT SETTLING ANSWERS
 abbrev pub Settled : {S : Type 0} → (S → Parts) → (S → Event → Outcome → S → Type 0) → S → Result ℕ Refusal → S → Type 0
 Settled parts happens old (Ok count) new =
-    Went happens (AreInOrder (nat_lt (parts old).driver.confirmed (parts old).driver.given)) old count new × (count ≤ 341) × IsIdle (parts new) × ((parts new).driver.confirmed ≡ (parts new).driver.given)
+    Went happens (AreInSettlingOrder (nat_lt (parts old).driver.confirmed (parts old).driver.given)) old count new × (count ≤ 341) × NothingIsInFlight (parts new) × ((parts new).driver.confirmed ≡ (parts new).driver.given)
 Settled parts happens old (Err why) new =
-    (why ≡ NumbersUsedUp) × ((count : ℕ) × Went happens AreQuieting old count new) × (IsIdle (parts new) × ((parts new).fabric ≡ [])) × ((parts new).driver.confirmed < (parts new).driver.given) × (4294967295 ≤ last_fence (parts new).driver)
+    (why ≡ NumbersUsedUp) × ((count : ℕ) × Went happens AreQuieting old count new) × (NothingIsInFlight (parts new) × ((parts new).fabric ≡ [])) × ((parts new).driver.confirmed < (parts new).driver.given) × (4294967295 ≤ last_fence (parts new).driver)

@@ -3,9 +3,10 @@ ghost use Rattle.std.specs.Prelude.{◌≡◌, ◌+◌, ◌<◌, ◌≤◌, ◌^
 ghost use Rattle.iom_command_queue.specs.declared.command.Command.{Command};
 ghost use Rattle.iom_driver.specs.Fences.{last_fence};
 ghost use Rattle.iom_ledger.specs.declared.refusal.Refusal.TheVariants.{NumbersUsedUp};
-ghost use Rattle.iom_settling.specs.CatchingUp.{IsIdle, CatchesUp, HasCaughtUp};
-ghost use Rattle.iom_settling.specs.Settles.{IsCommit, IsDelivery, AreAll, AreQuieting, AreFetching, AreCatchingUp, Went};
-ghost use Rattle.iom_settling.specs.Stages.{IsUnderWay, IsAfter, FollowsFetch, FetchedOnce, Settled};
+ghost use Rattle.iom_settling.specs.CatchingUp.{NothingIsInFlight, CatchesUp, HasCaughtUp};
+ghost use Rattle.iom_settling.specs.Settles.{IsCommit, IsDelivery, AreAll, AreQuieting, AreFetching, AreCatchingUp};
+ghost use Rattle.iom_settling.specs.Went.{Went};
+ghost use Rattle.iom_settling.specs.Stages.{IsInProgress, IsAfter, FollowsFetch, FetchedOnce, Settled};
 ghost use Rattle.iom_settling.specs.Weights.{weights};
 
 use crate::takes_events::TakesEvents;
@@ -19,7 +20,7 @@ fn commit_all<T: TakesEvents>(world: &mut T) -> u32
     ensures went { Went T.happens (AreAll IsCommit) world.old result world.new }
     ensures few { result ≤ 128 }
     ensures driver { (T.parts world.new).driver ≡ (T.parts world.old).driver }
-    ensures idle { IsIdle (T.parts world.new) }
+    ensures idle { NothingIsInFlight (T.parts world.new) }
     ensures counted { T.counted world.new ≡ T.counted world.old + result }
 {
     world.facts();
@@ -39,7 +40,7 @@ fn deliver_all<T: TakesEvents>(world: &mut T) -> u32
     ensures went { Went T.happens (AreAll IsDelivery) world.old result world.new }
     ensures few { result ≤ weights (T.parts world.old).fabric }
     ensures quiet { (T.parts world.new).fabric ≡ [] }
-    ensures idle { IsIdle (T.parts world.old) → IsIdle (T.parts world.new) }
+    ensures idle { NothingIsInFlight (T.parts world.old) → NothingIsInFlight (T.parts world.new) }
     ensures driver { (T.parts world.new).driver ≡ (T.parts world.old).driver }
     ensures catches { (number : ℕ) (commands : List Command) → CatchesUp (T.parts world.old) number commands → CatchesUp (T.parts world.new) number commands }
     ensures counted { T.counted world.new ≡ T.counted world.old + result }
@@ -68,7 +69,7 @@ fn after_fetch<T: TakesEvents>(world: &mut T, told: Told, so_far: u32) -> Option
 
 /// One fetch, and what follows it.
 fn fetch_once<T: TakesEvents>(world: &mut T, so_far: u32) -> Option<u32>
-    requires stage { IsUnderWay (T.parts world.old) so_far }
+    requires stage { IsInProgress (T.parts world.old) so_far }
     requires count { T.counted world.old + 83 < 2 ^ 64 + so_far }
     ensures { FetchedOnce T.parts T.counted T.happens world.old so_far result world.new }
 {
@@ -78,7 +79,7 @@ fn fetch_once<T: TakesEvents>(world: &mut T, so_far: u32) -> Option<u32>
 
 /// Fetches until the queue is empty, with deliveries where the fence waits for devices. How many of both.
 fn work_off<T: TakesEvents>(world: &mut T) -> u32
-    requires stage { IsUnderWay (T.parts world.old) 0 }
+    requires stage { IsInProgress (T.parts world.old) 0 }
     requires count { T.counted world.old + 83 < 2 ^ 64 }
     ensures went { Went T.happens AreFetching world.old result world.new }
     ensures few { result ≤ 83 }
@@ -98,7 +99,7 @@ fn quiet_down<T: TakesEvents>(world: &mut T) -> u32
     ensures went { Went T.happens AreQuieting world.old result world.new }
     ensures few { result ≤ 256 }
     ensures driver { (T.parts world.new).driver ≡ (T.parts world.old).driver }
-    ensures idle { IsIdle (T.parts world.new) }
+    ensures idle { NothingIsInFlight (T.parts world.new) }
     ensures quiet { (T.parts world.new).fabric ≡ [] }
     ensures counted { T.counted world.new ≡ T.counted world.old + result }
 {
@@ -109,13 +110,13 @@ fn quiet_down<T: TakesEvents>(world: &mut T) -> u32
 
 /// A restart, what it queued, and a poll, which leaves no ticket unconfirmed. How many events.
 fn catch_up<T: TakesEvents>(world: &mut T) -> u32
-    requires idle { IsIdle (T.parts world.old) }
+    requires idle { NothingIsInFlight (T.parts world.old) }
     requires quiet { (T.parts world.old).fabric ≡ [] }
     requires left { nat_le 4294967295 (last_fence (T.parts world.old).driver) ≡ false }
     requires count { T.counted world.old + 86 < 2 ^ 64 }
     ensures went { Went T.happens AreCatchingUp world.old result world.new }
     ensures few { result ≤ 85 }
-    ensures idle { IsIdle (T.parts world.new) }
+    ensures idle { NothingIsInFlight (T.parts world.new) }
     ensures confirmed { (T.parts world.new).driver.confirmed ≡ (T.parts world.new).driver.given }
     ensures counted { T.counted world.new ≡ T.counted world.old + result }
 {

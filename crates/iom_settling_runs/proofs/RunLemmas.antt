@@ -17,7 +17,8 @@ use Rattle.iom_settling.specs.Idle.{AreIdle}
 use Rattle.iom_platform.specs.Happens.{HappensHere}
 use Rattle.iom_platform.specs.Runs.{GoesThrough, uncounted}
 use Rattle.iom_platform.specs.Seen.{Seen}
-use Rattle.iom_settling.specs.Settles.{AreInOrder, Takes, Settles, ran_in}
+use Rattle.iom_settling.specs.Settles.{AreInSettlingOrder, Settles, ran_in}
+use Rattle.iom_settling.specs.Went.{Takes}
 use Rattle.iom_settling.specs.Stages.{Settled}
 use Rattle.iom_settling.proofs.HoldLemmas.{run_holds}
 use Rattle.iom_settling.proofs.OrderLemmas.{all_settling}
@@ -95,7 +96,7 @@ module _ {S : Type 0} (seen_of : S → Seen) where
           events = went.events;
           outcomes = went.outcomes;
           run = run.1;
-          order = subst (λ (b : Bool). AreInOrder b went.events) (still_pending (seen_of old).world state shows) went.order;
+          order = subst (λ (b : Bool). AreInSettlingOrder b went.events) (still_pending (seen_of old).world state shows) went.order;
           counted = went.counted;
           few = omega (arith, few);
           idle = ap count_in_flight run.2.0.devices ∙ idle_all _ _ (parts_of (seen_of new).world).devices idle;
