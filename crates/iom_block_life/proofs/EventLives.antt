@@ -14,11 +14,11 @@ use Rattle.iom_machine.specs.declared.outcome.Outcome.TheVariants as outcome
 use Rattle.iom_machine.specs.declared.state.DeviceKind.{DeviceKind}
 use Rattle.iom_machine.specs.Kinds.{disk_of}
 use Rattle.iom_device.specs.Caches.{kind_in}
-use Rattle.iom_copies.specs.Attachments.{caches_translations}
-use Rattle.iom_composition.specs.BlockDevices.{GoesToMemory, AsksIfMissed}
-use Rattle.iom_composition.specs.Parts.{Parts}
-use Rattle.iom_composition.specs.Requests.{reply_told_of}
-use Rattle.iom_composition.specs.ThroughCache.{AsksThroughCache, cached_frame, FindsFrame}
+use Rattle.iom_coherence.specs.Attachments.{caches_translations}
+use Rattle.iom_world_effects.specs.BlockDevices.{GoesToMemory, AsksIfMissed}
+use Rattle.iom_world_effects.specs.Parts.{Parts}
+use Rattle.iom_world_effects.specs.Requests.{reply_told_of}
+use Rattle.iom_world_effects.specs.ThroughCache.{AsksThroughCache, cached_frame, FindsFrame}
 use Rattle.iom_world.specs.Seen.{parts_of}
 use Rattle.iom_virtio_blk.specs.declared.step.Step.{Step}
 use Rattle.iom_virtio_blk.specs.declared.step.Step.TheVariants as step

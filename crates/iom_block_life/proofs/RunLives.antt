@@ -19,8 +19,8 @@ use Rattle.iom_platform.specs.Blocks.{block_with, SetsUp}
 use Rattle.iom_platform.specs.Happens.{HappensHere}
 use Rattle.iom_platform.specs.Runs.{GoesThrough}
 use Rattle.iom_world.specs.Seen.{parts_of}
-use Rattle.iom_composition.specs.Parts.{Parts}
-use Rattle.iom_composition.specs.BlockDevices.{SetsQueue}
+use Rattle.iom_world_effects.specs.Parts.{Parts}
+use Rattle.iom_world_effects.specs.BlockDevices.{SetsQueue}
 use Rattle.iom_platform.specs.Seen.{BlockSeen, Seen}
 use Rattle.iom_block_life.specs.Lives.{Turn, Taken, Lives, taken_at, finished_at, IsFresh, UsesEachOnce}
 use Rattle.iom_block_life.specs.Runs.{LivesThrough, heads_in, entries_in}

@@ -20,7 +20,7 @@ use Rattle.iom_virtio_blk.specs.Histories.{Entry, IsMap, TellsDisk, told, told_i
 use Rattle.iom_virtio_blk.specs.Steps.{Device, device}
 use Rattle.iom_virtio_blk.proofs.DiskStays.{name_stays}
 use Rattle.iom_virtio_blk.proofs.StepLemmas.{tells_inserted, tells_kept}
-use Rattle.iom_composition.specs.Parts.{Parts}
+use Rattle.iom_world_effects.specs.Parts.{Parts}
 use Rattle.iom_platform.specs.Blocks.{EndsStep, HasDisk, HearsMade, HearsRefusal, IsLeft, IsNew, IsReset, SetsUp, StepsOnce}
 use Rattle.iom_block_life.specs.Stories.{Story, Tells, begins, ended}
 use Rattle.iom_block_life.proofs.RunLives.{queue_set}

@@ -2,8 +2,8 @@
 use Rattle.std.proofs.Common.{◌≡◌, ◌≢◌, ◌⊎◌, inl, inr, ℕ, ◌==◌, Bool, true, false, List, [], ◌∷◌, ◌++◌, Option, Some, None, if◌then◌else◌, refl, sym, ap, ◌∙◌, subst, append-nil, append_assoc}
 use Rattle.std.specs.Prelude.{slice_get}
 use Rattle.std.proofs.lemmas.Bool.{eq-eqb, ne_eqb, true≢false}
-use Rattle.iom_copies.specs.Attachments.{caches_translations}
-use Rattle.iom_composition.specs.Parts.{Parts}
+use Rattle.iom_coherence.specs.Attachments.{caches_translations}
+use Rattle.iom_world_effects.specs.Parts.{Parts}
 use Rattle.iom_device.specs.Caches.{kind_in}
 use Rattle.iom_fabric.specs.declared.fabric.OnLink.{OnLink}
 use Rattle.iom_machine.specs.declared.event.Event.{Event}

@@ -1,7 +1,7 @@
 // What happens next in a drawn run.
 
 ghost use Rattle.std.specs.Prelude.{◌<◌, ◌≤◌, ◌^◌, IfOk};
-ghost use Rattle.iom_composition.specs.Stays.{IsNoChoice};
+ghost use Rattle.iom_world_effects.specs.Stays.{IsNoChoice};
 
 use iom_base::{DeviceId, GrantRights, Mode, Sequence, Size};
 use iom_fabric::PageNumber;

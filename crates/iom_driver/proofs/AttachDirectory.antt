@@ -6,9 +6,9 @@ use Rattle.iom_base.specs.declared.owner.Owner.{Owner}
 use Rattle.iom_base.specs.declared.owner.Owner.TheVariants.{System, OneDevice}
 use Rattle.iom_device_dir.specs.Located.{path_end_from}
 use Rattle.iom_device_dir.specs.Paths.{ids_below}
-use Rattle.iom_directory.proofs.Stays.{missing_stays}
-use Rattle.iom_directory.specs.Changes.{KeepsOthers, KeepsOutside}
-use Rattle.iom_directory.specs.Pages.{IsDirectory, HasPage, HasWholePath, AreFresh, root_level, missing_pages}
+use Rattle.iom_directory_build.proofs.Stays.{missing_stays}
+use Rattle.iom_directory_build.specs.Changes.{KeepsOthers, KeepsOutside}
+use Rattle.iom_directory_build.specs.Pages.{IsDirectory, HasPage, HasWholePath, AreFresh, root_level, missing_pages}
 use Rattle.iom_phys_mem.specs.Words.{zeroed}
 use Rattle.iom_driver.specs.declared.device.Device.{Device}
 use Rattle.iom_driver.specs.declared.device.Stages.{Stages}

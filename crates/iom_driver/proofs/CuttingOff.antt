@@ -7,8 +7,8 @@ use Rattle.iom_base.specs.declared.owner.Owner.{Owner}
 use Rattle.iom_base.specs.declared.owner.Owner.TheVariants.{System, OneDevice}
 use Rattle.iom_device_dir.specs.Located.{path_end_from}
 use Rattle.iom_device_dir.specs.Paths.{ids_below}
-use Rattle.iom_directory.specs.Changes.{KeepsOthers, KeepsOutside}
-use Rattle.iom_directory.specs.Pages.{IsDirectory, HasPage, HasWholePath, root_level}
+use Rattle.iom_directory_build.specs.Changes.{KeepsOthers, KeepsOutside}
+use Rattle.iom_directory_build.specs.Pages.{IsDirectory, HasPage, HasWholePath, root_level}
 use Rattle.iom_ledger.specs.declared.ledger.Ledger.{Ledger}
 use Rattle.iom_ledger.specs.Changes.{ShowsReleaseOfAll, released_from}
 use Rattle.iom_ledger.specs.History.{Pair}

@@ -5,11 +5,11 @@ use Rattle.iom_base.specs.declared.cause.Cause.TheVariants.{DirectoryEntryNotVal
 use Rattle.iom_base.specs.declared.owner.Owner.{Owner}
 use Rattle.iom_device_dir.specs.Located.{path_end_from}
 use Rattle.iom_device_dir.specs.Paths.{ids_below}
-use Rattle.iom_directory.specs.Changes.{KeepsOthers}
-use Rattle.iom_directory.specs.Laws.{SameDirectory}
-use Rattle.iom_directory.specs.Pages.{IsDirectory, HasPage, HasWholePath, root_level}
-use Rattle.iom_directory.proofs.Stays.{stays}
-use Rattle.iom_directory.proofs.Zeroed.{zeroed_root}
+use Rattle.iom_directory_build.specs.Changes.{KeepsOthers}
+use Rattle.iom_directory_build.specs.Laws.{SameDirectory}
+use Rattle.iom_directory_build.specs.Pages.{IsDirectory, HasPage, HasWholePath, root_level}
+use Rattle.iom_directory_build.proofs.Stays.{stays}
+use Rattle.iom_directory_build.proofs.Zeroed.{zeroed_root}
 use Rattle.iom_phys_mem.specs.Words.{zeroed}
 use Rattle.iom_driver.specs.declared.device.Device.{Device}
 use Rattle.iom_driver.specs.declared.device.Stages.{Stages}

@@ -8,8 +8,8 @@ use Rattle.iom_base.specs.declared.owner.Owner.{Owner}
 use Rattle.iom_base.specs.declared.owner.Owner.TheVariants.{OneDevice}
 use Rattle.iom_device_dir.specs.Located.{path_end_from}
 use Rattle.iom_device_dir.specs.Paths.{ids_below}
-use Rattle.iom_directory.specs.Pages.{root_level}
-use Rattle.iom_directory.proofs.Stays.{stays}
+use Rattle.iom_directory_build.specs.Pages.{root_level}
+use Rattle.iom_directory_build.proofs.Stays.{stays}
 use Rattle.iom_ledger.specs.Changes.{ShowsReleaseOfAll}
 use Rattle.iom_ledger.specs.declared.ledger.Ledger.{Ledger}
 use Rattle.iom_ledger.specs.Shown.{held_in}

@@ -3,8 +3,8 @@ use Rattle.std.specs.Prelude.{◌≡◌, ◌≢◌, ◌⊎◌, ℕ, Bool, List, 
 use Rattle.iom_base.specs.declared.mode.Mode.{Mode}
 use Rattle.iom_base.specs.declared.mode.Mode.TheVariants.{First, Second, Both}
 use Rattle.iom_base.specs.declared.owner.Owner.TheVariants.{System, OneDevice}
-use Rattle.iom_directory.specs.Pages.{missing_pages, root_level}
-use Rattle.iom_directory.specs.Written.{hung}
+use Rattle.iom_directory_build.specs.Pages.{missing_pages, root_level}
+use Rattle.iom_directory_build.specs.Written.{hung}
 use Rattle.iom_ledger.specs.declared.refusal.Refusal.{Refusal}
 use Rattle.iom_ledger.specs.declared.refusal.Refusal.TheVariants.{NoFrames}
 use Rattle.iom_ledger.specs.Refusals.{NoneApplies, IsRefusedBy}

@@ -13,7 +13,7 @@ use Rattle.iom_base.specs.PageNumbers.{page_from}
 use Rattle.iom_base.specs.declared.mode.Mode.{Mode}
 use Rattle.iom_base.specs.declared.mode.Mode.TheVariants.{First, Second, Both}
 use Rattle.iom_device_dir.specs.Values.{address_space_from, guest_root_from}
-use Rattle.iom_directory.specs.Pages.{IsDirectory, HasPage, HasWholePath, root_level}
+use Rattle.iom_directory_build.specs.Pages.{IsDirectory, HasPage, HasWholePath, root_level}
 use Rattle.iom_registers.specs.declared.directory.DirectoryMode.{DirectoryMode}
 use Rattle.iom_registers.specs.declared.directory.DirectoryMode.TheVariants.{OneLevel, TwoLevels, ThreeLevels}
 use Rattle.iom_registers.specs.declared.registers.Registers.{Registers}

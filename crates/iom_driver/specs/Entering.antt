@@ -1,6 +1,6 @@
 -- What an attach has found out when it takes its frames: for the calls inside this crate alone.
 use Rattle.std.specs.Prelude.{ℕ, ◌≤◌, List, None}
-use Rattle.iom_directory.specs.Pages.{missing_pages, root_level}
+use Rattle.iom_directory_build.specs.Pages.{missing_pages, root_level}
 use Rattle.iom_driver.specs.declared.device.Stages.{Stages}
 use Rattle.iom_driver.specs.Admitted.{MayBeAttached}
 use Rattle.iom_driver.specs.Attaching.{IsRootBelow, limit_below}

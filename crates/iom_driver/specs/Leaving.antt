@@ -2,8 +2,8 @@
 use Rattle.std.specs.Prelude.{◌≡◌, ◌≢◌, ◌↔◌, ℕ, ◌+◌, Bool, List, ◌++◌, length, map, Some, Result, Ok, Err, IsTrue, slice_get}
 use Rattle.iom_command_queue.specs.declared.entry.QueueEntry.TheVariants as stands
 use Rattle.iom_command_queue.specs.Waiting.{commands_in}
-use Rattle.iom_directory.specs.Pages.{HasPage, root_level}
-use Rattle.iom_directory.specs.Written.{without_context}
+use Rattle.iom_directory_build.specs.Pages.{HasPage, root_level}
+use Rattle.iom_directory_build.specs.Written.{without_context}
 use Rattle.iom_ledger.specs.declared.refusal.Refusal.{Refusal}
 use Rattle.iom_ledger.specs.Refusals.{first_that_applies, NoneApplies}
 use Rattle.iom_registers.specs.declared.mmio.Mmio.{Ghosts}

@@ -5,7 +5,7 @@ use Rattle.iom_base.specs.declared.mode.Mode.{Mode}
 use Rattle.iom_base.specs.Modes.{size_in}
 use Rattle.iom_base.specs.Sizes.{levels_of}
 use Rattle.iom_device_dir.specs.Located.{path_end_from}
-use Rattle.iom_directory.specs.Pages.{root_level}
+use Rattle.iom_directory_build.specs.Pages.{root_level}
 use Rattle.iom_page_table.specs.Leaves.{leaf_of}
 use Rattle.iom_driver.specs.declared.device.Stages.{Stages}
 use Rattle.iom_driver.specs.Tables.{IsRootIn}

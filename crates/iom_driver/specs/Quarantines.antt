@@ -6,8 +6,8 @@ use Rattle.iom_base.specs.declared.owner.Owner.TheVariants.{OneDevice}
 use Rattle.iom_base.specs.declared.size.Size.{Size}
 use Rattle.iom_command_queue.specs.declared.entry.QueueEntry.TheVariants as stands
 use Rattle.iom_command_queue.specs.Waiting.{commands_in}
-use Rattle.iom_directory.specs.Pages.{HasPage, root_level}
-use Rattle.iom_directory.specs.Written.{without_context}
+use Rattle.iom_directory_build.specs.Pages.{HasPage, root_level}
+use Rattle.iom_directory_build.specs.Written.{without_context}
 use Rattle.iom_ledger.specs.Changes.{ShowsReleaseOfAll}
 use Rattle.iom_ledger.specs.declared.entry.HistoryEntry.TheVariants as entry
 use Rattle.iom_ledger.specs.declared.ledger.Ledger.{Ledger}

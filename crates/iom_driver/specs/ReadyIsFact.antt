@@ -10,7 +10,7 @@ use Rattle.iom_base.specs.declared.mode.Mode.{Mode}
 use Rattle.iom_base.specs.declared.mode.Mode.TheVariants.{First, Second, Both}
 use Rattle.iom_base.specs.declared.owner.Owner.{Owner}
 use Rattle.iom_device_dir.specs.declared.context.Context.{Context}
-use Rattle.iom_directory.specs.Pages.{EndsLawfully}
+use Rattle.iom_directory_build.specs.Pages.{EndsLawfully}
 use Rattle.iom_fault_queue.specs.declared.entry.Entry.{Entry as QueueEntry}
 use Rattle.iom_fault_queue.specs.declared.entry.Entry.TheVariants as queue
 use Rattle.iom_ledger.specs.declared.ledger.Ledger.{Ledger}

@@ -1,8 +1,8 @@
 -- What a revival answers, what it leaves, and what stays.
 use Rattle.std.specs.Prelude.{◌≡◌, ◌≢◌, ℕ, List, [], length, Some, Result, Ok, Err, slice_get}
 use Rattle.iom_base.specs.declared.owner.Owner.TheVariants.{System}
-use Rattle.iom_directory.specs.Pages.{root_level}
-use Rattle.iom_directory.specs.Written.{hung}
+use Rattle.iom_directory_build.specs.Pages.{root_level}
+use Rattle.iom_directory_build.specs.Written.{hung}
 use Rattle.iom_ledger.specs.declared.refusal.Refusal.{Refusal}
 use Rattle.iom_ledger.specs.Refusals.{first_that_applies, NoneApplies}
 use Rattle.iom_driver.specs.declared.device.Attachment.TheVariants.{Attached, Quarantined}

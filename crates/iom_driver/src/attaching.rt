@@ -17,7 +17,7 @@ use crate::driver::Driver;
 use crate::layout::{MAX_DEVICES, directory_frame};
 use arrayvec::ArrayVec;
 use iom_base::{DeviceId, Mode, Owner};
-use iom_directory::{missing, put_context};
+use iom_directory_build::{missing, put_context};
 use iom_ledger::Refusal;
 use iom_phys_mem::Memory;
 

@@ -9,7 +9,7 @@ use crate::device::Attachment;
 use crate::driver::Driver;
 use crate::layout::directory_frame;
 use iom_base::DeviceId;
-use iom_directory::clear_context;
+use iom_directory_build::clear_context;
 use iom_ledger::Refusal;
 use iom_phys_mem::Memory;
 use iom_registers::Mmio;

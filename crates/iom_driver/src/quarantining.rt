@@ -18,7 +18,7 @@ use crate::device::Attachment;
 use crate::driver::Driver;
 use crate::layout::directory_frame;
 use iom_base::{DeviceId, Size};
-use iom_directory::{clear_context, put_context};
+use iom_directory_build::{clear_context, put_context};
 use iom_ledger::{Ledger, Refusal};
 use iom_page_table::unmap;
 use iom_phys_mem::Memory;

@@ -21,9 +21,9 @@ use Rattle.iom_iommu.specs.declared.iommu.Iommu.{Iommu}
 use Rattle.iom_iommu.specs.declared.fetched.Fetched.{Fetched}
 use Rattle.iom_iommu.specs.declared.fetched.Fetched.TheVariants.{Did, Waiting, Empty, Stopped}
 use Rattle.iom_tlb.specs.declared.trans_cache.TransCache.{Ghosts as Cache}
-use Rattle.iom_iommu.specs.Parts.{registers_of, stock_of, slots_of}
+use Rattle.iom_iommu.specs.Parts.{registers_of, fence_snapshot_of, slots_of}
 use Rattle.iom_iommu.specs.Timeouts.{TimesOut}
-use Rattle.iom_iommu.specs.Fetches.{counted_in, slots_by, is_waiting_fence, after_none, after_fetched, stock_at, waits_at, IsLeft, store_of, asks_for_interrupt, with_store, IsStoredIn, IsOffRing, head_entry, WaitsAt, StopsAtEntry, StopsFetching, FetchesCommand, LeavesFaultQueue}
+use Rattle.iom_iommu.specs.Fetches.{counted_in, slots_by, is_waiting_fence, after_none, after_fetched, fence_snapshot_at, waits_at, IsLeft, store_of, asks_for_interrupt, with_store, IsStoredIn, IsOffRing, head_entry, WaitsAt, StopsAtEntry, StopsFetching, FetchesCommand, LeavesFaultQueue}
 
 -- something stands at the head, so head and tail aren't the same
 pub apart : (m : List (List ℕ)) (r : Registers) (entry : QueueEntry) → head_entry m r ≡ Some entry → command_head r ≢ command_tail r
@@ -167,7 +167,7 @@ leaves_fault_queue m n i j Stopped f = stop_leaves (is_processing_commands (regi
 -- A FETCH begins with no request opened by it: what it answers and leaves is the same, whether the one before opened one
 module _ {C : Type 0} {c : Cache C} (i : Iommu C c) where
   abbrev begun : Iommu C c
-  begun = after_none i (registers_of i) (stock_of i)
+  begun = after_none i (registers_of i) (fence_snapshot_of i)
 
   waits_for : (entry : Option QueueEntry) → WaitsAt entry begun → WaitsAt entry i
   waits_for None w = w
@@ -175,7 +175,7 @@ module _ {C : Type 0} {c : Cache C} (i : Iommu C c) where
   waits_for (Some (stands.Illegal reason)) w = w
   waits_for (Some (stands.Command command)) w = w
 
-  counts_for : (entry : Option QueueEntry) → stock_at entry begun ≡ stock_at entry i
+  counts_for : (entry : Option QueueEntry) → fence_snapshot_at entry begun ≡ fence_snapshot_at entry i
   counts_for None = refl
   counts_for (Some stands.Outside) = refl
   counts_for (Some (stands.Illegal reason)) = refl
@@ -202,7 +202,7 @@ module _ {C : Type 0} {c : Cache C} (i : Iommu C c) where
     registers = l.registers;
     contexts = l.contexts;
     translations = l.translations;
-    stock = l.stock;
+    fence_snapshot = l.fence_snapshot;
     waits = l.waits;
     slots = l.slots;
     opened = l.opened;
@@ -218,8 +218,8 @@ module _ {C : Type 0} {c : Cache C} (i : Iommu C c) where
       f.0,
       waits_for (head_entry m (registers_of i)) f.1,
       f.2,
-      f.3 ∙ ap (λ stock. after_fetched i (registers_of i) stock (waits_at (head_entry m (registers_of i)) begun)) (counts_for (head_entry m (registers_of i)))
-          ∙ ap (λ waits. after_fetched i (registers_of i) (stock_at (head_entry m (registers_of i)) i) waits) (waits_so_for (head_entry m (registers_of i))),
+      f.3 ∙ ap (λ fence_snapshot. after_fetched i (registers_of i) fence_snapshot (waits_at (head_entry m (registers_of i)) begun)) (counts_for (head_entry m (registers_of i)))
+          ∙ ap (λ waits. after_fetched i (registers_of i) (fence_snapshot_at (head_entry m (registers_of i)) i) waits) (waits_so_for (head_entry m (registers_of i))),
     )
     by Empty f = f
     by Stopped f = (stops_for m (is_processing_commands (registers_of i)) j f.0, f.1)
@@ -233,11 +233,11 @@ last_by (IodirInvalDdt device) slots = omega arith
 last_by (AtsInval device range) slots = omega arith
 
 module _ {C : Type 0} {c : Cache C} (m : List (List ℕ)) (i j : Iommu C c) where
-  same_last : (r : Registers) (stock : Option ℕ) → j ≡ after_none i r stock → (slots_of j).last ≤ (slots_of i).last + 1
-  same_last r stock left = subst (λ x. (slots_of x).last ≤ (slots_of i).last + 1) (sym left) (omega arith)
+  same_last : (r : Registers) (fence_snapshot : Option ℕ) → j ≡ after_none i r fence_snapshot → (slots_of j).last ≤ (slots_of i).last + 1
+  same_last r fence_snapshot left = subst (λ x. (slots_of x).last ≤ (slots_of i).last + 1) (sym left) (omega arith)
 
-  fetched_last : (r : Registers) (stock : Option ℕ) (waits : Bool) → j ≡ after_fetched i r stock waits → (slots_of j).last ≤ (slots_of i).last + 1
-  fetched_last r stock waits left = subst (λ x. (slots_of x).last ≤ (slots_of i).last + 1) (sym left) (omega arith)
+  fetched_last : (r : Registers) (fence_snapshot : Option ℕ) (waits : Bool) → j ≡ after_fetched i r fence_snapshot waits → (slots_of j).last ≤ (slots_of i).last + 1
+  fetched_last r fence_snapshot waits left = subst (λ x. (slots_of x).last ≤ (slots_of i).last + 1) (sym left) (omega arith)
 
   stops_at_last : (entry : Option QueueEntry) → StopsAtEntry m entry i j → (slots_of j).last ≤ (slots_of i).last + 1
   stops_at_last None s = absurd s
@@ -248,11 +248,11 @@ module _ {C : Type 0} {c : Cache C} (m : List (List ℕ)) (i j : Iommu C c) wher
 
   stops_last : (on : Bool) → StopsFetching on m i j → (slots_of j).last ≤ (slots_of i).last + 1
   stops_last true s = stops_at_last (head_entry m (registers_of i)) s
-  stops_last false s = same_last (registers_of i) (stock_of i) s
+  stops_last false s = same_last (registers_of i) (fence_snapshot_of i) s
 
   pub opens_one : (n : List (List ℕ)) (answer : Fetched) → FetchesCommand m i answer n j → (slots_of j).last ≤ (slots_of i).last + 1
   opens_one n (Did command) f = subst (λ x. x.last ≤ (slots_of i).last + 1) (sym f.5.slots) (last_by command (slots_of i))
   opens_one n Waiting f =
-      fetched_last (registers_of i) (stock_at (head_entry m (registers_of i)) i) (waits_at (head_entry m (registers_of i)) i) f.3
+      fetched_last (registers_of i) (fence_snapshot_at (head_entry m (registers_of i)) i) (waits_at (head_entry m (registers_of i)) i) f.3
   opens_one n Empty f = fetched_last (registers_of i) None false f.3
   opens_one n Stopped f = stops_last (is_processing_commands (registers_of i)) f.0

@@ -30,7 +30,7 @@ module _ {C : Type 0} {c : Cache C} (m : List (List ℕ)) (i : Iommu C c) where
     registers = refl;
     contexts = λ key. refl;
     translations = λ key. refl;
-    stock = refl;
+    fence_snapshot = refl;
     waits = refl;
     slots = refl;
     opened = refl;
@@ -43,7 +43,7 @@ module _ {C : Type 0} {c : Cache C} (m : List (List ℕ)) (i : Iommu C c) where
     registers = one.registers ∙ sym other.registers;
     contexts = dropped_alike command (contexts_of i) (contexts_of j) (contexts_of k) one.contexts other.contexts;
     translations = λ key. other.translations key ∙ sym (one.translations key);
-    stock = one.stock ∙ sym other.stock;
+    fence_snapshot = one.fence_snapshot ∙ sym other.fence_snapshot;
     waits = one.waits ∙ sym other.waits;
     slots = one.slots ∙ sym other.slots;
     opened = one.opened ∙ sym other.opened;

@@ -17,9 +17,9 @@ use Rattle.iom_inflight.specs.IsFact.{rows_in_prop}
 use Rattle.iom_tlb.specs.declared.trans_cache.TransCache.{Ghosts as Cache}
 use Rattle.iom_iommu.specs.declared.iommu.Iommu.{Iommu}
 use Rattle.iom_iommu.specs.Cached.{AreTranslationsIn, translations_in_prop}
-use Rattle.iom_iommu.specs.Parts.{registers_of, flights_of, slots_of, stock_of, waits_of, stock_after, waits_after, slots_after, after_write}
+use Rattle.iom_iommu.specs.Parts.{registers_of, flights_of, slots_of, fence_snapshot_of, waits_of, fence_snapshot_after, waits_after, slots_after, after_write}
 use Rattle.iom_iommu.specs.Timeouts.{can_time_out, timed_out}
-use Rattle.iom_iommu.specs.Fetches.{counted_in, waits_for_accesses, waits_for_slots, is_waiting_fence, is_held, stock_at, waits_at, after_none, after_fetched, head_entry, WaitsAt, StopsAtEntry, StopsFetching}
+use Rattle.iom_iommu.specs.Fetches.{counted_in, waits_for_accesses, waits_for_slots, is_waiting_fence, is_held, fence_snapshot_at, waits_at, after_none, after_fetched, head_entry, WaitsAt, StopsAtEntry, StopsFetching}
 
 some_open : (waits : Bool) (open_slots : List Slot) → waits ≡ true → ¬ (open_slots ≡ []) → (waits && not (length open_slots == 0)) ≡ true
 some_open true [] waits some = absurd (some refl)
@@ -29,12 +29,12 @@ some_open false open_slots waits some = absurd (cc)
 module _ {C : Type 0} {c : Cache C} (i : Iommu C c) where
   -- the IOMMU with these parts, whatever proofs of its facts it carries
   abbrev made_of : Registers → Option ℕ → Bool → OpenSlots → Option Slot → AreRowsIn i.frames i.in_flight.rows → AreTranslationsIn i.frames (c.content i.translations) → Iommu C c
-  made_of r stock waits slots opened inside cached = record {
+  made_of r fence_snapshot waits slots opened inside cached = record {
     registers = r;
     contexts = i.contexts;
     translations = i.translations;
     in_flight = i.in_flight;
-    stock = stock;
+    fence_snapshot = fence_snapshot;
     fence_waits = waits;
     slots = slots;
     opened = opened;
@@ -43,12 +43,12 @@ module _ {C : Type 0} {c : Cache C} (i : Iommu C c) where
     cached = cached;
   }
 
-  same_parts : (r other : Registers) (stock counted : Option ℕ) (waits waiting : Bool) (slots requests : OpenSlots) (opened latest : Option Slot)
+  same_parts : (r other : Registers) (fence_snapshot counted : Option ℕ) (waits waiting : Bool) (slots requests : OpenSlots) (opened latest : Option Slot)
       (inside : AreRowsIn i.frames i.in_flight.rows) (cached : AreTranslationsIn i.frames (c.content i.translations))
-      → r ≡ other → stock ≡ counted → waits ≡ waiting → slots ≡ requests → opened ≡ latest
-      → made_of r stock waits slots opened inside cached ≡ made_of other counted waiting requests latest i.inside i.cached
-  same_parts r other stock counted waits waiting slots requests opened latest inside cached one two three four five =
-      ap (λ x. made_of x stock waits slots opened inside cached) one
+      → r ≡ other → fence_snapshot ≡ counted → waits ≡ waiting → slots ≡ requests → opened ≡ latest
+      → made_of r fence_snapshot waits slots opened inside cached ≡ made_of other counted waiting requests latest i.inside i.cached
+  same_parts r other fence_snapshot counted waits waiting slots requests opened latest inside cached one two three four five =
+      ap (λ x. made_of x fence_snapshot waits slots opened inside cached) one
       ∙ ap (λ x. made_of other x waits slots opened inside cached) two
       ∙ ap (λ x. made_of other counted x slots opened inside cached) three
       ∙ ap (λ x. made_of other counted waiting x opened inside cached) four
@@ -57,29 +57,29 @@ module _ {C : Type 0} {c : Cache C} (i : Iommu C c) where
       ∙ ap (λ x. made_of other counted waiting requests latest i.inside x) (translations_in_prop i.frames (c.content i.translations) cached i.cached)
 
   -- A FETCH that did no command leaves this
-  pub same : (r other : Registers) (stock counted : Option ℕ) (opened : Option Slot) (inside : AreRowsIn i.frames i.in_flight.rows)
-      (cached : AreTranslationsIn i.frames (c.content i.translations)) → r ≡ other → stock ≡ counted → opened ≡ None
-      → made_of r stock i.fence_waits i.slots opened inside cached ≡ after_none i other counted
-  same r other stock counted opened inside cached one two three =
-      same_parts r other stock counted i.fence_waits i.fence_waits i.slots i.slots opened None inside cached one two refl refl three
+  pub same : (r other : Registers) (fence_snapshot counted : Option ℕ) (opened : Option Slot) (inside : AreRowsIn i.frames i.in_flight.rows)
+      (cached : AreTranslationsIn i.frames (c.content i.translations)) → r ≡ other → fence_snapshot ≡ counted → opened ≡ None
+      → made_of r fence_snapshot i.fence_waits i.slots opened inside cached ≡ after_none i other counted
+  same r other fence_snapshot counted opened inside cached one two three =
+      same_parts r other fence_snapshot counted i.fence_waits i.fence_waits i.slots i.slots opened None inside cached one two refl refl three
 
   -- or this, where it found a command
-  pub same_fetched : (r other : Registers) (stock counted : Option ℕ) (waits waiting : Bool) (opened : Option Slot) (inside : AreRowsIn i.frames i.in_flight.rows)
-      (cached : AreTranslationsIn i.frames (c.content i.translations)) → r ≡ other → stock ≡ counted → waits ≡ waiting → opened ≡ None
-      → made_of r stock waits i.slots opened inside cached ≡ after_fetched i other counted waiting
-  same_fetched r other stock counted waits waiting opened inside cached one two three four =
-      same_parts r other stock counted waits waiting i.slots i.slots opened None inside cached one two three refl four
+  pub same_fetched : (r other : Registers) (fence_snapshot counted : Option ℕ) (waits waiting : Bool) (opened : Option Slot) (inside : AreRowsIn i.frames i.in_flight.rows)
+      (cached : AreTranslationsIn i.frames (c.content i.translations)) → r ≡ other → fence_snapshot ≡ counted → waits ≡ waiting → opened ≡ None
+      → made_of r fence_snapshot waits i.slots opened inside cached ≡ after_fetched i other counted waiting
+  same_fetched r other fence_snapshot counted waits waiting opened inside cached one two three four =
+      same_parts r other fence_snapshot counted waits waiting i.slots i.slots opened None inside cached one two three refl four
 
   -- nothing is kept of a fence that stood at the head
   pub forgot : (inside : AreRowsIn i.frames i.in_flight.rows) (cached : AreTranslationsIn i.frames (c.content i.translations))
-      → made_of i.registers None false i.slots i.opened inside cached ≡ record i { stock = None; fence_waits = false }
+      → made_of i.registers None false i.slots i.opened inside cached ≡ record i { fence_snapshot = None; fence_waits = false }
   forgot inside cached = same_parts i.registers i.registers None None false false i.slots i.slots i.opened i.opened inside cached refl refl refl refl refl
 
   -- a request is completed
   pub completed : (slots requests : OpenSlots) (inside : AreRowsIn i.frames i.in_flight.rows) (cached : AreTranslationsIn i.frames (c.content i.translations))
-      → slots ≡ requests → made_of i.registers i.stock i.fence_waits slots i.opened inside cached ≡ record i { slots = requests }
+      → slots ≡ requests → made_of i.registers i.fence_snapshot i.fence_waits slots i.opened inside cached ≡ record i { slots = requests }
   completed slots requests inside cached left =
-      same_parts i.registers i.registers i.stock i.stock i.fence_waits i.fence_waits slots requests i.opened i.opened inside cached refl refl refl left refl
+      same_parts i.registers i.registers i.fence_snapshot i.fence_snapshot i.fence_waits i.fence_waits slots requests i.opened i.opened inside cached refl refl refl left refl
 
   -- A FENCE is given up, where it waits and a request is open
   pub can_give_up : waits_of i ≡ true → ¬ ((slots_of i).open_slots ≡ []) → can_time_out i ≡ true
@@ -91,18 +91,18 @@ module _ {C : Type 0} {c : Cache C} (i : Iommu C c) where
       same_parts r (with_cmd_to i.registers) None None false false slots (record (slots_of i) { open_slots = [] }) i.opened i.opened inside cached one refl refl two refl
 
   abbrev Wrote : Register → ℕ → Registers → Option ℕ → Bool → OpenSlots → Type 0
-  Wrote register value r stock waits slots =
-      (r ≡ written i.registers register value) × (stock ≡ stock_after r i.stock) × (waits ≡ waits_after r i.fence_waits) × (slots ≡ slots_after r i.slots)
+  Wrote register value r fence_snapshot waits slots =
+      (r ≡ written i.registers register value) × (fence_snapshot ≡ fence_snapshot_after r i.fence_snapshot) × (waits ≡ waits_after r i.fence_waits) × (slots ≡ slots_after r i.slots)
 
-  wrote : (register : Register) (value : ℕ) (answer : Result Register RegFault) (r : Registers) (stock : Option ℕ) (waits : Bool) (slots : OpenSlots)
+  wrote : (register : Register) (value : ℕ) (answer : Result Register RegFault) (r : Registers) (fence_snapshot : Option ℕ) (waits : Bool) (slots : OpenSlots)
       (inside : AreRowsIn i.frames i.in_flight.rows) (cached : AreTranslationsIn i.frames (c.content i.translations))
-      → answer ≡ Ok register → Wrote register value r stock waits slots
-      → made_of r stock waits slots i.opened inside cached ≡ changed_by (after_write i) i value answer
-  wrote register value answer r stock waits slots inside cached ok is =
+      → answer ≡ Ok register → Wrote register value r fence_snapshot waits slots
+      → made_of r fence_snapshot waits slots i.opened inside cached ≡ changed_by (after_write i) i value answer
+  wrote register value answer r fence_snapshot waits slots inside cached ok is =
       let now = written i.registers register value in
-      subst (λ a. made_of r stock waits slots i.opened inside cached ≡ changed_by (after_write i) i value a) (sym ok)
-      (same_parts r now stock (stock_after now i.stock) waits (waits_after now i.fence_waits) slots (slots_after now i.slots) i.opened i.opened inside cached is.0
-      (is.1 ∙ ap (λ x. stock_after x i.stock) is.0) (is.2 ∙ ap (λ x. waits_after x i.fence_waits) is.0) (is.3 ∙ ap (λ x. slots_after x i.slots) is.0) refl)
+      subst (λ a. made_of r fence_snapshot waits slots i.opened inside cached ≡ changed_by (after_write i) i value a) (sym ok)
+      (same_parts r now fence_snapshot (fence_snapshot_after now i.fence_snapshot) waits (waits_after now i.fence_waits) slots (slots_after now i.slots) i.opened i.opened inside cached is.0
+      (is.1 ∙ ap (λ x. fence_snapshot_after x i.fence_snapshot) is.0) (is.2 ∙ ap (λ x. waits_after x i.fence_waits) is.0) (is.3 ∙ ap (λ x. slots_after x i.slots) is.0) refl)
 
   off : {A : Type 0} (on : Bool) (one other : A) → on ≡ false → other ≡ (if on then one else other)
   off true one other e = absurd (cc)
@@ -118,14 +118,14 @@ module _ {C : Type 0} {c : Cache C} (i : Iommu C c) where
       → slots ≡ record (slots_of i) { open_slots = [] } → made_of r None false slots i.opened inside cached ≡ changed_by (after_write i) i value answer
   wrote_off register value answer r slots inside cached ok is is_off closed =
       wrote register value answer r None false slots inside cached ok
-      (is, off (is_command_queue_on r) i.stock None is_off, off (is_command_queue_on r) i.fence_waits false is_off, closed ∙ off (is_command_queue_on r) i.slots (record (slots_of i) { open_slots = [] }) is_off)
+      (is, off (is_command_queue_on r) i.fence_snapshot None is_off, off (is_command_queue_on r) i.fence_waits false is_off, closed ∙ off (is_command_queue_on r) i.slots (record (slots_of i) { open_slots = [] }) is_off)
 
   pub wrote_on : (register : Register) (value : ℕ) (answer : Result Register RegFault) (r : Registers) (inside : AreRowsIn i.frames i.in_flight.rows)
       (cached : AreTranslationsIn i.frames (c.content i.translations)) → answer ≡ Ok register → r ≡ written i.registers register value → is_command_queue_on r ≡ true
-      → made_of r i.stock i.fence_waits i.slots i.opened inside cached ≡ changed_by (after_write i) i value answer
+      → made_of r i.fence_snapshot i.fence_waits i.slots i.opened inside cached ≡ changed_by (after_write i) i value answer
   wrote_on register value answer r inside cached ok is is_on =
-      wrote register value answer r i.stock i.fence_waits i.slots inside cached ok
-      (is, on (is_command_queue_on r) i.stock None is_on, on (is_command_queue_on r) i.fence_waits false is_on, on (is_command_queue_on r) i.slots (record (slots_of i) { open_slots = [] }) is_on)
+      wrote register value answer r i.fence_snapshot i.fence_waits i.slots inside cached ok
+      (is, on (is_command_queue_on r) i.fence_snapshot None is_on, on (is_command_queue_on r) i.fence_waits false is_on, on (is_command_queue_on r) i.slots (record (slots_of i) { open_slots = [] }) is_on)
 
   -- A COMMAND at the head waits: for open requests, or for accesses
   pub held_by_slots : (command : Command) → waits_for_slots command (slots_of i) ≡ true → is_held command i ≡ true
@@ -141,17 +141,17 @@ module _ {C : Type 0} {c : Cache C} (i : Iommu C c) where
   waits m command found held = subst (λ entry. WaitsAt entry i) (sym found) held
 
   -- what it counted
-  pub stock_then : (m : List (List ℕ)) (command : Command) (for_slots : Bool) → head_entry m (registers_of i) ≡ Some (stands.Command command)
-      → waits_for_slots command (slots_of i) ≡ for_slots → (if for_slots then stock_of i else Some (counted_in i)) ≡ stock_at (head_entry m (registers_of i)) i
-  stock_then m command for_slots found so =
-      ap (λ b. if b then stock_of i else Some (counted_in i)) (sym so) ∙ ap (λ entry. stock_at entry i) (sym found)
+  pub snapshot_then : (m : List (List ℕ)) (command : Command) (for_slots : Bool) → head_entry m (registers_of i) ≡ Some (stands.Command command)
+      → waits_for_slots command (slots_of i) ≡ for_slots → (if for_slots then fence_snapshot_of i else Some (counted_in i)) ≡ fence_snapshot_at (head_entry m (registers_of i)) i
+  snapshot_then m command for_slots found so =
+      ap (λ b. if b then fence_snapshot_of i else Some (counted_in i)) (sym so) ∙ ap (λ entry. fence_snapshot_at entry i) (sym found)
 
   -- and whether it is a fence that waits for open requests
   pub waits_then : (m : List (List ℕ)) (command : Command) (waits : Bool) → head_entry m (registers_of i) ≡ Some (stands.Command command)
       → waits ≡ is_waiting_fence command (slots_of i) → waits ≡ waits_at (head_entry m (registers_of i)) i
   waits_then m command waits found so = so ∙ ap (λ entry. waits_at entry i) (sym found)
 
-  pub stays_stopped : (m : List (List ℕ)) (new : Iommu C c) → is_processing_commands (registers_of i) ≡ false → new ≡ after_none i (registers_of i) (stock_of i)
+  pub stays_stopped : (m : List (List ℕ)) (new : Iommu C c) → is_processing_commands (registers_of i) ≡ false → new ≡ after_none i (registers_of i) (fence_snapshot_of i)
       → StopsFetching (is_processing_commands (registers_of i)) m i new
   stays_stopped m new off left = subst (λ b. StopsFetching b m i new) (sym off) left
 

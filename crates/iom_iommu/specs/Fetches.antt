@@ -24,7 +24,7 @@ use Rattle.iom_tlb.specs.declared.trans_cache.TransCache.{Ghosts as Cache}
 use Rattle.iom_tlb.specs.Content.{Content as Translations, Stays, Drops}
 use Rattle.iom_tlb.specs.Covers.{are_covering}
 use Rattle.iom_tlb.specs.Invalidations.{covers_of}
-use Rattle.iom_iommu.specs.Parts.{registers_of, contexts_of, translations_of, flights_of, stock_of, waits_of, slots_of, opened_of, frames_of}
+use Rattle.iom_iommu.specs.Parts.{registers_of, contexts_of, translations_of, flights_of, fence_snapshot_of, waits_of, slots_of, opened_of, frames_of}
 
 -- The fence rule (section 3.1.2, "IOMMU Command-queue Fence commands"): a fence waits until no invalidation request is open; then, with PR or PW,
 -- until the accesses of that kind are made that were accepted before its first fetch that found none open.
@@ -36,7 +36,7 @@ accepted_before (Some counted) so_far = counted
 
 -- the same of the fence at the head
 abbrev pub counted_in : {C : Type 0} {c : Cache C} → Iommu C c → ℕ
-counted_in iommu = accepted_before (stock_of iommu) (flights_of iommu).so_far
+counted_in iommu = accepted_before (fence_snapshot_of iommu) (flights_of iommu).so_far
 
 -- whether one of the first so many accesses, of the kind, isn't made
 abbrev pub are_waited_for : Flights → ℕ → AccessKind → Bool
@@ -124,7 +124,7 @@ head_entry memory r = slice_get (commands_in memory r) 0
 
 -- the IOMMU after a fetch that did no command: with these registers, and with this count of the fence at the head
 abbrev pub after_none : {C : Type 0} {c : Cache C} → Iommu C c → Registers → Option ℕ → Iommu C c
-after_none iommu registers stock = record iommu { registers = registers; stock = stock; opened = None }
+after_none iommu registers fence_snapshot = record iommu { registers = registers; fence_snapshot = fence_snapshot; opened = None }
 
 -- a command stands at the head that has to wait
 abbrev pub WaitsAt : {C : Type 0} {c : Cache C} → Option QueueEntry → Iommu C c → Type 0
@@ -134,11 +134,11 @@ WaitsAt (Some (stands.Illegal reason)) iommu = ⊥
 WaitsAt (Some (stands.Command command)) iommu = is_held command iommu ≡ true
 
 -- what it counted once it waits: nothing yet where it waits for invalidation requests
-abbrev pub stock_at : {C : Type 0} {c : Cache C} → Option QueueEntry → Iommu C c → Option ℕ
-stock_at None iommu = stock_of iommu
-stock_at (Some stands.Outside) iommu = stock_of iommu
-stock_at (Some (stands.Illegal reason)) iommu = stock_of iommu
-stock_at (Some (stands.Command command)) iommu = if waits_for_slots command (slots_of iommu) then stock_of iommu else Some (counted_in iommu)
+abbrev pub fence_snapshot_at : {C : Type 0} {c : Cache C} → Option QueueEntry → Iommu C c → Option ℕ
+fence_snapshot_at None iommu = fence_snapshot_of iommu
+fence_snapshot_at (Some stands.Outside) iommu = fence_snapshot_of iommu
+fence_snapshot_at (Some (stands.Illegal reason)) iommu = fence_snapshot_of iommu
+fence_snapshot_at (Some (stands.Command command)) iommu = if waits_for_slots command (slots_of iommu) then fence_snapshot_of iommu else Some (counted_in iommu)
 
 -- whether a fence that stands at the head waits for invalidation requests, once it was fetched
 abbrev pub waits_at : {C : Type 0} {c : Cache C} → Option QueueEntry → Iommu C c → Bool
@@ -149,7 +149,7 @@ waits_at (Some (stands.Command command)) iommu = is_waiting_fence command (slots
 
 -- the IOMMU after a fetch of a command that it didn't do: with these registers, and with this count of the fence at the head, which waits so
 abbrev pub after_fetched : {C : Type 0} {c : Cache C} → Iommu C c → Registers → Option ℕ → Bool → Iommu C c
-after_fetched iommu registers stock waits = record (after_none iommu registers stock) { fence_waits = waits }
+after_fetched iommu registers fence_snapshot waits = record (after_none iommu registers fence_snapshot) { fence_waits = waits }
 
 -- the IOMMU after a fetch that found no command at the head: with these registers, and nothing is kept of a fence that stood there
 abbrev pub after_nothing : {C : Type 0} {c : Cache C} → Iommu C c → Registers → Iommu C c
@@ -203,7 +203,7 @@ pub record IsLeft {C : Type 0} {c : Cache C} (command : Command) (old new : Iomm
   pub registers : registers_of new ≡ with_done (registers_of old) command
   pub contexts : DropsContexts command (contexts_of old) (contexts_of new)
   pub translations : DropsTranslations command (translations_of old) (translations_of new)
-  pub stock : stock_of new ≡ None
+  pub fence_snapshot : fence_snapshot_of new ≡ None
   pub waits : waits_of new ≡ false
   pub slots : slots_of new ≡ slots_by command (slots_of old)
   pub opened : opened_of new ≡ request_by command (slots_of old)
@@ -212,7 +212,7 @@ pub record IsLeft {C : Type 0} {c : Cache C} (command : Command) (old new : Iomm
 
 -- processing had stopped before and stays so, or it stops at what stands at the head
 abbrev pub StopsFetching : {C : Type 0} {c : Cache C} → Bool → List (List ℕ) → Iommu C c → Iommu C c → Type 0
-StopsFetching false memory old new = new ≡ after_none old (registers_of old) (stock_of old)
+StopsFetching false memory old new = new ≡ after_none old (registers_of old) (fence_snapshot_of old)
 StopsFetching true memory old new = StopsAtEntry memory (head_entry memory (registers_of old)) old new
 
 -- THE RELATION of a fetch, by its answer: memory and IOMMU before, the answer, memory and IOMMU after
@@ -228,7 +228,7 @@ FetchesCommand memory iommu Waiting new_memory new_iommu =
     (is_processing_commands (registers_of iommu) ≡ true)
     × WaitsAt (head_entry memory (registers_of iommu)) iommu
     × (new_memory ≡ memory)
-    × (new_iommu ≡ after_fetched iommu (registers_of iommu) (stock_at (head_entry memory (registers_of iommu)) iommu)
+    × (new_iommu ≡ after_fetched iommu (registers_of iommu) (fence_snapshot_at (head_entry memory (registers_of iommu)) iommu)
     (waits_at (head_entry memory (registers_of iommu)) iommu))
 FetchesCommand memory iommu Empty new_memory new_iommu =
     (is_processing_commands (registers_of iommu) ≡ true)
@@ -244,7 +244,7 @@ pub record AreAlike {C : Type 0} {c : Cache C} (one other : Iommu C c) : Type 0 
   pub registers : registers_of one ≡ registers_of other
   pub contexts : IsSameContent (contexts_of one) (contexts_of other)
   pub translations : Stays (translations_of one) (translations_of other)
-  pub stock : stock_of one ≡ stock_of other
+  pub fence_snapshot : fence_snapshot_of one ≡ fence_snapshot_of other
   pub waits : waits_of one ≡ waits_of other
   pub slots : slots_of one ≡ slots_of other
   pub opened : opened_of one ≡ opened_of other

@@ -40,8 +40,8 @@ abbrev pub flights_of : {C : Type 0} {c : Cache C} → Iommu C c → Flights
 flights_of iommu = iommu.in_flight
 
 -- how many accesses were accepted when the fence at the head was first fetched with no slot open, if it was
-abbrev pub stock_of : {C : Type 0} {c : Cache C} → Iommu C c → Option ℕ
-stock_of iommu = iommu.stock
+abbrev pub fence_snapshot_of : {C : Type 0} {c : Cache C} → Iommu C c → Option ℕ
+fence_snapshot_of iommu = iommu.fence_snapshot
 
 -- whether the fence at the head was fetched, and told to wait until no slot is open
 abbrev pub waits_of : {C : Type 0} {c : Cache C} → Iommu C c → Bool
@@ -70,7 +70,7 @@ pub record IsAtPowerOn {C : Type 0} {c : Cache C} (count : ℕ) (iommu : Iommu C
   pub context_order : context_order_of iommu ≡ []
   pub translations : HasNothing (translations_of iommu)
   pub flights : flights_of iommu ≡ no_flights
-  pub stock : stock_of iommu ≡ None
+  pub fence_snapshot : fence_snapshot_of iommu ≡ None
   pub waits : waits_of iommu ≡ false
   pub slots : slots_of iommu ≡ no_slots
   pub opened : opened_of iommu ≡ None
@@ -82,15 +82,15 @@ pub record AddsDevice {C : Type 0} {c : Cache C} (old : Iommu C c) (id : ℕ) (a
   pub registers : registers_of new ≡ registers_of old
   pub contexts : new.contexts ≡ old.contexts
   pub translations : new.translations ≡ old.translations
-  pub stock : stock_of new ≡ stock_of old
+  pub fence_snapshot : fence_snapshot_of new ≡ fence_snapshot_of old
   pub waits : waits_of new ≡ waits_of old
   pub slots : slots_of new ≡ slots_of old
   pub opened : opened_of new ≡ opened_of old
   pub frames : frames_of new ≡ frames_of old
 
 -- what the fence at the head counted is given up where the command queue is off
-abbrev pub stock_after : Registers → Option ℕ → Option ℕ
-stock_after registers stock = if is_command_queue_on registers then stock else None
+abbrev pub fence_snapshot_after : Registers → Option ℕ → Option ℕ
+fence_snapshot_after registers fence_snapshot = if is_command_queue_on registers then fence_snapshot else None
 
 -- and it waits for no request
 abbrev pub waits_after : Registers → Bool → Bool
@@ -106,7 +106,7 @@ after_write iommu register value =
     let registers = written iommu.registers register value in
     record iommu {
       registers = registers;
-      stock = stock_after registers iommu.stock;
+      fence_snapshot = fence_snapshot_after registers iommu.fence_snapshot;
       fence_waits = waits_after registers iommu.fence_waits;
       slots = slots_after registers iommu.slots;
     }

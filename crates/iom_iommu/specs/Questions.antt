@@ -19,7 +19,7 @@ use Rattle.iom_stage_walk.specs.declared.walked.WalkFault.{WalkFault}
 use Rattle.iom_tlb.specs.declared.trans_cache.TransCache.{Ghosts as Cache}
 use Rattle.iom_tlb.specs.declared.trans_cache.Translation.{Translation}
 use Rattle.iom_tlb.specs.Content.{Content as Translations}
-use Rattle.iom_iommu.specs.Parts.{registers_of, contexts_of, translations_of, flights_of, stock_of, waits_of, slots_of, opened_of, frames_of}
+use Rattle.iom_iommu.specs.Parts.{registers_of, contexts_of, translations_of, flights_of, fence_snapshot_of, waits_of, slots_of, opened_of, frames_of}
 use Rattle.iom_iommu.specs.Requests.{faulted_of, fault_of}
 use Rattle.iom_iommu.specs.Service.{ServesBy, KeepsContext, ats_context_for}
 
@@ -36,7 +36,7 @@ pub record TellsPage {C : Type 0} {c : Cache C} (memory : List (List ℕ)) (old 
   pub contexts : KeepsContext memory (registers_of old) (contexts_of old) id (contexts_of new)
   pub registers : registers_of new ≡ registers_of old
   pub flights : flights_of new ≡ flights_of old
-  pub stock : stock_of new ≡ stock_of old
+  pub fence_snapshot : fence_snapshot_of new ≡ fence_snapshot_of old
   pub waits : waits_of new ≡ waits_of old
   pub slots : slots_of new ≡ slots_of old
   pub opened : opened_of new ≡ opened_of old
@@ -71,7 +71,7 @@ pub record RefusesQuestion {C : Type 0} {c : Cache C} (memory : List (List ℕ))
   pub recorded : RecordsUnless (is_page_fault fault.cause) memory (registers_of old)
       (record_of (faulted_of id AtsRequest (page * page_size)) (fault_of fault)) new_memory (registers_of new)
   pub flights : flights_of new ≡ flights_of old
-  pub stock : stock_of new ≡ stock_of old
+  pub fence_snapshot : fence_snapshot_of new ≡ fence_snapshot_of old
   pub waits : waits_of new ≡ waits_of old
   pub slots : slots_of new ≡ slots_of old
   pub opened : opened_of new ≡ opened_of old

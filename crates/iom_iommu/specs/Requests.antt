@@ -22,7 +22,7 @@ use Rattle.iom_stage_walk.specs.declared.walked.WalkFault.{WalkFault}
 use Rattle.iom_tlb.specs.declared.trans_cache.TransCache.{Ghosts as Cache}
 use Rattle.iom_tlb.specs.declared.trans_cache.Translation.{Translation}
 use Rattle.iom_tlb.specs.Content.{Content as Translations}
-use Rattle.iom_iommu.specs.Parts.{registers_of, contexts_of, translations_of, flights_of, stock_of, waits_of, slots_of, opened_of, frames_of}
+use Rattle.iom_iommu.specs.Parts.{registers_of, contexts_of, translations_of, flights_of, fence_snapshot_of, waits_of, slots_of, opened_of, frames_of}
 use Rattle.iom_iommu.specs.Service.{Serves, KeepsContext}
 
 -- the access of so many bytes from an address on, with the bytes of a write
@@ -43,7 +43,7 @@ pub record Accepts {C : Type 0} {c : Cache C} (Served : Result Translation WalkF
   pub accepted : IsAccepted (flights_of old) id (record { access = access; frame = frame }) number (flights_of new)
   pub contexts : KeepsContext memory (registers_of old) (contexts_of old) id (contexts_of new)
   pub registers : registers_of new ≡ registers_of old
-  pub stock : stock_of new ≡ stock_of old
+  pub fence_snapshot : fence_snapshot_of new ≡ fence_snapshot_of old
   pub waits : waits_of new ≡ waits_of old
   pub slots : slots_of new ≡ slots_of old
   pub opened : opened_of new ≡ opened_of old
@@ -69,7 +69,7 @@ pub record Refuses {C : Type 0} {c : Cache C} (Served : Result Translation WalkF
   pub recorded : PutsRecord memory (registers_of old) (record_of (faulted_of id transaction access.address) (fault_of fault)) answer new_memory
       (registers_of new)
   pub flights : flights_of new ≡ flights_of old
-  pub stock : stock_of new ≡ stock_of old
+  pub fence_snapshot : fence_snapshot_of new ≡ fence_snapshot_of old
   pub waits : waits_of new ≡ waits_of old
   pub slots : slots_of new ≡ slots_of old
   pub opened : opened_of new ≡ opened_of old
@@ -112,7 +112,7 @@ pub record CommitsOldest {C : Type 0} {c : Cache C} (memory : List (List ℕ)) (
   pub contexts : new.contexts ≡ old.contexts
   pub translations : new.translations ≡ old.translations
   pub registers : registers_of new ≡ registers_of old
-  pub stock : stock_of new ≡ stock_of old
+  pub fence_snapshot : fence_snapshot_of new ≡ fence_snapshot_of old
   pub waits : waits_of new ≡ waits_of old
   pub slots : slots_of new ≡ slots_of old
   pub opened : opened_of new ≡ opened_of old

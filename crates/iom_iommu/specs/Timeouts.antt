@@ -14,7 +14,7 @@ can_time_out iommu = waits_of iommu && not (length (slots_of iommu).open_slots =
 abbrev pub timed_out : {C : Type 0} {c : Cache C} → Iommu C c → Iommu C c
 timed_out iommu = record iommu {
   registers = with_cmd_to (registers_of iommu);
-  stock = None;
+  fence_snapshot = None;
   fence_waits = false;
   slots = record (slots_of iommu) { open_slots = [] };
 }

@@ -27,7 +27,7 @@ impl<C: TransCache + Drop> Iommu<C> {
             contexts: DirCache::new(alloc)?,
             translations,
             in_flight: InFlight::new(alloc)?,
-            stock: None,
+            fence_snapshot: None,
             fence_waits: false,
             slots: Slots::new(),
             opened: None,

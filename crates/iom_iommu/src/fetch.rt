@@ -164,9 +164,9 @@ impl<C: TransCache> Iommu<C> {
 
     /// No fence stands at the head: what one counted there is forgotten, and that it waited.
     fn forget_fence(&mut self)
-        ensures { self.new ≡ record self.old { stock = None; fence_waits = false } }
+        ensures { self.new ≡ record self.old { fence_snapshot = None; fence_waits = false } }
     {
-        self.stock = None;
+        self.fence_snapshot = None;
         self.fence_waits = false;
     }
 
@@ -175,7 +175,7 @@ impl<C: TransCache> Iommu<C> {
     fn counted(&self) -> u64
         ensures { result ≡ counted_in self.now }
     {
-        self.stock.unwrap_or(self.in_flight.so_far())
+        self.fence_snapshot.unwrap_or(self.in_flight.so_far())
     }
 
     /// Does the command that stands at the head, unless it has to wait.
@@ -192,16 +192,16 @@ impl<C: TransCache> Iommu<C> {
         }
         let before = self.counted();
         if waits_for_accesses(&command, &self.in_flight, before) {
-            self.stock = Some(before);
+            self.fence_snapshot = Some(before);
             return Fetched::Waiting;
         }
         let word = store_of(&command);
         if !store(memory, word) {
-            self.stock = Some(before);
+            self.fence_snapshot = Some(before);
             self.registers.set_cqmf();
             return Fetched::Stopped;
         }
-        self.stock = None;
+        self.fence_snapshot = None;
         CommandRing::advance(&mut self.registers);
         if asks_for_interrupt(&command) {
             self.registers.set_fence_w_ip();

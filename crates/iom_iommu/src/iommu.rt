@@ -21,7 +21,7 @@ pub struct Iommu<C: TransCache> {
     pub(crate) in_flight: InFlight,
     /// How many accesses were accepted when the fence at the head of the command queue was first fetched with no
     /// slot open, if one was: it waits for none of the later ones.
-    pub(crate) stock: Option<u64>,
+    pub(crate) fence_snapshot: Option<u64>,
     /// Whether the fence at the head of the command queue was fetched, and told to wait until no slot is open.
     pub(crate) fence_waits: bool,
     /// The invalidation requests that devices have still to complete.

@@ -6,7 +6,7 @@ ghost use Rattle.iom_command_queue.specs.declared.command.Command.{Command};
 ghost use Rattle.iom_command_queue.specs.Waiting.{commands_in};
 ghost use Rattle.iom_iommu.specs.declared.fetched.Fetched.{Fetched as Answer};
 ghost use Rattle.iom_iommu.specs.declared.iommu.Iommu.{Iommu};
-ghost use Rattle.iom_iommu.specs.Parts.{registers_of, stock_of, slots_of};
+ghost use Rattle.iom_iommu.specs.Parts.{registers_of, fence_snapshot_of, slots_of};
 ghost use Rattle.iom_iommu.specs.Timeouts.{TimesOut};
 ghost use Rattle.iom_iommu.specs.Fetches.{FetchesCommand, AreAlike, after_none, store_of, IsStoredIn, IsOffRing, LeavesFaultQueue};
 
@@ -48,7 +48,7 @@ pub fn stops<C: TransCache>()
     ensures after { (m n : List (List ℕ)) (i j : Iommu C C.TransCache) (answer : Answer) → FetchesCommand m i answer n j
         → (answer ≡ Fetched.Stopped) ↔ (is_processing_commands (registers_of j) ≡ false) }
     ensures stays { (m n : List (List ℕ)) (i j : Iommu C C.TransCache) (answer : Answer) → FetchesCommand m i answer n j
-        → is_processing_commands (registers_of i) ≡ false → (n ≡ m) × (j ≡ after_none i (registers_of i) (stock_of i)) }
+        → is_processing_commands (registers_of i) ≡ false → (n ≡ m) × (j ≡ after_none i (registers_of i) (fence_snapshot_of i)) }
 {}
 
 /// Each frame but that of the stored word is as it was, and there are as many.
@@ -84,5 +84,5 @@ pub fn stops_after_timeout<C: TransCache>()
     ensures list { (m : List (List ℕ)) (i j : Iommu C C.TransCache) → TimesOut i true j
         → commands_in m (registers_of j) ≡ commands_in m (registers_of i) }
     ensures fetch { (m n : List (List ℕ)) (i j k : Iommu C C.TransCache) (answer : Answer) → TimesOut i true j
-        → FetchesCommand m j answer n k → (answer ≡ Fetched.Stopped) × (n ≡ m) × (k ≡ after_none j (registers_of j) (stock_of j)) }
+        → FetchesCommand m j answer n k → (answer ≡ Fetched.Stopped) × (n ≡ m) × (k ≡ after_none j (registers_of j) (fence_snapshot_of j)) }
 {}

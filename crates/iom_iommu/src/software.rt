@@ -34,7 +34,7 @@ impl<C: TransCache> Mmio for Iommu<C> {
         let register = Register::at(offset, width)?;
         self.registers.set(register, value);
         if !self.registers.is_command_queue_on() {
-            self.stock = None;
+            self.fence_snapshot = None;
             self.fence_waits = false;
             self.slots.close_all();
         }

@@ -18,7 +18,7 @@ impl<C: TransCache> Iommu<C> {
         }
         self.registers.set_cmd_to();
         self.slots.close_all();
-        self.stock = None;
+        self.fence_snapshot = None;
         self.fence_waits = false;
         true
     }

@@ -10,13 +10,13 @@ use Rattle.iom_machine.specs.declared.outcome.Outcome.TheVariants as outcome
 use Rattle.iom_machine.specs.Kinds.{is_block_device}
 use Rattle.iom_virtio_blk.specs.declared.disk.Disk.{Ghosts}
 use Rattle.iom_world.specs.declared.world.World.{World}
-use Rattle.iom_composition.specs.Answers.{ticket_told_of}
-use Rattle.iom_composition.specs.BlockDevices.{devices_left}
+use Rattle.iom_world_effects.specs.Answers.{ticket_told_of}
+use Rattle.iom_world_effects.specs.BlockDevices.{devices_left}
 use Rattle.iom_device.specs.Caches.{cache_of, kind_in, with_has_disk}
 use Rattle.iom_world.specs.Happens.{Happens}
-use Rattle.iom_composition.specs.Parts.{Parts}
+use Rattle.iom_world_effects.specs.Parts.{Parts}
 use Rattle.iom_device.specs.Calls.{reset_of, with_reset}
-use Rattle.iom_composition.specs.Sound.{HaveOwnIds}
+use Rattle.iom_world_effects.specs.Sound.{HaveOwnIds}
 use Rattle.iom_world.specs.Seen.{parts_of, disks_of}
 use Rattle.iom_platform.specs.declared.block.Block.{Block}
 use Rattle.iom_platform.specs.declared.block.DiskAtHand.{DiskAtHand}

@@ -5,7 +5,7 @@ use Rattle.iom_virtio_blk.specs.declared.step.Step.{Step}
 use Rattle.iom_virtio_blk.specs.declared.step.Step.TheVariants as step
 use Rattle.iom_virtio_blk.specs.Steps.{Device}
 use Rattle.iom_virtio_blk.proofs.DiskStays as blk
-use Rattle.iom_composition.specs.Parts.{Parts}
+use Rattle.iom_world_effects.specs.Parts.{Parts}
 use Rattle.iom_platform.specs.Blocks.{EndsStep, StepsOnce}
 
 ended : (taken : Step) (old new : Parts) (id : ℕ) (told : Outcome) (between after : Device) → EndsStep taken old id between told new after → is_some after.disk ≡ is_some between.disk

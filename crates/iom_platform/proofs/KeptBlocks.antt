@@ -2,7 +2,7 @@
 use Rattle.std.proofs.Common.{◌≡◌, ◌∙◌, inl, inr, ℕ, Bool, true, false, List, Option, Some, None, slice_get, remove, Result, Ok, Err, refl, ap}
 use Rattle.std.specs.Bool.{⊤}
 use Rattle.iom_base.specs.declared.access.Access.{Access}
-use Rattle.iom_copies.specs.Attachments.{caches_translations}
+use Rattle.iom_coherence.specs.Attachments.{caches_translations}
 use Rattle.iom_fabric.specs.declared.fabric.OnLink.{OnLink}
 use Rattle.iom_fabric.specs.declared.message.Message.{Message}
 use Rattle.iom_fabric.specs.declared.message.Message.TheVariants as sent
@@ -13,14 +13,14 @@ use Rattle.iom_machine.specs.declared.outcome.Outcome.{Outcome}
 use Rattle.iom_machine.specs.declared.outcome.Outcome.TheVariants as outcome
 use Rattle.iom_machine.specs.declared.state.DeviceKind.{DeviceKind}
 use Rattle.iom_virtqueue.specs.declared.layout.Layout.{Layout}
-use Rattle.iom_composition.specs.BlockDevices.{SetsQueue, AsksIfMissed, GoesToMemory, TakesStep}
+use Rattle.iom_world_effects.specs.BlockDevices.{SetsQueue, AsksIfMissed, GoesToMemory, TakesStep}
 use Rattle.iom_device.specs.Caches.{kind_in, cache_of, with_cache}
-use Rattle.iom_composition.specs.Deliveries.{Arrives, ArrivesIfAny}
-use Rattle.iom_composition.specs.Does.{Does, disks_after}
-use Rattle.iom_composition.specs.Parts.{Parts}
+use Rattle.iom_world_effects.specs.Deliveries.{Arrives, ArrivesIfAny}
+use Rattle.iom_world_effects.specs.Does.{Does, disks_after}
+use Rattle.iom_world_effects.specs.Parts.{Parts}
 use Rattle.iom_device.specs.Calls.{reset_of, devices_revived}
-use Rattle.iom_composition.specs.Requests.{AsksAccess, AsksTranslated}
-use Rattle.iom_composition.specs.ThroughCache.{AsksThroughCache, FindsFrame, cached_frame}
+use Rattle.iom_world_effects.specs.Requests.{AsksAccess, AsksTranslated}
+use Rattle.iom_world_effects.specs.ThroughCache.{AsksThroughCache, FindsFrame, cached_frame}
 use Rattle.iom_platform.specs.Agreement.{known_blocks}
 use Rattle.iom_platform.proofs.KnownBlocks.{known_cache}
 

@@ -7,7 +7,7 @@ use Rattle.iom_machine.specs.declared.state.DeviceKind.{DeviceKind}
 use Rattle.iom_machine.specs.Kinds.{is_block_device}
 use Rattle.iom_device.specs.declared.device.Device.{Device}
 use Rattle.iom_device.specs.Caches.{IsAble, device_with, with_cache, with_has_disk}
-use Rattle.iom_composition.specs.Sound.{HaveOwnIds}
+use Rattle.iom_world_effects.specs.Sound.{HaveOwnIds}
 use Rattle.iom_platform.specs.Agreement.{Entry, known_blocks}
 use Rattle.iom_platform.specs.Places.{has_in, with_has}
 use Rattle.iom_platform.proofs.PlaceLemmas.{with_none}

@@ -2,13 +2,13 @@
 use Rattle.std.proofs.Common.{◌≡◌, ◌∙◌, ◌⊎◌, inl, inr, ℕ, Bool, true, false, Option, Some, None, sym, ap, subst}
 use Rattle.std.proofs.lemmas.Bool.{false≢true}
 use Rattle.iom_base.specs.declared.access.Access.{Access}
-use Rattle.iom_composition.specs.BlockDevices.{AsksIfMissed, GoesThroughCache, GoesToMemory}
-use Rattle.iom_composition.specs.Parts.{Parts}
-use Rattle.iom_composition.specs.Requests.{AsksAccess, reply_told_of}
-use Rattle.iom_composition.specs.ThroughCache.{AsksThroughCache, FindsFrame, TriesCache, cached_frame}
-use Rattle.iom_composition.specs.Unable.{IsUnknown, IsUnable}
-use Rattle.iom_composition.proofs.PresentLemmas.{kind_present}
-use Rattle.iom_copies.specs.Attachments.{caches_translations}
+use Rattle.iom_world_effects.specs.BlockDevices.{AsksIfMissed, GoesThroughCache, GoesToMemory}
+use Rattle.iom_world_effects.specs.Parts.{Parts}
+use Rattle.iom_world_effects.specs.Requests.{AsksAccess, reply_told_of}
+use Rattle.iom_world_effects.specs.ThroughCache.{AsksThroughCache, FindsFrame, TriesCache, cached_frame}
+use Rattle.iom_world_effects.specs.Unable.{IsUnknown, IsUnable}
+use Rattle.iom_world_effects.proofs.PresentLemmas.{kind_present}
+use Rattle.iom_coherence.specs.Attachments.{caches_translations}
 use Rattle.iom_device.specs.Caches.{IsAble, kind_in}
 use Rattle.iom_iommu.specs.declared.reply.Reply.{Reply}
 use Rattle.iom_iommu.specs.declared.reply.Reply.TheVariants as replies

@@ -19,13 +19,13 @@ use Rattle.iom_machine.specs.Kinds.{disk_of, kind_of}
 use Rattle.iom_virtio_blk.specs.declared.disk.Disk.{Ghosts}
 use Rattle.iom_device.specs.declared.device.Device.{Device}
 use Rattle.iom_world.specs.declared.world.World.{World}
-use Rattle.iom_composition.specs.Answers.{told_of}
-use Rattle.iom_composition.specs.BlockDevices.{InsertsMedium}
-use Rattle.iom_composition.specs.Does.{PlugsDevice, devices_after, disks_after, new_device}
+use Rattle.iom_world_effects.specs.Answers.{told_of}
+use Rattle.iom_world_effects.specs.BlockDevices.{InsertsMedium}
+use Rattle.iom_world_effects.specs.Does.{PlugsDevice, devices_after, disks_after, new_device}
 use Rattle.iom_world.specs.Happens.{Happens}
-use Rattle.iom_composition.specs.Parts.{Parts}
+use Rattle.iom_world_effects.specs.Parts.{Parts}
 use Rattle.iom_world.specs.Seen.{parts_of, disks_of}
-use Rattle.iom_composition.specs.Sound.{HaveOwnIds, ids_of, known_ids}
+use Rattle.iom_world_effects.specs.Sound.{HaveOwnIds, ids_of, known_ids}
 use Rattle.iom_platform.specs.declared.block.Block.{Block}
 use Rattle.iom_platform.specs.declared.block.DiskAtHand.{DiskAtHand}
 use Rattle.iom_platform.specs.Agreement.{AgreesWith, Entry, entry_of, entries_of, known_blocks}

@@ -10,11 +10,11 @@ use Rattle.iom_virtio_blk.specs.declared.step.Step.{Step}
 use Rattle.iom_virtio_blk.specs.Histories.{KeepsTelling}
 use Rattle.iom_virtio_blk.specs.Stages.{device_status}
 use Rattle.iom_virtio_blk.specs.Steps.{Device, Steps}
-use Rattle.iom_composition.specs.BlockDevices.{Rests, TellsStatus}
+use Rattle.iom_world_effects.specs.BlockDevices.{Rests, TellsStatus}
 use Rattle.iom_device.specs.Caches.{IsAble}
-use Rattle.iom_composition.specs.Parts.{Parts}
-use Rattle.iom_composition.specs.Unable.{IsUnknown, IsUnable}
-use Rattle.iom_composition.proofs.PresentLemmas.{kind_present}
+use Rattle.iom_world_effects.specs.Parts.{Parts}
+use Rattle.iom_world_effects.specs.Unable.{IsUnknown, IsUnable}
+use Rattle.iom_world_effects.proofs.PresentLemmas.{kind_present}
 use Rattle.iom_platform.specs.Blocks.{IsNoRefusal, IsStatusOf, RefusedIfNone, StepsOnce, EndsStep}
 use Rattle.iom_platform.specs.Seen.{BlockSeen}
 

@@ -30,11 +30,11 @@ use Rattle.iom_virtio_blk.specs.Steps.{Device, device, Steps}
 use Rattle.iom_virtqueue.specs.declared.layout.Layout.{Layout}
 use Rattle.iom_virtqueue.specs.Accesses.{Access as Wanted, nothing, reads, writes}
 use Rattle.iom_virtqueue.specs.Layouts.{layout_of}
-use Rattle.iom_composition.specs.BlockDevices.{BeginsAccess}
+use Rattle.iom_world_effects.specs.BlockDevices.{BeginsAccess}
 use Rattle.iom_world.specs.Counts.{oldest_number}
-use Rattle.iom_composition.specs.Parts.{Parts}
+use Rattle.iom_world_effects.specs.Parts.{Parts}
 use Rattle.iom_world.specs.Seen.{parts_of}
-use Rattle.iom_composition.specs.Unable.{IsUnknown, IsUnable}
+use Rattle.iom_world_effects.specs.Unable.{IsUnknown, IsUnable}
 use Rattle.iom_platform.specs.Seen.{BlockSeen, Seen}
 use Rattle.iom_platform.specs.Numbered.{DiskSeen}
 

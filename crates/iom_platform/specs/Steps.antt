@@ -4,8 +4,8 @@ use Rattle.std.specs.Prelude.{◌≡◌, ℕ, Some}
 use Rattle.iom_base.specs.declared.access.Access.{Access}
 use Rattle.iom_machine.specs.declared.outcome.Outcome.{Outcome}
 use Rattle.iom_virtqueue.specs.Accesses.{Access as Wanted}
-use Rattle.iom_composition.specs.BlockDevices.{BeginsAccess}
-use Rattle.iom_composition.specs.Parts.{Parts}
+use Rattle.iom_world_effects.specs.BlockDevices.{BeginsAccess}
+use Rattle.iom_world_effects.specs.Parts.{Parts}
 use Rattle.iom_platform.specs.Blocks.{wanted_access}
 
 -- the access that is wanted is begun

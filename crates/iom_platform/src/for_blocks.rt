@@ -3,7 +3,7 @@
 ghost use Rattle.std.specs.Prelude.{◌≡◌, ◌+◌, ◌<◌, ◌^◌, false};
 ghost use Rattle.iom_machine.specs.declared.event.Event.TheVariants as events;
 ghost use Rattle.iom_world.specs.Happens.{Happens};
-ghost use Rattle.iom_composition.specs.Stays.{IsNoChoice};
+ghost use Rattle.iom_world_effects.specs.Stays.{IsNoChoice};
 ghost use Rattle.iom_platform.specs.Blocks.{is_refused, refused_page};
 ghost use Rattle.iom_platform.specs.Happens.{HappensHere};
 ghost use Rattle.iom_platform.specs.Passing.{StaysBeside};

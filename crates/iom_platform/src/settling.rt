@@ -1,6 +1,6 @@
 // Settling: events of the driver and the hardware alone, after which no ticket is unconfirmed.
 ghost use Rattle.std.specs.Prelude.{◌≡◌, ◌+◌, ◌<◌, ◌≤◌, ◌^◌};
-ghost use Rattle.iom_composition.proofs.DriverLemmas.{sound_driver};
+ghost use Rattle.iom_world_effects.proofs.DriverLemmas.{sound_driver};
 ghost use Rattle.iom_platform.specs.Happens.{HappensHere};
 ghost use Rattle.iom_platform.specs.Seen.{platform_seen};
 ghost use Rattle.iom_settling.specs.Stages.{Settled, brief};

@@ -47,7 +47,7 @@ use Rattle.iom_machine.specs.ThroughCache.{MayAnswerThroughCache, state_after_ca
 use Rattle.iom_machine.specs.Translated.{MayAnswerTranslated}
 use Rattle.iom_machine.proofs.HeadlineLemmas.{commits_are_answered}
 use Rattle.iom_machine.proofs.ProcessorLemmas.{poke_is_answered, peek_is_answered, free_is_answered}
-use Rattle.iom_lawful_steps.proofs.EventLemmas.{no_access, no_choice, frame_chosen}
+use Rattle.iom_world_refinement.proofs.EventLemmas.{no_access, no_choice, frame_chosen}
 use Rattle.iom_virtqueue.specs.declared.layout.Layout.{Layout}
 use Rattle.iom_virtqueue.specs.Layouts.{IsLayout, layout_of}
 use Rattle.iom_script.specs.declared.script.ScriptLine.{ScriptLine}

@@ -1,7 +1,7 @@
 -- A commit of the first device that has something in flight makes one access.
 use Rattle.std.proofs.Common.{◌≡◌, ◌∙◌, ℕ, suc, List, [], ◌∷◌, Contains, Option, Some, None, sym, ap, subst, inl, inr}
 use Rattle.std.proofs.lemmas.Bool.Decides.{eqb_tells}
-use Rattle.iom_copies.proofs.ListLemmas.{in_none, cons_cases, contains_head, contains_tail}
+use Rattle.iom_coherence.proofs.ListLemmas.{in_none, cons_cases, contains_head, contains_tail}
 use Rattle.iom_device.specs.declared.device.Device.{Device}
 use Rattle.iom_inflight.specs.declared.made.MadeAt.{MadeAt}
 use Rattle.iom_inflight.specs.Calls.{Makes}
@@ -9,9 +9,9 @@ use Rattle.iom_inflight.specs.Flights.{NumberedAccess, FlightRow, Flights, row_o
 use Rattle.iom_inflight.specs.Sound.{AreFlights}
 use Rattle.iom_iommu.specs.Parts.{flights_of}
 use Rattle.iom_machine.specs.declared.outcome.Outcome.{Outcome}
-use Rattle.iom_composition.specs.Commits.{CommitsAccess}
-use Rattle.iom_composition.specs.Parts.{Parts}
-use Rattle.iom_composition.specs.Sound.{AreSound, ids_of, row_ids}
+use Rattle.iom_world_effects.specs.Commits.{CommitsAccess}
+use Rattle.iom_world_effects.specs.Parts.{Parts}
+use Rattle.iom_world_effects.specs.Sound.{AreSound, ids_of, row_ids}
 use Rattle.iom_settling.proofs.IdleLemmas.{IsBusyRow, busy_where, one_less}
 
 -- a device that has a row is there

@@ -5,8 +5,8 @@ use Rattle.std.proofs.lemmas.Bool.{false≢true, eqb-true, le-leb}
 use Rattle.iom_ats_cache.specs.Cache.{Cache}
 use Rattle.iom_command_queue.specs.declared.slot.Slot.{Slot}
 use Rattle.iom_command_queue.specs.OpenSlots.{OpenSlots, is_request, without_request}
-use Rattle.iom_copies.specs.Attachments.{caches_translations}
-use Rattle.iom_copies.proofs.ListLemmas.{contains_head, contains_tail, contains_from_filter}
+use Rattle.iom_coherence.specs.Attachments.{caches_translations}
+use Rattle.iom_coherence.proofs.ListLemmas.{contains_head, contains_tail, contains_from_filter}
 use Rattle.iom_device.specs.declared.device.Device.{Device}
 use Rattle.iom_device.specs.Caches.{device_with, kind_in, cache_in, cache_of, HasItsCache}
 use Rattle.iom_device.specs.Calls.{Obeys}
@@ -25,11 +25,11 @@ use Rattle.iom_iommu.specs.Questions.{RecordsUnless, AnswersQuestion}
 use Rattle.iom_machine.specs.declared.outcome.Outcome.{Outcome}
 use Rattle.iom_registers.specs.declared.registers.Registers.{Registers}
 use Rattle.iom_registers.specs.Queues.{command_status, is_fault_queue_marked, with_fqmf, with_fqof}
-use Rattle.iom_composition.specs.Deliveries.{Arrives, ArrivesIfAny, DeliversMessage, with_done}
-use Rattle.iom_composition.specs.Messages.{with_sent}
-use Rattle.iom_composition.specs.OwnIommu.{Iommu}
-use Rattle.iom_composition.specs.Parts.{Parts}
-use Rattle.iom_composition.proofs.CacheSets.{kind_set}
+use Rattle.iom_world_effects.specs.Deliveries.{Arrives, ArrivesIfAny, DeliversMessage, with_done}
+use Rattle.iom_world_effects.specs.Messages.{with_sent}
+use Rattle.iom_world_effects.specs.OwnIommu.{Iommu}
+use Rattle.iom_world_effects.specs.Parts.{Parts}
+use Rattle.iom_world_effects.proofs.CacheSets.{kind_set}
 use Rattle.iom_settling.specs.CatchingUp.{HasCache, NothingIsInFlight, TakesCommands}
 use Rattle.iom_settling.specs.Weights.{weight, weights}
 use Rattle.iom_settling.specs.Words.{is_word_of, HaveWords}

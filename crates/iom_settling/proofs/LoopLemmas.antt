@@ -17,12 +17,12 @@ use Rattle.iom_ledger.specs.Refusals.{first_that_applies}
 use Rattle.iom_machine.specs.declared.event.Event.{Event}
 use Rattle.iom_machine.specs.declared.event.Event.TheVariants as events
 use Rattle.iom_machine.specs.declared.outcome.Outcome.{Outcome}
-use Rattle.iom_composition.specs.Does.{Does, FetchesNext}
-use Rattle.iom_composition.specs.Parts.{Parts}
-use Rattle.iom_composition.specs.Recovery.{RestartsQueue}
-use Rattle.iom_composition.specs.Sound.{AreSound}
-use Rattle.iom_composition.specs.Stays.{KeepsCommands}
-use Rattle.iom_composition.proofs.DriverLemmas.{IsSoundDriver}
+use Rattle.iom_world_effects.specs.Does.{Does, FetchesNext}
+use Rattle.iom_world_effects.specs.Parts.{Parts}
+use Rattle.iom_world_effects.specs.Recovery.{RestartsQueue}
+use Rattle.iom_world_effects.specs.Sound.{AreSound}
+use Rattle.iom_world_effects.specs.Stays.{KeepsCommands}
+use Rattle.iom_world_effects.proofs.DriverLemmas.{IsSoundDriver}
 use Rattle.iom_settling.specs.declared.told.Told.{Told}
 use Rattle.iom_settling.specs.declared.told.Told.TheVariants.{Waits, Empty, Other}
 use Rattle.iom_settling.specs.CatchingUp.{NothingIsInFlight, CatchesUp, HasCaughtUp}

@@ -10,10 +10,10 @@ use Rattle.iom_command_queue.specs.declared.slot.Slot.{Slot}
 use Rattle.iom_command_queue.specs.OpenSlots.{OpenSlots}
 use Rattle.iom_base.specs.declared.mode.Mode.{Mode}
 use Rattle.iom_base.specs.declared.mode.Mode.TheVariants.{First, Second, Both}
-use Rattle.iom_copies.specs.Attachments.{caches_translations}
-use Rattle.iom_copies.specs.Faithful.{IsFaithful}
-use Rattle.iom_copies.specs.Scene.{Scene}
-use Rattle.iom_copies.proofs.ListLemmas.{in_none}
+use Rattle.iom_coherence.specs.Attachments.{caches_translations}
+use Rattle.iom_coherence.specs.Faithful.{IsFaithful}
+use Rattle.iom_coherence.specs.Scene.{Scene}
+use Rattle.iom_coherence.proofs.ListLemmas.{in_none}
 use Rattle.iom_device.specs.Caches.{kind_in}
 use Rattle.iom_driver.specs.declared.device.Attachment.{Attachment}
 use Rattle.iom_driver.specs.declared.device.Attachment.TheVariants.{Detached, Attached, Quarantined, Leaving}
@@ -29,13 +29,13 @@ use Rattle.iom_driver.proofs.Ids.{device_at}
 use Rattle.iom_driver.proofs.Places.{attachment_is}
 use Rattle.iom_iommu.specs.Parts.{registers_of, flights_of, slots_of, mmio}
 use Rattle.iom_registers.specs.Queues.{is_command_queue_on, is_processing_commands}
-use Rattle.iom_composition.specs.OwnIommu.{Iommu}
-use Rattle.iom_composition.specs.Parts.{Parts}
-use Rattle.iom_composition.specs.Read.{values_of}
-use Rattle.iom_composition.specs.Scenes.{IsSceneOf}
-use Rattle.iom_composition.specs.Sound.{AreSound}
-use Rattle.iom_composition.proofs.DriverLemmas.{IsSoundDriver}
-use Rattle.iom_soundness.proofs.ReleaseKeeps.{IsRung, rung_all}
+use Rattle.iom_world_effects.specs.OwnIommu.{Iommu}
+use Rattle.iom_world_effects.specs.Parts.{Parts}
+use Rattle.iom_world_effects.specs.Read.{values_of}
+use Rattle.iom_world_effects.specs.Scenes.{IsSceneOf}
+use Rattle.iom_world_effects.specs.Sound.{AreSound}
+use Rattle.iom_world_effects.proofs.DriverLemmas.{IsSoundDriver}
+use Rattle.iom_world_invariant.proofs.ReleaseKeeps.{IsRung, rung_all}
 use Rattle.iom_settling.specs.CatchingUp.{HasCache, NothingIsInFlight, WaitFor, CatchesUp}
 use Rattle.iom_settling.specs.Commands.{requests_among, ArePlain}
 use Rattle.iom_settling.proofs.CommandLemmas.{requests_append, plain_append}

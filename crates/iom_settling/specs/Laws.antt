@@ -16,13 +16,13 @@ use Rattle.iom_machine.specs.declared.outcome.CommandName.TheVariants as names
 use Rattle.iom_machine.specs.declared.outcome.Fetched.TheVariants as tells
 use Rattle.iom_machine.specs.declared.state.State.{State}
 use Rattle.iom_machine.specs.Laws.{IsReached}
-use Rattle.iom_composition.specs.Commits.{CommitsAccess}
-use Rattle.iom_composition.specs.Deliveries.{DeliversMessage}
-use Rattle.iom_composition.specs.Does.{name_of_command, FetchesNext, PollsTickets}
-use Rattle.iom_composition.specs.Parts.{Parts}
-use Rattle.iom_composition.specs.Sound.{AreSound}
-use Rattle.iom_composition.specs.Stays.{waiting_in}
-use Rattle.iom_composition.proofs.DriverLemmas.{IsSoundDriver}
+use Rattle.iom_world_effects.specs.Commits.{CommitsAccess}
+use Rattle.iom_world_effects.specs.Deliveries.{DeliversMessage}
+use Rattle.iom_world_effects.specs.Does.{name_of_command, FetchesNext, PollsTickets}
+use Rattle.iom_world_effects.specs.Parts.{Parts}
+use Rattle.iom_world_effects.specs.Sound.{AreSound}
+use Rattle.iom_world_effects.specs.Stays.{waiting_in}
+use Rattle.iom_world_effects.proofs.DriverLemmas.{IsSoundDriver}
 use Rattle.iom_settling.specs.CatchingUp.{NothingIsInFlight, CatchesUp, HasCaughtUp}
 use Rattle.iom_settling.specs.Commands.{requests_by, requests_among}
 use Rattle.iom_settling.specs.Settles.{Settles}

@@ -12,7 +12,7 @@ use Rattle.iom_machine.specs.declared.event.Event.TheVariants.{Fetch}
 use Rattle.iom_machine.specs.declared.outcome.Outcome.{Outcome}
 use Rattle.iom_machine.specs.declared.outcome.Outcome.TheVariants as outcome
 use Rattle.iom_machine.specs.declared.outcome.Fetched.TheVariants as tells
-use Rattle.iom_composition.specs.Parts.{Parts}
+use Rattle.iom_world_effects.specs.Parts.{Parts}
 use Rattle.iom_settling.specs.declared.told.Told.{Told}
 use Rattle.iom_settling.specs.declared.told.Told.TheVariants.{Waits, Empty, Other}
 use Rattle.iom_settling.specs.CatchingUp.{NothingIsInFlight, CatchesUp, HasCaughtUp}

@@ -5,11 +5,11 @@ ghost use Rattle.iom_inflight.specs.Sound.{AreFlights};
 ghost use Rattle.iom_iommu.specs.Parts.{flights_of};
 ghost use Rattle.iom_machine.specs.declared.event.Event as spec;
 ghost use Rattle.iom_machine.specs.declared.outcome.Outcome.{Outcome};
-ghost use Rattle.iom_composition.specs.Does.{Does};
-ghost use Rattle.iom_composition.specs.Parts.{Parts};
-ghost use Rattle.iom_composition.specs.Sound.{AreSound};
-ghost use Rattle.iom_composition.specs.Stays.{KeepsCommands};
-ghost use Rattle.iom_composition.proofs.DriverLemmas.{IsSoundDriver};
+ghost use Rattle.iom_world_effects.specs.Does.{Does};
+ghost use Rattle.iom_world_effects.specs.Parts.{Parts};
+ghost use Rattle.iom_world_effects.specs.Sound.{AreSound};
+ghost use Rattle.iom_world_effects.specs.Stays.{KeepsCommands};
+ghost use Rattle.iom_world_effects.proofs.DriverLemmas.{IsSoundDriver};
 ghost use Rattle.iom_settling.specs.Stages.{brief};
 
 use crate::told::Told;

@@ -2,7 +2,7 @@
 use Rattle.std.proofs.Common.{◌≡◌, ◌==◌, ◌-◌, ◌≤◌, ◌∙◌, ℕ, suc, nat_lt, Bool, true, false, map, Some, if◌then◌else◌, List, [], ◌∷◌, length, Result, Ok, Err, refl, sym, ap, subst, arith}
 use Rattle.std.specs.Option.{option_map_or}
 use Rattle.std.proofs.lemmas.Bool.{le-leb, leb-true, leb-false}
-use Rattle.iom_composition.specs.Devices.{in_flight_of, shown_devices}
+use Rattle.iom_world_effects.specs.Devices.{in_flight_of, shown_devices}
 use Rattle.iom_device.specs.declared.device.Device.{Device}
 use Rattle.iom_driver.specs.declared.device.Device as known
 use Rattle.iom_inflight.specs.Flights.{NumberedAccess, FlightRow, row_of}

@@ -46,6 +46,7 @@ fn first_fault(kind: AccessKind) -> WalkFault
 }
 
 /// Reads the entry at an index of a guest's table, through the second stage. At most four loads.
+#[inline(always)]
 fn guest_entry<B: Bytes>(
     memory: &B,
     size: Size,

@@ -102,6 +102,8 @@ fn second_indices(size: Size, page: u64) -> [u16; MAX_LEVELS]
 
 /// Where a second stage of the size leads an access of this kind from the guest physical address. Its faults are
 /// numbered by the original access: a walk reads a first stage's entry whatever that is. At most one load a level.
+// A walk of both stages leads once for each level of the first, and once more: without a call each.
+#[inline(always)]
 pub(crate) fn lead<B: Bytes>(
     memory: &B,
     size: Size,

@@ -1,4 +1,4 @@
-ghost use Rattle.iom_composition.specs.Stays.{IsNoChoice};
+ghost use Rattle.iom_world_effects.specs.Stays.{IsNoChoice};
 
 use crate::expect::expect;
 use iom_base::{AccessKind, DeviceId, GrantRights, Mode, Size};

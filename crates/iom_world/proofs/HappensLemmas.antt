@@ -11,48 +11,48 @@ use Rattle.iom_machine.specs.declared.outcome.Outcome.{Outcome}
 use Rattle.iom_machine.specs.declared.state.State.{State}
 use Rattle.iom_machine.specs.Machine.{Step}
 use Rattle.iom_world.specs.declared.world.World.{World}
-use Rattle.iom_composition.specs.Below.{LawsBelow, AddressFits}
+use Rattle.iom_world_effects.specs.Below.{LawsBelow, AddressFits}
 use Rattle.iom_machine.specs.Kinds.{sends_untranslated, sends_through_cache}
 use Rattle.iom_virtqueue.specs.Layouts.{layout_of}
-use Rattle.iom_composition.specs.Does.{Does, disks_after}
+use Rattle.iom_world_effects.specs.Does.{Does, disks_after}
 use Rattle.iom_world.specs.Happens.{Happens}
-use Rattle.iom_composition.specs.Parts.{Parts}
-use Rattle.iom_composition.specs.Recovery.{RestartsQueue}
+use Rattle.iom_world_effects.specs.Parts.{Parts}
+use Rattle.iom_world_effects.specs.Recovery.{RestartsQueue}
 use Rattle.iom_world.specs.Seen.{parts_of, disks_of}
-use Rattle.iom_composition.specs.Shows.{PartsShow}
-use Rattle.iom_composition.specs.Sound.{AreSound}
-use Rattle.iom_lawful_steps.proofs.AttachStep.{attach_step}
-use Rattle.iom_lawful_steps.proofs.BlockSteps.{medium_step, queue_step, begin_step, rest_step, status_step}
-use Rattle.iom_lawful_steps.proofs.CommandsStay.{commands_stay}
-use Rattle.iom_lawful_steps.proofs.CommitStep.{commit_step}
-use Rattle.iom_lawful_steps.proofs.DeliverStep.{delivered_step}
-use Rattle.iom_lawful_steps.proofs.DetachStep.{detach_step}
-use Rattle.iom_lawful_steps.proofs.DiskLemmas.{step_disks}
-use Rattle.iom_composition.proofs.DriverLemmas.{IsSoundDriver, sound_driver}
-use Rattle.iom_lawful_steps.proofs.FetchStep.{fetch_step}
-use Rattle.iom_lawful_steps.proofs.FlightMay.{each_may}
-use Rattle.iom_lawful_steps.proofs.GrantStep.{grant_step}
-use Rattle.iom_lawful_steps.proofs.MessageSteps.{question_step, forged_step, dropped_step, repeated_step}
-use Rattle.iom_lawful_steps.proofs.PlugStep.{plug_step}
-use Rattle.iom_lawful_steps.proofs.PollStep.{poll_step}
-use Rattle.iom_lawful_steps.proofs.ProcessorSteps.{poked_step, peeked_step, asked_free_step}
-use Rattle.iom_lawful_steps.proofs.QuarantineStep.{quarantine_step}
-use Rattle.iom_lawful_steps.proofs.RefusedSame.{refused_same}
-use Rattle.iom_lawful_steps.proofs.ReleaseStep.{release_step}
-use Rattle.iom_soundness.proofs.RequestStep.{request_step}
-use Rattle.iom_soundness.proofs.ResetKeeps.{reset_step}
-use Rattle.iom_lawful_steps.proofs.RestartStep.{restart_step}
-use Rattle.iom_lawful_steps.proofs.RevivalStep.{revival_step}
-use Rattle.iom_lawful_steps.proofs.StoppedLemmas.{stays_stopped}
-use Rattle.iom_soundness.proofs.TimeoutKeeps.{timeout_step}
-use Rattle.iom_lawful_steps.proofs.ThroughCacheStep.{through_cache_step}
-use Rattle.iom_lawful_steps.proofs.TranslatedStep.{translated_step}
-use Rattle.iom_lawful_steps.proofs.EventLemmas.{no_choice, frame_chosen, access_chosen, question_chosen, frames_taken, pages_taken}
-use Rattle.iom_composition.proofs.ServedLemmas.{ServiceLaws}
-use Rattle.iom_soundness.proofs.AskedLemmas.{service_laws}
-use Rattle.iom_lawful_steps.proofs.GuestMay.{reads_guest_tables}
-use Rattle.iom_composition.proofs.PartsLemmas.{StaysReported, reported_of}
-use Rattle.iom_soundness.proofs.ReportKeeps.{taken_step}
+use Rattle.iom_world_effects.specs.Shows.{PartsShow}
+use Rattle.iom_world_effects.specs.Sound.{AreSound}
+use Rattle.iom_world_refinement.proofs.AttachStep.{attach_step}
+use Rattle.iom_world_refinement.proofs.BlockSteps.{medium_step, queue_step, begin_step, rest_step, status_step}
+use Rattle.iom_world_refinement.proofs.CommandsStay.{commands_stay}
+use Rattle.iom_world_refinement.proofs.CommitStep.{commit_step}
+use Rattle.iom_world_refinement.proofs.DeliverStep.{delivered_step}
+use Rattle.iom_world_refinement.proofs.DetachStep.{detach_step}
+use Rattle.iom_world_refinement.proofs.DiskLemmas.{step_disks}
+use Rattle.iom_world_effects.proofs.DriverLemmas.{IsSoundDriver, sound_driver}
+use Rattle.iom_world_refinement.proofs.FetchStep.{fetch_step}
+use Rattle.iom_world_refinement.proofs.FlightMay.{each_may}
+use Rattle.iom_world_refinement.proofs.GrantStep.{grant_step}
+use Rattle.iom_world_refinement.proofs.MessageSteps.{question_step, forged_step, dropped_step, repeated_step}
+use Rattle.iom_world_refinement.proofs.PlugStep.{plug_step}
+use Rattle.iom_world_refinement.proofs.PollStep.{poll_step}
+use Rattle.iom_world_refinement.proofs.ProcessorSteps.{poked_step, peeked_step, asked_free_step}
+use Rattle.iom_world_refinement.proofs.QuarantineStep.{quarantine_step}
+use Rattle.iom_world_refinement.proofs.RefusedSame.{refused_same}
+use Rattle.iom_world_refinement.proofs.ReleaseStep.{release_step}
+use Rattle.iom_world_invariant.proofs.RequestStep.{request_step}
+use Rattle.iom_world_invariant.proofs.ResetKeeps.{reset_step}
+use Rattle.iom_world_refinement.proofs.RestartStep.{restart_step}
+use Rattle.iom_world_refinement.proofs.RevivalStep.{revival_step}
+use Rattle.iom_world_refinement.proofs.StoppedLemmas.{stays_stopped}
+use Rattle.iom_world_invariant.proofs.TimeoutKeeps.{timeout_step}
+use Rattle.iom_world_refinement.proofs.ThroughCacheStep.{through_cache_step}
+use Rattle.iom_world_refinement.proofs.TranslatedStep.{translated_step}
+use Rattle.iom_world_refinement.proofs.EventLemmas.{no_choice, frame_chosen, access_chosen, question_chosen, frames_taken, pages_taken}
+use Rattle.iom_world_effects.proofs.ServedLemmas.{ServiceLaws}
+use Rattle.iom_world_invariant.proofs.AskedLemmas.{service_laws}
+use Rattle.iom_world_refinement.proofs.GuestMay.{reads_guest_tables}
+use Rattle.iom_world_effects.proofs.PartsLemmas.{StaysReported, reported_of}
+use Rattle.iom_world_invariant.proofs.ReportKeeps.{taken_step}
 
 -- a restart leaves memory as large as it was
 restart_size : (old new : Parts) (before counted : ℕ) (told : Outcome) → AreSound old before → AreSound new counted → RestartsQueue old told new → length new.memory ≡ length old.memory

@@ -6,9 +6,9 @@ use Rattle.iom_machine.specs.declared.outcome.Outcome.{Outcome}
 use Rattle.iom_machine.specs.declared.state.State.{State}
 use Rattle.iom_machine.specs.Machine.{Step}
 use Rattle.iom_world.specs.declared.world.World.{World}
-use Rattle.iom_composition.specs.Does.{Does, disks_after}
-use Rattle.iom_composition.specs.Stays.{SameIfRefused, KeepsCommands, HasTimedOut, StaysStopped}
-use Rattle.iom_composition.specs.Requests.{ReadsGuestTables}
+use Rattle.iom_world_effects.specs.Does.{Does, disks_after}
+use Rattle.iom_world_effects.specs.Stays.{SameIfRefused, KeepsCommands, HasTimedOut, StaysStopped}
+use Rattle.iom_world_effects.specs.Requests.{ReadsGuestTables}
 use Rattle.iom_world.specs.Seen.{parts_of, disks_of}
 use Rattle.iom_world.specs.Shows.{Shows}
 

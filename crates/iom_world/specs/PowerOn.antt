@@ -2,7 +2,7 @@
 use Rattle.std.specs.Prelude.{◌≡◌, ℕ, List, [], replicate}
 use Rattle.iom_machine.specs.PowerOn.{opening}
 use Rattle.iom_phys_mem.specs.Words.{zeroed}
-use Rattle.iom_composition.specs.PowerOn.{IsStartedDriver, IsStartedIommu}
+use Rattle.iom_world_effects.specs.PowerOn.{IsStartedDriver, IsStartedIommu}
 use Rattle.iom_driver.specs.Seen.{state_of}
 use Rattle.iom_world.specs.declared.world.World.{World}
 use Rattle.iom_world.specs.Seen.{commands_of}

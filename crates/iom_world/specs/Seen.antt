@@ -5,7 +5,7 @@ use Rattle.iom_command_queue.specs.Waiting.{commands_in}
 use Rattle.iom_driver.specs.Seen.{state_of}
 use Rattle.iom_iommu.specs.Parts.{registers_of}
 use Rattle.iom_world.specs.declared.world.World.{World}
-use Rattle.iom_composition.specs.Parts.{Parts}
+use Rattle.iom_world_effects.specs.Parts.{Parts}
 
 abbrev pub parts_of : World → Parts
 parts_of world = record { memory = world.memory; iommu = world.iommu; driver = state_of world.driver; devices = world.devices.items; fabric = world.fabric }

@@ -3,7 +3,7 @@ use Rattle.std.specs.Prelude.{◌≡◌}
 use Rattle.iom_machine.specs.declared.state.State.{State}
 use Rattle.iom_world.specs.declared.world.World.{World}
 use Rattle.iom_world.specs.Seen.{parts_of, disks_of}
-use Rattle.iom_composition.specs.Shows.{PartsShow}
+use Rattle.iom_world_effects.specs.Shows.{PartsShow}
 
 -- a world does by its parts, and the same disks were never in a device
 abbrev pub Shows : World → State → Type 0

@@ -2,7 +2,7 @@
 // wants, and which of their events are refused. Their queues, their requests and the bytes of their disks are their own.
 ghost use Rattle.std.specs.Prelude.{◌≡◌, ◌↔◌, ◌+◌, ◌<◌, ◌^◌, ℕ, IsTrue, false};
 ghost use Rattle.std.specs.Option.{option_map_or};
-ghost use Rattle.iom_copies.specs.Attachments.{caches_translations};
+ghost use Rattle.iom_coherence.specs.Attachments.{caches_translations};
 ghost use Rattle.iom_iommu.specs.Parts.{flights_of};
 ghost use Rattle.iom_iommu.specs.Requests.{access_of};
 ghost use Rattle.iom_machine.specs.declared.event.Event.TheVariants as events;
@@ -10,10 +10,10 @@ ghost use Rattle.iom_machine.specs.declared.outcome.Outcome.TheVariants as outco
 ghost use Rattle.iom_machine.specs.BlockDevices.{MayWant};
 ghost use Rattle.iom_machine.specs.Kinds.{is_block_device};
 ghost use Rattle.iom_virtqueue.specs.Layouts.{layout_of};
-ghost use Rattle.iom_composition.specs.BlockDevices.{MayTake, InsertsMedium, SetsQueue, GoesThroughCache, BeginsAccess, Rests, TellsStatus, devices_left, with_block_reset};
+ghost use Rattle.iom_world_effects.specs.BlockDevices.{MayTake, InsertsMedium, SetsQueue, GoesThroughCache, BeginsAccess, Rests, TellsStatus, devices_left, with_block_reset};
 ghost use Rattle.iom_device.specs.Caches.{epoch_in, kind_in, with_has_disk};
-ghost use Rattle.iom_composition.specs.Does.{disks_after};
-ghost use Rattle.iom_composition.specs.Requests.{AsksAccess};
+ghost use Rattle.iom_world_effects.specs.Does.{disks_after};
+ghost use Rattle.iom_world_effects.specs.Requests.{AsksAccess};
 ghost use Rattle.iom_world.specs.Seen.{parts_of, disks_of};
 ghost use Rattle.iom_world.specs.Told.{outcome_of};
 
@@ -23,13 +23,13 @@ use crate::sender::Sender;
 use crate::told::Told;
 use crate::world::World;
 use iom_base::{AccessKind, DeviceId, PAGE_SIZE};
-use iom_composition::laws_below;
 use iom_device::{Device, place_of, reset};
 use iom_driver::Ticket;
 use iom_fabric::{Message, PageNumber};
 use iom_ledger::Refusal;
 use iom_machine::{BlockStep, DeviceKind, Outcome};
 use iom_virtqueue::Layout;
+use iom_world_effects::laws_below;
 
 /// The device with this id has a disk from now on, or has none.
 fn set_has_disk(devices: &mut Vec<Device>, id: DeviceId, has: bool)

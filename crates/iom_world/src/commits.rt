@@ -1,18 +1,18 @@
 // What becomes of an access in flight: it is made, on the frame that it was translated to.
 ghost use Rattle.std.specs.Prelude.{◌≡◌, ◌+◌, ◌<◌, ◌≤◌, length};
 ghost use Rattle.iom_base.specs.Sizes.{page_size};
-ghost use Rattle.iom_composition.specs.Commits.{CommitsAccess, TellsRead};
+ghost use Rattle.iom_world_effects.specs.Commits.{CommitsAccess, TellsRead};
 ghost use Rattle.iom_world.specs.Seen.{parts_of, disks_of};
 
 use crate::kept_outcomes::KeptOutcomes;
 use crate::told::{Told, tell_read};
 use crate::world::World;
 use iom_base::{AccessKind, DeviceId};
-use iom_composition::laws_below;
 use iom_inflight::MadeAt;
 use iom_ledger::Refusal;
 use iom_machine::Outcome;
 use iom_phys_mem::Memory;
+use iom_world_effects::laws_below;
 
 /// Tells the bytes that a read gave, which stand in its frame.
 fn tell_made(memory: &Memory, made: MadeAt, told: &mut Outcome)

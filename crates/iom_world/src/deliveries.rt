@@ -6,7 +6,7 @@ ghost use Rattle.iom_driver.specs.State.{DriverState};
 ghost use Rattle.iom_fabric.specs.declared.fabric.OnLink.{OnLink};
 ghost use Rattle.iom_iommu.specs.Parts.{frames_of};
 ghost use Rattle.iom_device.specs.Caches.{cache_of, epoch_in, with_cache};
-ghost use Rattle.iom_composition.specs.Deliveries.{taken_told, TakesInto, Arrives, DeliversMessage};
+ghost use Rattle.iom_world_effects.specs.Deliveries.{taken_told, TakesInto, Arrives, DeliversMessage};
 ghost use Rattle.iom_device.specs.Calls.{Obeys};
 ghost use Rattle.iom_world.specs.Seen.{parts_of, disks_of};
 ghost use Rattle.iom_world.specs.Told.{outcome_of};
@@ -15,12 +15,12 @@ use crate::told::Told;
 use crate::world::World;
 use iom_ats_cache::Taken;
 use iom_base::DeviceId;
-use iom_composition::laws_below;
 use iom_device::{Device, place_of};
 use iom_fabric::{Fabric, Message, PageNumber, Range, Translation};
 use iom_iommu::Iommu;
 use iom_phys_mem::Memory;
 use iom_tlb::Ioatc;
+use iom_world_effects::laws_below;
 
 impl Told {
     /// What is told of an answer, by what the device does with it.

@@ -1,8 +1,8 @@
 // What the driver is asked to do.
 ghost use Rattle.std.specs.Prelude.{◌≡◌, ◌+◌, ◌<◌, ◌≤◌, ◌^◌, ℕ};
-ghost use Rattle.iom_composition.specs.Answers.{told_of, ticket_told_of};
+ghost use Rattle.iom_world_effects.specs.Answers.{told_of, ticket_told_of};
 ghost use Rattle.iom_device.specs.Caches.{epoch_in};
-ghost use Rattle.iom_composition.specs.Does.{polled_told_of, report_told_of, AttachesDevice, GrantsPage, ReleasesPage, DetachesDevice, PollsTickets, TakesReport};
+ghost use Rattle.iom_world_effects.specs.Does.{polled_told_of, report_told_of, AttachesDevice, GrantsPage, ReleasesPage, DetachesDevice, PollsTickets, TakesReport};
 ghost use Rattle.iom_world.specs.Seen.{parts_of, disks_of};
 ghost use Rattle.iom_world.specs.Told.{outcome_of};
 

@@ -1,7 +1,7 @@
 // What the IOMMU does with the driver's commands.
 ghost use Rattle.std.specs.Prelude.{◌≡◌, ◌+◌, ◌<◌, ◌^◌};
 ghost use Rattle.iom_iommu.specs.Parts.{slots_of};
-ghost use Rattle.iom_composition.specs.Does.{name_of_command, fetch_named, FetchesNext};
+ghost use Rattle.iom_world_effects.specs.Does.{name_of_command, fetch_named, FetchesNext};
 ghost use Rattle.iom_world.specs.Seen.{parts_of, disks_of};
 ghost use Rattle.iom_world.specs.Told.{outcome_of};
 
@@ -9,8 +9,8 @@ use crate::messages::send_opened;
 use crate::told::Told;
 use crate::world::World;
 use iom_command_queue::Command;
-use iom_composition::laws_below;
 use iom_machine::{CommandName, Fetched};
+use iom_world_effects::laws_below;
 
 /// The name of a command.
 fn name_of(command: Command) -> CommandName

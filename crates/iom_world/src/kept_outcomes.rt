@@ -1,6 +1,6 @@
 //! Where the outcomes of events are told.
 ghost use Rattle.std.specs.Prelude.{◌≡◌};
-ghost use Rattle.iom_composition.specs.Requests.{reply_told_of};
+ghost use Rattle.iom_world_effects.specs.Requests.{reply_told_of};
 ghost use Rattle.iom_world.specs.Told.{outcome_of};
 
 use crate::told::Told;

@@ -2,7 +2,7 @@
 // 10, "Address Translation Services"), and what becomes of it on the way.
 ghost use Rattle.std.specs.Prelude.{◌≡◌, if◌then◌else◌};
 ghost use Rattle.iom_machine.specs.declared.outcome.Outcome.TheVariants as outcome;
-ghost use Rattle.iom_composition.specs.Messages.{range_of, sent_told, repeat_told, with_fetched, AsksQuestion, ForgesCompletion, DropsMessage, RepeatsMessage};
+ghost use Rattle.iom_world_effects.specs.Messages.{range_of, sent_told, repeat_told, with_fetched, AsksQuestion, ForgesCompletion, DropsMessage, RepeatsMessage};
 ghost use Rattle.iom_world.specs.Seen.{parts_of, disks_of};
 ghost use Rattle.iom_world.specs.Told.{outcome_of};
 

@@ -2,9 +2,9 @@
 ghost use Rattle.std.specs.Prelude.{◌≡◌, ◌↔◌, IsTrue, option_map};
 ghost use Rattle.iom_machine.specs.declared.event.Event.TheVariants as events;
 ghost use Rattle.iom_device.specs.Caches.{kind_in, device_with, epoch_in};
-ghost use Rattle.iom_composition.specs.Does.{PlugsDevice, disks_after};
+ghost use Rattle.iom_world_effects.specs.Does.{PlugsDevice, disks_after};
 ghost use Rattle.iom_world.specs.Seen.{parts_of, disks_of};
-ghost use Rattle.iom_composition.specs.Places.{IsPresent};
+ghost use Rattle.iom_world_effects.specs.Places.{IsPresent};
 ghost use Rattle.iom_world.specs.Told.{outcome_of};
 
 use crate::disks::{is_missing, take_out};

@@ -2,17 +2,17 @@
 ghost use Rattle.std.specs.Prelude.{◌≡◌, ◌+◌, ◌≤◌, length};
 ghost use Rattle.iom_base.specs.Bytes.{with_bytes};
 ghost use Rattle.iom_world.specs.Seen.{parts_of, disks_of};
-ghost use Rattle.iom_composition.specs.Processor.{PokesBytes, PeeksBytes, AsksFree};
+ghost use Rattle.iom_world_effects.specs.Processor.{PokesBytes, PeeksBytes, AsksFree};
 ghost use Rattle.iom_world.specs.Told.{outcome_of};
 
 use crate::kept_outcomes::KeptOutcomes;
 use crate::told::{Told, tell_shown};
 use crate::world::World;
 use iom_base::{PAGE_SIZE, Span};
-use iom_composition::laws_below;
 use iom_ledger::Refusal;
 use iom_machine::Outcome;
 use iom_phys_mem::Bytes;
+use iom_world_effects::laws_below;
 
 /// Stores the bytes in the frame, from the offset on.
 fn store(frame: &mut [u8], offset: usize, bytes: &[u8])

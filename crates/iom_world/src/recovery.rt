@@ -2,7 +2,7 @@
 ghost use Rattle.std.specs.Prelude.{◌≡◌, ◌+◌, ◌<◌, ◌^◌, ℕ, if◌then◌else◌};
 ghost use Rattle.iom_machine.specs.declared.outcome.Outcome.TheVariants as outcome;
 ghost use Rattle.iom_device.specs.Caches.{epoch_in};
-ghost use Rattle.iom_composition.specs.Recovery.{QuarantinesDevice, RevivesDevice, RestartsQueue, TimesOutFence, ResetsDevice};
+ghost use Rattle.iom_world_effects.specs.Recovery.{QuarantinesDevice, RevivesDevice, RestartsQueue, TimesOutFence, ResetsDevice};
 ghost use Rattle.iom_world.specs.Seen.{parts_of, disks_of};
 ghost use Rattle.iom_world.specs.Told.{outcome_of};
 

@@ -4,20 +4,20 @@ ghost use Rattle.iom_iommu.specs.Parts.{flights_of};
 ghost use Rattle.iom_iommu.specs.Requests.{access_of};
 ghost use Rattle.iom_machine.specs.declared.event.Event.TheVariants as events;
 ghost use Rattle.iom_machine.specs.BlockDevices.{MayWant};
-ghost use Rattle.iom_composition.specs.Below.{AddressFits, IsOfAts, IsOfRecovery, IsSeldom, IsOfBlockDevice};
-ghost use Rattle.iom_composition.specs.BlockDevices.{BeginsAccess, IsRest, Rests, TellsStatus};
+ghost use Rattle.iom_world_effects.specs.Below.{AddressFits, IsOfAts, IsOfRecovery, IsSeldom, IsOfBlockDevice};
+ghost use Rattle.iom_world_effects.specs.BlockDevices.{BeginsAccess, IsRest, Rests, TellsStatus};
 ghost use Rattle.iom_device.specs.Caches.{epoch_in};
-ghost use Rattle.iom_composition.specs.Does.{Does, disks_after};
+ghost use Rattle.iom_world_effects.specs.Does.{Does, disks_after};
 ghost use Rattle.iom_world.specs.Happens.{Happens};
-ghost use Rattle.iom_composition.specs.Stays.{IsNoChoice};
+ghost use Rattle.iom_world_effects.specs.Stays.{IsNoChoice};
 ghost use Rattle.iom_world.specs.Seen.{parts_of, disks_of};
 
 use crate::kept_outcomes::KeptOutcomes;
 use crate::told::Told;
 use crate::world::World;
 use iom_base::{AccessKind, DeviceId};
-use iom_composition::laws_below;
 use iom_machine::{BlockStep, Event, Outcome};
+use iom_world_effects::laws_below;
 use std::mem;
 
 impl World {

@@ -2,7 +2,7 @@
 ghost use Rattle.std.specs.Prelude.{◌≡◌, ◌≤◌, length};
 ghost use Rattle.iom_base.specs.Sizes.{page_size};
 ghost use Rattle.iom_world.specs.Told.{outcome_of};
-ghost use Rattle.iom_composition.specs.Answers.{TellsBytes, TellsShown};
+ghost use Rattle.iom_world_effects.specs.Answers.{TellsBytes, TellsShown};
 
 use arrayvec::ArrayVec;
 use iom_base::Cause;

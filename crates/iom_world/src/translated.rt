@@ -3,15 +3,15 @@
 ghost use Rattle.std.specs.Prelude.{◌≡◌, ◌+◌, ◌<◌, ◌^◌};
 ghost use Rattle.iom_base.specs.Accesses.{read_of, write_of};
 ghost use Rattle.iom_iommu.specs.Parts.{flights_of};
-ghost use Rattle.iom_composition.specs.Requests.{AsksTranslated};
+ghost use Rattle.iom_world_effects.specs.Requests.{AsksTranslated};
 ghost use Rattle.iom_world.specs.Seen.{parts_of, disks_of};
 ghost use Rattle.iom_world.specs.Told.{outcome_of};
 
 use crate::told::Told;
 use crate::world::World;
 use iom_base::{AccessKind, DeviceId};
-use iom_composition::laws_below;
 use iom_ledger::Refusal;
+use iom_world_effects::laws_below;
 
 impl World {
     /// A raw device asks for a read of so many bytes at an address of memory, and says that it is translated. Answered

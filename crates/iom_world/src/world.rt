@@ -1,5 +1,5 @@
-ghost use Rattle.iom_composition.specs.Sound.{IsSoundWorld};
-ghost use Rattle.iom_composition.specs.SoundIsFact.{sound_prop};
+ghost use Rattle.iom_world_effects.specs.Sound.{IsSoundWorld};
+ghost use Rattle.iom_world_effects.specs.SoundIsFact.{sound_prop};
 
 use iom_device::Device;
 use iom_driver::Driver;

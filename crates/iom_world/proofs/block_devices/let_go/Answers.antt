@@ -1,7 +1,7 @@
 use Rattle.std.proofs.Common.{◌+◌, ◌<◌, ◌^◌, ◌∙◌, ℕ, false, List, sym, ap, subst}
 use Rattle.iom_device.specs.declared.device.Device.{Device}
 use Rattle.iom_device.specs.Caches.{epoch_in}
-use Rattle.iom_composition.proofs.DiskPlaces.{epoch_has}
+use Rattle.iom_world_effects.proofs.DiskPlaces.{epoch_has}
 use Rattle.iom_world.proofs.block_devices.let_go.Goals as goal
 
 pub reset_block-requires : goal.reset_block-requires

@@ -5,7 +5,7 @@ use Rattle.iom_device.specs.declared.device.Device.{Device}
 use Rattle.iom_fabric.specs.declared.message.Translation.{Translation}
 use Rattle.iom_machine.specs.declared.outcome.Outcome.TheVariants.{Ignored}
 use Rattle.iom_device.specs.Caches.{device_with, cache_in, cache_of, IsPlaceOf}
-use Rattle.iom_composition.specs.Deliveries.{TakesInto}
+use Rattle.iom_world_effects.specs.Deliveries.{TakesInto}
 use Rattle.iom_world.specs.Told.{outcome_of}
 use Rattle.iom_device.proofs.CachePlaces.{with_none}
 use Rattle.iom_world.proofs.deliveries.take_answer.Goals as goal

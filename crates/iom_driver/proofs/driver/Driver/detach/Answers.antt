@@ -3,7 +3,7 @@ use Rattle.iom_command_queue.specs.declared.entry.QueueEntry.{QueueEntry}
 use Rattle.iom_command_queue.specs.declared.entry.QueueEntry.TheVariants as stands
 use Rattle.iom_base.specs.declared.owner.Owner.{Owner}
 use Rattle.iom_ledger.specs.declared.ledger.Ledger.{Ledger}
-use Rattle.iom_directory.specs.Pages.{HasPage, root_level}
+use Rattle.iom_directory_build.specs.Pages.{HasPage, root_level}
 use Rattle.iom_base.specs.declared.owner.Owner.TheVariants.{OneDevice}
 use Rattle.iom_driver.specs.declared.device.Attachment.TheVariants.{Leaving}
 use Rattle.iom_driver.specs.declared.device.Device.{Device}

@@ -2,8 +2,8 @@ use Rattle.std.proofs.Common.{◌≡◌, ◌<◌, ◌≤◌, ◌++◌, ◌∙◌
 use Rattle.iom_base.specs.declared.owner.Owner.{Owner}
 use Rattle.iom_base.specs.declared.owner.Owner.TheVariants.{System, OneDevice}
 use Rattle.iom_device_dir.specs.Paths.{ids_below}
-use Rattle.iom_directory.specs.Pages.{root_level, missing_pages}
-use Rattle.iom_directory.specs.Written.{hung}
+use Rattle.iom_directory_build.specs.Pages.{root_level, missing_pages}
+use Rattle.iom_directory_build.specs.Written.{hung}
 use Rattle.iom_driver.specs.declared.device.Attachment.TheVariants.{Attached}
 use Rattle.iom_driver.specs.declared.device.Device.{Device}
 use Rattle.iom_driver.specs.declared.device.Stages.{Stages}

@@ -3,8 +3,8 @@ use Rattle.iom_base.specs.Modes.{size_in}
 use Rattle.iom_base.specs.declared.owner.Owner.TheVariants.{System, OneDevice}
 use Rattle.iom_command_queue.specs.declared.entry.QueueEntry.{QueueEntry}
 use Rattle.iom_command_queue.specs.declared.entry.QueueEntry.TheVariants as stands
-use Rattle.iom_directory.specs.Pages.{HasPage, root_level}
-use Rattle.iom_directory.specs.Written.{without_context}
+use Rattle.iom_directory_build.specs.Pages.{HasPage, root_level}
+use Rattle.iom_directory_build.specs.Written.{without_context}
 use Rattle.iom_ledger.specs.History.{pending_limit}
 use Rattle.iom_ledger.specs.Shown.{pending_in, pages_listed}
 use Rattle.iom_driver.specs.declared.device.Attachment.TheVariants.{Quarantined}

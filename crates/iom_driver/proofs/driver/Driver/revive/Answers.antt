@@ -1,7 +1,7 @@
 use Rattle.std.proofs.Common.{◌≡◌, ◌<◌, ◌∙◌, inl, inr, ℕ, List, [], Contains, Ok, length, slice_get, refl, sym, ap, subst, arith}
-use Rattle.iom_directory.specs.Pages.{root_level}
-use Rattle.iom_directory.specs.Written.{hung}
-use Rattle.iom_directory.proofs.Hanging.{whole_path_there}
+use Rattle.iom_directory_build.specs.Pages.{root_level}
+use Rattle.iom_directory_build.specs.Written.{hung}
+use Rattle.iom_directory_build.proofs.Hanging.{whole_path_there}
 use Rattle.iom_driver.specs.declared.device.Attachment.TheVariants.{Attached}
 use Rattle.iom_driver.specs.declared.device.Device.{Device}
 use Rattle.iom_driver.specs.Devices.{attached_stages, owned_stages, with_attachment}

@@ -40,7 +40,7 @@ returns-in-Ok-clause-answered g c = (
         c.in-Some.ensures.value.long c.accept.ensures;
     contexts = c.in-Ok.ensures.kept;
     registers = refl;
-    stock = refl;
+    fence_snapshot = refl;
     waits = refl;
     slots = refl;
     opened = refl;

@@ -4,7 +4,7 @@ use Rattle.iom_command_queue.specs.declared.entry.QueueEntry.TheVariants as stan
 use Rattle.iom_command_queue.proofs.Waits.{none_is}
 use Rattle.iom_iommu.specs.Fetches.{IsStorable, Stores}
 use Rattle.iom_iommu.proofs.CachedLemmas.{drop_inside}
-use Rattle.iom_iommu.proofs.PartLemmas.{same_fetched, held_by_slots, held_by_accesses, stock_then, waits_then, waits, stops}
+use Rattle.iom_iommu.proofs.PartLemmas.{same_fetched, held_by_slots, held_by_accesses, snapshot_then, waits_then, waits, stops}
 use Rattle.iom_iommu.proofs.iommu.Iommu.take.Goals as goal
 
 pub advance-requires : goal.advance-requires
@@ -16,7 +16,7 @@ returns-then-waits_for_slots g c =
       c.requires.on,
       waits c.args.self.now c.args.memory.now c.args.command c.requires.stands (held_by_slots c.args.self.now c.args.command some),
       refl,
-      same_fetched c.args.self.now _ _ _ _ _ _ _ _ _ refl (stock_then c.args.self.now c.args.memory.now c.args.command true c.requires.stands some)
+      same_fetched c.args.self.now _ _ _ _ _ _ _ _ _ refl (snapshot_then c.args.self.now c.args.memory.now c.args.command true c.requires.stands some)
           (waits_then c.args.self.now c.args.memory.now c.args.command _ c.requires.stands c.is_waiting_fence-self.ensures) c.requires.none,
     )
 
@@ -28,7 +28,7 @@ returns-then-waits_for_accesses g c =
           (held_by_accesses c.args.self.now c.args.command c.counted-before.result true none c.counted-before.ensures (sym c.waits_for_accesses.ensures ∙ c.if-waits_for_accesses.true)),
       refl,
       same_fetched c.args.self.now _ _ _ _ _ _ _ _ _ refl
-          (ap Some c.counted-before.ensures ∙ stock_then c.args.self.now c.args.memory.now c.args.command false c.requires.stands none)
+          (ap Some c.counted-before.ensures ∙ snapshot_then c.args.self.now c.args.memory.now c.args.command false c.requires.stands none)
           (waits_then c.args.self.now c.args.memory.now c.args.command _ c.requires.stands c.is_waiting_fence-self.ensures) c.requires.none,
     )
 

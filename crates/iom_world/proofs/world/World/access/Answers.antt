@@ -1,8 +1,8 @@
 use Rattle.std.proofs.Common.{◌≡◌, ◌∙◌, Bool, true, false, ap, sym, subst}
-use Rattle.iom_copies.specs.Attachments.{caches_translations}
+use Rattle.iom_coherence.specs.Attachments.{caches_translations}
 use Rattle.iom_iommu.specs.Requests.{access_of}
 use Rattle.iom_machine.specs.declared.outcome.Outcome.{Outcome}
-use Rattle.iom_composition.specs.BlockDevices.{GoesToMemory, GoesThroughCache}
+use Rattle.iom_world_effects.specs.BlockDevices.{GoesToMemory, GoesThroughCache}
 use Rattle.iom_device.specs.Caches.{kind_in}
 use Rattle.iom_world.specs.Seen.{parts_of}
 use Rattle.iom_world.proofs.world.World.access.Goals as goal

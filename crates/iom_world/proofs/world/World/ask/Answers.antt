@@ -6,12 +6,12 @@ use Rattle.iom_fabric.specs.declared.message.Message.TheVariants as sent
 use Rattle.iom_machine.specs.declared.outcome.Outcome.TheVariants as outcome
 use Rattle.iom_device.specs.declared.device.Device.{Device}
 use Rattle.iom_device.specs.Caches.{device_with, epoch_in, epoch_of, cache_in}
-use Rattle.iom_composition.specs.Messages.{with_sent}
-use Rattle.iom_composition.specs.Parts.{Parts}
+use Rattle.iom_world_effects.specs.Messages.{with_sent}
+use Rattle.iom_world_effects.specs.Parts.{Parts}
 use Rattle.iom_world.specs.Seen.{parts_of}
-use Rattle.iom_soundness.proofs.MessageKeeps.{keeps_question}
-use Rattle.iom_composition.proofs.MessageLemmas.{sent_as}
-use Rattle.iom_composition.proofs.PresentLemmas.{kind_absent}
+use Rattle.iom_world_invariant.proofs.MessageKeeps.{keeps_question}
+use Rattle.iom_world_effects.proofs.MessageLemmas.{sent_as}
+use Rattle.iom_world_effects.proofs.PresentLemmas.{kind_absent}
 use Rattle.iom_world.proofs.world.World.ask.Goals as goal
 
 pub invariant_of-self : goal.invariant_of-self

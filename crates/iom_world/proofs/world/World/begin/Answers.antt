@@ -2,7 +2,7 @@ use Rattle.std.proofs.Common.{inl, arith}
 use Rattle.iom_iommu.specs.Requests.{access_of}
 use Rattle.iom_machine.specs.declared.event.Event.TheVariants as events
 use Rattle.iom_world.specs.Seen.{parts_of}
-use Rattle.iom_lawful_steps.proofs.EventLemmas.{sound_counted, below_counted}
+use Rattle.iom_world_refinement.proofs.EventLemmas.{sound_counted, below_counted}
 use Rattle.iom_world.proofs.HappensLemmas.{happens}
 use Rattle.iom_world.proofs.world.World.begin.Goals as goal
 

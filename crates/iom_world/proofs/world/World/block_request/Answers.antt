@@ -3,13 +3,13 @@ use Rattle.iom_driver.specs.Seen.{state_of}
 use Rattle.iom_iommu.specs.Parts.{flights_of}
 use Rattle.iom_iommu.specs.Requests.{access_of}
 use Rattle.iom_machine.specs.Kinds.{is_block_device}
-use Rattle.iom_composition.specs.Parts.{Parts}
-use Rattle.iom_composition.specs.Requests.{reply_told_of}
+use Rattle.iom_world_effects.specs.Parts.{Parts}
+use Rattle.iom_world_effects.specs.Requests.{reply_told_of}
 use Rattle.iom_world.specs.Seen.{parts_of}
-use Rattle.iom_soundness.proofs.BlockKeeps.{carries_of}
-use Rattle.iom_composition.proofs.DriverLemmas.{sound_driver}
-use Rattle.iom_soundness.proofs.AskedLemmas.{keeps_asked_counted}
-use Rattle.iom_composition.proofs.PresentLemmas.{row_present, kind_present, kind_absent}
+use Rattle.iom_world_invariant.proofs.BlockKeeps.{carries_of}
+use Rattle.iom_world_effects.proofs.DriverLemmas.{sound_driver}
+use Rattle.iom_world_invariant.proofs.AskedLemmas.{keeps_asked_counted}
+use Rattle.iom_world_effects.proofs.PresentLemmas.{row_present, kind_present, kind_absent}
 use Rattle.iom_world.proofs.world.World.block_request.Goals as goal
 
 pub request-requires-clause-added : goal.request-requires-clause-added

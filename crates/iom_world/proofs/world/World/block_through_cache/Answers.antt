@@ -7,14 +7,14 @@ use Rattle.iom_machine.specs.declared.outcome.BlockStep.TheVariants.{Asked}
 use Rattle.iom_machine.specs.declared.outcome.Outcome.{Outcome}
 use Rattle.iom_machine.specs.declared.outcome.Outcome.TheVariants as outcome
 use Rattle.iom_machine.specs.Kinds.{is_block_device}
-use Rattle.iom_composition.specs.BlockDevices.{AsksIfMissed}
+use Rattle.iom_world_effects.specs.BlockDevices.{AsksIfMissed}
 use Rattle.iom_device.specs.Caches.{epoch_in}
-use Rattle.iom_composition.specs.Messages.{with_sent}
+use Rattle.iom_world_effects.specs.Messages.{with_sent}
 use Rattle.iom_world.specs.Seen.{parts_of}
-use Rattle.iom_composition.specs.ThroughCache.{AsksThroughCache}
+use Rattle.iom_world_effects.specs.ThroughCache.{AsksThroughCache}
 use Rattle.iom_world.specs.Told.{outcome_of}
-use Rattle.iom_soundness.proofs.BlockKeeps.{asked_sound, no_miss, carries_of}
-use Rattle.iom_composition.proofs.MessageLemmas.{sent_as}
+use Rattle.iom_world_invariant.proofs.BlockKeeps.{asked_sound, no_miss, carries_of}
+use Rattle.iom_world_effects.proofs.MessageLemmas.{sent_as}
 use Rattle.iom_world.proofs.world.World.block_through_cache.Goals as goal
 use Rattle.iom_world.proofs.world.World.block_through_cache.Goals.{After-send}
 

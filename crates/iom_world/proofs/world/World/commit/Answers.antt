@@ -2,14 +2,14 @@ use Rattle.std.proofs.Common.{inr, refl, sym, Some, ap, subst}
 use Rattle.iom_driver.specs.Seen.{state_of}
 use Rattle.iom_iommu.specs.Parts.{flights_of}
 use Rattle.iom_machine.specs.declared.outcome.Outcome.TheVariants as outcome
-use Rattle.iom_composition.specs.Commits.{TellsMade, TellsKind}
-use Rattle.iom_composition.specs.Parts.{Parts}
+use Rattle.iom_world_effects.specs.Commits.{TellsMade, TellsKind}
+use Rattle.iom_world_effects.specs.Parts.{Parts}
 use Rattle.iom_world.specs.Seen.{parts_of}
-use Rattle.iom_soundness.proofs.CommitKeeps.{keeps_oldest}
-use Rattle.iom_composition.proofs.DriverLemmas.{sound_driver}
-use Rattle.iom_composition.proofs.PartsLemmas.{stays_of}
-use Rattle.iom_composition.proofs.MadeFrames.{made_unreserved, read_told}
-use Rattle.iom_composition.proofs.PresentLemmas.{row_present}
+use Rattle.iom_world_invariant.proofs.CommitKeeps.{keeps_oldest}
+use Rattle.iom_world_effects.proofs.DriverLemmas.{sound_driver}
+use Rattle.iom_world_effects.proofs.PartsLemmas.{stays_of}
+use Rattle.iom_world_effects.proofs.MadeFrames.{made_unreserved, read_told}
+use Rattle.iom_world_effects.proofs.PresentLemmas.{row_present}
 use Rattle.iom_world.proofs.world.World.commit.Goals as goal
 
 pub commit-requires-clause-added : goal.commit-requires-clause-added

@@ -1,15 +1,15 @@
 use Rattle.std.proofs.Common.{◌≡◌, ◌∙◌, List, Option, None, remove, slice_get, refl, sym, ap, subst, arith}
 use Rattle.iom_driver.specs.Seen.{state_of}
 use Rattle.iom_fabric.specs.declared.fabric.OnLink.{OnLink}
-use Rattle.iom_composition.specs.Deliveries.{ArrivesIfAny, Arrives}
-use Rattle.iom_composition.specs.Parts.{Parts}
+use Rattle.iom_world_effects.specs.Deliveries.{ArrivesIfAny, Arrives}
+use Rattle.iom_world_effects.specs.Parts.{Parts}
 use Rattle.iom_world.specs.Seen.{parts_of}
 use Rattle.iom_world.specs.Told.{outcome_of}
-use Rattle.iom_soundness.proofs.AskedLemmas.{service_laws}
-use Rattle.iom_lawful_steps.proofs.DeliverStep.{removed_none, keeps_arrived}
-use Rattle.iom_composition.proofs.DriverLemmas.{sound_driver}
-use Rattle.iom_soundness.proofs.MessageKeeps.{dropped_sound}
-use Rattle.iom_composition.proofs.PartsLemmas.{stays_of, reported_of}
+use Rattle.iom_world_invariant.proofs.AskedLemmas.{service_laws}
+use Rattle.iom_world_refinement.proofs.DeliverStep.{removed_none, keeps_arrived}
+use Rattle.iom_world_effects.proofs.DriverLemmas.{sound_driver}
+use Rattle.iom_world_invariant.proofs.MessageKeeps.{dropped_sound}
+use Rattle.iom_world_effects.proofs.PartsLemmas.{stays_of, reported_of}
 use Rattle.iom_world.proofs.world.World.deliver.Goals as goal
 
 pub invariant_of-self : goal.invariant_of-self

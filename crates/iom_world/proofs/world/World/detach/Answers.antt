@@ -1,10 +1,10 @@
 use Rattle.std.proofs.Common.{refl, arith}
 use Rattle.iom_driver.specs.Seen.{state_of}
-use Rattle.iom_composition.specs.Answers.{ticket_told_of}
-use Rattle.iom_composition.specs.Parts.{Parts}
+use Rattle.iom_world_effects.specs.Answers.{ticket_told_of}
+use Rattle.iom_world_effects.specs.Parts.{Parts}
 use Rattle.iom_world.specs.Seen.{parts_of}
-use Rattle.iom_composition.proofs.DriverLemmas.{sound_driver}
-use Rattle.iom_soundness.proofs.DetachKeeps.{keeps_detached}
+use Rattle.iom_world_effects.proofs.DriverLemmas.{sound_driver}
+use Rattle.iom_world_invariant.proofs.DetachKeeps.{keeps_detached}
 use Rattle.iom_world.proofs.world.World.detach.Goals as goal
 
 pub let_go-requires : goal.let_go-requires

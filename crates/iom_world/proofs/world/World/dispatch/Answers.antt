@@ -1,6 +1,6 @@
 use Rattle.std.proofs.Common.{arith}
 use Rattle.iom_world.specs.Seen.{parts_of}
-use Rattle.iom_lawful_steps.proofs.EventLemmas.{sound_counted, below_counted, serials_counted, epochs_counted}
+use Rattle.iom_world_refinement.proofs.EventLemmas.{sound_counted, below_counted, serials_counted, epochs_counted}
 use Rattle.iom_world.proofs.world.World.dispatch.Goals as goal
 
 pub invariant_of-self : goal.invariant_of-self

@@ -1,8 +1,8 @@
 use Rattle.std.proofs.Common.{sym, subst}
 use Rattle.iom_machine.specs.declared.event.Event.{Event}
 use Rattle.iom_machine.specs.declared.outcome.Outcome.{Outcome}
-use Rattle.iom_composition.specs.BlockDevices.{InsertsMedium}
-use Rattle.iom_composition.specs.Does.{Does}
+use Rattle.iom_world_effects.specs.BlockDevices.{InsertsMedium}
+use Rattle.iom_world_effects.specs.Does.{Does}
 use Rattle.iom_world.specs.Seen.{parts_of, disks_of}
 use Rattle.iom_world.proofs.world.World.dispatch_block.Goals as goal
 

@@ -1,14 +1,14 @@
 use Rattle.std.proofs.Common.{refl, sym, ap, ◌∙◌}
 use Rattle.iom_driver.specs.Seen.{state_of}
 use Rattle.iom_machine.specs.declared.outcome.Outcome.TheVariants as outcome
-use Rattle.iom_composition.specs.Does.{fetch_named}
-use Rattle.iom_composition.specs.Parts.{Parts}
+use Rattle.iom_world_effects.specs.Does.{fetch_named}
+use Rattle.iom_world_effects.specs.Parts.{Parts}
 use Rattle.iom_world.specs.Seen.{parts_of}
-use Rattle.iom_composition.proofs.DriverLemmas.{sound_driver}
-use Rattle.iom_composition.proofs.PartsLemmas.{stays_of}
-use Rattle.iom_soundness.proofs.FetchKeeps.{keeps_fetched}
+use Rattle.iom_world_effects.proofs.DriverLemmas.{sound_driver}
+use Rattle.iom_world_effects.proofs.PartsLemmas.{stays_of}
+use Rattle.iom_world_invariant.proofs.FetchKeeps.{keeps_fetched}
 use Rattle.iom_world.proofs.world.World.fetch.Goals as goal
-use Rattle.iom_composition.specs.Messages.{with_fetched}
+use Rattle.iom_world_effects.specs.Messages.{with_fetched}
 
 pub fetch-answer-requires-clause-memory : goal.fetch-answer-requires-clause-memory
 fetch-answer-requires-clause-memory c = sym c.args.self.now.sound.size

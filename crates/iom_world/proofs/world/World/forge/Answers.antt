@@ -2,11 +2,11 @@ use Rattle.std.proofs.Common.{◌∙◌, inl, inr, Bool, List, refl, sym, ap, if
 use Rattle.iom_fabric.specs.declared.fabric.OnLink.{OnLink}
 use Rattle.iom_fabric.specs.declared.message.Message.TheVariants as sent
 use Rattle.iom_machine.specs.declared.outcome.Outcome.TheVariants as outcome
-use Rattle.iom_composition.specs.Parts.{Parts}
+use Rattle.iom_world_effects.specs.Parts.{Parts}
 use Rattle.iom_world.specs.Seen.{parts_of}
-use Rattle.iom_soundness.proofs.MessageKeeps.{keeps_forged}
-use Rattle.iom_composition.proofs.MessageLemmas.{sent_as}
-use Rattle.iom_composition.proofs.PresentLemmas.{kind_absent}
+use Rattle.iom_world_invariant.proofs.MessageKeeps.{keeps_forged}
+use Rattle.iom_world_effects.proofs.MessageLemmas.{sent_as}
+use Rattle.iom_world_effects.proofs.PresentLemmas.{kind_absent}
 use Rattle.iom_world.proofs.world.World.forge.Goals as goal
 
 pub invariant_of-self : goal.invariant_of-self

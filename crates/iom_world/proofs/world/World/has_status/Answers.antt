@@ -1,5 +1,5 @@
 use Rattle.std.proofs.Common.{◌∙◌, inl, refl, sym}
-use Rattle.iom_composition.proofs.PresentLemmas.{kind_absent}
+use Rattle.iom_world_effects.proofs.PresentLemmas.{kind_absent}
 use Rattle.iom_world.proofs.world.World.has_status.Goals as goal
 
 pub returns-in_default : goal.returns-in_default

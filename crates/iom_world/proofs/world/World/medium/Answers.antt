@@ -3,12 +3,12 @@ use Rattle.std.specs.Borrow.{Bor}
 use Rattle.std.specs.Option.{option_map}
 use Rattle.std.proofs.lemmas.Bool.{false≢true}
 use Rattle.iom_device.specs.declared.device.Device.{Device}
-use Rattle.iom_composition.specs.BlockDevices.{MayTake}
+use Rattle.iom_world_effects.specs.BlockDevices.{MayTake}
 use Rattle.iom_device.specs.Caches.{device_with}
 use Rattle.iom_world.specs.Seen.{parts_of}
-use Rattle.iom_composition.specs.Sound.{AreSound}
-use Rattle.iom_soundness.proofs.BlockKeeps.{disk_sound}
-use Rattle.iom_composition.proofs.PresentLemmas.{kind_absent}
+use Rattle.iom_world_effects.specs.Sound.{AreSound}
+use Rattle.iom_world_invariant.proofs.BlockKeeps.{disk_sound}
+use Rattle.iom_world_effects.proofs.PresentLemmas.{kind_absent}
 use Rattle.iom_world.proofs.world.World.medium.Goals as goal
 
 pub returns-in_default-clause-does : goal.returns-in_default-clause-does

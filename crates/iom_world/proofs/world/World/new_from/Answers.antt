@@ -1,6 +1,6 @@
 use Rattle.std.proofs.Common.{refl, sym}
 use Rattle.iom_driver.specs.Seen.{state_of}
-use Rattle.iom_lawful_steps.proofs.StartLemmas.{IsStarted, sound_started, shows_started, memory_is, iommu_started, driver_started}
+use Rattle.iom_world_refinement.proofs.StartLemmas.{IsStarted, sound_started, shows_started, memory_is, iommu_started, driver_started}
 use Rattle.iom_world.proofs.world.World.new_from.Goals as goal
 
 pub invariant_of-result : goal.invariant_of-result

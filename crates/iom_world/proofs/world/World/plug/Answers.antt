@@ -6,11 +6,11 @@ use Rattle.iom_machine.specs.Disks.{is_missing}
 use Rattle.iom_machine.specs.Kinds.{kind_of, disk_of}
 use Rattle.iom_machine.specs.Refusals.{has_cache}
 use Rattle.iom_machine.specs.declared.outcome.Outcome.TheVariants.{Done}
-use Rattle.iom_composition.specs.Parts.{Parts}
-use Rattle.iom_composition.specs.Places.{IsAbsent}
+use Rattle.iom_world_effects.specs.Parts.{Parts}
+use Rattle.iom_world_effects.specs.Places.{IsAbsent}
 use Rattle.iom_world.specs.Seen.{parts_of, disks_of}
-use Rattle.iom_soundness.proofs.PlugKeeps.{keeps_plugged}
-use Rattle.iom_lawful_steps.proofs.PlugRefused.{plugged_already, plugged_many, lacks_disk, no_memory, absent_if_not, added_new, ready_still}
+use Rattle.iom_world_invariant.proofs.PlugKeeps.{keeps_plugged}
+use Rattle.iom_world_refinement.proofs.PlugRefused.{plugged_already, plugged_many, lacks_disk, no_memory, absent_if_not, added_new, ready_still}
 use Rattle.iom_world.proofs.world.World.plug.Goals as goal
 
 pub returns-then-is_plugged-clause-does : goal.returns-then-is_plugged-clause-does

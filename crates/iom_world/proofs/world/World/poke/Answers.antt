@@ -1,9 +1,9 @@
 use Rattle.std.proofs.Common.{◌∙◌, ◌/◌, sym, arith}
 use Rattle.iom_world.specs.Seen.{parts_of}
-use Rattle.iom_composition.proofs.DriverLemmas.{sound_driver}
-use Rattle.iom_composition.proofs.PartsLemmas.{stays_of}
-use Rattle.iom_soundness.proofs.ProcessorKeeps.{keeps_stored}
-use Rattle.iom_composition.proofs.SoundFrom.{unmarked}
+use Rattle.iom_world_effects.proofs.DriverLemmas.{sound_driver}
+use Rattle.iom_world_effects.proofs.PartsLemmas.{stays_of}
+use Rattle.iom_world_invariant.proofs.ProcessorKeeps.{keeps_stored}
+use Rattle.iom_world_effects.proofs.SoundFrom.{unmarked}
 use Rattle.iom_world.proofs.world.World.poke.Goals as goal
 
 pub invariant_of-self : goal.invariant_of-self

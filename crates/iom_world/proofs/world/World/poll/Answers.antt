@@ -1,10 +1,10 @@
 use Rattle.std.proofs.Common.{refl}
 use Rattle.iom_driver.specs.Seen.{state_of}
-use Rattle.iom_composition.specs.Does.{polled_told_of}
-use Rattle.iom_composition.specs.Parts.{Parts}
+use Rattle.iom_world_effects.specs.Does.{polled_told_of}
+use Rattle.iom_world_effects.specs.Parts.{Parts}
 use Rattle.iom_world.specs.Seen.{parts_of}
-use Rattle.iom_soundness.proofs.PollKeeps.{keeps_polled, polled_low}
-use Rattle.iom_composition.proofs.DriverLemmas.{sound_driver}
+use Rattle.iom_world_invariant.proofs.PollKeeps.{keeps_polled, polled_low}
+use Rattle.iom_world_effects.proofs.DriverLemmas.{sound_driver}
 use Rattle.iom_world.proofs.world.World.poll.Goals as goal
 
 pub invariant_of-self : goal.invariant_of-self

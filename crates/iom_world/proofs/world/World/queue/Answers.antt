@@ -2,10 +2,10 @@ use Rattle.std.proofs.Common.{◌∙◌, inl, inr, List, refl, sym, ap}
 use Rattle.iom_machine.specs.declared.outcome.Outcome.TheVariants as outcome
 use Rattle.iom_virtqueue.specs.Layouts.{layout_of}
 use Rattle.iom_device.specs.declared.device.Device.{Device}
-use Rattle.iom_composition.specs.Parts.{Parts}
+use Rattle.iom_world_effects.specs.Parts.{Parts}
 use Rattle.iom_world.specs.Seen.{parts_of}
-use Rattle.iom_soundness.proofs.BlockKeeps.{keeps_queue}
-use Rattle.iom_composition.proofs.PresentLemmas.{kind_absent}
+use Rattle.iom_world_invariant.proofs.BlockKeeps.{keeps_queue}
+use Rattle.iom_world_effects.proofs.PresentLemmas.{kind_absent}
 use Rattle.iom_world.proofs.world.World.queue.Goals as goal
 
 pub returns-in_default-clause-does : goal.returns-in_default-clause-does

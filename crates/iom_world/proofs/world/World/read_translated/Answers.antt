@@ -2,12 +2,12 @@ use Rattle.std.proofs.Common.{◌∙◌, inl, inr, refl, sym}
 use Rattle.iom_base.specs.Accesses.{read_of}
 use Rattle.iom_driver.specs.Seen.{state_of}
 use Rattle.iom_iommu.specs.Parts.{flights_of}
-use Rattle.iom_composition.specs.Parts.{Parts}
-use Rattle.iom_composition.specs.Requests.{reply_told_of}
+use Rattle.iom_world_effects.specs.Parts.{Parts}
+use Rattle.iom_world_effects.specs.Requests.{reply_told_of}
 use Rattle.iom_world.specs.Seen.{parts_of}
-use Rattle.iom_composition.proofs.DriverLemmas.{sound_driver}
-use Rattle.iom_soundness.proofs.AskedLemmas.{keeps_translated_counted}
-use Rattle.iom_composition.proofs.PresentLemmas.{row_present, kind_present, kind_absent}
+use Rattle.iom_world_effects.proofs.DriverLemmas.{sound_driver}
+use Rattle.iom_world_invariant.proofs.AskedLemmas.{keeps_translated_counted}
+use Rattle.iom_world_effects.proofs.PresentLemmas.{row_present, kind_present, kind_absent}
 use Rattle.iom_world.proofs.world.World.read_translated.Goals as goal
 
 pub translated-requires-clause-added : goal.translated-requires-clause-added

@@ -1,5 +1,5 @@
 use Rattle.iom_world.specs.Seen.{parts_of}
-use Rattle.iom_soundness.proofs.MessageKeeps.{repeated_sound}
+use Rattle.iom_world_invariant.proofs.MessageKeeps.{repeated_sound}
 use Rattle.iom_world.proofs.world.World.repeat.Goals as goal
 
 pub invariant_of-self : goal.invariant_of-self

@@ -1,9 +1,9 @@
 use Rattle.std.proofs.Common.{◌+◌, inr, refl, sym, subst}
 use Rattle.iom_machine.specs.declared.event.Event.TheVariants as events
 use Rattle.iom_machine.specs.declared.outcome.Outcome.{Outcome}
-use Rattle.iom_composition.specs.BlockDevices.{Rests}
+use Rattle.iom_world_effects.specs.BlockDevices.{Rests}
 use Rattle.iom_world.specs.Seen.{parts_of}
-use Rattle.iom_lawful_steps.proofs.EventLemmas.{sound_counted}
+use Rattle.iom_world_refinement.proofs.EventLemmas.{sound_counted}
 use Rattle.iom_world.proofs.HappensLemmas.{happens}
 use Rattle.iom_world.proofs.world.World.rest.Goals as goal
 

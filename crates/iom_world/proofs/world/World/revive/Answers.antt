@@ -1,10 +1,10 @@
 use Rattle.std.proofs.Common.{refl}
 use Rattle.iom_driver.specs.Seen.{state_of}
-use Rattle.iom_composition.specs.Answers.{told_of}
-use Rattle.iom_composition.specs.Parts.{Parts}
+use Rattle.iom_world_effects.specs.Answers.{told_of}
+use Rattle.iom_world_effects.specs.Parts.{Parts}
 use Rattle.iom_world.specs.Seen.{parts_of}
-use Rattle.iom_composition.proofs.DriverLemmas.{sound_driver}
-use Rattle.iom_soundness.proofs.RevivalKeeps.{keeps_revived}
+use Rattle.iom_world_effects.proofs.DriverLemmas.{sound_driver}
+use Rattle.iom_world_invariant.proofs.RevivalKeeps.{keeps_revived}
 use Rattle.iom_world.proofs.world.World.revive.Goals as goal
 
 pub invariant_of-self : goal.invariant_of-self

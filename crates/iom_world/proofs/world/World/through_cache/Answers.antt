@@ -15,16 +15,16 @@ use Rattle.iom_machine.specs.declared.outcome.Outcome.{Outcome}
 use Rattle.iom_machine.specs.declared.outcome.Outcome.TheVariants as outcome
 use Rattle.iom_device.specs.declared.device.Device.{Device}
 use Rattle.iom_device.specs.Caches.{cache_in, cache_of, device_with, kind_in}
-use Rattle.iom_composition.specs.Parts.{Parts}
-use Rattle.iom_composition.specs.Places.{IsPresent}
-use Rattle.iom_composition.specs.Requests.{reply_told_of}
+use Rattle.iom_world_effects.specs.Parts.{Parts}
+use Rattle.iom_world_effects.specs.Places.{IsPresent}
+use Rattle.iom_world_effects.specs.Requests.{reply_told_of}
 use Rattle.iom_world.specs.Seen.{parts_of}
-use Rattle.iom_composition.specs.ThroughCache.{AsksThroughCache, FindsFrame}
+use Rattle.iom_world_effects.specs.ThroughCache.{AsksThroughCache, FindsFrame}
 use Rattle.iom_world.specs.Senders.{kinds_of}
 use Rattle.iom_world.specs.Told.{outcome_of}
-use Rattle.iom_soundness.proofs.AskedLemmas.{keeps_through_cache_counted}
-use Rattle.iom_composition.proofs.DriverLemmas.{sound_driver}
-use Rattle.iom_composition.proofs.PresentLemmas.{row_present, kind_present, kind_absent}
+use Rattle.iom_world_invariant.proofs.AskedLemmas.{keeps_through_cache_counted}
+use Rattle.iom_world_effects.proofs.DriverLemmas.{sound_driver}
+use Rattle.iom_world_effects.proofs.PresentLemmas.{row_present, kind_present, kind_absent}
 use Rattle.iom_world.proofs.world.World.through_cache.Goals as goal
 use Rattle.iom_world.proofs.world.World.through_cache.Goals.{After-translated}
 

@@ -1,8 +1,8 @@
 use Rattle.std.proofs.Common.{refl, if◌then◌else◌}
 use Rattle.iom_machine.specs.declared.outcome.Outcome.TheVariants as outcome
-use Rattle.iom_composition.specs.Parts.{Parts}
+use Rattle.iom_world_effects.specs.Parts.{Parts}
 use Rattle.iom_world.specs.Seen.{parts_of}
-use Rattle.iom_soundness.proofs.TimeoutKeeps.{keeps_timed_out}
+use Rattle.iom_world_invariant.proofs.TimeoutKeeps.{keeps_timed_out}
 use Rattle.iom_world.proofs.world.World.timeout.Goals as goal
 
 pub invariant_of-self : goal.invariant_of-self

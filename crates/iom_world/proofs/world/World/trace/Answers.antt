@@ -4,7 +4,7 @@ use Rattle.iom_driver.specs.Calls.{IsFreeFrame}
 use Rattle.iom_machine.specs.Tickets.{last_confirmed}
 use Rattle.iom_table_frames.specs.Marks.{AreSoMany}
 use Rattle.iom_world.specs.Seen.{parts_of}
-use Rattle.iom_lawful_steps.proofs.CountLemmas.{flights_counted, free_shown}
+use Rattle.iom_world_refinement.proofs.CountLemmas.{flights_counted, free_shown}
 use Rattle.iom_world.proofs.world.World.trace.Goals as goal
 
 pub returns : goal.returns

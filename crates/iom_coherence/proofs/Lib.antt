@@ -1,0 +1,17 @@
+pub mod ListLemmas
+pub mod KindLemmas
+pub mod ToComeLemmas
+pub mod LedgerLemmas
+pub mod TicketLemmas
+pub mod SourceLemmas
+pub mod QueueLemmas
+pub mod ConfirmLemmas
+pub mod LeaveLemmas
+pub mod CacheLemmas
+pub mod RestartLemmas
+pub mod AttachLemmas
+pub mod TransitionLemmas
+pub mod LawLemmas
+pub mod WorkedLemmas
+pub mod RevivalLemmas
+pub mod HistoryLemmas

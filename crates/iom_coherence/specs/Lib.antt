@@ -1,0 +1,16 @@
+pub mod Queue
+pub mod Scene
+pub mod Attachments
+pub mod ToCome
+pub mod Holdings
+pub mod Backing
+pub mod Copies
+pub mod Faithful
+pub mod Among
+pub mod Requests
+pub mod Fetches
+pub mod Deliveries
+pub mod DriverCalls
+pub mod Transitions
+pub mod Laws
+pub mod Worked

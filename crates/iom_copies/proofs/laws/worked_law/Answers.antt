@@ -1,9 +1,0 @@
-use Rattle.iom_copies.proofs.RevivalLemmas.{revivals_occur}
-use Rattle.iom_copies.proofs.WorkedLemmas.{stale_writes_occur}
-use Rattle.iom_copies.proofs.laws.worked_law.Goals as goal
-
-pub returns : goal.returns
-returns c = record {
-  stale_write = stale_writes_occur;
-  revival = revivals_occur;
-}

@@ -1,5 +1,0 @@
-use Rattle.iom_directory.proofs.Hanging.{whole_path_there}
-use Rattle.iom_directory.proofs.laws.whole_paths.Goals as goal
-
-pub returns : goal.returns
-returns c = λ memory top root id path. whole_path_there memory top root id path

@@ -1,5 +1,0 @@
-use Rattle.iom_directory.proofs.Zeroed.{zeroed_root}
-use Rattle.iom_directory.proofs.laws.zeroed_root.Goals as goal
-
-pub returns : goal.returns
-returns c = zeroed_root

@@ -1,0 +1,107 @@
+-- What stays true of a world when a raw device says of a request that it is translated: no context lets it through, and no copy outlives what it copies.
+use Rattle.std.proofs.Common.{◌≡◌, ◌<◌, ◌⊎◌, ◌∙◌, inl, inr, ℕ, Bool, true, false, Some, Result, Ok, Err, refl, sym, ap, subst, if◌then◌else◌}
+use Rattle.std.proofs.lemmas.Bool.{false≢true}
+use Rattle.std.proofs.lemmas.Grind.{not_there}
+use Rattle.iom_base.specs.declared.access.Access.{Access}
+use Rattle.iom_base.specs.declared.cause.Cause.{Cause}
+use Rattle.iom_base.specs.declared.cause.Cause.TheVariants.{TransactionTypeDisallowed}
+use Rattle.iom_coherence.specs.Attachments.{has_ats, caches_translations}
+use Rattle.iom_device_dir.specs.declared.context.Context.{Context}
+use Rattle.iom_driver.specs.declared.device.Attachment.{Attachment}
+use Rattle.iom_driver.specs.declared.device.Attachment.TheVariants.{Detached, Attached, Quarantined, Leaving}
+use Rattle.iom_driver.specs.Devices.{attachment_of}
+use Rattle.iom_driver.specs.Directory.{context_for}
+use Rattle.iom_driver.specs.State.{DriverState}
+use Rattle.iom_iommu.specs.declared.reply.Reply.{Reply}
+use Rattle.iom_iommu.specs.declared.reply.Reply.TheVariants.{Accepted, Busy, BadSpan, Fault}
+use Rattle.iom_iommu.specs.Parts.{registers_of, contexts_of, flights_of}
+use Rattle.iom_iommu.specs.Service.{ats_context_for}
+use Rattle.iom_iommu.specs.Translated.{AnswersTranslated, AcceptsTranslated, physical_page}
+use Rattle.iom_machine.specs.declared.outcome.Outcome.{Outcome}
+use Rattle.iom_machine.specs.declared.state.DeviceKind.{DeviceKind}
+use Rattle.iom_machine.specs.declared.state.DeviceKind.TheVariants.{Raw, Ats, Block, CachedBlock}
+use Rattle.iom_machine.specs.Kinds.{forges}
+use Rattle.iom_machine.specs.Refusals.{has_cache}
+use Rattle.iom_machine.specs.Translated.{MayLackContext}
+use Rattle.iom_stage_walk.specs.declared.walked.WalkFault.{WalkFault}
+use Rattle.iom_stage_walk.specs.Both.{plain}
+use Rattle.iom_tlb.specs.declared.trans_cache.Translation.{Translation}
+use Rattle.iom_device.specs.Caches.{kind_in}
+use Rattle.iom_world_effects.specs.Devices.{shown_attachment}
+use Rattle.iom_world_effects.specs.Parts.{Parts}
+use Rattle.iom_world_effects.specs.Requests.{AsksTranslated}
+use Rattle.iom_world_effects.specs.Sound.{AreSound}
+use Rattle.iom_world_effects.proofs.AtsContexts.{FindsAts, finds_ats}
+use Rattle.iom_world_effects.proofs.DriverLemmas.{IsSoundDriver}
+use Rattle.iom_world_effects.proofs.PartsLemmas.{StaysReady, StaysReported}
+use Rattle.iom_world_invariant.proofs.RequestKeeps.{keeps_refused, keeps_same}
+use Rattle.iom_world_effects.proofs.ServedLemmas.{ServiceLaws, cause_at}
+
+-- a device that forges has no cache of its own
+pub forges_uncached : (kind : DeviceKind) → forges kind ≡ true → has_cache kind ≡ false
+forges_uncached Raw is = refl
+forges_uncached Ats is = absurd (false≢true is)
+forges_uncached Block is = absurd (false≢true is)
+forges_uncached CachedBlock is = absurd (false≢true is)
+
+-- and one without a cache was never attached with ATS
+pub uncached_plain : (parts : Parts) (events id : ℕ) (kind : DeviceKind) → AreSound parts events → kind_in parts.devices id ≡ Some kind → has_cache kind ≡ false
+    → has_ats (shown_attachment (attachment_of parts.driver.devices id)) ≡ false
+uncached_plain parts events id kind sound there uncached = by (has_ats (shown_attachment (attachment_of parts.driver.devices id))) refl
+  where
+    by : (b : Bool) → has_ats (shown_attachment (attachment_of parts.driver.devices id)) ≡ b → has_ats (shown_attachment (attachment_of parts.driver.devices id)) ≡ false
+    by false is = is
+    by true is = absurd (not_there sound.copies (λ (scene, shown, facts).
+        false≢true (sym uncached ∙ sym (ap caches_translations (shown.kinds id ∙ there)) ∙ facts.order.cached id (ap has_ats (shown.attachments id) ∙ is))))
+
+-- the cause for which no context lets a request through that is of ATS
+abbrev pub IsNotLet : Attachment → ℕ → ℕ → Cause → Type 0
+IsNotLet a levels id cause = (cause ≡ TransactionTypeDisallowed) ⊎ (MayLackContext (shown_attachment a) × (cause ≡ cause_at levels id))
+
+not_let_by : (a : Attachment) (d : DriverState) (id : ℕ) (found : Result Context Cause) → has_ats (shown_attachment a) ≡ false → FindsAts a d id found
+    → (cause : Cause) × (found ≡ Err cause) × IsNotLet a d.levels id cause
+not_let_by Detached d id found plain_one is = (cause_at d.levels id, is, inr (tt, refl))
+not_let_by (Attached stage) d id found plain_one is =
+    (TransactionTypeDisallowed, is ∙ ap (λ (b : Bool). if b then Ok (context_for stage) else Err TransactionTypeDisallowed) plain_one, inl refl)
+not_let_by (Quarantined ticket stage) d id found plain_one (inl is) = (cause_at d.levels id, is, inr (tt, refl))
+not_let_by (Quarantined ticket stage) d id found plain_one (inr (pending, is)) =
+    (TransactionTypeDisallowed, is ∙ ap (λ (b : Bool). if b then Ok (context_for stage) else Err TransactionTypeDisallowed) plain_one, inl refl)
+not_let_by (Leaving ticket stage) d id found plain_one (inl is) = (cause_at d.levels id, is, inr (tt, refl))
+not_let_by (Leaving ticket stage) d id found plain_one (inr is) =
+    (TransactionTypeDisallowed, is ∙ ap (λ (b : Bool). if b then Ok (context_for stage) else Err TransactionTypeDisallowed) plain_one, inl refl)
+
+-- WHAT A FORGED REQUEST FINDS
+pub not_let : ServiceLaws → (parts : Parts) (events id : ℕ) (kind : DeviceKind) → AreSound parts events → IsSoundDriver parts.driver → kind_in parts.devices id ≡ Some kind → forges kind ≡ true
+    → (cause : Cause) × (ats_context_for parts.memory (registers_of parts.iommu) (contexts_of parts.iommu) id ≡ Err cause)
+    × IsNotLet (attachment_of parts.driver.devices id) parts.driver.levels id cause
+not_let laws parts events id kind sound own there able =
+    not_let_by (attachment_of parts.driver.devices id) parts.driver id (ats_context_for parts.memory (registers_of parts.iommu) (contexts_of parts.iommu) id)
+    (uncached_plain parts events id kind sound there (forges_uncached kind able)) (finds_ats laws parts events sound own id)
+
+-- so it is never accepted
+pub never_accepted : (old : Parts) (id : ℕ) (access : Access) (number : ℕ) (new : Parts) (cause : Cause)
+    → ats_context_for old.memory (registers_of old.iommu) (contexts_of old.iommu) id ≡ Err cause → ¬ AcceptsTranslated old.memory old.iommu id access number new.iommu
+never_accepted old id access number new cause found call =
+    ok_err (record { frame = call.frame; rights = call.rights }) (plain cause)
+    (call.served.0 ∙ ap (λ (f : Result Context Cause). physical_page f old.memory access.address access.kind) found)
+  where
+    ok_err : (translation : Translation) (fault : WalkFault) → ◌≡◌ {A = Result Translation WalkFault} (Ok translation) (Err fault) → ⊥
+    ok_err translation fault same = cc
+
+pub keeps_translated : ServiceLaws → (old new : Parts) (events id : ℕ) (access : Access) (told : Outcome) → AreSound old events → IsSoundDriver old.driver → StaysReady old.driver
+    → StaysReported old.driver → (flights_of old.iommu).so_far < events → AsksTranslated old id access told new → AreSound new events
+keeps_translated laws old new events id access told sound own stays reported below asks = elim asks [
+  | inl unknown ↦ subst (λ parts. AreSound parts events) (sym unknown.same) sound
+  | inr (inl unable) ↦ subst (λ parts. AreSound parts events) (sym unable.same) sound
+  | inr (inr answered) ↦
+      let found = not_let laws old events id answered.0.0 sound own answered.0.1 answered.0.2 in
+      by found.0 found.1 answered.1.driver answered.1.devices answered.1.fabric answered.1.reply answered.1.call
+]
+  where
+    by : (cause : Cause) → ats_context_for old.memory (registers_of old.iommu) (contexts_of old.iommu) id ≡ Err cause → new.driver ≡ old.driver → new.devices ≡ old.devices → new.fabric ≡ old.fabric
+        → (reply : Reply) → AnswersTranslated old.memory old.iommu id access reply new.memory new.iommu → AreSound new events
+    by why found driver devices fabric (Accepted number) call = absurd (never_accepted old id access number new why found call.0)
+    by why found driver devices fabric Busy call = keeps_same laws old new events id access sound own stays reported driver devices fabric below call.3 call.2
+    by why found driver devices fabric BadSpan call = keeps_same laws old new events id access sound own stays reported driver devices fabric below call.2 call.1
+    by why found driver devices fabric (Fault cause) call =
+        keeps_refused laws old new events id access sound own stays reported driver devices fabric below cause call call.served.1

@@ -1,0 +1,156 @@
+-- An access in flight is made: a lawful step of the ledger machine.
+use Rattle.std.proofs.Common.{◌≡◌, ◌+◌, ◌∙◌, ◌∷◌, inl, inr, ℕ, false, List, [], map, drop, Contains, Option, Some, None, IfSome, slice_get, slice_range, refl, sym, ap, subst}
+use Rattle.iom_base.specs.declared.access.AcceptedAccess.{AcceptedAccess}
+use Rattle.iom_base.specs.declared.access.AccessKind.{AccessKind}
+use Rattle.iom_base.specs.declared.access.AccessKind.TheVariants as kinds
+use Rattle.iom_base.specs.Accesses.{offset_of}
+use Rattle.iom_coherence.proofs.ListLemmas.{contains_head}
+use Rattle.iom_inflight.specs.declared.made.MadeAt.{MadeAt}
+use Rattle.iom_inflight.specs.Calls.{IsMade, Performs}
+use Rattle.iom_inflight.specs.Flights.{NumberedAccess, FlightRow, row_of, with_row, made_at}
+use Rattle.iom_inflight.proofs.Rows.{row_is_own}
+use Rattle.iom_iommu.specs.Parts.{flights_of}
+use Rattle.iom_iommu.specs.Requests.{CommitsOldest}
+use Rattle.iom_ledger.specs.History.{May}
+use Rattle.iom_machine.specs.declared.outcome.Outcome.{Outcome}
+use Rattle.iom_machine.specs.declared.outcome.Outcome.TheVariants.{Read, Wrote, NothingInFlight}
+use Rattle.iom_machine.specs.declared.state.Device as machine
+use Rattle.iom_machine.specs.declared.state.State.{State}
+use Rattle.iom_machine.specs.Devices.{replaced_device}
+use Rattle.iom_machine.specs.Frames.{stored}
+use Rattle.iom_machine.specs.Machine.{Commits, Makes, with_oldest_made}
+use Rattle.iom_table_frames.specs.Marks.{is_marked}
+use Rattle.iom_world_effects.specs.Commits.{CommitsAccess, TellsMade, TellsKind}
+use Rattle.iom_world_effects.specs.Devices.{in_flight_of, shown_device, shown_devices}
+use Rattle.iom_world_effects.specs.Frames.{ShowsFrames}
+use Rattle.iom_world_effects.specs.Parts.{Parts}
+use Rattle.iom_world_effects.specs.Shows.{PartsShow}
+use Rattle.iom_world_effects.specs.Sound.{AreSound}
+use Rattle.iom_world_invariant.proofs.CommitKeeps.{made_free}
+use Rattle.iom_world_refinement.proofs.FlightMay.{row_may}
+use Rattle.iom_world_effects.proofs.RowPlaces.{IsFound, present_found, row_shown, accepted_at, in_flight_at, with_own}
+use Rattle.iom_world_invariant.proofs.RequestStep.{acts_at, acts_absent, shows_same, shows_flights}
+use Rattle.iom_world_refinement.proofs.StoreLemmas.{bytes_shown, frames_stored}
+use Rattle.iom_machine.specs.Kinds.{is_any_kind}
+
+-- what a commit leads to: the machine may make the access so, and shows the parts then
+abbrev pub Steps : State → ℕ → Outcome → Parts → Type 0
+Steps state id told new = (next : State) × Commits state id told next × PartsShow new next
+
+module _ (old new : Parts) (events id : ℕ) (sound : AreSound old events) (driver : new.driver ≡ old.driver) (devices : new.devices ≡ old.devices) (state : State) (shows : PartsShow old state)
+    (found : IsFound old.driver.devices (flights_of old.iommu).rows old.devices id) where
+  abbrev rows : List FlightRow
+  rows = (flights_of old.iommu).rows
+
+  abbrev device : machine.Device
+  device = shown_device old.driver.devices (flights_of old.iommu).rows found.device
+
+  module _ (made : MadeAt) (is : IsMade old.memory (flights_of old.iommu) id made new.memory (flights_of new.iommu)) (unreserved : is_marked old.driver.marks made.frame ≡ false) where
+    abbrev oldest : AcceptedAccess
+    oldest = is.oldest.accepted
+
+    abbrev left : FlightRow
+    left = record is.row { waiting = is.later }
+
+    free : slice_get old.driver.marks is.oldest.accepted.frame ≡ Some None
+    free = made_free old events id made new.memory (flights_of new.iommu) sound is unreserved
+
+    row_at : row_of (flights_of old.iommu).rows found.device.id ≡ Some is.row
+    row_at = ap (row_of rows) found.own ∙ is.stands
+
+    in_flight : in_flight_of (flights_of old.iommu).rows found.device.id ≡ is.oldest.accepted ∷ map (λ (f : NumberedAccess). f.accepted) is.later
+    in_flight = in_flight_at rows found.device.id is.row row_at ∙ ap (λ (l : List NumberedAccess). map (λ (f : NumberedAccess). f.accepted) l) is.waiting
+
+    may_reach : May state.history found.device.id is.oldest.accepted.frame is.oldest.accepted.access.kind
+    may_reach =
+        subst (λ n. May state.history n is.oldest.accepted.frame is.oldest.accepted.access.kind) (sym found.own)
+        (row_may old events sound state shows id is.row is.stands is.oldest
+        (subst (λ (l : List NumberedAccess). Contains l is.oldest) (sym is.waiting) (contains_head is.oldest is.later)))
+
+    -- the device in the machine, once its oldest access is made
+    now_shown : with_own (shown_device old.driver.devices (flights_of old.iommu).rows found.device) (record is.row { waiting = is.later })
+        ≡ record (shown_device old.driver.devices (flights_of old.iommu).rows found.device) { in_flight = drop 1 (in_flight_of (flights_of old.iommu).rows found.device.id) }
+    now_shown =
+        ap (λ (n : ℕ). record device { accepted = n; in_flight = map (λ (f : NumberedAccess). f.accepted) is.later }) (sym (accepted_at rows found.device.id is.row row_at))
+        ∙ ap (λ (l : List AcceptedAccess). record device { in_flight = drop 1 l }) (sym in_flight)
+
+    devices_shown : (with_oldest_made state (shown_device old.driver.devices (flights_of old.iommu).rows found.device)).devices
+        ≡ shown_devices old.driver.devices (with_row (flights_of old.iommu).rows (record is.row { waiting = is.later })) old.devices
+    devices_shown =
+        ap (λ (ds : List machine.Device). replaced_device ds found.device.id (record device { in_flight = drop 1 device.in_flight })) shows.devices
+        ∙ ap (λ (n : ℕ). replaced_device (shown_devices old.driver.devices rows old.devices) n (record device { in_flight = drop 1 device.in_flight })) found.own
+        ∙ ap (λ (d : machine.Device). replaced_device (shown_devices old.driver.devices rows old.devices) id d) (sym now_shown)
+        ∙ row_shown old.driver.devices rows old.devices id found.device is.row left sound.known.own_ids found.found found.own is.stands (row_is_own rows id is.row is.stands)
+
+    -- the parts are shown with these frames
+    shows_made : (next : State) → next ≡ record (with_oldest_made state (shown_device old.driver.devices (flights_of old.iommu).rows found.device)) { frames = next.frames }
+        → ShowsFrames new.memory old.driver.marks next.frames → PartsShow new next
+    shows_made next same frames = record {
+      ledger = rw (driver, ap (λ (s : State). s.history) same) shows.ledger;
+      frames = rw driver frames;
+      devices = ap (λ (s : State). s.devices) same ∙ rw (driver, devices, is.after) devices_shown;
+      given = rw (driver, ap (λ (s : State). s.last_ticket) same) shows.given;
+      confirmed = rw (driver, ap (λ (s : State). s.history) same) shows.confirmed;
+      all_earlier = rw (driver, ap (λ (s : State). s.history) same) shows.all_earlier;
+      none_later = rw (driver, ap (λ (s : State). s.history) same) shows.none_later;
+      levels = rw (driver, ap (λ (s : State). s.levels) same) shows.levels;
+    }
+
+    step_kind : (kind : AccessKind) → is.oldest.accepted.access.kind ≡ kind → (told : Outcome) → Performs kind old.memory is.oldest.accepted new.memory
+        → TellsKind old.memory (made_at id is.oldest.accepted) kind told → Steps state id told new
+    step_kind kinds.Read reads told performed gives =
+        let next = with_oldest_made state device in
+        let held = gives.told_so.0 in
+        let shown = bytes_shown old.memory old.driver.marks state.frames oldest.frame gives.bytes shows.frames free gives.there in (
+          next,
+          subst (λ t. Commits state id t next) (sym gives.told_so.1)
+              (acts_at is_any_kind (λ (d : machine.Device). Makes state d (Read held) next) old state id (Read held) next shows.devices found refl
+              (rw in_flight (
+                (
+                  reads,
+                  subst (λ k. May state.history found.device.id oldest.frame k) reads may_reach,
+                  gives.told_so.2 ∙ ap (λ (b : List ℕ). slice_range b (offset_of oldest.access) (offset_of oldest.access + oldest.access.len)) (sym shown),
+                ),
+                refl,
+              ))),
+          shows_made next refl (subst (λ m. ShowsFrames m old.driver.marks state.frames) (sym performed) shows.frames),
+        )
+    step_kind kinds.Write writes told (bytes, there, stores) told_so =
+        let next = record (with_oldest_made state device) { frames = stored state.frames oldest.frame (offset_of oldest.access) oldest.access.bytes } in (
+          next,
+          subst (λ t. Commits state id t next) (sym told_so)
+              (acts_at is_any_kind (λ (d : machine.Device). Makes state d (Wrote oldest.access.len) next) old state id (Wrote oldest.access.len) next shows.devices found refl
+              (rw in_flight ((writes, subst (λ k. May state.history found.device.id oldest.frame k) writes may_reach, refl), refl))),
+          shows_made next refl
+              (subst (λ m. ShowsFrames m old.driver.marks (stored state.frames oldest.frame (offset_of oldest.access) oldest.access.bytes)) (sym stores)
+              (frames_stored old.memory old.driver.marks state.frames oldest.frame (offset_of oldest.access) bytes oldest.access.bytes shows.frames free there)),
+        )
+
+    step_made : (told : Outcome) → TellsKind old.memory made made.kind told → Steps state id told new
+    step_made told tells =
+        step_kind is.oldest.accepted.access.kind refl told is.performed (subst (λ (m : MadeAt). TellsKind old.memory m m.kind told) is.told tells)
+
+  step_oldest : (made : Option MadeAt) (told : Outcome) → TellsMade old.memory made told → CommitsOldest old.memory old.iommu id made new.memory new.iommu
+      → IfSome made (λ it. is_marked old.driver.marks it.frame ≡ false) → Steps state id told new
+  step_oldest None told tells call unreserved =
+      let idle = call.makes.0 in
+      let empty : in_flight_of rows found.device.id ≡ [] =
+      in_flight_at rows found.device.id idle.row (ap (row_of rows) found.own ∙ idle.stands) ∙ ap (λ (l : List NumberedAccess). map (λ (f : NumberedAccess). f.accepted) l) idle.idle in (
+        state,
+        subst (λ t. Commits state id t state) (sym tells)
+            (acts_at is_any_kind (λ (d : machine.Device). Makes state d NothingInFlight state) old state id NothingInFlight state shows.devices found refl (empty, refl)),
+        shows_flights old new state call.makes.1 driver devices call.makes.2 shows,
+      )
+  step_oldest (Some made) told tells call unreserved = step_made made call.makes unreserved told tells
+
+pub commit_step : (old new : Parts) (events id : ℕ) (told : Outcome) → AreSound old events → CommitsAccess old id told new
+    → (state : State) → PartsShow old state → (next : State) × Commits state id told next × PartsShow new next
+commit_step old new events id told sound commits state shows = elim commits [
+  | inl unknown ↦ (
+    state,
+    acts_absent is_any_kind (λ device. Makes state device told state) old state id told shows.devices unknown.absent unknown.told_so,
+    shows_same old new state unknown.same shows,
+  )
+  | inr makes ↦ step_oldest old new events id sound makes.driver makes.devices state shows
+      (present_found old.driver.devices (flights_of old.iommu).rows old.devices id makes.present) makes.made told makes.told_so makes.call makes.unreserved
+]
