@@ -11,8 +11,8 @@ use Rattle.iom_machine.specs.declared.event.Event.TheVariants as events
 use Rattle.iom_machine.specs.declared.outcome.BlockStep.TheVariants as rest
 use Rattle.iom_machine.specs.declared.outcome.Outcome.{Outcome}
 use Rattle.iom_machine.specs.declared.outcome.Outcome.TheVariants as outcome
-use Rattle.iom_machine.specs.declared.state.DeviceKind.{DeviceKind}
-use Rattle.iom_machine.specs.Kinds.{disk_of}
+use Rattle.iom_base.specs.declared.device_kind.DeviceKind.{DeviceKind}
+use Rattle.iom_base.specs.DeviceKinds.{disk_of}
 use Rattle.iom_device.specs.Caches.{kind_in}
 use Rattle.iom_coherence.specs.Attachments.{caches_translations}
 use Rattle.iom_world_effects.specs.BlockDevices.{GoesToMemory, AsksIfMissed}

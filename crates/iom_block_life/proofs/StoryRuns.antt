@@ -8,9 +8,9 @@ use Rattle.iom_machine.specs.declared.event.Event.TheVariants as events
 use Rattle.iom_machine.specs.declared.outcome.Outcome.{Outcome}
 use Rattle.iom_machine.specs.declared.outcome.Outcome.TheVariants as outcome
 use Rattle.iom_machine.specs.declared.outcome.Trace.{Trace}
-use Rattle.iom_machine.specs.declared.state.NewDevice.{NewDevice}
+use Rattle.iom_base.specs.declared.device_kind.NewDevice.{NewDevice}
 use Rattle.iom_machine.specs.declared.state.State.{State}
-use Rattle.iom_machine.specs.Kinds.{disk_of}
+use Rattle.iom_base.specs.DeviceKinds.{disk_of}
 use Rattle.iom_machine.specs.Machine.{Run}
 use Rattle.iom_virtio_blk.specs.DiskStates.{DiskState}
 use Rattle.iom_virtio_blk.specs.Steps.{Device}

@@ -16,7 +16,7 @@ use Rattle.iom_coherence.proofs.LedgerLemmas.{backed-still}
 use Rattle.iom_coherence.proofs.ToComeLemmas.{in_order-rest}
 use Rattle.iom_coherence.proofs.TicketLemmas.{same_number}
 use Rattle.iom_coherence.proofs.KindLemmas.{honest}
-use Rattle.iom_machine.specs.declared.state.DeviceKind.{DeviceKind}
+use Rattle.iom_base.specs.declared.device_kind.DeviceKind.{DeviceKind}
 
 -- the order does not speak of copies and messages
 pub order-copies : (s : Scene) (translations : List Copy) (contexts : List ℕ) (entries : List Copy) (epoch_of : ℕ → ℕ) (messages : List AtsMessage) → IsOrdered s

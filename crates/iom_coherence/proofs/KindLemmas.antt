@@ -1,8 +1,8 @@
 -- Kinds of devices.
 use Rattle.std.proofs.Common.{◌≡◌, true, false, Option, None, Some, refl}
 use Rattle.std.proofs.lemmas.Bool.{false≢true}
-use Rattle.iom_machine.specs.declared.state.DeviceKind.{DeviceKind}
-use Rattle.iom_machine.specs.declared.state.DeviceKind.TheVariants.{Raw, Ats, Block, CachedBlock}
+use Rattle.iom_base.specs.declared.device_kind.DeviceKind.{DeviceKind}
+use Rattle.iom_base.specs.declared.device_kind.DeviceKind.TheVariants.{Raw, Ats, Block, CachedBlock}
 use Rattle.iom_coherence.specs.Attachments.{caches_translations, may_forge}
 
 -- a device with a cache of its own forges nothing

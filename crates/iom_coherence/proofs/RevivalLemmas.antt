@@ -14,7 +14,7 @@ use Rattle.iom_coherence.specs.Queue.{DropContext, DropTranslations, Extent, Fen
 use Rattle.iom_coherence.specs.Scene.{PendingTicket, Scene}
 use Rattle.iom_coherence.specs.Worked.{RevivalsOccur, attach_and_detach, both_rights, cut_off, revival}
 use Rattle.iom_machine.specs.declared.state.Attachment.TheVariants.{Attached, Leaving, Quarantined}
-use Rattle.iom_machine.specs.declared.state.DeviceKind.TheVariants.{Ats}
+use Rattle.iom_base.specs.declared.device_kind.DeviceKind.TheVariants.{Ats}
 use Rattle.iom_base.specs.declared.mode.Mode.TheVariants.{Both, Second}
 use Rattle.iom_base.specs.declared.size.Size.TheVariants.{Sv39, Sv48}
 

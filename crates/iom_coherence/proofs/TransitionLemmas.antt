@@ -18,7 +18,7 @@ use Rattle.iom_coherence.specs.Fetches.{next_invalidation}
 use Rattle.iom_coherence.specs.Laws.{AccessesAlwaysMay, scene_after_fence}
 use Rattle.iom_coherence.specs.Transitions.{Accept, Attach, CarryMessages, CompleteFence, Confirm, DeliverAnswer, DeliverCompletion, DeliverRequest, Detach, FetchAtsInval, FetchIodir, FetchIotinval, Grant, KeepContext, KeepTranslation, Make, OccurInTurn, Transition, Occurs, Plug, Quarantine, Release, Reset, Restart, Revive, TakeStock, TimeOut}
 use Rattle.iom_coherence.specs.Scene.{Answer, InvalidateCompletion, InvalidateRequest, Question, Scene, Stock}
-use Rattle.iom_machine.specs.declared.state.DeviceKind.{DeviceKind}
+use Rattle.iom_base.specs.declared.device_kind.DeviceKind.{DeviceKind}
 
 -- power-on, with all numbers of fences up to one used up
 pub faithful_after_fence : (number : ℕ) → IsFaithful (scene_after_fence number)

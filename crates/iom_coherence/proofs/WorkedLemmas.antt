@@ -12,7 +12,7 @@ use Rattle.iom_coherence.specs.Queue.{Fence, Invalidate, OnePage}
 use Rattle.iom_coherence.specs.Scene.{Answer, InvalidateCompletion, InvalidateRequest, Question, Scene}
 use Rattle.iom_coherence.specs.Worked.{StaleWritesOccur, both_rights, first_invalidation, first_write, its_end, remembered, stale_write}
 use Rattle.iom_machine.specs.declared.state.Attachment.TheVariants.{Attached}
-use Rattle.iom_machine.specs.declared.state.DeviceKind.TheVariants.{Ats}
+use Rattle.iom_base.specs.declared.device_kind.DeviceKind.TheVariants.{Ats}
 use Rattle.iom_base.specs.declared.mode.Mode.TheVariants.{First}
 use Rattle.iom_base.specs.declared.size.Size.TheVariants.{Sv39}
 

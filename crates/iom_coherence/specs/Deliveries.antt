@@ -1,6 +1,6 @@
 -- What becomes of messages, and of the caches of devices.
 use Rattle.std.specs.Prelude.{◌≡◌, ℕ, ◌+◌, ◌≤◌, ◌⊎◌, true, false, ◌==◌, ◌&&◌, List, Contains, Option, if◌then◌else◌}
-use Rattle.iom_machine.specs.declared.state.DeviceKind.{DeviceKind}
+use Rattle.iom_base.specs.declared.device_kind.DeviceKind.{DeviceKind}
 use Rattle.iom_coherence.specs.Queue.{Extent}
 use Rattle.iom_coherence.specs.Scene.{Copy, Invalidation, AtsMessage, Question, Answer, InvalidateRequest, InvalidateCompletion, Scene}
 use Rattle.iom_coherence.specs.Attachments.{has_ats, caches_translations, may_forge}

@@ -5,7 +5,7 @@ use Rattle.iom_ledger.specs.declared.entry.HistoryEntry.TheVariants.{Granted, Re
 use Rattle.iom_ledger.specs.History.{Pair, held_at, lingering_at}
 use Rattle.iom_machine.specs.declared.state.Attachment.{Attachment}
 use Rattle.iom_machine.specs.declared.state.Attachment.TheVariants.{Detached, Attached, Quarantined, Leaving}
-use Rattle.iom_machine.specs.declared.state.DeviceKind.{DeviceKind}
+use Rattle.iom_base.specs.declared.device_kind.DeviceKind.{DeviceKind}
 use Rattle.iom_base.specs.declared.mode.Mode.{Mode}
 use Rattle.iom_coherence.specs.Queue.{Extent, OnePage, WholeSpace, QueuedCommand, DropTranslations, DropContext, Invalidate, Fence}
 use Rattle.iom_coherence.specs.Scene.{Copy, PendingTicket, Scene}

@@ -3,7 +3,7 @@ use Rattle.std.specs.Prelude.{◌≡◌, ℕ, ◌≤◌, Bool, true, false, List
 use Rattle.iom_ledger.specs.History.{History, confirms}
 use Rattle.iom_machine.specs.declared.state.Attachment.{Attachment}
 use Rattle.iom_machine.specs.declared.state.Attachment.TheVariants.{Detached, Attached, Quarantined, Leaving}
-use Rattle.iom_machine.specs.declared.state.DeviceKind.{DeviceKind}
+use Rattle.iom_base.specs.declared.device_kind.DeviceKind.{DeviceKind}
 use Rattle.iom_coherence.specs.Queue.{Extent, QueuedCommand, Fence}
 use Rattle.iom_coherence.specs.Scene.{Copy, AccessInFlight, Invalidation, AtsMessage, Question, Answer, InvalidateRequest, InvalidateCompletion, Scene}
 use Rattle.iom_coherence.specs.Attachments.{has_ats, caches_translations, may_forge}

@@ -2,7 +2,7 @@
 use Rattle.std.specs.Prelude.{◌≡◌, ℕ, Bool, List, [], ◌∷◌}
 use Rattle.iom_base.specs.declared.access.AccessKind.{AccessKind}
 use Rattle.iom_base.specs.declared.rights.Rights.{Rights}
-use Rattle.iom_machine.specs.declared.state.DeviceKind.{DeviceKind}
+use Rattle.iom_base.specs.declared.device_kind.DeviceKind.{DeviceKind}
 use Rattle.iom_base.specs.declared.mode.Mode.{Mode}
 use Rattle.iom_coherence.specs.Queue.{Extent}
 use Rattle.iom_coherence.specs.Scene.{Copy, Invalidation, Scene}

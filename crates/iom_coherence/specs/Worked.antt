@@ -6,7 +6,7 @@ use Rattle.iom_base.specs.declared.rights.Rights.{Rights}
 use Rattle.iom_base.specs.GrantRights.{rights_of}
 use Rattle.iom_ledger.specs.History.{held_at, confirms}
 use Rattle.iom_machine.specs.declared.state.Attachment.TheVariants.{Detached, Attached, Quarantined}
-use Rattle.iom_machine.specs.declared.state.DeviceKind.TheVariants.{Ats}
+use Rattle.iom_base.specs.declared.device_kind.DeviceKind.TheVariants.{Ats}
 use Rattle.iom_base.specs.declared.mode.Mode.TheVariants.{First, Second, Both}
 use Rattle.iom_base.specs.declared.size.Size.TheVariants.{Sv39, Sv48}
 use Rattle.iom_coherence.specs.Queue.{OnePage, WholeSpace}

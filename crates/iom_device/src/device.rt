@@ -6,9 +6,8 @@ ghost use Rattle.iom_device.specs.Caches.{epoch_of, epoch_in, device_with, IsPla
 ghost use Rattle.iom_device.specs.Calls.{Obeys, new_cache, reset_of, with_reset};
 
 use iom_ats_cache::Atc;
-use iom_base::{AccessKind, DeviceId};
+use iom_base::{AccessKind, DeviceId, DeviceKind};
 use iom_fabric::{Message, PageNumber, Range, Translation};
-use iom_machine::DeviceKind;
 
 /// A plugged device. How it is attached the driver knows, and what it has in flight the IOMMU.
 #[derive(Drop)]

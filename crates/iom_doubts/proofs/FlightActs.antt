@@ -5,15 +5,15 @@ use Rattle.iom_base.specs.declared.access.AcceptedAccess.{AcceptedAccess}
 use Rattle.iom_base.specs.declared.access.Access.{Access}
 use Rattle.iom_base.specs.declared.cause.Cause.{Cause}
 use Rattle.iom_base.specs.declared.mode.Mode.TheVariants.{First, Second, Both}
-use Rattle.iom_ledger.specs.declared.refusal.Refusal.TheVariants.{NoSuchDevice, WrongKind, BadMedium}
+use Rattle.iom_base.specs.declared.refusal.Refusal.TheVariants.{NoSuchDevice, WrongKind, BadMedium}
 use Rattle.iom_machine.specs.BlockDevices.{Inserts, MayInsert, MaySet, IsStatus, IsAnswered, MayBe, TakesStep}
 use Rattle.iom_machine.specs.Devices.{device_of}
-use Rattle.iom_machine.specs.Disks.{without_disk}
-use Rattle.iom_machine.specs.Kinds.{sends_untranslated, forges, sends_through_cache, asks_questions, is_any_kind, is_block_device}
+use Rattle.iom_base.specs.Disks.{without_disk}
+use Rattle.iom_base.specs.DeviceKinds.{sends_untranslated, forges, sends_through_cache, asks_questions, is_any_kind, is_block_device, has_cache}
 use Rattle.iom_machine.specs.Machine as machine
 use Rattle.iom_machine.specs.Messages.{Sends, Delivers, Drops, Repeats}
 use Rattle.iom_machine.specs.Questions.{MayTell}
-use Rattle.iom_machine.specs.Refusals.{MayRefuseRestart, has_cache}
+use Rattle.iom_machine.specs.Refusals.{MayRefuseRestart}
 use Rattle.iom_machine.specs.Requests.{MayFault, IsForwarded, IsBusy, MayAnswer}
 use Rattle.iom_machine.specs.ThroughCache.{MayAnswerThroughCache}
 use Rattle.iom_machine.specs.Translated.{MayAnswerTranslated}
@@ -26,7 +26,7 @@ use Rattle.iom_machine.specs.declared.outcome.Outcome.TheVariants as outcomes
 use Rattle.iom_machine.specs.declared.state.Attachment.{Attachment}
 use Rattle.iom_machine.specs.declared.state.Attachment.TheVariants.{Detached, Attached, Quarantined, Leaving}
 use Rattle.iom_machine.specs.declared.state.Device.{Device}
-use Rattle.iom_machine.specs.declared.state.DeviceKind.{DeviceKind}
+use Rattle.iom_base.specs.declared.device_kind.DeviceKind.{DeviceKind}
 use Rattle.iom_machine.specs.declared.state.State.{State}
 use Rattle.iom_fabric.specs.declared.message.Translation.{Translation}
 use Rattle.iom_machine.specs.declared.choice.Choice.{Choice}

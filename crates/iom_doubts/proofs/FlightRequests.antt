@@ -4,17 +4,18 @@ use Rattle.iom_base.specs.Sizes.{page_size}
 use Rattle.iom_base.specs.declared.access.AcceptedAccess.{AcceptedAccess}
 use Rattle.iom_base.specs.declared.access.Access.{Access}
 use Rattle.iom_base.specs.declared.mode.Mode.TheVariants.{First, Second, Both}
-use Rattle.iom_ledger.specs.declared.refusal.Refusal.TheVariants.{NoSuchDevice, WrongKind}
+use Rattle.iom_base.specs.declared.refusal.Refusal.TheVariants.{NoSuchDevice, WrongKind}
 use Rattle.iom_machine.specs.Devices.{device_of, with_device}
-use Rattle.iom_machine.specs.Kinds.{sends_untranslated, sends_through_cache}
+use Rattle.iom_base.specs.DeviceKinds.{sends_untranslated, sends_through_cache}
 use Rattle.iom_machine.specs.Machine.{Requests, RequestsThroughCache, IfItCan}
 use Rattle.iom_machine.specs.Requests.{MayAccept, MayAnswer, IsForwarded, state_after, with_accepted}
-use Rattle.iom_machine.specs.ThroughCache.{MayGoThrough, MayAnswerThroughCache, at_frame, state_after_cached}
+use Rattle.iom_base.specs.Accesses.{at_frame}
+use Rattle.iom_machine.specs.ThroughCache.{MayGoThrough, MayAnswerThroughCache, state_after_cached}
 use Rattle.iom_machine.specs.declared.outcome.Outcome.TheVariants.{Accepted, Refused}
 use Rattle.iom_machine.specs.declared.state.Attachment.{Attachment}
 use Rattle.iom_machine.specs.declared.state.Attachment.TheVariants.{Detached, Attached, Quarantined, Leaving}
 use Rattle.iom_machine.specs.declared.state.Device.{Device}
-use Rattle.iom_machine.specs.declared.state.DeviceKind.{DeviceKind}
+use Rattle.iom_base.specs.declared.device_kind.DeviceKind.{DeviceKind}
 use Rattle.iom_machine.specs.declared.state.State.{State}
 use Rattle.iom_machine.proofs.InFlightLemmas.{found_device}
 use Rattle.iom_doubts.specs.declared.doubts.Doubt.{Doubt}

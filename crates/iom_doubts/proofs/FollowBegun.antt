@@ -1,16 +1,15 @@
 -- Steps that begin an access, where accesses are in doubt: which it may be, and that it is one of these also where other accesses are in flight.
 use Rattle.std.proofs.Common.{◌≡◌, ◌∙◌, ◌⊎◌, inl, inr, ◌+◌, ℕ, zero, suc, Bool, true, false, ◌==◌, List, [], ◌∷◌, ◌++◌, All, Option, None, Some, find, length, slice_get, refl, sym, ap, subst}
-use Rattle.iom_base.specs.Accesses.{page_of}
+use Rattle.iom_base.specs.Accesses.{page_of, MayWant}
 use Rattle.iom_base.specs.declared.access.AcceptedAccess.{AcceptedAccess}
 use Rattle.iom_base.specs.declared.access.Access.{Access}
 use Rattle.iom_base.specs.declared.access.AccessKind.{AccessKind}
 use Rattle.iom_base.specs.declared.access.AccessKind.TheVariants.{Read, Write}
 use Rattle.iom_base.specs.declared.mode.Mode.TheVariants.{First, Second, Both}
-use Rattle.iom_machine.specs.BlockDevices.{IsAnswered, MayWant, TakesStep}
+use Rattle.iom_machine.specs.BlockDevices.{IsAnswered, TakesStep}
 use Rattle.iom_machine.specs.Devices.{device_of, with_device}
-use Rattle.iom_machine.specs.Kinds.{is_block_device}
+use Rattle.iom_base.specs.DeviceKinds.{is_block_device, has_cache}
 use Rattle.iom_machine.specs.Machine.{Step, Steps}
-use Rattle.iom_machine.specs.Refusals.{has_cache}
 use Rattle.iom_machine.specs.Requests.{IsBusy, IsForwarded, MayAccept, with_accepted}
 use Rattle.iom_machine.specs.ThroughCache.{MayGoThrough}
 use Rattle.iom_machine.specs.declared.choice.Choice.{Choice}

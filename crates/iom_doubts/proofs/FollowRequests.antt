@@ -6,7 +6,7 @@ use Rattle.iom_base.specs.declared.access.Access.{Access}
 use Rattle.iom_base.specs.declared.access.AccessKind.{AccessKind}
 use Rattle.iom_base.specs.declared.access.AccessKind.TheVariants.{Read, Write}
 use Rattle.iom_machine.specs.Devices.{device_of}
-use Rattle.iom_machine.specs.Kinds.{forges}
+use Rattle.iom_base.specs.DeviceKinds.{forges}
 use Rattle.iom_machine.specs.Machine.{Step, ChosenStep, Requests, RequestsTranslated, RequestsThroughCache}
 use Rattle.iom_machine.specs.Requests.{MayAccept}
 use Rattle.iom_machine.specs.ThroughCache.{MayGoThrough}

@@ -1,13 +1,12 @@
 -- Accesses that steps of block devices began: at which places they may be, and which they may be there.
 use Rattle.std.specs.Prelude.{◌≡◌, ℕ, Bool, true, false, List, Some, slice_get}
-use Rattle.iom_base.specs.Accesses.{page_of}
+use Rattle.iom_base.specs.Accesses.{page_of, at_frame, MayWant}
 use Rattle.iom_base.specs.declared.access.Access.{Access}
 use Rattle.iom_base.specs.declared.access.AccessKind.{AccessKind}
 use Rattle.iom_base.specs.declared.access.AccessKind.TheVariants.{Read, Write}
 use Rattle.iom_base.specs.declared.access.AcceptedAccess.{AcceptedAccess}
-use Rattle.iom_machine.specs.BlockDevices.{MayWant}
 use Rattle.iom_machine.specs.Requests.{MayAccept}
-use Rattle.iom_machine.specs.ThroughCache.{MayGoThrough, at_frame}
+use Rattle.iom_machine.specs.ThroughCache.{MayGoThrough}
 use Rattle.iom_machine.specs.declared.state.Device.{Device}
 use Rattle.iom_machine.specs.declared.state.Frame.{Frame}
 use Rattle.iom_known.specs.Allowed.{Past, IsTrueOf, state_of}

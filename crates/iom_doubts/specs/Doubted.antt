@@ -3,7 +3,7 @@
 use Rattle.std.specs.Prelude.{◌≡◌, ◌==◌, ◌⊎◌, ℕ, ◌-◌, Bool, true, false, List, [], ◌∷◌, ◌++◌, All, length, find, slice_get, Some, ⊤}
 use Rattle.iom_base.specs.declared.access.Access.{Access}
 use Rattle.iom_base.specs.declared.access.AcceptedAccess.{AcceptedAccess}
-use Rattle.iom_machine.specs.Refusals.{has_cache}
+use Rattle.iom_base.specs.DeviceKinds.{has_cache}
 use Rattle.iom_machine.specs.Requests.{MayAccept}
 use Rattle.iom_machine.specs.ThroughCache.{MayGoThrough}
 use Rattle.iom_machine.specs.declared.state.Device.{Device}

@@ -3,9 +3,9 @@
 ghost use Rattle.std.specs.Prelude.{◌<◌, ◌≤◌, ◌^◌, IfOk};
 ghost use Rattle.iom_world_effects.specs.Stays.{IsNoChoice};
 
-use iom_base::{DeviceId, GrantRights, Mode, Sequence, Size};
+use iom_base::{DeviceId, GrantRights, Mode, NewDevice, Sequence, Size};
 use iom_fabric::PageNumber;
-use iom_machine::{Event, NewDevice};
+use iom_machine::Event;
 use std::alloc::{AllocError, Global};
 
 /// The first frame that is granted; the others follow.

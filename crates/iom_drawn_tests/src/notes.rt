@@ -2,8 +2,7 @@
 
 use crate::draw::LAST_OF_THREE;
 use crate::run::Step;
-use iom_base::DeviceId;
-use iom_ledger::Refusal;
+use iom_base::{DeviceId, Refusal};
 use iom_machine::{Event, Fetched, Outcome};
 
 /// What is counted of a run.

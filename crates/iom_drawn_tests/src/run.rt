@@ -8,8 +8,8 @@ use crate::draw::{
 };
 use crate::messages::{Messages, Question, Said};
 use crate::settled::settles;
-use iom_base::{DeviceId, GrantRights, Mode, Size};
-use iom_machine::{Event, NewDevice, Outcome};
+use iom_base::{DeviceId, GrantRights, Mode, NewDevice, Size};
+use iom_machine::{Event, Outcome};
 use iom_platform::Platform;
 use iom_virtio_blk::MemoryDisk;
 use std::alloc::Global;

@@ -1,9 +1,9 @@
 -- Why a device may not be attached: the first reason that applies, where those before it don't.
 use Rattle.std.proofs.Common.{◌≡◌, ◌≤◌, ◌&&◌, not, ℕ, Bool, true, false, Some, None, is_some, nat_le, refl}
 use Rattle.std.proofs.lemmas.Bool.{le-leb, lt-leb}
-use Rattle.iom_ledger.specs.declared.refusal.Refusal.{Refusal}
-use Rattle.iom_ledger.specs.declared.refusal.Refusal.TheVariants.{NotStarted, NoSuchDevice, AlreadyAttached, IdTooWide, NotTrusted}
-use Rattle.iom_ledger.specs.Refusals.{first_that_applies, NoneApplies}
+use Rattle.iom_base.specs.declared.refusal.Refusal.{Refusal}
+use Rattle.iom_base.specs.declared.refusal.Refusal.TheVariants.{NotStarted, NoSuchDevice, AlreadyAttached, IdTooWide, NotTrusted}
+use Rattle.iom_base.specs.Refusals.{first_that_applies, NoneApplies}
 use Rattle.iom_driver.specs.Admitted.{MayBeAttached}
 use Rattle.iom_driver.specs.Devices.{device_of, is_plugged, is_trusted, owned_stages_of}
 use Rattle.iom_driver.specs.Layout.{id_limit}

@@ -12,7 +12,7 @@ use Rattle.iom_directory_build.specs.Pages.{IsDirectory, HasPage, HasWholePath, 
 use Rattle.iom_ledger.specs.declared.ledger.Ledger.{Ledger}
 use Rattle.iom_ledger.specs.Changes.{ShowsReleaseOfAll, released_from}
 use Rattle.iom_ledger.specs.History.{Pair}
-use Rattle.iom_ledger.specs.Refusals.{NoneApplies}
+use Rattle.iom_base.specs.Refusals.{NoneApplies}
 use Rattle.iom_ledger.specs.Shown.{held_in, released_in, pending_in}
 use Rattle.iom_driver.specs.declared.device.Attachment.{Attachment}
 use Rattle.iom_driver.specs.declared.device.Attachment.TheVariants.{Detached, Attached, Quarantined, Leaving}

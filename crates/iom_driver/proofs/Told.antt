@@ -2,10 +2,10 @@
 use Rattle.std.proofs.Common.{◌≡◌, ◌≢◌, ◌<◌, ◌≤◌, ◌+◌, ◌-◌, ℕ, Bool, true, false, List, [], ◌∷◌, Some, nat_le, refl, subst, arith}
 use Rattle.std.proofs.lemmas.Bool.{leb-false, le-leb, lt-leb}
 use Rattle.iom_command_queue.specs.Waiting.{how_many}
-use Rattle.iom_ledger.specs.declared.refusal.Refusal.{Refusal}
-use Rattle.iom_ledger.specs.declared.refusal.Refusal.TheVariants.{TooManyPending, QueueFull, NumbersUsedUp}
+use Rattle.iom_base.specs.declared.refusal.Refusal.{Refusal}
+use Rattle.iom_base.specs.declared.refusal.Refusal.TheVariants.{TooManyPending, QueueFull, NumbersUsedUp}
 use Rattle.iom_ledger.specs.History.{pending_limit}
-use Rattle.iom_ledger.specs.Refusals.{first_that_applies, NoneApplies, IsRefusedBy}
+use Rattle.iom_base.specs.Refusals.{first_that_applies, NoneApplies, IsRefusedBy}
 use Rattle.iom_registers.specs.declared.registers.Registers.{Registers}
 use Rattle.iom_registers.specs.Queues.{command_entries}
 use Rattle.iom_driver.specs.Fences.{last_fence}

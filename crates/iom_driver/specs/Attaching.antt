@@ -5,9 +5,9 @@ use Rattle.iom_base.specs.declared.mode.Mode.TheVariants.{First, Second, Both}
 use Rattle.iom_base.specs.declared.owner.Owner.TheVariants.{System, OneDevice}
 use Rattle.iom_directory_build.specs.Pages.{missing_pages, root_level}
 use Rattle.iom_directory_build.specs.Written.{hung}
-use Rattle.iom_ledger.specs.declared.refusal.Refusal.{Refusal}
-use Rattle.iom_ledger.specs.declared.refusal.Refusal.TheVariants.{NoFrames}
-use Rattle.iom_ledger.specs.Refusals.{NoneApplies, IsRefusedBy}
+use Rattle.iom_base.specs.declared.refusal.Refusal.{Refusal}
+use Rattle.iom_base.specs.declared.refusal.Refusal.TheVariants.{NoFrames}
+use Rattle.iom_base.specs.Refusals.{NoneApplies, IsRefusedBy}
 use Rattle.iom_page_table.specs.SecondTables.{other_quarters}
 use Rattle.iom_table_frames.specs.Fours.{IsHighestFour, NoFourAreFree}
 use Rattle.iom_table_frames.specs.Marks.{HasFree, IsHighestFree, NoneIsFree}

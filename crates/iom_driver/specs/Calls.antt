@@ -11,10 +11,10 @@ use Rattle.iom_command_queue.specs.Waiting.{commands_in}
 use Rattle.iom_fault_queue.specs.Ring.{records_in}
 use Rattle.iom_ledger.specs.Changes.{IsUnchanged, ShowsGrant, ShowsRelease}
 use Rattle.iom_ledger.specs.declared.entry.HistoryEntry.TheVariants as entry
-use Rattle.iom_ledger.specs.declared.refusal.Refusal.{Refusal}
-use Rattle.iom_ledger.specs.declared.refusal.Refusal.TheVariants.{NoFrames, Memory}
+use Rattle.iom_base.specs.declared.refusal.Refusal.{Refusal}
+use Rattle.iom_base.specs.declared.refusal.Refusal.TheVariants.{NoFrames, Memory}
 use Rattle.iom_ledger.specs.History.{History, confirms}
-use Rattle.iom_ledger.specs.Refusals.{first_that_applies, NoneApplies, IsRefusedBy}
+use Rattle.iom_base.specs.Refusals.{first_that_applies, NoneApplies, IsRefusedBy}
 use Rattle.iom_page_table.specs.declared.leaf.PageLeaf.{PageLeaf}
 use Rattle.iom_page_table.specs.FirstTables.{missing_for, mapped, unmapped}
 use Rattle.iom_phys_mem.specs.Words.{with_word, zeroed}

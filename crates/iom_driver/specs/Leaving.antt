@@ -4,8 +4,8 @@ use Rattle.iom_command_queue.specs.declared.entry.QueueEntry.TheVariants as stan
 use Rattle.iom_command_queue.specs.Waiting.{commands_in}
 use Rattle.iom_directory_build.specs.Pages.{HasPage, root_level}
 use Rattle.iom_directory_build.specs.Written.{without_context}
-use Rattle.iom_ledger.specs.declared.refusal.Refusal.{Refusal}
-use Rattle.iom_ledger.specs.Refusals.{first_that_applies, NoneApplies}
+use Rattle.iom_base.specs.declared.refusal.Refusal.{Refusal}
+use Rattle.iom_base.specs.Refusals.{first_that_applies, NoneApplies}
 use Rattle.iom_registers.specs.declared.mmio.Mmio.{Ghosts}
 use Rattle.iom_registers.specs.declared.registers.Registers.{Registers}
 use Rattle.iom_driver.specs.declared.answers.Ticket.{Ticket}

@@ -4,9 +4,9 @@ use Rattle.iom_base.specs.Modes.{size_in}
 use Rattle.iom_base.specs.Sizes.{page_limit_of}
 use Rattle.iom_command_queue.specs.Waiting.{how_many}
 use Rattle.iom_ledger.specs.declared.ledger.Ledger.{Ledger}
-use Rattle.iom_ledger.specs.declared.refusal.Refusal.{Refusal}
-use Rattle.iom_ledger.specs.declared.refusal.Refusal.TheVariants.{NotStarted, AlreadyPlugged, TooManyDevices, NoSuchDevice, AlreadyAttached, NotAttached, IdTooWide, NotTrusted}
-use Rattle.iom_ledger.specs.declared.refusal.Refusal.TheVariants.{FrameOutOfRange, FrameReserved, IovaOutOfRange, IovaBusy, NotGranted, StillGranted, TooManyPending, QueueFull, Quarantined, NumbersUsedUp}
+use Rattle.iom_base.specs.declared.refusal.Refusal.{Refusal}
+use Rattle.iom_base.specs.declared.refusal.Refusal.TheVariants.{NotStarted, AlreadyPlugged, TooManyDevices, NoSuchDevice, AlreadyAttached, NotAttached, IdTooWide, NotTrusted}
+use Rattle.iom_base.specs.declared.refusal.Refusal.TheVariants.{FrameOutOfRange, FrameReserved, IovaOutOfRange, IovaBusy, NotGranted, StillGranted, TooManyPending, QueueFull, Quarantined, NumbersUsedUp}
 use Rattle.iom_ledger.specs.History.{pending_limit}
 use Rattle.iom_ledger.specs.Shown.{held_in, lingering_in}
 use Rattle.iom_registers.specs.declared.registers.Registers.{Registers}

@@ -4,8 +4,8 @@ use Rattle.iom_fault_queue.specs.declared.entry.Entry.TheVariants as entry
 use Rattle.iom_fault_queue.specs.Calls.{TakesEntry}
 use Rattle.iom_fault_queue.specs.Fields.{Fields}
 use Rattle.iom_fault_queue.specs.Ring.{records_in}
-use Rattle.iom_ledger.specs.declared.refusal.Refusal.{Refusal}
-use Rattle.iom_ledger.specs.Refusals.{first_that_applies, NoneApplies}
+use Rattle.iom_base.specs.declared.refusal.Refusal.{Refusal}
+use Rattle.iom_base.specs.Refusals.{first_that_applies, NoneApplies}
 use Rattle.iom_registers.specs.declared.mmio.Mmio.{Ghosts}
 use Rattle.iom_registers.specs.declared.register.Register.TheVariants.{Fqcsr}
 use Rattle.iom_driver.specs.Reasons.{why_not_poll}

@@ -5,8 +5,8 @@ use Rattle.iom_command_queue.specs.declared.command.Command.TheVariants.{AtsInva
 use Rattle.iom_command_queue.specs.declared.command.AtsRange.TheVariants.{Everything}
 use Rattle.iom_command_queue.specs.declared.entry.QueueEntry.TheVariants as stands
 use Rattle.iom_command_queue.specs.Waiting.{commands_in}
-use Rattle.iom_ledger.specs.declared.refusal.Refusal.{Refusal}
-use Rattle.iom_ledger.specs.Refusals.{first_that_applies, NoneApplies}
+use Rattle.iom_base.specs.declared.refusal.Refusal.{Refusal}
+use Rattle.iom_base.specs.Refusals.{first_that_applies, NoneApplies}
 use Rattle.iom_registers.specs.declared.mmio.Mmio.{Ghosts}
 use Rattle.iom_registers.specs.declared.register.Register.TheVariants.{Cqcsr, Cqt}
 use Rattle.iom_driver.specs.declared.device.Device.{Device}

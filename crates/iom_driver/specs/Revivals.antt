@@ -3,8 +3,8 @@ use Rattle.std.specs.Prelude.{◌≡◌, ◌≢◌, ℕ, List, [], length, Some,
 use Rattle.iom_base.specs.declared.owner.Owner.TheVariants.{System}
 use Rattle.iom_directory_build.specs.Pages.{root_level}
 use Rattle.iom_directory_build.specs.Written.{hung}
-use Rattle.iom_ledger.specs.declared.refusal.Refusal.{Refusal}
-use Rattle.iom_ledger.specs.Refusals.{first_that_applies, NoneApplies}
+use Rattle.iom_base.specs.declared.refusal.Refusal.{Refusal}
+use Rattle.iom_base.specs.Refusals.{first_that_applies, NoneApplies}
 use Rattle.iom_driver.specs.declared.device.Attachment.TheVariants.{Attached, Quarantined}
 use Rattle.iom_driver.specs.declared.device.Stages.{Stages}
 use Rattle.iom_driver.specs.Devices.{attachment_of, with_attachment}

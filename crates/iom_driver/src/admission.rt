@@ -1,7 +1,7 @@
 // Whether a call is refused, and why.
 ghost use Rattle.std.specs.Prelude.{◌≡◌, ◌^◌, ◌<◌, ◌↔◌, ℕ, Bool, IsTrue, List, IfOk, IfErr, Some, None, true, false};
-ghost use Rattle.iom_ledger.specs.declared.refusal.Refusal.{Refusal};
-ghost use Rattle.iom_ledger.specs.Refusals.{first_that_applies, NoneApplies};
+ghost use Rattle.iom_base.specs.declared.refusal.Refusal.{Refusal};
+ghost use Rattle.iom_base.specs.Refusals.{first_that_applies, NoneApplies};
 ghost use Rattle.iom_registers.specs.Queues.{command_entries};
 ghost use Rattle.iom_driver.specs.Admitted.{MayBeAttached, MayBeGranted, MayBeReleased, MayBeDetached, MayBeQuarantined, MayBeRevived};
 ghost use Rattle.iom_driver.specs.Devices.{device_of, stages_of};
@@ -15,8 +15,8 @@ use crate::driver::Driver;
 use crate::layout::id_limit;
 use crate::lookups::place_of;
 use crate::room::lacks_places;
-use iom_base::DeviceId;
-use iom_ledger::{MAX_PENDING, Refusal};
+use iom_base::{DeviceId, Refusal};
+use iom_ledger::MAX_PENDING;
 use iom_registers::Mmio;
 
 /// How many commands a release of a page of the device takes.

@@ -16,9 +16,8 @@ use crate::device::{Attachment, Device, Stages};
 use crate::driver::Driver;
 use crate::layout::{MAX_DEVICES, directory_frame};
 use arrayvec::ArrayVec;
-use iom_base::{DeviceId, Mode, Owner};
+use iom_base::{DeviceId, Mode, Owner, Refusal};
 use iom_directory_build::{missing, put_context};
-use iom_ledger::Refusal;
 use iom_phys_mem::Memory;
 
 /// Whether an attached, quarantined or leaving device holds the address-space number.

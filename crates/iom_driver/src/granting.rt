@@ -6,8 +6,7 @@ ghost use Rattle.iom_driver.specs.Seen.{state_of};
 
 use crate::choosing::reserve_all;
 use crate::driver::Driver;
-use iom_base::{DeviceId, GrantRights, Owner};
-use iom_ledger::Refusal;
+use iom_base::{DeviceId, GrantRights, Owner, Refusal};
 use iom_page_table::{PageLeaf, map, missing};
 use iom_phys_mem::Memory;
 

@@ -8,9 +8,8 @@ use crate::attachments::set_attachment;
 use crate::device::Attachment;
 use crate::driver::Driver;
 use crate::layout::directory_frame;
-use iom_base::DeviceId;
+use iom_base::{DeviceId, Refusal};
 use iom_directory_build::clear_context;
-use iom_ledger::Refusal;
 use iom_phys_mem::Memory;
 use iom_registers::Mmio;
 

@@ -8,8 +8,7 @@ ghost use Rattle.iom_driver.specs.Seen.{state_of};
 use crate::device::{Attachment, Device};
 use crate::driver::Driver;
 use crate::layout::MAX_DEVICES;
-use iom_base::DeviceId;
-use iom_ledger::Refusal;
+use iom_base::{DeviceId, Refusal};
 
 impl Driver {
     /// A device is plugged in, and attached to nothing. It is trusted where it has a cache of translations of

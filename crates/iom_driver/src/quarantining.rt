@@ -1,7 +1,7 @@
 // A device is cut off, and attached again.
 ghost use Rattle.std.specs.Prelude.{◌≡◌, ◌<◌, ◌↔◌, ℕ, Some, IfOk, IfErr, IsSome, Contains, length};
 ghost use Rattle.iom_base.specs.Sizes.{page_limit_of};
-ghost use Rattle.iom_ledger.specs.Refusals.{first_that_applies, NoneApplies};
+ghost use Rattle.iom_base.specs.Refusals.{first_that_applies, NoneApplies};
 ghost use Rattle.iom_ledger.specs.Shown.{held_in, pages_listed};
 ghost use Rattle.iom_page_table.specs.FirstTables.{IsRoot, HasTable, KeepsOutside};
 ghost use Rattle.iom_registers.specs.declared.registers.Registers.{Registers};
@@ -17,9 +17,9 @@ use crate::contexts::context_for;
 use crate::device::Attachment;
 use crate::driver::Driver;
 use crate::layout::directory_frame;
-use iom_base::{DeviceId, Size};
+use iom_base::{DeviceId, Refusal, Size};
 use iom_directory_build::{clear_context, put_context};
-use iom_ledger::{Ledger, Refusal};
+use iom_ledger::Ledger;
 use iom_page_table::unmap;
 use iom_phys_mem::Memory;
 use iom_registers::Mmio;

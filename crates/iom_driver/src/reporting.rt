@@ -5,8 +5,8 @@ ghost use Rattle.iom_driver.specs.Seen.{state_of};
 
 use crate::access::write;
 use crate::driver::Driver;
+use iom_base::Refusal;
 use iom_fault_queue::{FaultRing, Record};
-use iom_ledger::Refusal;
 use iom_phys_mem::Memory;
 use iom_registers::{Mmio, Register};
 

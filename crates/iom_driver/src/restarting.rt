@@ -14,7 +14,7 @@ use crate::access::write;
 use crate::appending::{append_device, append_fence};
 use crate::device::Device;
 use crate::driver::Driver;
-use iom_ledger::Refusal;
+use iom_base::Refusal;
 use iom_phys_mem::Memory;
 use iom_registers::{Mmio, Register};
 

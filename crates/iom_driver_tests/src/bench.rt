@@ -3,12 +3,11 @@ ghost use Rattle.std.specs.Prelude.{◌+◌, ◌<◌, ◌^◌};
 ghost use Rattle.iom_device.specs.Caches.{epoch_in};
 
 use crate::recording::Recording;
-use iom_base::{DeviceId, GrantRights, Mode, Size};
+use iom_base::{DeviceId, GrantRights, Mode, Refusal, Size};
 use iom_device::Device;
 use iom_driver::laws::stays_ready;
 use iom_driver::{Driver, Polled, Ticket};
 use iom_fault_queue::Record;
-use iom_ledger::Refusal;
 use iom_phys_mem::{Bytes, MemError, Memory};
 use iom_registers::Register;
 use iom_revival::revive;

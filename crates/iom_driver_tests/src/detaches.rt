@@ -1,5 +1,5 @@
 use crate::bench::{FIRST, OK, Run, Start, Step, follow};
-use iom_ledger::Refusal;
+use iom_base::Refusal;
 
 /// What a detach writes and gives back.
 static RUNS: [Run; 4] = [

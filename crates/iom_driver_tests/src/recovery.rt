@@ -1,5 +1,5 @@
 use crate::bench::{BOTH, FIRST, OK, Run, Start, Step, follow};
-use iom_ledger::Refusal;
+use iom_base::Refusal;
 use iom_registers::Register;
 
 /// Of devices that are cut off and revived, and of restarts.

@@ -1,5 +1,5 @@
 use crate::bench::{FIRST, OK, Run, Start, Step, follow};
-use iom_ledger::Refusal;
+use iom_base::Refusal;
 
 /// For which reason a call is refused.
 static RUNS: [Run; 6] = [

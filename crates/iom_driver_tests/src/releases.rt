@@ -1,5 +1,5 @@
 use crate::bench::{FIRST, OK, Run, Start, Step, follow};
-use iom_ledger::Refusal;
+use iom_base::Refusal;
 use iom_registers::Register;
 
 /// What grants and releases write.

@@ -1,10 +1,9 @@
 use crate::bench::{Run, Start, Step, follow};
 use crate::expect::expect;
-use iom_base::Cause;
+use iom_base::{Cause, Refusal};
 use iom_driver::Driver;
 use iom_driver::laws::ready_after_record;
 use iom_fault_queue::{Fault, FaultRing, FaultedRequest, Put, Record, Transaction};
-use iom_ledger::Refusal;
 use iom_phys_mem::{MemError, Memory};
 use iom_registers::{Register, Registers};
 use std::alloc::Global;

@@ -1,9 +1,7 @@
 use crate::bench::{BOTH, Bench, OK, Step, started};
 use crate::expect::expect;
-use iom_base::DeviceId;
+use iom_base::{DeviceId, DeviceKind, Refusal};
 use iom_device::Device;
-use iom_ledger::Refusal;
-use iom_machine::DeviceKind;
 use std::alloc::Global;
 use std::test::Fail;
 

@@ -1,5 +1,5 @@
 use crate::bench::{BOTH, FIRST, OK, Run, SECOND, Start, Step, follow};
-use iom_ledger::Refusal;
+use iom_base::Refusal;
 
 /// Of devices with a second stage.
 static RUNS: [Run; 8] = [

@@ -1,6 +1,5 @@
 use crate::bench::{FIRST, OK, Run, Start, Step, follow};
-use iom_base::{Mode, Size};
-use iom_ledger::Refusal;
+use iom_base::{Mode, Refusal, Size};
 
 /// The modes, with tables of four levels.
 const FIRST_48: Mode = Mode::First(Size::Sv48);

@@ -2,8 +2,9 @@
 use Rattle.std.proofs.Common.{◌≡◌, ◌∙◌, ℕ, Bool, true, List, [], Some, slice_get, slice_set, refl, sym, ap, subst}
 use Rattle.std.specs.Prelude.{⊤}
 use Rattle.iom_base.specs.declared.access.Access.{Access}
-use Rattle.iom_machine.specs.BlockDevices.{MayInsert, Inserts, MayWant, IsAnswered, Begins, TakesStep}
-use Rattle.iom_machine.specs.Disks.{without_disk}
+use Rattle.iom_base.specs.Accesses.{MayWant}
+use Rattle.iom_machine.specs.BlockDevices.{MayInsert, Inserts, IsAnswered, Begins, TakesStep}
+use Rattle.iom_base.specs.Disks.{without_disk}
 use Rattle.iom_machine.specs.Judging.{StandsAt}
 use Rattle.iom_machine.specs.Machine.{Step, Steps}
 use Rattle.iom_machine.specs.declared.choice.Choice.{Choice}
@@ -12,7 +13,7 @@ use Rattle.iom_machine.specs.declared.outcome.Outcome.{Outcome}
 use Rattle.iom_machine.specs.declared.outcome.Outcome.TheVariants.{Done, Accepted, Busy, Fault}
 use Rattle.iom_machine.specs.declared.state.Device.{Device}
 use Rattle.iom_machine.specs.declared.state.State.{State}
-use Rattle.iom_machine.specs.Refusals.{has_cache}
+use Rattle.iom_base.specs.DeviceKinds.{has_cache}
 use Rattle.iom_known.specs.declared.known.Known.{Known}
 use Rattle.iom_known.specs.Allowed.{Past, IsTrueOf}
 use Rattle.iom_known.specs.Reasons.{bare}

@@ -2,7 +2,7 @@
 use Rattle.std.proofs.Common.{◌≡◌, ◌∙◌, ◌+◌, ℕ, false, List, ◌∷◌, Some, slice_get, slice_set, refl, sym, ap, subst}
 use Rattle.iom_ledger.specs.declared.entry.HistoryEntry.TheVariants as entries
 use Rattle.iom_ledger.specs.declared.ledger.Ledger.{Ledger}
-use Rattle.iom_ledger.specs.Refusals.{NoneApplies}
+use Rattle.iom_base.specs.Refusals.{NoneApplies}
 use Rattle.iom_ledger.specs.Shown.{Agrees}
 use Rattle.iom_machine.specs.CuttingOff.{cut_off_under, attached_again}
 use Rattle.iom_machine.specs.Leaving.{leaving_under}

@@ -10,7 +10,7 @@ use Rattle.iom_base.specs.Sizes.{device_limit}
 use Rattle.iom_base.specs.declared.owner.Owner.{Owner}
 use Rattle.iom_base.specs.declared.owner.Owner.TheVariants.{System, OneDevice}
 use Rattle.iom_ledger.specs.History.{NoneMayReach}
-use Rattle.iom_ledger.specs.Refusals.{NoneApplies}
+use Rattle.iom_base.specs.Refusals.{NoneApplies}
 use Rattle.iom_machine.specs.Frames.{is_reserved}
 use Rattle.iom_machine.specs.Refusals.{frame_reasons}
 use Rattle.iom_machine.specs.declared.event.Event.TheVariants as events

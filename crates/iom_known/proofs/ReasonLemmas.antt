@@ -1,12 +1,12 @@
 -- The reasons by what is known are the machine's.
 use Rattle.std.proofs.Common.{◌≡◌, ◌∙◌, ℕ, Bool, true, false, not, ◌||◌, ◌==◌, nat_le, IsTrue, List, [], ◌∷◌, length, Option, None, Some, MatchOption, is_some, refl, sym, ap, subst}
 use Rattle.std.specs.Option.{option_map, option_to_list}
-use Rattle.iom_ledger.specs.declared.refusal.Refusal.{Refusal}
+use Rattle.iom_base.specs.declared.refusal.Refusal.{Refusal}
 use Rattle.iom_ledger.specs.History.{Pair, held_at}
 use Rattle.iom_ledger.specs.Shown.{held_in, released_in, lingering_in}
 use Rattle.iom_machine.specs.Frames.{is_reserved}
-use Rattle.iom_ledger.specs.Refusals.{first_that_applies, IsRefusedBy}
-use Rattle.iom_ledger.specs.declared.refusal.Refusal.TheVariants.{NoSuchDevice, NotAttached, Quarantined, FrameOutOfRange, FrameReserved, NotGranted, StillGranted}
+use Rattle.iom_base.specs.Refusals.{first_that_applies, IsRefusedBy}
+use Rattle.iom_base.specs.declared.refusal.Refusal.TheVariants.{NoSuchDevice, NotAttached, Quarantined, FrameOutOfRange, FrameReserved, NotGranted, StillGranted}
 use Rattle.iom_machine.specs.declared.state.Frame.{Frame}
 use Rattle.iom_machine.specs.Refusals.{attachment_reasons, detach_reasons, grant_reasons, release_reasons, quarantine_reasons, revive_reasons, has_grants, is_held, is_lingering, may_still_reach, attachment_of, page_limit_at, is_plugged, is_detached, is_leaving, is_quarantined}
 use Rattle.iom_known.specs.Allowed.{Past, IsTrueOf, state_of}

@@ -1,17 +1,18 @@
 -- Requests, as steps that are explained.
 use Rattle.std.proofs.Common.{◌≡◌, ◌≢◌, ◌∙◌, ◌+◌, ℕ, Bool, true, false, List, [], ◌∷◌, ◌++◌, None, Some, slice_get, slice_set, refl, sym, ap}
 use Rattle.iom_base.specs.declared.access.Access.{Access}
-use Rattle.iom_ledger.specs.declared.refusal.Refusal.TheVariants.{NoSuchDevice, WrongKind}
+use Rattle.iom_base.specs.declared.refusal.Refusal.TheVariants.{NoSuchDevice, WrongKind}
 use Rattle.iom_machine.specs.Devices.{device_of}
 use Rattle.iom_machine.specs.Judging.{StandsAt}
 use Rattle.iom_machine.specs.BlockDevices.{IsAnswered}
 use Rattle.iom_machine.specs.Machine.{Acts}
 use Rattle.iom_machine.specs.Requests.{MayAnswer, state_after, with_accepted}
-use Rattle.iom_machine.specs.ThroughCache.{MayAnswerThroughCache, state_after_cached, at_frame}
+use Rattle.iom_base.specs.Accesses.{at_frame}
+use Rattle.iom_machine.specs.ThroughCache.{MayAnswerThroughCache, state_after_cached}
 use Rattle.iom_machine.specs.declared.outcome.Outcome.{Outcome}
 use Rattle.iom_machine.specs.declared.outcome.Outcome.TheVariants.{Accepted, Refused}
 use Rattle.iom_machine.specs.declared.state.Device.{Device}
-use Rattle.iom_machine.specs.declared.state.DeviceKind.{DeviceKind}
+use Rattle.iom_base.specs.declared.device_kind.DeviceKind.{DeviceKind}
 use Rattle.iom_machine.specs.declared.state.Frame.{Frame}
 use Rattle.iom_machine.specs.declared.state.State.{State}
 use Rattle.iom_machine.proofs.StepLemmas.{own_place}

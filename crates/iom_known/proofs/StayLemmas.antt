@@ -1,8 +1,8 @@
 -- States that a belief allows, where what it knows of frames stays; and refusals.
 use Rattle.std.proofs.Common.{◌≡◌, ◌∙◌, ℕ, zero, suc, Bool, IsTrue, List, [], ◌∷◌, Option, None, Some, MatchOption, length, slice_get, slice_set, refl, sym, ap, subst}
 use Rattle.iom_base.specs.Accesses.{read_of}
-use Rattle.iom_ledger.specs.declared.refusal.Refusal.{Refusal}
-use Rattle.iom_ledger.specs.Refusals.{first_that_applies, IsRefusedBy}
+use Rattle.iom_base.specs.declared.refusal.Refusal.{Refusal}
+use Rattle.iom_base.specs.Refusals.{first_that_applies, IsRefusedBy}
 use Rattle.iom_base.specs.declared.owner.Owner.{Owner}
 use Rattle.iom_machine.specs.declared.choice.Choice.{Choice}
 use Rattle.iom_machine.specs.declared.event.Event.{Event}

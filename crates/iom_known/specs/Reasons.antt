@@ -1,8 +1,8 @@
 -- Why a call is refused, by what is known: the machine's reasons, with what its history says given beside.
 use Rattle.std.specs.Prelude.{ℕ, ◌-◌, Bool, List, [], ◌∷◌, length, not, ◌||◌, nat_le}
 use Rattle.iom_ledger.specs.History.{pending_limit}
-use Rattle.iom_ledger.specs.declared.refusal.Refusal.{Refusal}
-use Rattle.iom_ledger.specs.declared.refusal.Refusal.TheVariants.{NoSuchDevice, AlreadyAttached, NotAttached, FrameOutOfRange, IovaOutOfRange, IovaBusy, NotGranted, StillGranted, TooManyPending}
+use Rattle.iom_base.specs.declared.refusal.Refusal.{Refusal}
+use Rattle.iom_base.specs.declared.refusal.Refusal.TheVariants.{NoSuchDevice, AlreadyAttached, NotAttached, FrameOutOfRange, IovaOutOfRange, IovaBusy, NotGranted, StillGranted, TooManyPending}
 use Rattle.iom_machine.specs.Refusals.{attachment_reasons, is_plugged, attachment_of, is_detached, is_leaving, is_attached}
 use Rattle.iom_machine.specs.declared.state.State.{State}
 use Rattle.iom_known.specs.Allowed.{state_of}

@@ -3,7 +3,7 @@ ghost use Rattle.std.specs.Prelude.{◌≡◌, ◌≢◌, ◌<◌, ◌∷◌, �
 ghost use Rattle.std.specs.Prelude.{MatchOption, OnOk, IfOk, IsTrue, Some, true, false};
 ghost use Rattle.iom_machine.specs.BlockDevices.{IsAnswered};
 ghost use Rattle.iom_machine.specs.Judging.{StandsAt};
-ghost use Rattle.iom_machine.specs.ThroughCache.{at_frame};
+ghost use Rattle.iom_base.specs.Accesses.{at_frame};
 ghost use Rattle.iom_machine.specs.declared.outcome.Outcome.TheVariants.{Accepted};
 ghost use Rattle.iom_machine.specs.declared.state.Device.{Device};
 ghost use Rattle.iom_known.specs.Allowed.{Past, IsTrueOf};

@@ -1,8 +1,9 @@
 // What may come of a step of a block device.
 ghost use Rattle.std.specs.Prelude.{◌≡◌, ◌↔◌, ◌<◌, IsTrue, IfOk, Some, true, [], length, slice_get};
-ghost use Rattle.iom_machine.specs.BlockDevices.{MayBe, HasBytes, MayWant, Begins, TakesStep};
+ghost use Rattle.iom_base.specs.Accesses.{HasBytes, MayWant};
+ghost use Rattle.iom_machine.specs.BlockDevices.{MayBe, Begins, TakesStep};
 ghost use Rattle.iom_machine.specs.Judging.{StandsAt};
-ghost use Rattle.iom_machine.specs.Refusals.{has_cache};
+ghost use Rattle.iom_base.specs.DeviceKinds.{has_cache};
 ghost use Rattle.iom_machine.specs.Requests.{IsForwarded};
 ghost use Rattle.iom_machine.specs.declared.state.Device.{Device};
 ghost use Rattle.iom_known.specs.Allowed.{Past, IsTrueOf};

@@ -1,6 +1,6 @@
 // The disks that were never put into a device, by their numbers.
 ghost use Rattle.std.specs.Prelude.{◌≡◌};
-ghost use Rattle.iom_machine.specs.Disks.{is_among, is_missing, without_disk};
+ghost use Rattle.iom_base.specs.Disks.{is_among, is_missing, without_disk};
 
 /// Whether the disk is one of these.
 pub fn is_among(disks: &[u64], disk: u64) -> bool

@@ -1,7 +1,7 @@
 // The first refusal that applies.
 ghost use Rattle.std.specs.Prelude.{◌≡◌, ◌↔◌, ◌-◌, ◌||◌, List, None, IsTrue, MatchOption, false, length};
-ghost use Rattle.iom_ledger.specs.declared.refusal.Refusal.TheVariants.{Memory, NoFrames};
-ghost use Rattle.iom_ledger.specs.Refusals.{first_that_applies, NoneApplies};
+ghost use Rattle.iom_base.specs.declared.refusal.Refusal.TheVariants.{Memory, NoFrames};
+ghost use Rattle.iom_base.specs.Refusals.{first_that_applies, NoneApplies};
 ghost use Rattle.iom_machine.specs.Frames.{is_reserved};
 ghost use Rattle.iom_machine.specs.declared.state.Frame.{Frame};
 ghost use Rattle.iom_known.specs.Reasons.{bare, early_grant_reasons, late_grant_reasons_by, detach_reasons_by, release_reasons_by, quarantine_reasons_by, revive_reasons_by};
@@ -13,9 +13,9 @@ ghost use Rattle.iom_known.specs.Allowed.{Past, IsTrueOf, state_of};
 use crate::devices::{attachment_in, device_with};
 use crate::disks::is_missing;
 use crate::known::Known;
-use iom_base::{DeviceId, MAX_DEVICES};
-use iom_ledger::{MAX_PENDING, Refusal};
-use iom_machine::{Attachment, NewDevice};
+use iom_base::{DeviceId, MAX_DEVICES, NewDevice, Refusal};
+use iom_ledger::MAX_PENDING;
+use iom_machine::Attachment;
 
 /// Whether the device is plugged in.
 fn plugged(known: &Known, id: DeviceId) -> bool

@@ -1,7 +1,7 @@
 // What a request is answered that the IOMMU translates.
 ghost use Rattle.std.specs.Prelude.{◌≡◌, ◌↔◌, ◌+◌, List, IsTrue};
 ghost use Rattle.iom_base.specs.Accesses.{IsWithinPage};
-ghost use Rattle.iom_ledger.specs.declared.refusal.Refusal.TheVariants.{NoSuchDevice, WrongKind};
+ghost use Rattle.iom_base.specs.declared.refusal.Refusal.TheVariants.{NoSuchDevice, WrongKind};
 ghost use Rattle.iom_machine.specs.declared.outcome.Outcome.TheVariants.{Refused};
 ghost use Rattle.iom_machine.specs.declared.state.Frame.{Frame};
 ghost use Rattle.iom_machine.specs.Requests.{IsBusy, IsForwarded, IsPageFaultOf, IsPageFaultOfEither, cause_without_context};
@@ -12,8 +12,7 @@ ghost use Rattle.iom_known.specs.Reasons.{bare};
 use crate::known::Known;
 use crate::reach::{holds, holds_none, lingers, lingers_somewhere, may};
 use crate::reasons::too_wide;
-use iom_base::{Access, AccessKind, Cause, DeviceId, MAX_IN_FLIGHT, Mode, Span};
-use iom_ledger::Refusal;
+use iom_base::{Access, AccessKind, Cause, DeviceId, MAX_IN_FLIGHT, Mode, Refusal, Span};
 use iom_machine::{Attachment, Device, Outcome};
 
 /// Whether a device that isn't plugged in is answered so.

@@ -16,14 +16,14 @@ use Rattle.iom_base.specs.declared.access.AccessKind.TheVariants as kinds
 use Rattle.iom_base.specs.declared.owner.Owner.{Owner}
 use Rattle.iom_base.specs.declared.owner.Owner.TheVariants.{System, OneDevice}
 use Rattle.iom_ledger.specs.History.{May}
-use Rattle.iom_ledger.specs.Refusals.{NoneApplies, IsRefusedBy, first_that_applies}
-use Rattle.iom_ledger.specs.declared.refusal.Refusal.{Refusal}
-use Rattle.iom_ledger.specs.declared.refusal.Refusal.TheVariants.{NoSuchDevice, FrameOutOfRange, FrameReserved}
+use Rattle.iom_base.specs.Refusals.{NoneApplies, IsRefusedBy, first_that_applies}
+use Rattle.iom_base.specs.declared.refusal.Refusal.{Refusal}
+use Rattle.iom_base.specs.declared.refusal.Refusal.TheVariants.{NoSuchDevice, FrameOutOfRange, FrameReserved}
 use Rattle.iom_machine.specs.Frames.{is_reserved, bytes_of, stored}
 use Rattle.iom_machine.specs.Judging.{StandsAt}
 use Rattle.iom_machine.specs.Machine.{Commits, GivesBytes, Makes, MakesWrite, Pokes, Peeks, ShowsBytes, with_oldest_made}
 use Rattle.iom_machine.specs.Refusals.{NeverElse, frame_reasons, poke_reasons}
-use Rattle.iom_machine.specs.Kinds.{is_any_kind}
+use Rattle.iom_base.specs.DeviceKinds.{is_any_kind}
 use Rattle.iom_machine.specs.declared.event.Event.TheVariants as events
 use Rattle.iom_machine.specs.declared.outcome.Outcome.{Outcome}
 use Rattle.iom_machine.specs.declared.outcome.Outcome.TheVariants as outcomes

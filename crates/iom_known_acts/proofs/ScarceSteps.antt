@@ -10,10 +10,10 @@ use Rattle.iom_base.specs.declared.mode.Mode.TheVariants.{First, Second, Both}
 use Rattle.iom_base.specs.declared.owner.Owner.{Owner}
 use Rattle.iom_base.specs.Sizes.{device_limit}
 use Rattle.iom_ledger.specs.declared.ledger.Ledger.{Ledger}
-use Rattle.iom_ledger.specs.declared.refusal.Refusal.{Refusal}
-use Rattle.iom_ledger.specs.declared.refusal.Refusal.TheVariants.{NoFrames}
+use Rattle.iom_base.specs.declared.refusal.Refusal.{Refusal}
+use Rattle.iom_base.specs.declared.refusal.Refusal.TheVariants.{NoFrames}
 use Rattle.iom_ledger.specs.History.{History, NoneMayReach}
-use Rattle.iom_ledger.specs.Refusals.{NoneApplies, IsRefusedBy}
+use Rattle.iom_base.specs.Refusals.{NoneApplies, IsRefusedBy}
 use Rattle.iom_ledger.specs.Shown.{Agrees, IsFreeIn}
 use Rattle.iom_ledger.proofs.AgreementLemmas.{May_from_some_row, IsFreeIn-from_rows}
 use Rattle.iom_machine.specs.declared.event.Event.TheVariants.{Attach, Grant}

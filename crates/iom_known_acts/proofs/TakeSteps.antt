@@ -15,7 +15,7 @@ use Rattle.iom_base.specs.declared.owner.Owner.TheVariants.{System, OneDevice}
 use Rattle.iom_ledger.specs.declared.entry.HistoryEntry.TheVariants as entries
 use Rattle.iom_ledger.specs.declared.ledger.Ledger.{Ledger}
 use Rattle.iom_ledger.specs.History.{History, NoneMayReach}
-use Rattle.iom_ledger.specs.Refusals.{NoneApplies}
+use Rattle.iom_base.specs.Refusals.{NoneApplies}
 use Rattle.iom_ledger.specs.Shown.{Agrees, IsFreeIn}
 use Rattle.iom_ledger.proofs.AgreementLemmas.{some_row_from_May, not_free_from_row}
 use Rattle.iom_machine.specs.declared.event.Event.TheVariants.{Attach, Grant}

@@ -9,11 +9,10 @@ ghost use Rattle.iom_machine.specs.declared.event.Event.TheVariants as events;
 ghost use Rattle.iom_known.specs.Allowed.{Past, IsTrueOf};
 ghost use Rattle.iom_known.specs.Steps.{IsExplained, IsLedBack};
 
-use iom_base::DeviceId;
+use iom_base::{DeviceId, Refusal};
 use iom_known::Known;
 use iom_known::devices::place_of;
 use iom_known::requests::{answers_absent, answers_unable};
-use iom_ledger::Refusal;
 use iom_machine::Outcome;
 
 fn may_refuse_restart(why: Refusal) -> bool

@@ -8,13 +8,12 @@ ghost use Rattle.iom_known.specs.Steps.{IsExplained};
 
 use crate::scarce::{may_lack_frames, may_lack_runs};
 use crate::taking::take;
-use iom_base::{DeviceId, MAX_DEVICES, Mode, Sequence};
+use iom_base::{DeviceId, MAX_DEVICES, Mode, NewDevice, Refusal, Sequence};
 use iom_known::Known;
 use iom_known::devices::{place_of, set_attachment};
 use iom_known::disks::take_out;
 use iom_known::reasons::{attach_refusal, is_memory, plug_refusal, refuses, tells_too_few};
-use iom_ledger::Refusal;
-use iom_machine::{Attachment, Device, NewDevice, Outcome};
+use iom_machine::{Attachment, Device, Outcome};
 use std::alloc::{AllocError, Global};
 
 /// A plug that is done. Its disk, if it has one, is put into no other device.

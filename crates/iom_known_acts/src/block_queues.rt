@@ -1,6 +1,6 @@
 // What may come of the events by which a block device is set up: its disk, its queue and its status.
 ghost use Rattle.std.specs.Prelude.{◌≡◌, ◌↔◌, ◌<◌, IsTrue, Some, length, slice_get};
-ghost use Rattle.iom_ledger.specs.declared.refusal.Refusal.TheVariants.{BadMedium, BadQueue};
+ghost use Rattle.iom_base.specs.declared.refusal.Refusal.TheVariants.{BadMedium, BadQueue};
 ghost use Rattle.iom_machine.specs.BlockDevices.{MayInsert, Inserts, MaySet, IsStatus};
 ghost use Rattle.iom_machine.specs.Judging.{StandsAt};
 ghost use Rattle.iom_machine.specs.Machine.{InsertsDisk, SetsQueue, TellsStatus};
@@ -10,12 +10,11 @@ ghost use Rattle.iom_known.specs.Allowed.{Past, IsTrueOf};
 ghost use Rattle.iom_known.specs.Reasons.{bare};
 ghost use Rattle.iom_known.specs.Steps.{IsLedBack};
 
-use iom_base::DeviceId;
+use iom_base::{DeviceId, Refusal};
 use iom_known::Known;
 use iom_known::devices::{give_disk, place_of};
 use iom_known::disks::{is_among, take_out};
 use iom_known::requests::{answers_absent, answers_unable};
-use iom_ledger::Refusal;
 use iom_machine::{Device, Outcome};
 use iom_virtqueue::Layout;
 

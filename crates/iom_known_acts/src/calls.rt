@@ -6,13 +6,13 @@ ghost use Rattle.iom_machine.specs.Refusals.{MayFindNoPlace};
 ghost use Rattle.iom_known.specs.Allowed.{Past, IsTrueOf};
 ghost use Rattle.iom_known.specs.Steps.{IsExplained};
 
-use iom_base::DeviceId;
+use iom_base::{DeviceId, Refusal};
 use iom_known::Known;
 use iom_known::devices::{attach_again, cut_off, place_of, start_leaving};
 use iom_known::reasons::{
     detach_refusal, quarantine_refusal, refuses, release_refusal, revive_refusal,
 };
-use iom_ledger::{MAX_PENDING, Refusal};
+use iom_ledger::MAX_PENDING;
 use iom_machine::Outcome;
 
 fn may_find_no_place(why: Refusal) -> bool

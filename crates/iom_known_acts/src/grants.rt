@@ -1,7 +1,7 @@
 // Grants.
 ghost use Rattle.std.specs.Prelude.{IsTrue, IfOk};
 ghost use Rattle.iom_base.specs.declared.grant_rights.GrantRights.{GrantRights};
-ghost use Rattle.iom_ledger.specs.declared.refusal.Refusal.TheVariants.{FrameReserved, NoFrames};
+ghost use Rattle.iom_base.specs.declared.refusal.Refusal.TheVariants.{FrameReserved, NoFrames};
 ghost use Rattle.iom_machine.specs.declared.event.Event.TheVariants.{Grant};
 ghost use Rattle.iom_machine.specs.declared.outcome.Outcome.TheVariants.{Done, Refused};
 ghost use Rattle.iom_known.specs.Allowed.{Past, IsTrueOf};
@@ -9,7 +9,7 @@ ghost use Rattle.iom_known.specs.Steps.{IsExplained};
 
 use crate::scarce::may_lack_frames;
 use crate::taking::take;
-use iom_base::{DeviceId, GrantRights, MAX_DEVICES};
+use iom_base::{DeviceId, GrantRights, MAX_DEVICES, Refusal};
 use iom_known::Known;
 use iom_known::bits::without_bit;
 use iom_known::devices::place_of;
@@ -18,7 +18,6 @@ use iom_known::owners::{may_be_nobodys, may_be_somebodys, number_of, owners_of, 
 use iom_known::reasons::{
     early_grant_refusal, is_memory, late_grant_refusal, may_grant, most_tables, refuses,
 };
-use iom_ledger::Refusal;
 use iom_machine::Outcome;
 use std::alloc::AllocError;
 

@@ -2,7 +2,7 @@
 ghost use Rattle.std.specs.Prelude.{◌≡◌, ◌↔◌, ◌/◌, ◌<◌, IsTrue, IfOk, true, false, length};
 ghost use Rattle.iom_base.specs.Sizes.{page_size};
 ghost use Rattle.iom_base.specs.Spans.{FitsInPage};
-ghost use Rattle.iom_ledger.specs.Refusals.{IsRefusedBy};
+ghost use Rattle.iom_base.specs.Refusals.{IsRefusedBy};
 ghost use Rattle.iom_machine.specs.declared.event.Event.TheVariants as events;
 ghost use Rattle.iom_machine.specs.declared.outcome.Outcome.TheVariants as outcomes;
 ghost use Rattle.iom_machine.specs.Machine.{Pokes, Peeks};
@@ -11,14 +11,13 @@ ghost use Rattle.iom_known.specs.Allowed.{Past, IsTrueOf};
 ghost use Rattle.iom_known.specs.Steps.{IsLedBack, IsExplained};
 
 use arrayvec::ArrayVec;
-use iom_base::{PAGE_SIZE, Span};
+use iom_base::{PAGE_SIZE, Refusal, Span};
 use iom_known::Known;
 use iom_known::bits::without_bit;
 use iom_known::contents::{be_somebodys, keep_at, may_show_at, store_nobodys};
 use iom_known::frames::{NOBODY, ONLY_NOBODY};
 use iom_known::owners::{may_be_nobodys, may_be_somebodys, number_of, owners_of, set_owners};
 use iom_known::reasons::{frame_refusal, refuses};
-use iom_ledger::Refusal;
 use iom_machine::Outcome;
 use std::alloc::{AllocError, Global};
 

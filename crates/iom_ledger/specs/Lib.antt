@@ -1,5 +1,4 @@
 pub mod History
-pub mod Refusals
 pub mod Pending
 pub mod Rows
 pub mod Places

@@ -27,11 +27,9 @@ mod lookups;
 mod page_row;
 mod pages;
 mod pending;
-mod refusal;
 mod ring;
 mod row;
 
 pub use entry::HistoryEntry;
 pub use ledger::{Ledger, MAX_PENDING};
-pub use refusal::Refusal;
 pub use row::Row;

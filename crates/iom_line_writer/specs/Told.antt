@@ -1,6 +1,6 @@
 -- The line that tells an outcome, and behind that the line of its counts, where there are any.
 use Rattle.std.specs.Prelude.{ℕ, List, ◌++◌, Option, None, Some, Result}
-use Rattle.iom_ledger.specs.declared.refusal.Refusal.{Refusal}
+use Rattle.iom_base.specs.declared.refusal.Refusal.{Refusal}
 use Rattle.iom_machine.specs.declared.outcome.Outcome.{Outcome}
 use Rattle.iom_machine.specs.declared.outcome.Trace.{Trace}
 use Rattle.iom_script.specs.Lines.{line_of, settled_line, trace_line}

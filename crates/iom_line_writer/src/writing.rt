@@ -7,7 +7,7 @@ ghost use Rattle.iom_script.specs.Lines.{line_of, settled_line, trace_line};
 ghost use Rattle.iom_line_writer.specs.Told.{told_settled};
 ghost use Rattle.iom_line_writer.specs.Writing.{AppendsPart, KeepsWriter, wants_counts, TakesText, FailsAt, TakesLine, FailsWriting};
 
-use iom_ledger::Refusal;
+use iom_base::Refusal;
 use iom_machine::{Outcome, Sink, Trace};
 use iom_script::LineBuffer;
 use std::io::{self, ErrorKind, Write};

@@ -3,7 +3,7 @@ use Rattle.std.proofs.Common.{◌≡◌, ◌↔◌, ℕ, suc, ◌+◌, ◌-◌, 
 use Rattle.std.proofs.lemmas.List.Elements.{All-append}
 use Rattle.iom_base.specs.declared.grant_rights.GrantRights.{GrantRights}
 use Rattle.iom_ledger.specs.declared.entry.HistoryEntry.TheVariants as entries
-use Rattle.iom_ledger.specs.declared.refusal.Refusal.{Refusal}
+use Rattle.iom_base.specs.declared.refusal.Refusal.{Refusal}
 use Rattle.iom_ledger.specs.History.{History, confirmed_from}
 use Rattle.iom_base.specs.GrantRights.{rights_of}
 use Rattle.iom_machine.specs.declared.outcome.Outcome.TheVariants.{Done, Ticket, Confirmed}
@@ -16,7 +16,7 @@ use Rattle.iom_machine.specs.declared.state.State.{State}
 use Rattle.iom_machine.specs.Frames.{IsFree, IsFreeBesides, reserved_for}
 use Rattle.iom_machine.specs.Devices.{device_of, with_device, DeviceMay, EachInFlightMay}
 use Rattle.iom_machine.specs.Tickets.{AreNextTickets, with_confirmed}
-use Rattle.iom_ledger.specs.Refusals.{NoneApplies}
+use Rattle.iom_base.specs.Refusals.{NoneApplies}
 use Rattle.iom_machine.specs.Refusals.{attach_reasons, detach_reasons, grant_reasons, quarantine_reasons, revive_reasons}
 use Rattle.iom_machine.specs.Judging.{StandsAt}
 use Rattle.iom_machine.specs.Machine.{Attaches, Detaches, Grants, Quarantines, Revives, Polls}

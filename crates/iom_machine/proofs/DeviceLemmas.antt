@@ -12,17 +12,17 @@ use Rattle.iom_machine.specs.declared.outcome.Outcome.TheVariants.{Done, Refused
 use Rattle.iom_base.specs.declared.access.Access.{Access}
 use Rattle.iom_base.specs.declared.access.AcceptedAccess.{AcceptedAccess}
 use Rattle.iom_machine.specs.declared.state.Device.{Device}
-use Rattle.iom_machine.specs.declared.state.NewDevice.{NewDevice}
+use Rattle.iom_base.specs.declared.device_kind.NewDevice.{NewDevice}
 use Rattle.iom_machine.specs.declared.state.State.{State}
 use Rattle.iom_machine.specs.Devices.{device_of, replaced_device}
-use Rattle.iom_base.specs.Accesses.{read_of, write_of}
-use Rattle.iom_machine.specs.Kinds.{is_block_device, sends_untranslated, sends_through_cache, is_any_kind}
+use Rattle.iom_base.specs.Accesses.{read_of, write_of, at_frame}
+use Rattle.iom_base.specs.DeviceKinds.{is_block_device, sends_untranslated, sends_through_cache, is_any_kind, has_cache}
 use Rattle.iom_machine.specs.BlockDevices.{Inserts, IsAnswered, TakesStep}
 use Rattle.iom_machine.specs.Requests.{MayAnswer, state_after, with_accepted}
-use Rattle.iom_machine.specs.ThroughCache.{at_frame, MayAnswerThroughCache, state_after_cached}
+use Rattle.iom_machine.specs.ThroughCache.{MayAnswerThroughCache, state_after_cached}
 use Rattle.iom_machine.specs.Machine.{Requests, RequestsThroughCache, InsertsDisk, Steps, Makes, Commits, Step, Run, plugged_device}
-use Rattle.iom_ledger.specs.Refusals.{first_that_applies}
-use Rattle.iom_machine.specs.Refusals.{has_cache, plug_reasons}
+use Rattle.iom_base.specs.Refusals.{first_that_applies}
+use Rattle.iom_machine.specs.Refusals.{plug_reasons}
 use Rattle.iom_machine.specs.Laws.{Asked, IsSentOf, AreSent, AreAccepted, AreMade, AccessesInFlightWereAccepted}
 use Rattle.iom_machine.specs.PowerOn.{opening}
 use Rattle.iom_ledger.specs.History.{History}

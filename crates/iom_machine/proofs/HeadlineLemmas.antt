@@ -10,7 +10,7 @@ use Rattle.iom_ledger.specs.declared.entry.HistoryEntry.{HistoryEntry}
 use Rattle.iom_ledger.specs.declared.entry.HistoryEntry.TheVariants as entries
 use Rattle.iom_ledger.specs.History.{History, May, Pair, confirmed_from}
 use Rattle.iom_ledger.specs.History as ledger
-use Rattle.iom_ledger.specs.declared.refusal.Refusal.TheVariants.{NoSuchDevice}
+use Rattle.iom_base.specs.declared.refusal.Refusal.TheVariants.{NoSuchDevice}
 use Rattle.iom_machine.specs.declared.choice.Choice.{Choice}
 use Rattle.iom_machine.specs.declared.event.Event.{Event}
 use Rattle.iom_machine.specs.declared.event.Event.TheVariants as events
@@ -18,7 +18,7 @@ use Rattle.iom_machine.specs.declared.outcome.Outcome.{Outcome}
 use Rattle.iom_machine.specs.declared.outcome.Outcome.TheVariants.{Refused, Accepted, Busy, BadSpan, Fault, Read, Wrote, NothingInFlight}
 use Rattle.iom_base.specs.declared.access.Access.{Access}
 use Rattle.iom_machine.specs.declared.state.Device.{Device}
-use Rattle.iom_machine.specs.declared.state.DeviceKind.TheVariants.{Raw}
+use Rattle.iom_base.specs.declared.device_kind.DeviceKind.TheVariants.{Raw}
 use Rattle.iom_machine.specs.declared.state.Frame.{Frame}
 use Rattle.iom_base.specs.declared.access.AcceptedAccess.{AcceptedAccess}
 use Rattle.iom_machine.specs.declared.state.State.{State}
@@ -26,7 +26,7 @@ use Rattle.iom_machine.specs.Frames.{bytes_of, stored}
 use Rattle.iom_machine.specs.Devices.{device_of, IsPlugged, EachInFlightMay}
 use Rattle.iom_base.specs.Accesses.{read_of, offset_of, IsWithinPage}
 use Rattle.iom_machine.specs.Requests.{IsBusy, HoldsFor, MayAcceptInOneStage, MayAccept, MayFault, MayAnswer, state_after, with_accepted}
-use Rattle.iom_machine.specs.Kinds.{sends_untranslated, is_any_kind}
+use Rattle.iom_base.specs.DeviceKinds.{sends_untranslated, is_any_kind}
 use Rattle.iom_machine.specs.Machine.{Requests, Makes, Step, with_oldest_made}
 use Rattle.iom_machine.specs.Headline.{byte_in, IsOutside, AreNamedBytes, TouchesItsOwn, AsksFor, IsOneStage, GrantsFrameTo, GrantsFrame, TouchesFrameBy, TouchesFrame}
 use Rattle.iom_machine.specs.Laws.{IsReached}

@@ -6,8 +6,8 @@ use Rattle.std.proofs.lemmas.Grind.{common_steps}
 use Rattle.std.proofs.lemmas.List.Elements.{All-map, All-push, All-nil, All-weaker, All-contains, All-cons, All-tail, All-head}
 use Rattle.std.proofs.lemmas.Nat.{mod-mul-add, mod_below}
 use Rattle.std.proofs.lemmas.Option.{get_or_from_slice_get, slice_get_within}
-use Rattle.iom_ledger.specs.declared.refusal.Refusal.{Refusal}
-use Rattle.iom_ledger.specs.declared.refusal.Refusal.TheVariants.{NoSuchDevice, WrongKind}
+use Rattle.iom_base.specs.declared.refusal.Refusal.{Refusal}
+use Rattle.iom_base.specs.declared.refusal.Refusal.TheVariants.{NoSuchDevice, WrongKind}
 use Rattle.iom_ledger.specs.History.{History, May}
 use Rattle.iom_machine.specs.declared.event.Event.{Event}
 use Rattle.iom_machine.specs.declared.event.Event.TheVariants as events
@@ -17,23 +17,22 @@ use Rattle.iom_base.specs.declared.access.Access.{Access}
 use Rattle.iom_machine.specs.declared.state.Attachment.{Attachment}
 use Rattle.iom_machine.specs.declared.state.Attachment.TheVariants.{Detached, Attached, Quarantined, Leaving}
 use Rattle.iom_machine.specs.declared.state.Device.{Device}
-use Rattle.iom_machine.specs.declared.state.DeviceKind.{DeviceKind}
+use Rattle.iom_base.specs.declared.device_kind.DeviceKind.{DeviceKind}
 use Rattle.iom_base.specs.declared.access.AcceptedAccess.{AcceptedAccess}
 use Rattle.iom_base.specs.declared.mode.Mode.{Mode}
 use Rattle.iom_base.specs.declared.mode.Mode.TheVariants.{First, Second, Both}
 use Rattle.iom_machine.specs.declared.state.State.{State}
 use Rattle.iom_machine.specs.Devices.{device_of, replaced_device}
-use Rattle.iom_base.specs.Accesses.{read_of, write_of, page_of, offset_of, IsWithinPage}
+use Rattle.iom_base.specs.Accesses.{read_of, write_of, page_of, offset_of, IsWithinPage, at_frame, HasBytes, MayWant}
 use Rattle.iom_base.specs.declared.access.AccessKind.{AccessKind}
 use Rattle.iom_base.specs.declared.access.AccessKind.TheVariants as kinds
-use Rattle.iom_machine.specs.BlockDevices.{Inserts, HasBytes, MayWant, IsAnswered, TakesStep}
-use Rattle.iom_machine.specs.Refusals.{has_cache}
+use Rattle.iom_machine.specs.BlockDevices.{Inserts, IsAnswered, TakesStep}
+use Rattle.iom_base.specs.DeviceKinds.{has_cache, is_block_device, sends_untranslated, forges, sends_through_cache, asks_questions, is_any_kind}
 use Rattle.iom_virtqueue.specs.declared.layout.Layout.{Layout}
 use Rattle.iom_virtqueue.specs.Layouts.{layout_of}
-use Rattle.iom_machine.specs.Kinds.{is_block_device, sends_untranslated, forges, sends_through_cache, asks_questions, is_any_kind}
 use Rattle.iom_machine.specs.Messages.{Sends, Delivers, Drops, Repeats}
 use Rattle.iom_machine.specs.Requests.{MayAcceptFormerly, MayAccept, MayAnswer, state_after, with_accepted}
-use Rattle.iom_machine.specs.ThroughCache.{at_frame, MayGoThrough, MayAnswerThroughCache, state_after_cached}
+use Rattle.iom_machine.specs.ThroughCache.{MayGoThrough, MayAnswerThroughCache, state_after_cached}
 use Rattle.iom_machine.specs.Machine.{IfItCan, Acts, Requests, RequestsTranslated, RequestsThroughCache, Asks, Forges, Resets, InsertsDisk, SetsQueue, Steps, TellsStatus, Makes, Commits, Step}
 use Rattle.iom_machine.specs.Leaving.{device_once_confirmed}
 use Rattle.iom_machine.specs.Tickets.{with_confirmed}

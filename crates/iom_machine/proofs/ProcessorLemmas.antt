@@ -3,7 +3,7 @@ use Rattle.std.proofs.Common.{◌≡◌, ◌+◌, ◌/◌, ◌%◌, ◌<◌, ◌
 use Rattle.std.proofs.lemmas.Bool.{cases_lt}
 use Rattle.std.proofs.lemmas.Bool.Decides.{nat_tests}
 use Rattle.iom_base.specs.Spans.{FitsInPage}
-use Rattle.iom_ledger.specs.declared.refusal.Refusal.{Refusal}
+use Rattle.iom_base.specs.declared.refusal.Refusal.{Refusal}
 use Rattle.iom_machine.specs.declared.outcome.Outcome.{Outcome}
 use Rattle.iom_machine.specs.declared.outcome.Outcome.TheVariants.{Done, Refused, BadSpan, Bytes, Free}
 use Rattle.iom_machine.specs.declared.state.Frame.{Frame}
@@ -12,7 +12,7 @@ use Rattle.iom_machine.specs.Frames.{is_reserved, bytes_of, stored}
 use Rattle.iom_machine.specs.Laws.{IsReached}
 use Rattle.iom_machine.specs.Judging.{anyone_reaches_in}
 use Rattle.iom_machine.specs.Machine.{Pokes, Peeks, TellsFree}
-use Rattle.iom_ledger.specs.Refusals.{first_that_applies, NoneApplies, IsRefusedBy}
+use Rattle.iom_base.specs.Refusals.{first_that_applies, NoneApplies, IsRefusedBy}
 use Rattle.iom_machine.specs.Refusals.{NeverElse, frame_reasons, poke_reasons}
 use Rattle.iom_machine.proofs.ByteLemmas.{length-range}
 use Rattle.iom_machine.proofs.HeadlineLemmas.{element_at, bytes_there}

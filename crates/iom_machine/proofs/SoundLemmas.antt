@@ -13,7 +13,7 @@ use Rattle.iom_base.specs.declared.rights.Rights.{Rights}
 use Rattle.iom_base.specs.GrantRights.{rights_of}
 use Rattle.iom_ledger.specs.declared.entry.HistoryEntry.{HistoryEntry}
 use Rattle.iom_ledger.specs.declared.entry.HistoryEntry.TheVariants as entries
-use Rattle.iom_ledger.specs.declared.refusal.Refusal.{Refusal}
+use Rattle.iom_base.specs.declared.refusal.Refusal.{Refusal}
 use Rattle.iom_ledger.specs.History.{History, May, Pair, held_at, confirms, confirmed_from}
 use Rattle.iom_machine.specs.declared.event.Event.{Event}
 use Rattle.iom_machine.specs.declared.event.Event.TheVariants as events
@@ -28,13 +28,13 @@ use Rattle.iom_base.specs.declared.owner.Owner.TheVariants.{System, OneDevice}
 use Rattle.iom_machine.specs.declared.state.State.{State}
 use Rattle.iom_machine.specs.Frames.{with_frame, reserved_for, stored}
 use Rattle.iom_machine.specs.Devices.{device_of, EachInFlightMay}
-use Rattle.iom_ledger.specs.Refusals.{NoneApplies, first_that_applies}
-use Rattle.iom_machine.specs.Refusals.{grant_reasons, has_cache, is_held, is_lingering}
-use Rattle.iom_base.specs.Accesses.{read_of, write_of, offset_of}
-use Rattle.iom_machine.specs.Kinds.{is_block_device, sends_untranslated, sends_through_cache, is_any_kind}
+use Rattle.iom_base.specs.Refusals.{NoneApplies, first_that_applies}
+use Rattle.iom_base.specs.DeviceKinds.{has_cache, is_block_device, sends_untranslated, sends_through_cache, is_any_kind}
+use Rattle.iom_machine.specs.Refusals.{grant_reasons, is_held, is_lingering}
+use Rattle.iom_base.specs.Accesses.{read_of, write_of, offset_of, at_frame}
 use Rattle.iom_machine.specs.BlockDevices.{Inserts, IsAnswered, TakesStep}
 use Rattle.iom_machine.specs.Requests.{state_after, with_accepted}
-use Rattle.iom_machine.specs.ThroughCache.{at_frame, state_after_cached}
+use Rattle.iom_machine.specs.ThroughCache.{state_after_cached}
 use Rattle.iom_machine.specs.Machine.{Requests, RequestsThroughCache, InsertsDisk, Steps, Makes, Commits, Step, Run}
 use Rattle.iom_machine.specs.PowerOn.{opening, empty_frame}
 use Rattle.iom_machine.specs.Leaving.{is_of_left, given_back}

@@ -2,15 +2,15 @@
 use Rattle.std.proofs.Common.{◌≡◌, ◌↔◌, ℕ, Bool, true, false, IsTrue, refl, List, Option, None, Some, Result, Ok, Err, IfOk, get_or, slice_get, sym, ap, subst, ◌∙◌}
 use Rattle.std.proofs.lemmas.Option.{get_or_from_slice_get}
 use Rattle.std.specs.declared.alloc.AllocError.{AllocError}
-use Rattle.iom_ledger.specs.declared.refusal.Refusal.TheVariants.{NoSuchDevice, WrongKind}
+use Rattle.iom_base.specs.declared.refusal.Refusal.TheVariants.{NoSuchDevice, WrongKind}
 use Rattle.iom_machine.specs.declared.outcome.Outcome.{Outcome}
 use Rattle.iom_machine.specs.declared.outcome.Outcome.TheVariants.{Refused}
 use Rattle.iom_machine.specs.declared.state.Device.{Device}
-use Rattle.iom_machine.specs.declared.state.DeviceKind.{DeviceKind}
+use Rattle.iom_base.specs.declared.device_kind.DeviceKind.{DeviceKind}
 use Rattle.iom_machine.specs.declared.state.State.{State}
 use Rattle.iom_machine.specs.Devices.{device_of}
 use Rattle.iom_machine.specs.Judging.{StandsAt}
-use Rattle.iom_machine.specs.Kinds.{is_any_kind}
+use Rattle.iom_base.specs.DeviceKinds.{is_any_kind}
 use Rattle.iom_machine.specs.Machine.{Acts}
 use Rattle.iom_machine.proofs.InFlightLemmas.{found_device}
 

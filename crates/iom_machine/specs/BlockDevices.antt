@@ -1,11 +1,9 @@
 -- What may come of the events of a block device (virtio 1.2). The machine knows whether it has a disk, and no more: neither its queue and its status, nor
 -- its requests. So a step of it may be any; but the access that a step begins is answered as any device's.
-use Rattle.std.specs.Prelude.{◌≡◌, ℕ, Bool, true, false, List, [], Some, length, ⊤}
+use Rattle.std.specs.Prelude.{◌≡◌, ℕ, Bool, true, false, Some, ⊤}
 use Rattle.iom_base.specs.declared.access.Access.{Access}
-use Rattle.iom_base.specs.declared.access.AccessKind.{AccessKind}
-use Rattle.iom_base.specs.declared.access.AccessKind.TheVariants.{Read, Write}
-use Rattle.iom_base.specs.Accesses.{IsWithinPage}
-use Rattle.iom_ledger.specs.declared.refusal.Refusal.TheVariants.{BadMedium, BadQueue}
+use Rattle.iom_base.specs.Accesses.{MayWant}
+use Rattle.iom_base.specs.declared.refusal.Refusal.TheVariants.{BadMedium, BadQueue}
 use Rattle.iom_machine.specs.declared.outcome.BlockStep.{BlockStep}
 use Rattle.iom_machine.specs.declared.outcome.BlockStep.TheVariants.{Idle, Waiting, Asked, Chain, Finished, Down}
 use Rattle.iom_machine.specs.declared.outcome.Outcome.{Outcome}
@@ -13,8 +11,8 @@ use Rattle.iom_machine.specs.declared.outcome.Outcome.TheVariants as outcomes
 use Rattle.iom_machine.specs.declared.state.Device.{Device}
 use Rattle.iom_machine.specs.declared.state.State.{State}
 use Rattle.iom_machine.specs.Devices.{with_device}
-use Rattle.iom_machine.specs.Disks.{is_among, without_disk}
-use Rattle.iom_machine.specs.Refusals.{has_cache}
+use Rattle.iom_base.specs.Disks.{is_among, without_disk}
+use Rattle.iom_base.specs.DeviceKinds.{has_cache}
 use Rattle.iom_machine.specs.Requests.{IsForwarded, MayAnswer, state_after}
 use Rattle.iom_machine.specs.ThroughCache.{MayAnswerThroughCache, state_after_cached}
 use Rattle.iom_virtqueue.specs.declared.layout.Layout.{Layout}
@@ -54,15 +52,6 @@ MayBe device access Asked = (has_cache device.kind ≡ true) × IsForwarded devi
 MayBe device access (Chain fault) = ⊤
 MayBe device access (Finished head len) = ⊤
 MayBe device access Down = ⊤
-
--- a write has as many bytes as it names, and a read has none
-abbrev pub HasBytes : AccessKind → ℕ → List ℕ → Type 0
-HasBytes Read len bytes = bytes ≡ []
-HasBytes Write len bytes = length bytes ≡ len
-
--- a step may begin the access, which lies within one page
-abbrev pub MayWant : Access → Type 0
-MayWant access = IsWithinPage access × HasBytes access.kind access.len access.bytes
 
 -- It is answered as a request that the IOMMU translates, or, of a device with a cache, as one through that.
 abbrev pub IsAnswered : Bool → State → Device → Access → ℕ → Outcome → State → Type 0

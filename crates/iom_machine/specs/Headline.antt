@@ -10,7 +10,7 @@ use Rattle.iom_machine.specs.declared.outcome.Outcome.TheVariants.{Done, Refused
 use Rattle.iom_base.specs.declared.access.Access.{Access}
 use Rattle.iom_machine.specs.declared.state.Attachment.TheVariants.{Attached}
 use Rattle.iom_machine.specs.declared.state.Device.{Device}
-use Rattle.iom_machine.specs.declared.state.DeviceKind.TheVariants.{Raw}
+use Rattle.iom_base.specs.declared.device_kind.DeviceKind.TheVariants.{Raw}
 use Rattle.iom_machine.specs.declared.state.Frame.{Frame}
 use Rattle.iom_base.specs.declared.access.AcceptedAccess.{AcceptedAccess}
 use Rattle.iom_base.specs.declared.mode.Mode.TheVariants.{First, Second}

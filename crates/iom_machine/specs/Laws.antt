@@ -8,11 +8,10 @@ use Rattle.iom_base.specs.declared.access.Access.{Access}
 use Rattle.iom_base.specs.declared.access.AcceptedAccess.{AcceptedAccess}
 use Rattle.iom_machine.specs.declared.state.Device.{Device}
 use Rattle.iom_machine.specs.declared.state.State.{State}
-use Rattle.iom_base.specs.Accesses.{read_of, write_of}
+use Rattle.iom_base.specs.Accesses.{read_of, write_of, at_frame}
 use Rattle.iom_machine.specs.Frames.{IsFree}
 use Rattle.iom_machine.specs.Devices.{EachInFlightMay}
 use Rattle.iom_machine.specs.Refusals.{is_held, is_lingering, has_grants}
-use Rattle.iom_machine.specs.ThroughCache.{at_frame}
 use Rattle.iom_machine.specs.Machine.{Step, Run}
 use Rattle.iom_machine.specs.PowerOn.{opening}
 use Rattle.iom_machine.specs.Headline.{AsksFor, GrantsFrameTo, GrantsFrame, MakesAccessOf, TouchesFrameBy, TouchesFrame, MadeAccessTouchesItsOwn, HeldPageIsAccepted}

@@ -1,9 +1,8 @@
 -- What may come of an access through the device's own cache of translations.
-use Rattle.std.specs.Prelude.{◌≡◌, ℕ, ◌+◌, ◌*◌, ◌⊎◌}
+use Rattle.std.specs.Prelude.{◌≡◌, ℕ, ◌+◌, ◌⊎◌}
 use Rattle.iom_base.specs.declared.access.Access.{Access}
 use Rattle.iom_base.specs.declared.mode.Mode.TheVariants.{First, Second, Both}
-use Rattle.iom_base.specs.Accesses.{offset_of, IsWithinPage}
-use Rattle.iom_base.specs.Sizes.{page_size}
+use Rattle.iom_base.specs.Accesses.{IsWithinPage, at_frame}
 use Rattle.iom_ledger.specs.History.{History, May}
 use Rattle.iom_machine.specs.declared.outcome.Outcome.{Outcome}
 use Rattle.iom_machine.specs.declared.outcome.Outcome.TheVariants.{Accepted, Busy, BadSpan, Fault, Miss}
@@ -13,10 +12,6 @@ use Rattle.iom_machine.specs.declared.state.Device.{Device}
 use Rattle.iom_machine.specs.declared.state.State.{State}
 use Rattle.iom_machine.specs.Requests.{IsBusy, IsForwarded, HoldsFor, LingersFor, MayAcceptCutOff, with_accepted}
 use Rattle.iom_machine.specs.Translated.{MayFindNoContext}
-
--- the access at its physical address, in the frame: that of the translated request that the device makes of it
-abbrev pub at_frame : ℕ → Access → Access
-at_frame frame access = record access { address = frame * page_size + offset_of access }
 
 -- a cache may have what is held at the page, and what lingers there
 abbrev pub MayHaveCached : History → ℕ → Access → ℕ → Type 0

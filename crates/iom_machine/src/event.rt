@@ -1,5 +1,4 @@
-use crate::state::NewDevice;
-use iom_base::{DeviceId, GrantRights, Mode, Sequence};
+use iom_base::{DeviceId, GrantRights, Mode, NewDevice, Sequence};
 use iom_fabric::PageNumber;
 
 /// One thing that happens: a call of the driver, an act of a device or a step of the IOMMU.

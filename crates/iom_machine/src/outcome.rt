@@ -1,7 +1,6 @@
 use arrayvec::ArrayVec;
-use iom_base::Cause;
+use iom_base::{Cause, Refusal};
 use iom_fabric::Translation;
-use iom_ledger::Refusal;
 use iom_virtqueue::ChainFault;
 
 /// A command of the IOMMU's command queue, by its name.

@@ -1,27 +1,5 @@
-use iom_base::{AcceptedAccess, DeviceId, Mode, Owner, Sequence};
+use iom_base::{AcceptedAccess, DeviceId, DeviceKind, Mode, Owner, Sequence};
 use iom_ledger::HistoryEntry;
-
-/// What a device is, and so which requests it can make.
-#[derive(Clone, Copy, PartialEq, Eq, Debug)]
-pub enum DeviceKind {
-    /// It sends anything, freely.
-    Raw,
-    /// It has a cache of translations (ATS).
-    Ats,
-    /// A virtio block device.
-    Block,
-    /// A virtio block device with a cache of translations.
-    CachedBlock,
-}
-
-/// What is plugged in: a device of a kind, and the number of the disk that it has, if it is a block device.
-#[derive(Clone, Copy, PartialEq, Eq, Debug)]
-pub enum NewDevice {
-    Raw,
-    Ats,
-    Block { disk: u64 },
-    CachedBlock { disk: u64 },
-}
 
 /// How a device is attached.
 #[derive(Clone, Copy, PartialEq, Eq, Debug)]

@@ -5,9 +5,10 @@ use Rattle.iom_base.specs.declared.access.Access.{Access}
 use Rattle.iom_machine.specs.declared.outcome.Outcome.{Outcome}
 use Rattle.iom_machine.specs.declared.state.Device.{Device}
 use Rattle.iom_machine.specs.declared.state.State.{State}
-use Rattle.iom_machine.specs.BlockDevices.{MayWant, IsAnswered, Begins}
+use Rattle.iom_base.specs.Accesses.{MayWant}
+use Rattle.iom_machine.specs.BlockDevices.{IsAnswered, Begins}
 use Rattle.iom_machine.specs.Judging.{StandsAt}
-use Rattle.iom_machine.specs.Refusals.{has_cache}
+use Rattle.iom_base.specs.DeviceKinds.{has_cache}
 use Rattle.iom_machine.proofs.StepLemmas.{read_again}
 use Rattle.iom_machine_judge.specs.Deciding.{left_by}
 

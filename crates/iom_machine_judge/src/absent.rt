@@ -1,9 +1,9 @@
 // What an event that names a device is answered first.
 ghost use Rattle.std.specs.Prelude.{◌≡◌, ◌↔◌, IsTrue};
-ghost use Rattle.iom_ledger.specs.declared.refusal.Refusal.TheVariants.{NoSuchDevice, WrongKind};
+ghost use Rattle.iom_base.specs.declared.refusal.Refusal.TheVariants.{NoSuchDevice, WrongKind};
 ghost use Rattle.iom_machine.specs.declared.outcome.Outcome.TheVariants.{Refused};
 
-use iom_ledger::Refusal;
+use iom_base::Refusal;
 use iom_machine::Outcome;
 
 /// Whether a device that isn't plugged in is answered so.

@@ -1,11 +1,12 @@
 // What may come of the events of a block device.
 ghost use Rattle.std.specs.Prelude.{◌≡◌, ◌↔◌, ◌<◌, ◌==◌, true, false, [], IfOk, IsTrue, Some, length, filter, not, slice_get};
-ghost use Rattle.iom_ledger.specs.declared.refusal.Refusal.TheVariants.{BadMedium, BadQueue};
+ghost use Rattle.iom_base.specs.declared.refusal.Refusal.TheVariants.{BadMedium, BadQueue};
 ghost use Rattle.iom_machine.specs.declared.state.Device.{Device};
 ghost use Rattle.iom_machine.specs.declared.state.State.{State};
-ghost use Rattle.iom_machine.specs.Disks.{is_among, without_disk};
-ghost use Rattle.iom_machine.specs.BlockDevices.{MayInsert, Inserts, MaySet, IsStatus, MayBe, HasBytes, MayWant, IsAnswered, Begins, TakesStep};
-ghost use Rattle.iom_machine.specs.Refusals.{has_cache};
+ghost use Rattle.iom_base.specs.Disks.{is_among, without_disk};
+ghost use Rattle.iom_base.specs.Accesses.{HasBytes, MayWant};
+ghost use Rattle.iom_machine.specs.BlockDevices.{MayInsert, Inserts, MaySet, IsStatus, MayBe, IsAnswered, Begins, TakesStep};
+ghost use Rattle.iom_base.specs.DeviceKinds.{has_cache};
 ghost use Rattle.iom_machine.specs.Requests.{IsForwarded};
 ghost use Rattle.iom_machine.specs.Judging.{StandsAt};
 ghost use Rattle.iom_machine.specs.Machine.{InsertsDisk, SetsQueue, Steps, TellsStatus};
@@ -16,8 +17,7 @@ use crate::absent::{answers_absent, answers_unable};
 use crate::devices::{device_with, give_disk, place_of};
 use crate::requests::{self, is_forwarded, is_within_page};
 use crate::through_cache;
-use iom_base::{Access, AccessKind, DeviceId, Sequence};
-use iom_ledger::Refusal;
+use iom_base::{Access, AccessKind, DeviceId, Refusal, Sequence};
 use iom_machine::{BlockStep, Choice, Device, Outcome, State};
 use iom_virtqueue::Layout;
 use std::alloc::{AllocError, Global};

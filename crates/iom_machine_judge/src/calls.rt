@@ -13,9 +13,9 @@ use crate::reasons::{
     attach_refusal, detach_refusal, grant_refusal, most_tables, plug_refusal, refuses,
     release_refusal,
 };
-use iom_base::{DeviceId, GrantRights, Mode, Owner, Sequence};
-use iom_ledger::{HistoryEntry, Refusal};
-use iom_machine::{Attachment, Device, NewDevice, Outcome, State, reserve};
+use iom_base::{DeviceId, GrantRights, Mode, NewDevice, Owner, Refusal, Sequence};
+use iom_ledger::HistoryEntry;
+use iom_machine::{Attachment, Device, Outcome, State, reserve};
 use std::alloc::{AllocError, Global};
 
 fn may_refuse_plug(why: Refusal) -> bool

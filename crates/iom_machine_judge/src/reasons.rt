@@ -2,9 +2,9 @@
 ghost use Rattle.std.specs.Prelude.{◌≡◌, ◌↔◌, ◌<◌, ◌≤◌, ◌∷◌, [], ◌||◌, ◌-◌, not, nat_le, IsTrue, MatchOption, OnSome, find, ◌==◌};
 ghost use Rattle.std.specs.Option.{option_map_or};
 ghost use Rattle.iom_machine.specs.declared.state.Attachment.TheVariants.{Detached};
-ghost use Rattle.iom_machine.specs.Disks.{is_missing};
+ghost use Rattle.iom_base.specs.Disks.{is_missing};
 ghost use Rattle.iom_machine.specs.Tickets.{pending_tickets};
-ghost use Rattle.iom_ledger.specs.Refusals.{first_that_applies};
+ghost use Rattle.iom_base.specs.Refusals.{first_that_applies};
 ghost use Rattle.iom_machine.specs.Refusals.{plug_reasons, attach_reasons, detach_reasons, grant_reasons, release_reasons, quarantine_reasons, revive_reasons, frame_reasons, poke_reasons};
 ghost use Rattle.iom_machine.specs.Refusals.{is_plugged, attachment_of, is_detached, is_leaving, is_quarantined, is_attached, may_still_reach, table_limit_at};
 ghost use Rattle.iom_machine.specs.Refusals.{is_trusted, id_limit, is_too_wide, is_held, is_lingering, has_grants};
@@ -14,9 +14,9 @@ use crate::block_devices::is_among;
 use crate::devices::device_with;
 use crate::frames::has_owner;
 use crate::history::{grants_left, is_confirmed, last_ticket_confirmed, lingers_at, pair_held};
-use iom_base::{DeviceId, MAX_DEVICES};
-use iom_ledger::{HistoryEntry, MAX_PENDING, Refusal};
-use iom_machine::{Attachment, Device, NewDevice, State};
+use iom_base::{DeviceId, MAX_DEVICES, NewDevice, Refusal};
+use iom_ledger::{HistoryEntry, MAX_PENDING};
+use iom_machine::{Attachment, Device, State};
 
 fn plugged(state: &State, id: DeviceId) -> bool
     ensures { result ≡ is_plugged state.now id }

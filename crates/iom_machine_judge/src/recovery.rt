@@ -10,8 +10,8 @@ use crate::absent::answers_absent;
 use crate::calls::may_find_no_place;
 use crate::devices::{attach_again, cut_off, device_with, place_of};
 use crate::reasons::{quarantine_refusal, refuses, revive_refusal};
-use iom_base::DeviceId;
-use iom_ledger::{HistoryEntry, Refusal};
+use iom_base::{DeviceId, Refusal};
+use iom_ledger::HistoryEntry;
 use iom_machine::{Outcome, State};
 use std::alloc::AllocError;
 

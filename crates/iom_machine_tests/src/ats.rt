@@ -1,9 +1,7 @@
 // Address translation services: questions, accesses through a cache, and what a hostile device makes up.
 use crate::expect::expect;
 use crate::lines::{Comes, Does, Run, Way, are_judged};
-use iom_base::{Cause, GrantRights, Mode, Rights, Size};
-use iom_ledger::Refusal;
-use iom_machine::DeviceKind;
+use iom_base::{Cause, DeviceKind, GrantRights, Mode, Refusal, Rights, Size};
 
 /// Lawful runs, by name, and their lines as they are changed below, which may not come there.
 static RUNS: [Run; 5] = [

@@ -1,9 +1,8 @@
 // Block devices: their disks, their queues, and the accesses that their steps begin.
 use crate::expect::expect;
 use crate::lines::{Comes, Does, Run, are_judged};
-use iom_base::{Cause, GrantRights, Mode, Rights, Size};
-use iom_ledger::Refusal;
-use iom_machine::{BlockStep, DeviceKind, NewDevice};
+use iom_base::{Cause, DeviceKind, GrantRights, Mode, NewDevice, Refusal, Rights, Size};
+use iom_machine::BlockStep;
 use iom_virtqueue::ChainFault;
 use std::process::Abort;
 

@@ -1,10 +1,9 @@
 // A plugged device, with a cache of translations of its own or without. All is about page 3, and frame 13.
 use crate::expect::expect;
 use iom_ats_cache::Taken;
-use iom_base::{AccessKind, Rights};
+use iom_base::{AccessKind, DeviceKind, Rights};
 use iom_device::{Device, place_of};
 use iom_fabric::{Message, PageNumber, Range, Translation};
-use iom_machine::DeviceKind;
 use std::process::Abort;
 
 /// What is done to a device, and what is seen of it.

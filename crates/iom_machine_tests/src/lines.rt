@@ -1,9 +1,11 @@
 // Lists of lines, as the tests write them, for the judge.
 use arrayvec::ArrayVec;
-use iom_base::{Access, AccessKind, Cause, DeviceId, GrantRights, Mode, Rights, Sequence, Size};
+use iom_base::{
+    Access, AccessKind, Cause, DeviceId, GrantRights, Mode, NewDevice, Refusal, Rights, Sequence,
+    Size,
+};
 use iom_fabric::{PageNumber, Translation};
-use iom_ledger::Refusal;
-use iom_machine::{BlockStep, Choice, Event, FaultRecord, Fetched, NewDevice, Outcome, power_on};
+use iom_machine::{BlockStep, Choice, Event, FaultRecord, Fetched, Outcome, power_on};
 use iom_machine_judge::{Line, Verdict, judge_run};
 use std::alloc::Global;
 use std::process::Abort;

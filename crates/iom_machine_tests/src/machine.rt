@@ -1,7 +1,6 @@
 use crate::expect::expect;
 use crate::lines::{Comes, Does, Run, are_judged, line_of};
-use iom_base::{Cause, GrantRights};
-use iom_ledger::Refusal;
+use iom_base::{Cause, GrantRights, Refusal};
 use iom_machine::{CommandName, Fetched, grants_are_at_pages, power_on, reclaim_theorem};
 use iom_machine_judge::{Line, judge, lawful_runs_have_choices};
 use std::alloc::Global;

@@ -1,7 +1,6 @@
 use crate::expect::expect;
 use crate::lines::{Comes, Does, Run, are_judged, judged, lines_of, push};
-use iom_base::{Cause, GrantRights, Mode, Size};
-use iom_ledger::Refusal;
+use iom_base::{Cause, GrantRights, Mode, Refusal, Size};
 use iom_machine_judge::Line;
 use std::alloc::Global;
 use std::process::Abort;

@@ -1,8 +1,7 @@
 // Devices that don't answer: they are cut off and attached again, and the queue goes on without them.
 use crate::expect::expect;
 use crate::lines::{Comes, Does, Run, Way, are_judged, judged, lines_of, push};
-use iom_base::{Cause, GrantRights, Mode, Size};
-use iom_ledger::Refusal;
+use iom_base::{Cause, GrantRights, Mode, Refusal, Size};
 use iom_machine::{CommandName, Fetched};
 use iom_machine_judge::Line;
 use std::alloc::Global;

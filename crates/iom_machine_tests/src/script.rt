@@ -1,8 +1,7 @@
 use crate::expect::expect;
 use crate::lines::{Comes, outcome_of};
-use iom_base::{Cause, GrantRights, Mode, Rights, Sequence, Size};
-use iom_ledger::Refusal;
-use iom_machine::{BlockStep, CommandName, Event, Fetched, NewDevice, Outcome, Trace};
+use iom_base::{Cause, GrantRights, Mode, NewDevice, Refusal, Rights, Sequence, Size};
+use iom_machine::{BlockStep, CommandName, Event, Fetched, Outcome, Trace};
 use iom_script::{LineBuffer, Script, ScriptFault, ScriptLine, WorldSize, parse};
 use iom_virtqueue::ChainFault;
 use std::alloc::Global;

@@ -1,8 +1,7 @@
 // Devices whose tables have four levels, and which numbers of pages and frames differ between the sizes.
 use crate::expect::expect;
 use crate::lines::{Comes, Does, Run, Way, are_judged, judged, lines_of, push};
-use iom_base::{Cause, GrantRights, Mode, Rights, Size};
-use iom_ledger::Refusal;
+use iom_base::{Cause, GrantRights, Mode, Refusal, Rights, Size};
 use iom_machine_judge::Line;
 use std::alloc::Global;
 use std::process::Abort;

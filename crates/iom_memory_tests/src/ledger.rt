@@ -1,6 +1,6 @@
 use crate::expect::expect;
-use iom_base::{DeviceId, Rights};
-use iom_ledger::{Ledger, MAX_PENDING, Refusal, Row};
+use iom_base::{DeviceId, Refusal, Rights};
+use iom_ledger::{Ledger, MAX_PENDING, Row};
 use std::alloc::{AllocError, Global};
 use std::process::Abort;
 use std::test::Fail;

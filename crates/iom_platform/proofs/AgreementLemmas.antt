@@ -2,12 +2,12 @@
 use Rattle.std.proofs.Common.{◌≡◌, ◌≢◌, ◌∙◌, ℕ, Bool, true, false, List, Result, Ok, Err, refl, sym, ap, if◌then◌else◌}
 use Rattle.std.specs.Option.{option_map_or}
 use Rattle.iom_driver.specs.declared.answers.Ticket.{Ticket}
-use Rattle.iom_ledger.specs.declared.refusal.Refusal.{Refusal}
+use Rattle.iom_base.specs.declared.refusal.Refusal.{Refusal}
 use Rattle.iom_machine.specs.declared.event.Event.{Event}
 use Rattle.iom_machine.specs.declared.event.Event.TheVariants as events
 use Rattle.iom_machine.specs.declared.outcome.Outcome.{Outcome}
 use Rattle.iom_machine.specs.declared.outcome.Outcome.TheVariants as outcome
-use Rattle.iom_machine.specs.Kinds.{is_block_device}
+use Rattle.iom_base.specs.DeviceKinds.{is_block_device}
 use Rattle.iom_virtio_blk.specs.declared.disk.Disk.{Ghosts}
 use Rattle.iom_world.specs.declared.world.World.{World}
 use Rattle.iom_world_effects.specs.Answers.{ticket_told_of}

@@ -5,7 +5,7 @@ use Rattle.std.proofs.lemmas.Bool.{eq-eqb}
 use Rattle.std.proofs.lemmas.Bool.Decides.{eqb_tells}
 use Rattle.std.proofs.lemmas.Option.{get_or_from_slice_get}
 use Rattle.iom_driver.proofs.Lists.{differs, get_there}
-use Rattle.iom_machine.specs.Disks.{is_among, without_disk}
+use Rattle.iom_base.specs.Disks.{is_among, without_disk}
 use Rattle.iom_virtio_blk.specs.DiskStates.{DiskState}
 use Rattle.iom_platform.specs.declared.block.DiskAtHand.{DiskAtHand}
 use Rattle.iom_platform.specs.Agreement.{numbers_of}

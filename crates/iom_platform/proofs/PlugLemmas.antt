@@ -5,17 +5,16 @@ use Rattle.std.proofs.lemmas.List.{length-map}
 use Rattle.iom_driver.specs.declared.device.Device as driver
 use Rattle.iom_driver.specs.Calls.{AnswersPlug}
 use Rattle.iom_driver.specs.Reasons.{why_not_plug}
-use Rattle.iom_ledger.specs.Refusals.{NoneApplies}
-use Rattle.iom_machine.specs.Refusals.{has_cache}
-use Rattle.iom_ledger.specs.declared.refusal.Refusal.{Refusal}
+use Rattle.iom_base.specs.Refusals.{NoneApplies}
+use Rattle.iom_base.specs.DeviceKinds.{has_cache, disk_of, kind_of}
+use Rattle.iom_base.specs.declared.refusal.Refusal.{Refusal}
 use Rattle.iom_machine.specs.declared.event.Event.{Event}
 use Rattle.iom_machine.specs.declared.event.Event.TheVariants as events
 use Rattle.iom_machine.specs.declared.outcome.Outcome.{Outcome}
 use Rattle.iom_machine.specs.declared.outcome.Outcome.TheVariants as outcome
-use Rattle.iom_machine.specs.declared.state.NewDevice.{NewDevice}
-use Rattle.iom_machine.specs.declared.state.NewDevice.TheVariants as newly
-use Rattle.iom_machine.specs.Disks.{is_among, is_missing, without_disk}
-use Rattle.iom_machine.specs.Kinds.{disk_of, kind_of}
+use Rattle.iom_base.specs.declared.device_kind.NewDevice.{NewDevice}
+use Rattle.iom_base.specs.declared.device_kind.NewDevice.TheVariants as newly
+use Rattle.iom_base.specs.Disks.{is_among, is_missing, without_disk}
 use Rattle.iom_virtio_blk.specs.declared.disk.Disk.{Ghosts}
 use Rattle.iom_device.specs.declared.device.Device.{Device}
 use Rattle.iom_world.specs.declared.world.World.{World}

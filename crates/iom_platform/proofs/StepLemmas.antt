@@ -4,8 +4,8 @@ use Rattle.std.proofs.lemmas.Bool.{false≢true}
 use Rattle.iom_machine.specs.declared.outcome.BlockStep.{BlockStep}
 use Rattle.iom_machine.specs.declared.outcome.Outcome.{Outcome}
 use Rattle.iom_machine.specs.declared.outcome.Outcome.TheVariants as outcome
-use Rattle.iom_machine.specs.declared.state.DeviceKind.{DeviceKind}
-use Rattle.iom_machine.specs.Kinds.{is_block_device}
+use Rattle.iom_base.specs.declared.device_kind.DeviceKind.{DeviceKind}
+use Rattle.iom_base.specs.DeviceKinds.{is_block_device}
 use Rattle.iom_virtio_blk.specs.declared.step.Step.{Step}
 use Rattle.iom_virtio_blk.specs.Histories.{KeepsTelling}
 use Rattle.iom_virtio_blk.specs.Stages.{device_status}

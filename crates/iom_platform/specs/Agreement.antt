@@ -1,6 +1,6 @@
 -- How the block devices themselves stand beside a world, which knows of each only its id and whether it has a disk.
 use Rattle.std.specs.Prelude.{◌≡◌, ℕ, Bool, List, [], ◌∷◌, map, is_some, if◌then◌else◌}
-use Rattle.iom_machine.specs.Kinds.{is_block_device}
+use Rattle.iom_base.specs.DeviceKinds.{is_block_device}
 use Rattle.iom_virtio_blk.specs.declared.disk.Disk.{Ghosts}
 use Rattle.iom_device.specs.declared.device.Device.{Device}
 use Rattle.iom_world.specs.declared.world.World.{World}

@@ -14,7 +14,7 @@ use Rattle.iom_machine.specs.declared.event.Event.TheVariants as events
 use Rattle.iom_machine.specs.declared.outcome.BlockStep.TheVariants as rest
 use Rattle.iom_machine.specs.declared.outcome.Outcome.{Outcome}
 use Rattle.iom_machine.specs.declared.outcome.Outcome.TheVariants as outcome
-use Rattle.iom_machine.specs.Kinds.{disk_of, is_block_device}
+use Rattle.iom_base.specs.DeviceKinds.{disk_of, is_block_device}
 use Rattle.iom_virtio_blk.specs.declared.front.Front.{Front}
 use Rattle.iom_virtio_blk.specs.declared.stage.Stage.TheVariants.{Reset}
 use Rattle.iom_virtio_blk.specs.declared.step.Reply.{Reply}

@@ -3,7 +3,7 @@
 use Rattle.std.specs.Prelude.{◌≡◌, ⊤, Bool, true, None}
 use Rattle.iom_machine.specs.declared.event.Event.{Event}
 use Rattle.iom_machine.specs.declared.event.Event.TheVariants as events
-use Rattle.iom_machine.specs.Kinds.{disk_of}
+use Rattle.iom_base.specs.DeviceKinds.{disk_of}
 
 -- one that has nothing to do with them, or one that would change them, where there are none
 abbrev pub StaysBeside : Event → (are_none : Bool) → Type 0

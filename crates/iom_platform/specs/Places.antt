@@ -1,7 +1,7 @@
 -- Where a block device stands, by its id, and what the others are where it changes.
 -- For the calls inside this crate alone; no public contract cites these.
 use Rattle.std.specs.Prelude.{◌≡◌, ℕ, ◌==◌, not, Bool, List, [], ◌∷◌, find, filter, is_some, remove, slice_get, slice_set, Option, None, Some, if◌then◌else◌}
-use Rattle.iom_machine.specs.Disks.{without_disk}
+use Rattle.iom_base.specs.Disks.{without_disk}
 use Rattle.iom_virtio_blk.specs.declared.disk.Disk.{Ghosts}
 use Rattle.iom_virtio_blk.specs.DiskStates.{DiskState}
 use Rattle.iom_platform.specs.declared.block.Block.{Block}

@@ -1,7 +1,7 @@
 // The disks that were never in a device, and how one is put into a device.
 ghost use Rattle.std.specs.Prelude.{◌≡◌, ◌<◌, ◌≤◌, ◌++◌, ◌∷◌, [], length, true, false, vec_capacity, Some, MatchOption};
 ghost use Rattle.iom_base.specs.Sizes.{device_limit};
-ghost use Rattle.iom_machine.specs.Disks.{is_among, without_disk};
+ghost use Rattle.iom_base.specs.Disks.{is_among, without_disk};
 ghost use Rattle.iom_platform.specs.Agreement.{entries_of, numbers_of};
 ghost use Rattle.iom_platform.specs.Blocks.{IsPluggedIn, IsPutIn};
 ghost use Rattle.iom_platform.specs.Places.{IsDiskAt, TakesOut, has_in, others_than, with_has};

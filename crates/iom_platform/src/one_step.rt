@@ -3,7 +3,7 @@ ghost use Rattle.std.specs.Prelude.{◌≡◌, ◌+◌, ◌/◌, ◌<◌, ◌^�
 ghost use Rattle.iom_base.specs.Sizes.{page_size};
 ghost use Rattle.iom_base.specs.declared.access.Access.{Access};
 ghost use Rattle.iom_machine.specs.declared.event.Event.TheVariants as events;
-ghost use Rattle.iom_machine.specs.Kinds.{is_block_device};
+ghost use Rattle.iom_base.specs.DeviceKinds.{is_block_device};
 ghost use Rattle.iom_virtio_blk.specs.Disks.{disk_in};
 ghost use Rattle.iom_virtio_blk.specs.Steps.{device};
 ghost use Rattle.iom_virtio_blk.specs.Wants.{access_wanted};

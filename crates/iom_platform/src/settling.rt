@@ -7,8 +7,7 @@ ghost use Rattle.iom_settling.specs.Stages.{Settled, brief};
 ghost use Rattle.iom_world.specs.Seen.{disks_of, parts_of};
 
 use crate::platform::Platform;
-use iom_base::DeviceId;
-use iom_ledger::Refusal;
+use iom_base::{DeviceId, Refusal};
 use iom_machine::{Event, Fetched, Outcome};
 use iom_settling::{TakesEvents, Told, settle};
 use iom_virtio_blk::Disk;

@@ -8,9 +8,9 @@ ghost use Rattle.iom_platform.specs.Seen.{platform_seen};
 
 use crate::block::Block;
 use crate::platform::Platform;
-use iom_base::DeviceId;
+use iom_base::{DeviceId, NewDevice};
 use iom_inflight::MadeAt;
-use iom_machine::{Event, NewDevice, Outcome};
+use iom_machine::{Event, Outcome};
 use iom_virtio_blk::Disk;
 use iom_world::KeptOutcomes;
 use std::mem;

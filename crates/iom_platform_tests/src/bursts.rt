@@ -6,9 +6,9 @@ use crate::choosing::OPEN_LEAF;
 use crate::devices::{ABLK, ATS, BLK, FIRST_SQUATTER, RAW, SPARE};
 use crate::frames::FIRST_FRAME;
 use crate::run::{FOUR, Plan, Run, new_device};
-use iom_base::{DeviceId, GrantRights, Mode, Size};
+use iom_base::{DeviceId, GrantRights, Mode, NewDevice, Size};
 use iom_fabric::PageNumber;
-use iom_machine::{Event, NewDevice};
+use iom_machine::Event;
 use std::alloc::AllocError;
 use std::test::Fail;
 

@@ -7,9 +7,9 @@ use crate::frames::{FIRST_FRAME, FRAMES};
 use crate::request::{Request, Way, bytes_of};
 use crate::run::{DISKS, Plan, Run};
 use crate::told::{Act, Told};
-use iom_base::{AccessKind, DeviceId, GrantRights, Mode, Size};
+use iom_base::{AccessKind, DeviceId, GrantRights, Mode, NewDevice, Size};
 use iom_fabric::PageNumber;
-use iom_machine::{CommandName, Event, NewDevice};
+use iom_machine::{CommandName, Event};
 use std::alloc::AllocError;
 use std::test::Fail;
 

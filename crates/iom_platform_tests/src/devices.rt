@@ -1,7 +1,7 @@
 // What the test knows of the devices: their kinds, how they are attached, and what of them is in flight.
 
-use iom_base::{AccessKind, DeviceId};
-use iom_machine::{Attachment, DeviceKind};
+use iom_base::{AccessKind, DeviceId, DeviceKind};
+use iom_machine::Attachment;
 use std::alloc::{AllocError, Global};
 
 /// The device of each kind.

@@ -9,11 +9,10 @@ use crate::rules::{
     Standing, accepting, accepting_anywhere, may_answer, may_fault, may_fault_cached,
     may_fault_somewhere, may_fault_translated, standing_of,
 };
-use iom_base::{AccessKind, Cause, DeviceId, GrantRights};
+use iom_base::{AccessKind, Cause, DeviceId, DeviceKind, GrantRights, Refusal};
 use iom_fabric::Translation;
 use iom_inflight::MadeAt;
-use iom_ledger::Refusal;
-use iom_machine::{Attachment, BlockStep, DeviceKind, Outcome};
+use iom_machine::{Attachment, BlockStep, Outcome};
 use std::alloc::{AllocError, Global};
 
 /// How many records the fault queue holds.

@@ -1,8 +1,7 @@
 // What the runs met.
 
 use crate::told::{Act, Told};
-use iom_base::Mode;
-use iom_machine::DeviceKind;
+use iom_base::{DeviceKind, Mode};
 use std::alloc::{AllocError, Global};
 
 /// What no single outcome shows.

@@ -1,8 +1,8 @@
 // What a device asks for.
 
 use crate::devices::Asked;
-use iom_base::{AccessKind, DeviceId, Sequence};
-use iom_machine::{DeviceKind, Event};
+use iom_base::{AccessKind, DeviceId, DeviceKind, Sequence};
+use iom_machine::Event;
 use std::alloc::{AllocError, Global};
 
 /// How a request says that it is to be served.

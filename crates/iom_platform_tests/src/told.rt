@@ -1,8 +1,7 @@
 // Events and outcomes by their kinds, as they are counted.
 
-use iom_base::{AccessKind, Cause, DeviceId};
+use iom_base::{AccessKind, Cause, DeviceId, Refusal};
 use iom_fabric::Translation;
-use iom_ledger::Refusal;
 use iom_machine::{BlockStep, CommandName, Event, Fetched, Outcome};
 use iom_virtqueue::ChainFault;
 

@@ -2,9 +2,8 @@
 
 use crate::met::{Met, Note};
 use crate::told::{Act, Told};
-use iom_base::{Cause, Mode, Size};
-use iom_ledger::Refusal;
-use iom_machine::{CommandName, DeviceKind};
+use iom_base::{Cause, DeviceKind, Mode, Refusal, Size};
+use iom_machine::CommandName;
 use iom_virtqueue::ChainFault;
 
 /// What comes of the driver's calls.

@@ -4,7 +4,7 @@ use crate::notes::Notes;
 use crate::subject::Subject;
 use crate::words::Words;
 use iom_base::{
-    AcceptedAccess, Access, AccessKind, Cause, DeviceId, MAX_IN_FLIGHT, PAGE_SIZE, Rights,
+    AcceptedAccess, Access, AccessKind, Cause, DeviceId, MAX_IN_FLIGHT, PAGE_SIZE, Refusal, Rights,
     Sequence, Span,
 };
 use iom_known::devices::device_with;
@@ -16,7 +16,6 @@ use iom_known::reasons::{
     quarantine_refusal, release_refusal, revive_refusal,
 };
 use iom_known::{Known, Way};
-use iom_ledger::Refusal;
 use iom_machine::{Attachment, Device};
 use std::alloc::{AllocError, Global};
 

@@ -1,6 +1,6 @@
-use iom_base::{AccessKind, DeviceId, PAGE_SIZE};
+use iom_base::{AccessKind, DeviceId, NewDevice, PAGE_SIZE};
 use iom_known::Way;
-use iom_machine::{Event, NewDevice};
+use iom_machine::Event;
 
 /// What a line is about, for the words of a reason.
 #[derive(Clone, Copy)]

@@ -7,10 +7,9 @@ ghost use Rattle.iom_driver.specs.Revivals.{AnswersRevive};
 ghost use Rattle.iom_driver.specs.Seen.{state_of};
 ghost use Rattle.iom_registers.specs.declared.registers.Registers.{Registers};
 
-use iom_base::DeviceId;
+use iom_base::{DeviceId, Refusal};
 use iom_device::{Device, reset};
 use iom_driver::Driver;
-use iom_ledger::Refusal;
 use iom_phys_mem::Memory;
 
 /// The device whose quarantine's ticket is confirmed is reset, and attached as it was before. Refused as

@@ -9,8 +9,8 @@ use Rattle.iom_base.specs.declared.grant_rights.GrantRights.{GrantRights}
 use Rattle.iom_base.specs.declared.rights.Rights.{Rights}
 use Rattle.iom_base.specs.GrantRights.{rights_of}
 use Rattle.iom_ledger.specs.declared.entry.HistoryEntry.TheVariants as entry
-use Rattle.iom_ledger.specs.declared.refusal.Refusal.{Refusal}
-use Rattle.iom_ledger.specs.declared.refusal.Refusal.TheVariants.{NoSuchDevice, WrongKind, BadMedium, BadQueue}
+use Rattle.iom_base.specs.declared.refusal.Refusal.{Refusal}
+use Rattle.iom_base.specs.declared.refusal.Refusal.TheVariants.{NoSuchDevice, WrongKind, BadMedium, BadQueue}
 use Rattle.iom_ledger.specs.History.{Pair, held_at}
 use Rattle.iom_machine.specs.declared.event.Event.{Event}
 use Rattle.iom_machine.specs.declared.event.Event.TheVariants as events
@@ -31,15 +31,15 @@ use Rattle.iom_machine.specs.Devices.{device_of, with_device}
 use Rattle.iom_machine.specs.Frames.{IsFree}
 use Rattle.iom_machine.specs.Laws.{IsReached}
 use Rattle.iom_machine.specs.Leaving.{leaving_under}
-use Rattle.iom_machine.specs.Kinds.{disk_of, is_block_device, sends_untranslated, forges, sends_through_cache, asks_questions, is_any_kind}
+use Rattle.iom_base.specs.DeviceKinds.{disk_of, is_block_device, sends_untranslated, forges, sends_through_cache, asks_questions, is_any_kind}
 use Rattle.iom_machine.specs.Machine.{Step, Acts, Requests, RequestsTranslated, RequestsThroughCache, Resets, InsertsDisk, SetsQueue, Steps, TellsStatus, plugged_device}
 use Rattle.iom_machine.specs.BlockDevices.{Inserts, with_disk, MaySet, IsStatus, TakesStep}
-use Rattle.iom_machine.specs.Disks.{is_among, without_disk}
+use Rattle.iom_base.specs.Disks.{is_among, without_disk}
 use Rattle.iom_machine.specs.Messages.{Sends}
 use Rattle.iom_machine.specs.PowerOn.{opening}
-use Rattle.iom_machine.specs.declared.state.DeviceKind.{DeviceKind}
-use Rattle.iom_machine.specs.declared.state.NewDevice.{NewDevice}
-use Rattle.iom_ledger.specs.Refusals.{first_that_applies, IsRefusedBy}
+use Rattle.iom_base.specs.declared.device_kind.DeviceKind.{DeviceKind}
+use Rattle.iom_base.specs.declared.device_kind.NewDevice.{NewDevice}
+use Rattle.iom_base.specs.Refusals.{first_that_applies, IsRefusedBy}
 use Rattle.iom_machine.specs.Refusals.{MayRefusePlug, MayRefuseAttach, MayRefuseGrant, MayFindNoPlace, NeverElse, plug_reasons, attach_reasons, detach_reasons, grant_reasons, release_reasons, quarantine_reasons, revive_reasons}
 use Rattle.iom_base.specs.Accesses.{read_of, write_of, page_of, IsWithinPage}
 use Rattle.iom_machine.specs.Requests.{cause_without_context, HoldsFor, HoldsNoneFor, MayAccept, MayFault, MayAnswer, IsBusy, IsForwarded, state_after}

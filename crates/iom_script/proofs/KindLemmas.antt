@@ -2,8 +2,8 @@
 use Rattle.std.proofs.Common.{◌≡◌, ℕ, List, [], ◌++◌, Option, None, Some, codes, refl, sym, subst, ◌∙◌}
 use Rattle.std.specs.Option.{option_map}
 use Rattle.std.proofs.lemmas.List.{append_cancel_left}
-use Rattle.iom_machine.specs.declared.state.NewDevice.{NewDevice}
-use Rattle.iom_machine.specs.declared.state.NewDevice.TheVariants.{Raw, Ats, Block, CachedBlock}
+use Rattle.iom_base.specs.declared.device_kind.NewDevice.{NewDevice}
+use Rattle.iom_base.specs.declared.device_kind.NewDevice.TheVariants.{Raw, Ats, Block, CachedBlock}
 use Rattle.iom_script.specs.Words.{IsNumber, IsKind}
 use Rattle.iom_script.specs.Reading.{Reads}
 use Rattle.iom_script.proofs.ReadsLemmas.{reads_some, reads_none, read_holds, read_nothing}

@@ -6,9 +6,8 @@ ghost use Rattle.iom_script.specs.Reading.{Reads};
 ghost use Rattle.iom_script.specs.Cuts.{shown, shown_rest, with_rest, IsCut, Begins, LeadsWithHex, LeadsWithDecimal, LeadsWithNumber, SaysFirst};
 
 use crate::lanes::eight_bytes;
-use iom_base::{DeviceId, GrantRights, Mode, Sequence, Size};
+use iom_base::{DeviceId, GrantRights, Mode, NewDevice, Sequence, Size};
 use iom_fabric::PageNumber;
-use iom_machine::NewDevice;
 use memchr::{memchr, memchr_iter};
 use std::alloc::{AllocError, Global};
 

@@ -4,26 +4,26 @@ use Rattle.std.proofs.lemmas.Bool.{cases_lt, leb-false}
 use Rattle.std.proofs.lemmas.List.{length-append, length-drop, length-map}
 use Rattle.iom_base.specs.declared.access.Access.{Access}
 use Rattle.iom_base.specs.declared.access.AcceptedAccess.{AcceptedAccess}
-use Rattle.iom_base.specs.Accesses.{read_of, write_of}
+use Rattle.iom_base.specs.Accesses.{read_of, write_of, at_frame}
 use Rattle.iom_ledger.specs.History.{History}
-use Rattle.iom_ledger.specs.Refusals.{NoneApplies}
+use Rattle.iom_base.specs.Refusals.{NoneApplies}
 use Rattle.iom_machine.specs.declared.event.Event.{Event}
 use Rattle.iom_machine.specs.declared.event.Event.TheVariants as events
 use Rattle.iom_machine.specs.declared.outcome.Outcome.{Outcome}
 use Rattle.iom_machine.specs.declared.outcome.Outcome.TheVariants as outcome
 use Rattle.iom_machine.specs.declared.state.Device.{Device}
-use Rattle.iom_machine.specs.declared.state.NewDevice.{NewDevice}
+use Rattle.iom_base.specs.declared.device_kind.NewDevice.{NewDevice}
 use Rattle.iom_machine.specs.declared.state.State.{State}
 use Rattle.iom_machine.specs.BlockDevices.{Inserts, IsAnswered, TakesStep}
 use Rattle.iom_machine.specs.Devices.{device_of, replaced_device}
-use Rattle.iom_machine.specs.Kinds.{is_block_device, sends_untranslated, sends_through_cache, is_any_kind}
+use Rattle.iom_base.specs.DeviceKinds.{is_block_device, sends_untranslated, sends_through_cache, is_any_kind, has_cache}
 use Rattle.iom_machine.specs.Laws.{IsReached}
 use Rattle.iom_machine.specs.Leaving.{leaving_under, device_once_confirmed}
 use Rattle.iom_machine.specs.Machine.{Requests, RequestsThroughCache, InsertsDisk, Steps, Makes, Commits, Step, Run, plugged_device}
 use Rattle.iom_machine.specs.PowerOn.{opening}
-use Rattle.iom_machine.specs.Refusals.{has_cache, plug_reasons}
+use Rattle.iom_machine.specs.Refusals.{plug_reasons}
 use Rattle.iom_machine.specs.Requests.{IsBusy, MayAnswer, state_after, with_accepted}
-use Rattle.iom_machine.specs.ThroughCache.{at_frame, MayAnswerThroughCache, state_after_cached}
+use Rattle.iom_machine.specs.ThroughCache.{MayAnswerThroughCache, state_after_cached}
 use Rattle.iom_machine.specs.Tickets.{with_confirmed}
 use Rattle.iom_machine.specs.Traces.{count_in_flight}
 use Rattle.iom_machine.proofs.InFlightLemmas.{act_cases, some_case, same-sets_queue, same-tells_status, same-translated, same-asks, same-forges, same-delivers, same-drops, same-repeats, same-resets}

@@ -7,7 +7,7 @@ use Rattle.iom_machine.specs.declared.outcome.Outcome.{Outcome}
 use Rattle.iom_machine.specs.declared.outcome.Outcome.TheVariants as outcome
 use Rattle.iom_machine.specs.declared.state.Device.{Device}
 use Rattle.iom_machine.specs.declared.state.State.{State}
-use Rattle.iom_machine.specs.Kinds.{is_any_kind}
+use Rattle.iom_base.specs.DeviceKinds.{is_any_kind}
 use Rattle.iom_machine.specs.Machine.{Makes, Commits, Restarts, Fetches, Polls, Step, Run}
 use Rattle.iom_machine.specs.Messages.{Delivers}
 use Rattle.iom_machine.proofs.InFlightLemmas.{act_cases, some_case}

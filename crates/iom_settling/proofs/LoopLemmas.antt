@@ -11,9 +11,9 @@ use Rattle.iom_fabric.specs.declared.message.Message.TheVariants as sent
 use Rattle.iom_inflight.specs.Flights.{count_all, first_busy}
 use Rattle.iom_inflight.specs.Sound.{AreFlights}
 use Rattle.iom_iommu.specs.Parts.{flights_of, mmio}
-use Rattle.iom_ledger.specs.declared.refusal.Refusal.{Refusal}
-use Rattle.iom_ledger.specs.declared.refusal.Refusal.TheVariants.{NotStarted, NumbersUsedUp}
-use Rattle.iom_ledger.specs.Refusals.{first_that_applies}
+use Rattle.iom_base.specs.declared.refusal.Refusal.{Refusal}
+use Rattle.iom_base.specs.declared.refusal.Refusal.TheVariants.{NotStarted, NumbersUsedUp}
+use Rattle.iom_base.specs.Refusals.{first_that_applies}
 use Rattle.iom_machine.specs.declared.event.Event.{Event}
 use Rattle.iom_machine.specs.declared.event.Event.TheVariants as events
 use Rattle.iom_machine.specs.declared.outcome.Outcome.{Outcome}

@@ -9,7 +9,7 @@ use Rattle.iom_fabric.specs.declared.fabric.OnLink.{OnLink}
 use Rattle.iom_inflight.specs.Flights.{count_all, first_busy}
 use Rattle.iom_inflight.specs.Sound.{AreFlights}
 use Rattle.iom_iommu.specs.Parts.{flights_of, mmio}
-use Rattle.iom_ledger.specs.declared.refusal.Refusal.{Refusal}
+use Rattle.iom_base.specs.declared.refusal.Refusal.{Refusal}
 use Rattle.iom_machine.specs.declared.outcome.Outcome.{Outcome}
 use Rattle.iom_machine.specs.declared.outcome.Outcome.TheVariants as outcome
 use Rattle.iom_machine.specs.declared.outcome.CommandName.TheVariants as names

@@ -5,8 +5,8 @@ use Rattle.iom_command_queue.specs.declared.command.Command.{Command}
 use Rattle.iom_driver.specs.Fences.{last_fence}
 use Rattle.iom_inflight.specs.Flights.{count_all}
 use Rattle.iom_iommu.specs.Parts.{flights_of}
-use Rattle.iom_ledger.specs.declared.refusal.Refusal.{Refusal}
-use Rattle.iom_ledger.specs.declared.refusal.Refusal.TheVariants.{NumbersUsedUp}
+use Rattle.iom_base.specs.declared.refusal.Refusal.{Refusal}
+use Rattle.iom_base.specs.declared.refusal.Refusal.TheVariants.{NumbersUsedUp}
 use Rattle.iom_machine.specs.declared.event.Event.{Event}
 use Rattle.iom_machine.specs.declared.event.Event.TheVariants.{Fetch}
 use Rattle.iom_machine.specs.declared.outcome.Outcome.{Outcome}

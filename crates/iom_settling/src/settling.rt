@@ -2,7 +2,7 @@
 ghost use Rattle.std.specs.Prelude.{◌≡◌, ◌+◌, ◌<◌, ◌≤◌, ◌^◌, ℕ, List, [], nat_le, false};
 ghost use Rattle.iom_command_queue.specs.declared.command.Command.{Command};
 ghost use Rattle.iom_driver.specs.Fences.{last_fence};
-ghost use Rattle.iom_ledger.specs.declared.refusal.Refusal.TheVariants.{NumbersUsedUp};
+ghost use Rattle.iom_base.specs.declared.refusal.Refusal.TheVariants.{NumbersUsedUp};
 ghost use Rattle.iom_settling.specs.CatchingUp.{NothingIsInFlight, CatchesUp, HasCaughtUp};
 ghost use Rattle.iom_settling.specs.Settles.{IsCommit, IsDelivery, AreAll, AreQuieting, AreFetching, AreCatchingUp};
 ghost use Rattle.iom_settling.specs.Went.{Went};
@@ -11,7 +11,7 @@ ghost use Rattle.iom_settling.specs.Weights.{weights};
 
 use crate::takes_events::TakesEvents;
 use crate::told::Told;
-use iom_ledger::Refusal;
+use iom_base::Refusal;
 use iom_machine::Event;
 
 /// Commits of each device in the order of plugging, while it has accesses in flight. How many.

@@ -6,7 +6,7 @@ use Rattle.iom_world_effects.specs.Devices.{in_flight_of, shown_devices}
 use Rattle.iom_device.specs.declared.device.Device.{Device}
 use Rattle.iom_driver.specs.declared.device.Device as known
 use Rattle.iom_inflight.specs.Flights.{NumberedAccess, FlightRow, row_of}
-use Rattle.iom_ledger.specs.declared.refusal.Refusal.{Refusal}
+use Rattle.iom_base.specs.declared.refusal.Refusal.{Refusal}
 use Rattle.iom_machine.specs.declared.event.Event.{Event}
 use Rattle.iom_machine.specs.declared.outcome.Outcome.{Outcome}
 use Rattle.iom_machine.specs.declared.state.State.{State}

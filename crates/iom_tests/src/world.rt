@@ -1,8 +1,8 @@
 ghost use Rattle.iom_world_effects.specs.Stays.{IsNoChoice};
 
 use crate::expect::expect;
-use iom_base::{AccessKind, DeviceId, GrantRights, Mode, Size};
-use iom_machine::{BlockStep, Event, NewDevice, Outcome};
+use iom_base::{AccessKind, DeviceId, GrantRights, Mode, NewDevice, Size};
+use iom_machine::{BlockStep, Event, Outcome};
 use iom_world::{KeptOutcomes, World};
 use std::alloc::Global;
 use std::process::Abort;

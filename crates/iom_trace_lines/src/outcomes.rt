@@ -2,9 +2,8 @@ ghost use Rattle.std.specs.Prelude.{◌≡◌, ◌++◌, ◌∷◌, [], IfSome, 
 ghost use Rattle.iom_script.specs.Lines.{line_of};
 
 use arrayvec::ArrayVec;
-use iom_base::{Cause, Rights};
+use iom_base::{Cause, Refusal, Rights};
 use iom_fabric::Translation;
-use iom_ledger::Refusal;
 use iom_machine::{BlockStep, CommandName, Event, FaultRecord, Fetched, Outcome};
 use iom_script::LineBuffer;
 use iom_virtqueue::ChainFault;

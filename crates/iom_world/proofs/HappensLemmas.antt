@@ -4,7 +4,7 @@ use Rattle.iom_base.specs.Accesses.{read_of, write_of}
 use Rattle.iom_driver.specs.Restarts.{AnswersRestart}
 use Rattle.iom_driver.specs.State.{DriverState}
 use Rattle.iom_iommu.specs.Parts.{mmio}
-use Rattle.iom_ledger.specs.declared.refusal.Refusal.{Refusal}
+use Rattle.iom_base.specs.declared.refusal.Refusal.{Refusal}
 use Rattle.iom_machine.specs.declared.event.Event.{Event}
 use Rattle.iom_machine.specs.declared.event.Event.TheVariants as events
 use Rattle.iom_machine.specs.declared.outcome.Outcome.{Outcome}
@@ -12,7 +12,7 @@ use Rattle.iom_machine.specs.declared.state.State.{State}
 use Rattle.iom_machine.specs.Machine.{Step}
 use Rattle.iom_world.specs.declared.world.World.{World}
 use Rattle.iom_world_effects.specs.Below.{LawsBelow, AddressFits}
-use Rattle.iom_machine.specs.Kinds.{sends_untranslated, sends_through_cache}
+use Rattle.iom_base.specs.DeviceKinds.{sends_untranslated, sends_through_cache}
 use Rattle.iom_virtqueue.specs.Layouts.{layout_of}
 use Rattle.iom_world_effects.specs.Does.{Does, disks_after}
 use Rattle.iom_world.specs.Happens.{Happens}

@@ -1,8 +1,8 @@
 -- Who has accesses through a cache of its own.
 -- For the calls inside this crate alone; no public contract cites these.
 use Rattle.std.specs.Prelude.{Bool}
-use Rattle.iom_machine.specs.declared.state.DeviceKind.{DeviceKind}
-use Rattle.iom_machine.specs.Kinds.{is_block_device, sends_through_cache}
+use Rattle.iom_base.specs.declared.device_kind.DeviceKind.{DeviceKind}
+use Rattle.iom_base.specs.DeviceKinds.{is_block_device, sends_through_cache}
 use Rattle.iom_world.specs.declared.sender.Sender.{Sender}
 use Rattle.iom_world.specs.declared.sender.Sender.TheVariants as sender
 

@@ -9,10 +9,9 @@ ghost use Rattle.iom_world.specs.Told.{outcome_of};
 use crate::block_devices::let_go;
 use crate::told::Told;
 use crate::world::World;
-use iom_base::{DeviceId, GrantRights, Mode};
+use iom_base::{DeviceId, GrantRights, Mode, Refusal};
 use iom_driver::{Polled, Ticket};
 use iom_fault_queue::Record;
-use iom_ledger::Refusal;
 use iom_machine::FaultRecord;
 
 impl Told {

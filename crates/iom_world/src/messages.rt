@@ -8,11 +8,10 @@ ghost use Rattle.iom_world.specs.Told.{outcome_of};
 
 use crate::told::Told;
 use crate::world::World;
-use iom_base::DeviceId;
+use iom_base::{DeviceId, Refusal};
 use iom_command_queue::{AtsRange, Command, Slot};
 use iom_fabric::{Fabric, Message, PageNumber, Range, Repeat};
 use iom_iommu::Fetched;
-use iom_ledger::Refusal;
 
 /// What a command asks a device to drop, as the request to it says.
 fn range_of(range: AtsRange) -> Range

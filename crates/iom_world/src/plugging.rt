@@ -10,10 +10,8 @@ ghost use Rattle.iom_world.specs.Told.{outcome_of};
 use crate::disks::{is_missing, take_out};
 use crate::told::Told;
 use crate::world::World;
-use iom_base::{DeviceId, MAX_DEVICES};
+use iom_base::{DeviceId, DeviceKind, MAX_DEVICES, NewDevice, Refusal};
 use iom_device::Device;
-use iom_ledger::Refusal;
-use iom_machine::{DeviceKind, NewDevice};
 
 impl World {
     /// Whether a device is plugged in with this id.

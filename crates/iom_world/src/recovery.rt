@@ -8,9 +8,8 @@ ghost use Rattle.iom_world.specs.Told.{outcome_of};
 
 use crate::told::Told;
 use crate::world::World;
-use iom_base::DeviceId;
+use iom_base::{DeviceId, Refusal};
 use iom_device::reset;
-use iom_ledger::Refusal;
 use iom_revival::revive;
 
 impl Told {

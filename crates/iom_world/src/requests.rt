@@ -2,16 +2,15 @@
 ghost use Rattle.std.specs.Prelude.{◌≡◌, ◌+◌, ◌<◌, ◌^◌};
 ghost use Rattle.iom_base.specs.Accesses.{read_of, write_of};
 ghost use Rattle.iom_iommu.specs.Parts.{flights_of};
-ghost use Rattle.iom_machine.specs.Kinds.{sends_untranslated};
+ghost use Rattle.iom_base.specs.DeviceKinds.{sends_untranslated};
 ghost use Rattle.iom_world_effects.specs.Requests.{AsksAccess, reply_told_of};
 ghost use Rattle.iom_world.specs.Seen.{parts_of, disks_of};
 ghost use Rattle.iom_world.specs.Told.{outcome_of};
 
 use crate::told::Told;
 use crate::world::World;
-use iom_base::{AccessKind, DeviceId};
+use iom_base::{AccessKind, DeviceId, Refusal};
 use iom_iommu::Reply;
-use iom_ledger::Refusal;
 use iom_world_effects::laws_below;
 
 impl Told {

@@ -3,7 +3,7 @@ ghost use Rattle.std.specs.Prelude.{◌≡◌, ◌+◌, ◌<◌, ◌^◌, ℕ};
 ghost use Rattle.iom_iommu.specs.Parts.{flights_of};
 ghost use Rattle.iom_iommu.specs.Requests.{access_of};
 ghost use Rattle.iom_machine.specs.declared.event.Event.TheVariants as events;
-ghost use Rattle.iom_machine.specs.BlockDevices.{MayWant};
+ghost use Rattle.iom_base.specs.Accesses.{MayWant};
 ghost use Rattle.iom_world_effects.specs.Below.{AddressFits, IsOfAts, IsOfRecovery, IsSeldom, IsOfBlockDevice};
 ghost use Rattle.iom_world_effects.specs.BlockDevices.{BeginsAccess, IsRest, Rests, TellsStatus};
 ghost use Rattle.iom_device.specs.Caches.{epoch_in};

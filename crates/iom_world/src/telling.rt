@@ -3,7 +3,7 @@
 ghost use Rattle.std.specs.Prelude.{◌≡◌, ◌+◌, ◌<◌, ◌^◌};
 ghost use Rattle.iom_base.specs.Accesses.{read_of, write_of};
 ghost use Rattle.iom_iommu.specs.Parts.{flights_of, slots_of};
-ghost use Rattle.iom_machine.specs.Kinds.{sends_untranslated};
+ghost use Rattle.iom_base.specs.DeviceKinds.{sends_untranslated};
 ghost use Rattle.iom_world_effects.specs.Does.{GrantsPage, ReleasesPage, FetchesNext, PollsTickets};
 ghost use Rattle.iom_world_effects.specs.Processor.{PokesBytes};
 ghost use Rattle.iom_world_effects.specs.Requests.{AsksAccess};

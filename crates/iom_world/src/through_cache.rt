@@ -5,7 +5,7 @@ ghost use Rattle.iom_base.specs.Accesses.{read_of, write_of};
 ghost use Rattle.iom_inflight.specs.Sound.{CarriesBytes};
 ghost use Rattle.iom_iommu.specs.Parts.{flights_of};
 ghost use Rattle.iom_iommu.specs.Requests.{access_of};
-ghost use Rattle.iom_machine.specs.Kinds.{sends_through_cache};
+ghost use Rattle.iom_base.specs.DeviceKinds.{sends_through_cache};
 ghost use Rattle.iom_world.specs.Seen.{parts_of, disks_of};
 ghost use Rattle.iom_world_effects.specs.ThroughCache.{AsksThroughCache};
 ghost use Rattle.iom_world.specs.Senders.{kinds_of};
@@ -14,10 +14,8 @@ ghost use Rattle.iom_world.specs.Told.{outcome_of};
 use crate::sender::Sender;
 use crate::told::Told;
 use crate::world::World;
-use iom_base::{AccessKind, DeviceId, MAX_IN_FLIGHT, PAGE_SIZE, Span};
+use iom_base::{AccessKind, DeviceId, DeviceKind, MAX_IN_FLIGHT, PAGE_SIZE, Refusal, Span};
 use iom_fabric::PageNumber;
-use iom_ledger::Refusal;
-use iom_machine::DeviceKind;
 use iom_world_effects::laws_below;
 
 impl Sender {

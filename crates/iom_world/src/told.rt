@@ -5,9 +5,8 @@ ghost use Rattle.iom_world.specs.Told.{outcome_of};
 ghost use Rattle.iom_world_effects.specs.Answers.{TellsBytes, TellsShown};
 
 use arrayvec::ArrayVec;
-use iom_base::Cause;
+use iom_base::{Cause, Refusal};
 use iom_fabric::Translation;
-use iom_ledger::Refusal;
 use iom_machine::{BlockStep, FaultRecord, Fetched, Outcome};
 
 /// What comes of an event, but for bytes that are read. An outcome is as large as a page, since those

@@ -9,8 +9,7 @@ ghost use Rattle.iom_world.specs.Told.{outcome_of};
 
 use crate::told::Told;
 use crate::world::World;
-use iom_base::{AccessKind, DeviceId};
-use iom_ledger::Refusal;
+use iom_base::{AccessKind, DeviceId, Refusal};
 use iom_world_effects::laws_below;
 
 impl World {

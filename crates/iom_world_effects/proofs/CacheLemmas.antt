@@ -6,9 +6,8 @@ use Rattle.iom_ats_cache.specs.Cache.{Cache, empty_cache}
 use Rattle.iom_driver.specs.declared.device.Device as driver
 use Rattle.iom_driver.specs.Devices.{detached, device_of, is_plugged, is_trusted}
 use Rattle.iom_driver.proofs.Lists.{differs}
-use Rattle.iom_machine.specs.declared.state.NewDevice.{NewDevice}
-use Rattle.iom_machine.specs.Kinds.{kind_of, disk_of}
-use Rattle.iom_machine.specs.Refusals.{has_cache}
+use Rattle.iom_base.specs.declared.device_kind.NewDevice.{NewDevice}
+use Rattle.iom_base.specs.DeviceKinds.{kind_of, disk_of, has_cache}
 use Rattle.iom_device.specs.declared.device.Device.{Device}
 use Rattle.iom_device.specs.Caches.{device_with, kind_in, cache_in, HasItsCache}
 use Rattle.iom_world_effects.specs.Does.{new_device}

@@ -10,7 +10,7 @@ use Rattle.iom_coherence.specs.Scene.{Copy}
 use Rattle.iom_coherence.proofs.ListLemmas.{in_none, cons_cases, contains_head, contains_tail}
 use Rattle.iom_driver.proofs.Lists.{differs}
 use Rattle.iom_fabric.specs.declared.fabric.OnLink.{OnLink}
-use Rattle.iom_machine.specs.Refusals.{has_cache}
+use Rattle.iom_base.specs.DeviceKinds.{has_cache}
 use Rattle.iom_driver.specs.declared.device.Device as driver
 use Rattle.iom_inflight.specs.Flights.{FlightRow}
 use Rattle.iom_device.specs.declared.device.Device.{Device}

@@ -11,18 +11,17 @@ use Rattle.iom_driver.specs.Polling.{AnswersPoll}
 use Rattle.iom_driver.specs.State.{DriverState}
 use Rattle.iom_iommu.specs.Parts.{registers_of, mmio}
 use Rattle.iom_ledger.specs.Changes.{IsUnchanged}
-use Rattle.iom_ledger.specs.declared.refusal.Refusal.{Refusal}
+use Rattle.iom_base.specs.declared.refusal.Refusal.{Refusal}
 use Rattle.iom_machine.specs.declared.outcome.Fetched.{Fetched}
 use Rattle.iom_machine.specs.declared.outcome.Outcome.{Outcome}
 use Rattle.iom_machine.specs.declared.outcome.Outcome.TheVariants as outcome
-use Rattle.iom_machine.specs.declared.state.NewDevice.{NewDevice}
-use Rattle.iom_machine.specs.Kinds.{kind_of}
+use Rattle.iom_base.specs.declared.device_kind.NewDevice.{NewDevice}
+use Rattle.iom_base.specs.DeviceKinds.{kind_of, has_cache}
 use Rattle.iom_world_effects.specs.Answers.{told_of, ticket_told_of}
 use Rattle.iom_world_effects.specs.BlockDevices.{devices_left}
 use Rattle.iom_world_effects.specs.Does.{PlugsDevice, AttachesDevice, GrantsPage, ReleasesPage, DetachesDevice, FetchesNext, PollsTickets, polled_told_of, devices_after, AddsRow}
 use Rattle.iom_world_effects.specs.Stays.{AreSame, SameIfRefused}
 use Rattle.iom_world_effects.specs.Parts.{Parts}
-use Rattle.iom_machine.specs.Refusals.{has_cache}
 
 -- parts of which each is the same
 pub same_of : (old new : Parts) → new.memory ≡ old.memory → new.iommu ≡ old.iommu → new.devices ≡ old.devices → new.fabric ≡ old.fabric → new.driver ≡ old.driver → AreSame old new

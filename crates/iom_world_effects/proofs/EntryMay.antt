@@ -16,7 +16,7 @@ use Rattle.iom_base.specs.declared.cause.Cause.TheVariants.{TransactionTypeDisal
 use Rattle.iom_base.specs.declared.mode.Mode.{Mode}
 use Rattle.iom_base.specs.declared.mode.Mode.TheVariants.{First, Second, Both}
 use Rattle.iom_base.specs.declared.rights.Rights.{Rights}
-use Rattle.iom_base.specs.Accesses.{page_of}
+use Rattle.iom_base.specs.Accesses.{page_of, at_frame}
 use Rattle.iom_base.specs.Tables.{access_fault_of}
 use Rattle.iom_base.specs.Rights as of_rights
 use Rattle.iom_base.specs.Rights.{allows}
@@ -44,7 +44,7 @@ use Rattle.iom_machine.specs.declared.state.Attachment.TheVariants.{Attached, Le
 use Rattle.iom_machine.specs.declared.state.State.{State}
 use Rattle.iom_machine.specs.Judging.{holds_for, lingers_for}
 use Rattle.iom_machine.specs.Refusals.{is_quarantined}
-use Rattle.iom_machine.specs.ThroughCache.{at_frame, MayHaveCached, MayGoThrough}
+use Rattle.iom_machine.specs.ThroughCache.{MayHaveCached, MayGoThrough}
 use Rattle.iom_machine.proofs.JudgeLemmas.{HoldsFor-from, HoldsFor-test, LingersFor-from, LingersFor-test}
 use Rattle.iom_stage_walk.specs.Both.{plain}
 use Rattle.iom_device.specs.declared.device.Device.{Device}

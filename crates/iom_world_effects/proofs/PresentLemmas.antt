@@ -10,7 +10,7 @@ use Rattle.iom_inflight.specs.Flights.{FlightRow, row_of}
 use Rattle.iom_device.specs.declared.device.Device.{Device}
 use Rattle.iom_world_effects.specs.Places.{IsAbsent, IsPresent}
 use Rattle.iom_world_effects.specs.Sound.{ids_of, known_ids, row_ids}
-use Rattle.iom_machine.specs.declared.state.DeviceKind.{DeviceKind}
+use Rattle.iom_base.specs.declared.device_kind.DeviceKind.{DeviceKind}
 use Rattle.iom_device.specs.Caches.{kind_in}
 
 -- the two lists of ids have the same first id, and the same others

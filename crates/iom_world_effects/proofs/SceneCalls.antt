@@ -19,7 +19,7 @@ use Rattle.iom_ledger.specs.declared.entry.HistoryEntry.TheVariants.{Granted, Re
 use Rattle.iom_ledger.specs.Shown.{Agrees, held_in, lingering_in, released_in}
 use Rattle.iom_machine.specs.declared.state.Attachment.{Attachment}
 use Rattle.iom_machine.specs.declared.state.Attachment.TheVariants.{Detached, Attached, Quarantined, Leaving}
-use Rattle.iom_machine.specs.declared.state.DeviceKind.{DeviceKind}
+use Rattle.iom_base.specs.declared.device_kind.DeviceKind.{DeviceKind}
 use Rattle.iom_base.specs.declared.mode.Mode.{Mode}
 use Rattle.iom_tlb.specs.declared.space.Space.{Space}
 use Rattle.iom_tlb.specs.declared.trans_cache.Translation.{Translation}

@@ -17,8 +17,8 @@ use Rattle.iom_driver.specs.Layout.{AreFixed, command_frame, completion_frame, c
 use Rattle.iom_driver.specs.Ready.{IsReady}
 use Rattle.iom_driver.proofs.Ring.{same_commands}
 use Rattle.iom_iommu.specs.Parts.{registers_of, contexts_of, flights_of, frames_of, slots_of}
-use Rattle.iom_ledger.specs.Refusals.{NoneApplies}
-use Rattle.iom_ledger.specs.declared.refusal.Refusal.{Refusal}
+use Rattle.iom_base.specs.Refusals.{NoneApplies}
+use Rattle.iom_base.specs.declared.refusal.Refusal.{Refusal}
 use Rattle.iom_machine.specs.declared.state.Attachment.TheVariants.{Detached}
 use Rattle.iom_phys_mem.specs.Words.{word_at}
 use Rattle.iom_registers.specs.declared.registers.Registers.{Registers}

@@ -20,9 +20,9 @@ use Rattle.iom_iommu.specs.declared.fetched.Fetched.TheVariants.{Did, Waiting, E
 use Rattle.iom_world_effects.specs.OwnIommu.{Iommu}
 use Rattle.iom_iommu.specs.Fetches.{FetchesCommand}
 use Rattle.iom_iommu.specs.Parts.{mmio, registers_of, opened_of, AddsDevice}
-use Rattle.iom_ledger.specs.declared.refusal.Refusal.{Refusal}
-use Rattle.iom_ledger.specs.declared.refusal.Refusal.TheVariants.{BadMedium}
-use Rattle.iom_ledger.specs.Refusals.{NoneApplies}
+use Rattle.iom_base.specs.declared.refusal.Refusal.{Refusal}
+use Rattle.iom_base.specs.declared.refusal.Refusal.TheVariants.{BadMedium}
+use Rattle.iom_base.specs.Refusals.{NoneApplies}
 use Rattle.iom_machine.specs.declared.event.Event.{Event}
 use Rattle.iom_machine.specs.declared.event.Event.TheVariants as events
 use Rattle.iom_machine.specs.declared.outcome.CommandName.{CommandName}
@@ -31,10 +31,9 @@ use Rattle.iom_machine.specs.declared.outcome.Fetched as machine
 use Rattle.iom_machine.specs.declared.outcome.Fetched.TheVariants as tells
 use Rattle.iom_machine.specs.declared.outcome.Outcome.{Outcome}
 use Rattle.iom_machine.specs.declared.outcome.Outcome.TheVariants as outcome
-use Rattle.iom_machine.specs.declared.state.NewDevice.{NewDevice}
-use Rattle.iom_machine.specs.Disks.{is_missing, without_disk}
-use Rattle.iom_machine.specs.Kinds.{kind_of, disk_of, sends_untranslated, sends_through_cache}
-use Rattle.iom_machine.specs.Refusals.{has_cache}
+use Rattle.iom_base.specs.declared.device_kind.NewDevice.{NewDevice}
+use Rattle.iom_base.specs.Disks.{is_missing, without_disk}
+use Rattle.iom_base.specs.DeviceKinds.{kind_of, disk_of, sends_untranslated, sends_through_cache, has_cache}
 use Rattle.iom_device.specs.Calls.{new_cache}
 use Rattle.iom_device.specs.declared.device.Device.{Device}
 use Rattle.iom_virtqueue.specs.Layouts.{layout_of}

@@ -18,7 +18,7 @@ use Rattle.iom_iommu.specs.declared.fetched.Fetched.{Fetched}
 use Rattle.iom_iommu.specs.declared.fetched.Fetched.TheVariants.{Did, Waiting, Empty, Stopped}
 use Rattle.iom_machine.specs.declared.outcome.Outcome.{Outcome}
 use Rattle.iom_machine.specs.declared.outcome.Outcome.TheVariants as outcome
-use Rattle.iom_machine.specs.Kinds.{asks_questions, forges}
+use Rattle.iom_base.specs.DeviceKinds.{asks_questions, forges}
 use Rattle.iom_device.specs.Caches.{IsAble, epoch_in}
 use Rattle.iom_world_effects.specs.Parts.{Parts}
 use Rattle.iom_world_effects.specs.Unable.{IsUnknown, IsUnable}

@@ -4,8 +4,8 @@ use Rattle.iom_base.specs.Bytes.{with_bytes}
 use Rattle.iom_base.specs.Sizes.{page_size}
 use Rattle.iom_base.specs.Spans.{FitsInPage}
 use Rattle.iom_driver.specs.Calls.{IsFreeFrame}
-use Rattle.iom_ledger.specs.declared.refusal.Refusal.{Refusal}
-use Rattle.iom_ledger.specs.declared.refusal.Refusal.TheVariants.{FrameOutOfRange, FrameReserved}
+use Rattle.iom_base.specs.declared.refusal.Refusal.{Refusal}
+use Rattle.iom_base.specs.declared.refusal.Refusal.TheVariants.{FrameOutOfRange, FrameReserved}
 use Rattle.iom_machine.specs.declared.outcome.Outcome.{Outcome}
 use Rattle.iom_machine.specs.declared.outcome.Outcome.TheVariants.{Done, Refused, BadSpan, Bytes, Free}
 use Rattle.iom_table_frames.specs.Marks.{is_marked}

@@ -7,10 +7,10 @@ use Rattle.iom_driver.specs.Restarts.{AnswersRestart}
 use Rattle.iom_driver.specs.Revivals.{AnswersRevive}
 use Rattle.iom_iommu.specs.Parts.{mmio}
 use Rattle.iom_iommu.specs.Timeouts.{TimesOut}
-use Rattle.iom_ledger.specs.declared.refusal.Refusal.{Refusal}
+use Rattle.iom_base.specs.declared.refusal.Refusal.{Refusal}
 use Rattle.iom_machine.specs.declared.outcome.Outcome.{Outcome}
 use Rattle.iom_machine.specs.declared.outcome.Outcome.TheVariants as outcome
-use Rattle.iom_machine.specs.Kinds.{is_any_kind}
+use Rattle.iom_base.specs.DeviceKinds.{is_any_kind}
 use Rattle.iom_device.specs.Calls.{devices_revived, with_reset}
 use Rattle.iom_world_effects.specs.Answers.{told_of, ticket_told_of}
 use Rattle.iom_device.specs.Caches.{IsAble}

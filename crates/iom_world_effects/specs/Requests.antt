@@ -21,8 +21,8 @@ use Rattle.iom_machine.specs.declared.outcome.Outcome.TheVariants as outcome
 use Rattle.iom_stage_walk.specs.declared.walked.Walked.{Walked}
 use Rattle.iom_stage_walk.specs.Both.{ReachesBoth}
 use Rattle.iom_world_effects.specs.Parts.{Parts}
-use Rattle.iom_machine.specs.declared.state.DeviceKind.{DeviceKind}
-use Rattle.iom_machine.specs.Kinds.{forges}
+use Rattle.iom_base.specs.declared.device_kind.DeviceKind.{DeviceKind}
+use Rattle.iom_base.specs.DeviceKinds.{forges}
 use Rattle.iom_device.specs.Caches.{IsAble}
 use Rattle.iom_world_effects.specs.OwnIommu.{Iommu}
 use Rattle.iom_world_effects.specs.Unable.{IsUnknown, IsUnable}

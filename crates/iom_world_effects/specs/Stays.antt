@@ -5,7 +5,7 @@ use Rattle.iom_command_queue.specs.Waiting.{commands_in}
 use Rattle.iom_driver.specs.Layout.{completion_address}
 use Rattle.iom_iommu.specs.Parts.{registers_of}
 use Rattle.iom_ledger.specs.Changes.{IsUnchanged}
-use Rattle.iom_ledger.specs.declared.refusal.Refusal.{Refusal}
+use Rattle.iom_base.specs.declared.refusal.Refusal.{Refusal}
 use Rattle.iom_machine.specs.declared.event.Event.{Event}
 use Rattle.iom_machine.specs.declared.event.Event.TheVariants as events
 use Rattle.iom_machine.specs.declared.outcome.Outcome.{Outcome}

@@ -4,14 +4,13 @@ use Rattle.std.specs.Prelude.{◌≡◌, ◌⊎◌, ℕ, Bool, Option, None, Som
 use Rattle.std.specs.Option.{option_and_then}
 use Rattle.iom_ats_cache.specs.Cache.{Cache, frame_for}
 use Rattle.iom_base.specs.declared.access.Access.{Access}
-use Rattle.iom_base.specs.Accesses.{page_of, IsWithinPage}
+use Rattle.iom_base.specs.Accesses.{page_of, IsWithinPage, at_frame}
 use Rattle.iom_inflight.specs.Calls.{HasRoom, IsFull}
 use Rattle.iom_iommu.specs.Parts.{flights_of}
 use Rattle.iom_iommu.specs.Translated.{AnswersTranslated}
 use Rattle.iom_machine.specs.declared.outcome.Outcome.{Outcome}
 use Rattle.iom_machine.specs.declared.outcome.Outcome.TheVariants as outcome
-use Rattle.iom_machine.specs.declared.state.DeviceKind.{DeviceKind}
-use Rattle.iom_machine.specs.ThroughCache.{at_frame}
+use Rattle.iom_base.specs.declared.device_kind.DeviceKind.{DeviceKind}
 use Rattle.iom_device.specs.Caches.{IsAble, cache_of}
 use Rattle.iom_world_effects.specs.Parts.{Parts}
 use Rattle.iom_world_effects.specs.Requests.{IsReplied}

@@ -6,7 +6,7 @@ use Rattle.std.proofs.lemmas.Bool.{false≢true}
 use Rattle.iom_base.specs.declared.access.Access.{Access}
 use Rattle.iom_base.specs.declared.access.AccessKind.{AccessKind}
 use Rattle.iom_base.specs.declared.access.AccessKind.TheVariants.{Read, Write}
-use Rattle.iom_base.specs.Accesses.{page_of}
+use Rattle.iom_base.specs.Accesses.{page_of, HasBytes}
 use Rattle.iom_command_queue.specs.OpenSlots.{OpenSlots}
 use Rattle.iom_coherence.specs.Attachments.{caches_translations}
 use Rattle.iom_coherence.specs.Scene.{Copy}
@@ -22,9 +22,8 @@ use Rattle.iom_iommu.specs.declared.reply.Reply.TheVariants as reply
 use Rattle.iom_iommu.specs.Parts.{flights_of, slots_of}
 use Rattle.iom_machine.specs.declared.outcome.Outcome.{Outcome}
 use Rattle.iom_machine.specs.declared.outcome.Outcome.TheVariants as outcome
-use Rattle.iom_machine.specs.declared.state.DeviceKind.{DeviceKind}
-use Rattle.iom_machine.specs.BlockDevices.{HasBytes}
-use Rattle.iom_machine.specs.Kinds.{is_block_device}
+use Rattle.iom_base.specs.declared.device_kind.DeviceKind.{DeviceKind}
+use Rattle.iom_base.specs.DeviceKinds.{is_block_device}
 use Rattle.iom_virtqueue.specs.declared.layout.Layout.{Layout}
 use Rattle.iom_device.specs.declared.device.Device.{Device}
 use Rattle.iom_world_effects.specs.Below.{LawsBelow}

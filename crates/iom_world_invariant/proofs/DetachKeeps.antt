@@ -24,10 +24,10 @@ use Rattle.iom_driver.specs.Reasons.{why_not_detach, HasGrants}
 use Rattle.iom_driver.specs.State.{DriverState}
 use Rattle.iom_driver.proofs.Places.{attached_there}
 use Rattle.iom_iommu.specs.Parts.{registers_of, mmio}
-use Rattle.iom_ledger.specs.declared.refusal.Refusal.{Refusal}
-use Rattle.iom_ledger.specs.declared.refusal.Refusal.TheVariants.{StillGranted, NumbersUsedUp}
+use Rattle.iom_base.specs.declared.refusal.Refusal.{Refusal}
+use Rattle.iom_base.specs.declared.refusal.Refusal.TheVariants.{StillGranted, NumbersUsedUp}
 use Rattle.iom_ledger.specs.History.{Pair}
-use Rattle.iom_ledger.specs.Refusals.{NoneApplies}
+use Rattle.iom_base.specs.Refusals.{NoneApplies}
 use Rattle.iom_ledger.specs.Shown.{Agrees, held_in, lingering_in}
 use Rattle.iom_machine.specs.declared.outcome.Outcome.{Outcome}
 use Rattle.iom_machine.specs.declared.state.Attachment.TheVariants as shown

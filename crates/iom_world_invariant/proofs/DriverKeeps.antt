@@ -30,9 +30,9 @@ use Rattle.iom_driver.proofs.Lists.{get_there}
 use Rattle.iom_driver.proofs.Marks.{NotAmong, Among, not_among, mark_stays, length-marked_for, bytes_stay, zero_among}
 use Rattle.iom_iommu.specs.Parts.{registers_of, contexts_of, flights_of}
 use Rattle.iom_ledger.specs.declared.ledger.Ledger.{Ledger}
-use Rattle.iom_ledger.specs.declared.refusal.Refusal.{Refusal}
-use Rattle.iom_ledger.specs.declared.refusal.Refusal.TheVariants.{NoSuchDevice, AlreadyAttached, IdTooWide, NotTrusted, IovaBusy}
-use Rattle.iom_ledger.specs.Refusals.{NoneApplies}
+use Rattle.iom_base.specs.declared.refusal.Refusal.{Refusal}
+use Rattle.iom_base.specs.declared.refusal.Refusal.TheVariants.{NoSuchDevice, AlreadyAttached, IdTooWide, NotTrusted, IovaBusy}
+use Rattle.iom_base.specs.Refusals.{NoneApplies}
 use Rattle.iom_ledger.specs.Shown.{Agrees, held_in, lingering_in}
 use Rattle.iom_machine.specs.declared.outcome.Outcome.{Outcome}
 use Rattle.iom_machine.specs.declared.state.Attachment.TheVariants as shown

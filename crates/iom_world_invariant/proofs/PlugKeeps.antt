@@ -17,13 +17,13 @@ use Rattle.iom_driver.proofs.Places.{attachment_plugged}
 use Rattle.iom_inflight.specs.Flights.{FlightRow, Flights, new_row}
 use Rattle.iom_iommu.specs.Parts.{registers_of, contexts_of, flights_of, slots_of, AddsDevice}
 use Rattle.iom_device_dir.specs.Cached.{cached_contexts}
-use Rattle.iom_ledger.specs.declared.refusal.Refusal.{Refusal}
-use Rattle.iom_ledger.specs.declared.refusal.Refusal.TheVariants.{AlreadyPlugged}
-use Rattle.iom_ledger.specs.Refusals.{NoneApplies}
+use Rattle.iom_base.specs.declared.refusal.Refusal.{Refusal}
+use Rattle.iom_base.specs.declared.refusal.Refusal.TheVariants.{AlreadyPlugged}
+use Rattle.iom_base.specs.Refusals.{NoneApplies}
 use Rattle.iom_ledger.specs.Shown.{Agrees}
 use Rattle.iom_machine.specs.declared.outcome.Outcome.{Outcome}
-use Rattle.iom_machine.specs.declared.state.NewDevice.{NewDevice}
-use Rattle.iom_machine.specs.Kinds.{kind_of}
+use Rattle.iom_base.specs.declared.device_kind.NewDevice.{NewDevice}
+use Rattle.iom_base.specs.DeviceKinds.{kind_of, has_cache}
 use Rattle.iom_registers.specs.declared.registers.Registers.{Registers}
 use Rattle.iom_registers.specs.Queues.{command_status}
 use Rattle.iom_device.specs.declared.device.Device.{Device}
@@ -40,7 +40,6 @@ use Rattle.iom_coherence.specs.Attachments.{caches_translations}
 use Rattle.iom_coherence.specs.Scene.{Copy}
 use Rattle.iom_coherence.proofs.ListLemmas.{same_function}
 use Rattle.iom_fabric.specs.declared.fabric.OnLink.{OnLink}
-use Rattle.iom_machine.specs.Refusals.{has_cache}
 use Rattle.iom_device.specs.Caches.{kind_in}
 use Rattle.iom_world_effects.specs.Traffic.{traffic_of}
 use Rattle.iom_world_effects.proofs.CacheLemmas.{HaveNot, asker_pushed, kind_absent, kind_pushed, epoch_pushed, entries_pushed, its_cache, trusted_pushed}

@@ -24,8 +24,8 @@ use Rattle.iom_driver.specs.State.{DriverState}
 use Rattle.iom_driver.proofs.Places.{attached_there}
 use Rattle.iom_iommu.specs.Parts.{registers_of, mmio}
 use Rattle.iom_ledger.specs.declared.entry.HistoryEntry.TheVariants.{AllReleased}
-use Rattle.iom_ledger.specs.declared.refusal.Refusal.{Refusal}
-use Rattle.iom_ledger.specs.declared.refusal.Refusal.TheVariants.{NumbersUsedUp}
+use Rattle.iom_base.specs.declared.refusal.Refusal.{Refusal}
+use Rattle.iom_base.specs.declared.refusal.Refusal.TheVariants.{NumbersUsedUp}
 use Rattle.iom_ledger.specs.History.{History, confirms}
 use Rattle.iom_ledger.specs.Shown.{Agrees}
 use Rattle.iom_machine.specs.declared.outcome.Outcome.{Outcome}

@@ -22,8 +22,8 @@ use Rattle.iom_driver.specs.Reasons.{why_not_release}
 use Rattle.iom_driver.specs.State.{DriverState}
 use Rattle.iom_world_effects.specs.OwnIommu.{Iommu}
 use Rattle.iom_iommu.specs.Parts.{registers_of, contexts_of, translations_of, flights_of, fence_snapshot_of, frames_of, mmio, slots_of}
-use Rattle.iom_ledger.specs.declared.refusal.Refusal.{Refusal}
-use Rattle.iom_ledger.specs.declared.refusal.Refusal.TheVariants.{NumbersUsedUp}
+use Rattle.iom_base.specs.declared.refusal.Refusal.{Refusal}
+use Rattle.iom_base.specs.declared.refusal.Refusal.TheVariants.{NumbersUsedUp}
 use Rattle.iom_ledger.specs.declared.entry.HistoryEntry.TheVariants.{Released}
 use Rattle.iom_ledger.specs.History.{History, confirms}
 use Rattle.iom_ledger.specs.Shown.{Agrees}

@@ -10,9 +10,9 @@ use Rattle.iom_driver.specs.State.{DriverState}
 use Rattle.iom_fault_queue.specs.Fields.{Fields}
 use Rattle.iom_iommu.specs.Parts.{mmio, registers_of, contexts_of, translations_of, flights_of, fence_snapshot_of, frames_of, slots_of}
 use Rattle.iom_inflight.specs.Flights.{Flights}
-use Rattle.iom_ledger.specs.declared.refusal.Refusal.{Refusal}
-use Rattle.iom_ledger.specs.declared.refusal.Refusal.TheVariants.{NotStarted}
-use Rattle.iom_ledger.specs.Refusals.{first_that_applies}
+use Rattle.iom_base.specs.declared.refusal.Refusal.{Refusal}
+use Rattle.iom_base.specs.declared.refusal.Refusal.TheVariants.{NotStarted}
+use Rattle.iom_base.specs.Refusals.{first_that_applies}
 use Rattle.iom_machine.specs.declared.outcome.Outcome.{Outcome}
 use Rattle.iom_machine.specs.declared.outcome.Outcome.TheVariants as outcome
 use Rattle.iom_machine.specs.declared.state.State.{State}

@@ -19,7 +19,7 @@ use Rattle.iom_iommu.specs.declared.reply.Reply.TheVariants.{Accepted, Busy, Bad
 use Rattle.iom_iommu.specs.Parts.{translations_of, flights_of}
 use Rattle.iom_iommu.specs.Requests.{AnswersRequest, AcceptsRequest, RefusesRequest}
 use Rattle.iom_ledger.specs.declared.ledger.Ledger.{Ledger}
-use Rattle.iom_ledger.specs.declared.refusal.Refusal.TheVariants.{NoSuchDevice, WrongKind}
+use Rattle.iom_base.specs.declared.refusal.Refusal.TheVariants.{NoSuchDevice, WrongKind}
 use Rattle.iom_machine.specs.declared.outcome.Outcome.{Outcome}
 use Rattle.iom_machine.specs.declared.outcome.Outcome.TheVariants as outcome
 use Rattle.iom_machine.specs.declared.state.Attachment.TheVariants as shown
@@ -56,7 +56,7 @@ use Rattle.iom_world_effects.proofs.SoundFrom.{LeavesReport}
 use Rattle.iom_world_effects.proofs.StayLemmas.{not_owned}
 use Rattle.iom_world_effects.proofs.WalkLemmas.{NoneIsHeldFor, FaultsBy}
 use Rattle.iom_world_effects.proofs.CachedMay.{cached_accept}
-use Rattle.iom_machine.specs.declared.state.DeviceKind.{DeviceKind}
+use Rattle.iom_base.specs.declared.device_kind.DeviceKind.{DeviceKind}
 use Rattle.iom_device.specs.declared.device.Device.{Device}
 use Rattle.iom_device.specs.Caches.{kind_in}
 use Rattle.iom_world_effects.proofs.PresentLemmas.{kind_present}

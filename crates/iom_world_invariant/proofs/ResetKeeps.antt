@@ -14,7 +14,7 @@ use Rattle.iom_fabric.specs.declared.fabric.OnLink.{OnLink}
 use Rattle.iom_iommu.specs.Parts.{flights_of, slots_of}
 use Rattle.iom_machine.specs.declared.outcome.Outcome.{Outcome}
 use Rattle.iom_machine.specs.declared.outcome.Outcome.TheVariants as outcome
-use Rattle.iom_machine.specs.declared.state.DeviceKind.{DeviceKind}
+use Rattle.iom_base.specs.declared.device_kind.DeviceKind.{DeviceKind}
 use Rattle.iom_machine.specs.declared.state.State.{State}
 use Rattle.iom_machine.specs.Machine.{Resets}
 use Rattle.iom_device.specs.declared.device.Device.{Device}

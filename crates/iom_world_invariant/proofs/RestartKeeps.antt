@@ -19,7 +19,7 @@ use Rattle.iom_driver.specs.State.{DriverState}
 use Rattle.iom_fabric.specs.declared.fabric.OnLink.{OnLink}
 use Rattle.iom_iommu.specs.Parts.{registers_of, contexts_of, translations_of, flights_of, fence_snapshot_of, slots_of, frames_of, mmio}
 use Rattle.iom_inflight.specs.Flights.{Flights}
-use Rattle.iom_ledger.specs.declared.refusal.Refusal.{Refusal}
+use Rattle.iom_base.specs.declared.refusal.Refusal.{Refusal}
 use Rattle.iom_ledger.specs.Shown.{Agrees}
 use Rattle.iom_machine.specs.declared.outcome.Outcome.{Outcome}
 use Rattle.iom_machine.specs.declared.state.Attachment.TheVariants as shown

@@ -1,7 +1,7 @@
 -- What stays true of a world when a device has an access through its own cache: what goes through is an entry there, and so no copy outlives what it copies.
 use Rattle.std.proofs.Common.{◌≡◌, ◌<◌, ◌∙◌, inl, inr, ℕ, Bool, Option, None, Some, Result, Ok, Contains, is_some, refl, sym, ap, subst}
 use Rattle.iom_base.specs.declared.access.Access.{Access}
-use Rattle.iom_base.specs.Accesses.{page_of}
+use Rattle.iom_base.specs.Accesses.{page_of, at_frame}
 use Rattle.std.proofs.lemmas.Bool.{false≢true}
 use Rattle.iom_coherence.specs.Copies.{IsInUse}
 use Rattle.iom_coherence.specs.Scene.{Scene}
@@ -11,9 +11,8 @@ use Rattle.iom_iommu.specs.declared.reply.Reply.TheVariants.{Accepted, Busy, Bad
 use Rattle.iom_iommu.specs.Parts.{contexts_of, translations_of, flights_of}
 use Rattle.iom_iommu.specs.Translated.{AnswersTranslated, AcceptsTranslated}
 use Rattle.iom_machine.specs.declared.outcome.Outcome.{Outcome}
-use Rattle.iom_machine.specs.declared.state.DeviceKind.{DeviceKind}
+use Rattle.iom_base.specs.declared.device_kind.DeviceKind.{DeviceKind}
 use Rattle.iom_machine.specs.Refusals.{is_quarantined}
-use Rattle.iom_machine.specs.ThroughCache.{at_frame}
 use Rattle.iom_stage_walk.specs.declared.walked.WalkFault.{WalkFault}
 use Rattle.iom_tlb.specs.declared.trans_cache.Translation.{Translation}
 use Rattle.iom_world_effects.specs.Parts.{Parts}

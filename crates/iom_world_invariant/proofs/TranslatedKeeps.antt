@@ -18,10 +18,9 @@ use Rattle.iom_iommu.specs.Parts.{registers_of, contexts_of, flights_of}
 use Rattle.iom_iommu.specs.Service.{ats_context_for}
 use Rattle.iom_iommu.specs.Translated.{AnswersTranslated, AcceptsTranslated, physical_page}
 use Rattle.iom_machine.specs.declared.outcome.Outcome.{Outcome}
-use Rattle.iom_machine.specs.declared.state.DeviceKind.{DeviceKind}
-use Rattle.iom_machine.specs.declared.state.DeviceKind.TheVariants.{Raw, Ats, Block, CachedBlock}
-use Rattle.iom_machine.specs.Kinds.{forges}
-use Rattle.iom_machine.specs.Refusals.{has_cache}
+use Rattle.iom_base.specs.declared.device_kind.DeviceKind.{DeviceKind}
+use Rattle.iom_base.specs.declared.device_kind.DeviceKind.TheVariants.{Raw, Ats, Block, CachedBlock}
+use Rattle.iom_base.specs.DeviceKinds.{forges, has_cache}
 use Rattle.iom_machine.specs.Translated.{MayLackContext}
 use Rattle.iom_stage_walk.specs.declared.walked.WalkFault.{WalkFault}
 use Rattle.iom_stage_walk.specs.Both.{plain}

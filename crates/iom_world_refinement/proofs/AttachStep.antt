@@ -19,9 +19,9 @@ use Rattle.iom_driver.proofs.Marks.{Among, length-marked_for, length-cleared}
 use Rattle.iom_driver.proofs.Places.{attachment_set, attachment_other}
 use Rattle.iom_world_effects.specs.OwnIommu.{Iommu}
 use Rattle.iom_iommu.specs.Parts.{flights_of}
-use Rattle.iom_ledger.specs.declared.refusal.Refusal.{Refusal}
-use Rattle.iom_ledger.specs.declared.refusal.Refusal.TheVariants.{NoFrames, NotStarted, NoSuchDevice, AlreadyAttached, IdTooWide, NotTrusted}
-use Rattle.iom_ledger.specs.Refusals.{first_that_applies}
+use Rattle.iom_base.specs.declared.refusal.Refusal.{Refusal}
+use Rattle.iom_base.specs.declared.refusal.Refusal.TheVariants.{NoFrames, NotStarted, NoSuchDevice, AlreadyAttached, IdTooWide, NotTrusted}
+use Rattle.iom_base.specs.Refusals.{first_that_applies}
 use Rattle.iom_machine.specs.declared.outcome.Outcome.{Outcome}
 use Rattle.iom_machine.specs.declared.outcome.Outcome.TheVariants.{Done}
 use Rattle.iom_machine.specs.declared.state.Attachment.TheVariants.{Attached}

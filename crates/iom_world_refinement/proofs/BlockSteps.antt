@@ -3,26 +3,25 @@ use Rattle.std.proofs.Common.{◌≡◌, ◌≢◌, ◌^◌, ◌<◌, ◌==◌, 
 use Rattle.std.specs.Option.{option_map, option_map_or}
 use Rattle.std.proofs.lemmas.Bool.{false≢true}
 use Rattle.iom_base.specs.declared.access.Access.{Access}
-use Rattle.iom_base.specs.Accesses.{page_of}
+use Rattle.iom_base.specs.Accesses.{page_of, MayWant}
 use Rattle.iom_coherence.specs.Attachments.{caches_translations}
 use Rattle.iom_fabric.specs.declared.message.Message.TheVariants as sent
 use Rattle.iom_iommu.specs.Parts.{flights_of}
-use Rattle.iom_ledger.specs.declared.refusal.Refusal.{Refusal}
-use Rattle.iom_ledger.specs.declared.refusal.Refusal.TheVariants.{NoSuchDevice, WrongKind, BadMedium, BadQueue}
+use Rattle.iom_base.specs.declared.refusal.Refusal.{Refusal}
+use Rattle.iom_base.specs.declared.refusal.Refusal.TheVariants.{NoSuchDevice, WrongKind, BadMedium, BadQueue}
 use Rattle.iom_machine.specs.declared.outcome.BlockStep.{BlockStep}
 use Rattle.iom_machine.specs.declared.outcome.BlockStep.TheVariants.{Idle, Waiting, Asked, Chain, Finished, Down}
 use Rattle.iom_machine.specs.declared.outcome.Outcome.{Outcome}
 use Rattle.iom_machine.specs.declared.outcome.Outcome.TheVariants as outcome
 use Rattle.iom_machine.specs.declared.state.Device as machine
-use Rattle.iom_machine.specs.declared.state.DeviceKind.{DeviceKind}
+use Rattle.iom_base.specs.declared.device_kind.DeviceKind.{DeviceKind}
 use Rattle.iom_machine.specs.declared.state.State.{State}
-use Rattle.iom_machine.specs.BlockDevices.{Inserts, MaySet, IsStatus, MayBe, MayWant, IsAnswered, TakesStep, with_disk}
+use Rattle.iom_machine.specs.BlockDevices.{Inserts, MaySet, IsStatus, MayBe, IsAnswered, TakesStep, with_disk}
 use Rattle.iom_machine.specs.Devices.{device_of, replaced_device}
-use Rattle.iom_machine.specs.Disks.{is_among}
-use Rattle.iom_machine.specs.Kinds.{is_block_device}
+use Rattle.iom_base.specs.Disks.{is_among}
+use Rattle.iom_base.specs.DeviceKinds.{is_block_device, has_cache}
 use Rattle.iom_machine.specs.Machine.{Acts, IfItCan, InsertsDisk, Steps}
 use Rattle.iom_machine.specs.Machine as machine_steps
-use Rattle.iom_machine.specs.Refusals.{has_cache}
 use Rattle.iom_machine.specs.Requests.{MayAnswer, state_after}
 use Rattle.iom_machine.specs.ThroughCache.{MayAnswerThroughCache, state_after_cached}
 use Rattle.iom_virtqueue.specs.declared.layout.Layout.{Layout}

@@ -2,7 +2,7 @@
 use Rattle.std.proofs.Common.{◌≡◌, ◌<◌, ◌*◌, ◌⊎◌, ◌∙◌, inl, inr, ℕ, Bool, true, false, List, length, remove, Option, Some, None, IfSome, Result, Ok, Err, slice_get, slice_set, refl, sym, ap, subst}
 use Rattle.iom_base.specs.declared.grant_rights.GrantRights.{GrantRights}
 use Rattle.iom_base.specs.declared.owner.Owner.TheVariants.{System}
-use Rattle.iom_base.specs.Accesses.{read_of, write_of}
+use Rattle.iom_base.specs.Accesses.{read_of, write_of, at_frame}
 use Rattle.iom_base.specs.declared.access.AcceptedAccess.{AcceptedAccess}
 use Rattle.iom_base.specs.declared.access.Access.{Access}
 use Rattle.iom_base.specs.declared.access.AccessKind.{AccessKind}
@@ -25,10 +25,10 @@ use Rattle.iom_iommu.specs.Requests.{Answers, ServesRequest, faulted_of, fault_o
 use Rattle.iom_iommu.specs.Translated.{ServesTranslated}
 use Rattle.iom_fault_queue.specs.Fields.{untranslated_of, translated_of}
 use Rattle.iom_table_frames.specs.Marks.{is_marked}
-use Rattle.iom_machine.specs.declared.state.DeviceKind.{DeviceKind}
-use Rattle.iom_machine.specs.declared.state.NewDevice.{NewDevice}
+use Rattle.iom_base.specs.declared.device_kind.DeviceKind.{DeviceKind}
+use Rattle.iom_base.specs.declared.device_kind.NewDevice.{NewDevice}
 use Rattle.iom_iommu.specs.Parts.{registers_of, flights_of}
-use Rattle.iom_ledger.specs.declared.refusal.Refusal.{Refusal}
+use Rattle.iom_base.specs.declared.refusal.Refusal.{Refusal}
 use Rattle.iom_machine.specs.declared.event.Event.{Event}
 use Rattle.iom_machine.specs.declared.event.Event.TheVariants as events
 use Rattle.iom_machine.specs.declared.outcome.Outcome.{Outcome}
@@ -43,8 +43,7 @@ use Rattle.iom_fabric.specs.declared.message.Translation.TheVariants.{Page, Refu
 use Rattle.iom_fault_queue.specs.declared.transaction.Transaction.{Transaction}
 use Rattle.iom_fault_queue.specs.declared.transaction.Transaction.TheVariants.{AtsRequest}
 use Rattle.iom_fault_queue.specs.Records.{record_of}
-use Rattle.iom_machine.specs.Kinds.{asks_questions, forges, is_block_device, sends_untranslated, sends_through_cache}
-use Rattle.iom_machine.specs.ThroughCache.{at_frame}
+use Rattle.iom_base.specs.DeviceKinds.{asks_questions, forges, is_block_device, sends_untranslated, sends_through_cache}
 use Rattle.iom_stage_walk.specs.declared.walked.WalkFault.{WalkFault}
 use Rattle.iom_tlb.specs.declared.trans_cache.Translation.{Translation}
 use Rattle.iom_tlb.specs.Content.{Content as Translations}

@@ -31,7 +31,7 @@ use Rattle.iom_world_refinement.proofs.FlightMay.{row_may}
 use Rattle.iom_world_effects.proofs.RowPlaces.{IsFound, present_found, row_shown, accepted_at, in_flight_at, with_own}
 use Rattle.iom_world_invariant.proofs.RequestStep.{acts_at, acts_absent, shows_same, shows_flights}
 use Rattle.iom_world_refinement.proofs.StoreLemmas.{bytes_shown, frames_stored}
-use Rattle.iom_machine.specs.Kinds.{is_any_kind}
+use Rattle.iom_base.specs.DeviceKinds.{is_any_kind}
 
 -- what a commit leads to: the machine may make the access so, and shows the parts then
 abbrev pub Steps : State → ℕ → Outcome → Parts → Type 0

@@ -17,7 +17,7 @@ use Rattle.iom_driver.proofs.Places.{attached_is, attached_there, attachment_set
 use Rattle.iom_world_effects.specs.OwnIommu.{Iommu}
 use Rattle.iom_iommu.specs.Parts.{mmio, registers_of, flights_of}
 use Rattle.iom_inflight.specs.Flights.{Flights, FlightRow}
-use Rattle.iom_ledger.specs.declared.refusal.Refusal.{Refusal}
+use Rattle.iom_base.specs.declared.refusal.Refusal.{Refusal}
 use Rattle.iom_machine.specs.declared.outcome.Outcome.{Outcome}
 use Rattle.iom_machine.specs.declared.state.Attachment.TheVariants.{Detached, Attached}
 use Rattle.iom_machine.specs.declared.state.Device as declared

@@ -10,9 +10,8 @@ use Rattle.iom_machine.specs.declared.state.Device.{Device}
 use Rattle.iom_machine.specs.declared.state.State.{State}
 use Rattle.iom_machine.specs.BlockDevices.{Inserts, IsAnswered, TakesStep}
 use Rattle.iom_machine.specs.Devices.{device_of}
-use Rattle.iom_machine.specs.Kinds.{is_any_kind, is_block_device, sends_untranslated, sends_through_cache}
+use Rattle.iom_base.specs.DeviceKinds.{is_any_kind, is_block_device, sends_untranslated, sends_through_cache, has_cache}
 use Rattle.iom_machine.specs.Machine.{Step, Requests, RequestsThroughCache, Commits, Makes, InsertsDisk, Steps}
-use Rattle.iom_machine.specs.Refusals.{has_cache}
 use Rattle.iom_machine.specs.Requests.{state_after}
 use Rattle.iom_machine.specs.ThroughCache.{state_after_cached}
 use Rattle.iom_machine.proofs.InFlightLemmas.{some_case, act_cases, same-asks, same-forges, same-resets, same-sets_queue, same-tells_status, same-translated, same-delivers, same-drops, same-repeats}

@@ -20,10 +20,10 @@ use Rattle.iom_driver.proofs.Places.{attached_is}
 use Rattle.iom_world_effects.specs.OwnIommu.{Iommu}
 use Rattle.iom_iommu.specs.Parts.{flights_of}
 use Rattle.iom_ledger.specs.declared.entry.HistoryEntry.TheVariants as entry
-use Rattle.iom_ledger.specs.declared.refusal.Refusal.{Refusal}
-use Rattle.iom_ledger.specs.declared.refusal.Refusal.TheVariants.{NoFrames, Memory, NotStarted, NoSuchDevice, NotAttached}
-use Rattle.iom_ledger.specs.declared.refusal.Refusal.TheVariants as refusal
-use Rattle.iom_ledger.specs.Refusals.{first_that_applies}
+use Rattle.iom_base.specs.declared.refusal.Refusal.{Refusal}
+use Rattle.iom_base.specs.declared.refusal.Refusal.TheVariants.{NoFrames, Memory, NotStarted, NoSuchDevice, NotAttached}
+use Rattle.iom_base.specs.declared.refusal.Refusal.TheVariants as refusal
+use Rattle.iom_base.specs.Refusals.{first_that_applies}
 use Rattle.iom_machine.specs.declared.outcome.Outcome.{Outcome}
 use Rattle.iom_machine.specs.declared.state.State.{State}
 use Rattle.iom_machine.specs.Frames.{FewerThan, IsFreeBesides, reserved_for}

@@ -12,12 +12,12 @@ use Rattle.iom_fabric.specs.declared.message.Range.{Range}
 use Rattle.iom_fabric.specs.declared.message.Translation.{Translation}
 use Rattle.iom_fabric.specs.Messages.{repeated, repeat_answer}
 use Rattle.iom_iommu.specs.Parts.{flights_of}
-use Rattle.iom_ledger.specs.declared.refusal.Refusal.{Refusal}
+use Rattle.iom_base.specs.declared.refusal.Refusal.{Refusal}
 use Rattle.iom_machine.specs.declared.outcome.Outcome.{Outcome}
 use Rattle.iom_machine.specs.declared.outcome.Outcome.TheVariants as outcome
-use Rattle.iom_machine.specs.declared.state.DeviceKind.{DeviceKind}
+use Rattle.iom_base.specs.declared.device_kind.DeviceKind.{DeviceKind}
 use Rattle.iom_machine.specs.declared.state.State.{State}
-use Rattle.iom_machine.specs.Kinds.{asks_questions, forges}
+use Rattle.iom_base.specs.DeviceKinds.{asks_questions, forges}
 use Rattle.iom_machine.specs.Machine.{Acts, Asks, Forges}
 use Rattle.iom_machine.specs.Messages.{Sends as MachineSends, Delivers, Drops, Repeats}
 use Rattle.iom_device.specs.declared.device.Device.{Device}

@@ -8,14 +8,13 @@ use Rattle.iom_world_effects.specs.OwnIommu.{Iommu}
 use Rattle.iom_driver.specs.Ready.{IsReady}
 use Rattle.iom_iommu.specs.Parts.{flights_of, registers_of, AddsDevice}
 use Rattle.iom_driver.specs.Reasons.{why_not_plug}
-use Rattle.iom_ledger.specs.declared.refusal.Refusal.{Refusal}
-use Rattle.iom_ledger.specs.declared.refusal.Refusal.TheVariants.{AlreadyPlugged, TooManyDevices, BadMedium, Memory}
-use Rattle.iom_ledger.specs.Refusals.{first_that_applies, NoneApplies}
+use Rattle.iom_base.specs.declared.refusal.Refusal.{Refusal}
+use Rattle.iom_base.specs.declared.refusal.Refusal.TheVariants.{AlreadyPlugged, TooManyDevices, BadMedium, Memory}
+use Rattle.iom_base.specs.Refusals.{first_that_applies, NoneApplies}
 use Rattle.iom_machine.specs.declared.outcome.Outcome.TheVariants.{Refused}
-use Rattle.iom_machine.specs.declared.state.NewDevice.{NewDevice}
-use Rattle.iom_machine.specs.Disks.{is_missing}
-use Rattle.iom_machine.specs.Kinds.{kind_of, disk_of}
-use Rattle.iom_machine.specs.Refusals.{has_cache}
+use Rattle.iom_base.specs.declared.device_kind.NewDevice.{NewDevice}
+use Rattle.iom_base.specs.Disks.{is_missing}
+use Rattle.iom_base.specs.DeviceKinds.{kind_of, disk_of, has_cache}
 use Rattle.iom_world_effects.specs.Does.{PlugsDevice}
 use Rattle.iom_world_effects.specs.Parts.{Parts}
 use Rattle.iom_device.specs.declared.device.Device.{Device}

@@ -13,15 +13,15 @@ use Rattle.iom_driver.proofs.Places.{attachment_plugged}
 use Rattle.iom_inflight.specs.Flights.{NumberedAccess, FlightRow, Flights, new_row, row_of}
 use Rattle.iom_world_effects.specs.OwnIommu.{Iommu}
 use Rattle.iom_iommu.specs.Parts.{flights_of}
-use Rattle.iom_ledger.specs.declared.refusal.Refusal.{Refusal}
-use Rattle.iom_ledger.specs.declared.refusal.Refusal.TheVariants.{Memory, AlreadyPlugged, TooManyDevices, BadMedium}
-use Rattle.iom_ledger.specs.Refusals.{first_that_applies, NoneApplies}
+use Rattle.iom_base.specs.declared.refusal.Refusal.{Refusal}
+use Rattle.iom_base.specs.declared.refusal.Refusal.TheVariants.{Memory, AlreadyPlugged, TooManyDevices, BadMedium}
+use Rattle.iom_base.specs.Refusals.{first_that_applies, NoneApplies}
 use Rattle.iom_machine.specs.declared.outcome.Outcome.{Outcome}
 use Rattle.iom_machine.specs.declared.state.Attachment.{Attachment}
 use Rattle.iom_machine.specs.declared.state.Device as declared
-use Rattle.iom_machine.specs.declared.state.NewDevice.{NewDevice}
-use Rattle.iom_machine.specs.Disks.{is_missing, without_disk}
-use Rattle.iom_machine.specs.Kinds.{kind_of, disk_of}
+use Rattle.iom_base.specs.declared.device_kind.NewDevice.{NewDevice}
+use Rattle.iom_base.specs.Disks.{is_missing, without_disk}
+use Rattle.iom_base.specs.DeviceKinds.{kind_of, disk_of, has_cache}
 use Rattle.iom_machine.specs.declared.state.State.{State}
 use Rattle.iom_machine.specs.Machine as machine
 use Rattle.iom_machine.specs.Machine.{plugged_device}
@@ -36,7 +36,6 @@ use Rattle.iom_world_effects.specs.Shows.{PartsShow}
 use Rattle.iom_world_effects.specs.Sound.{AreSound}
 use Rattle.iom_world_refinement.proofs.ReasonLemmas.{plug_first, none_known}
 use Rattle.iom_world_effects.proofs.StayLemmas.{shows_same}
-use Rattle.iom_machine.specs.Refusals.{has_cache}
 
 -- THE ROWS
 

@@ -2,15 +2,15 @@
 use Rattle.std.proofs.Common.{◌≡◌, ◌/◌, ◌%◌, ◌+◌, ◌<◌, ◌≤◌, ◌∙◌, ℕ, true, false, List, length, nat_le, Option, Some, None, slice_range, refl, sym, ap, subst}
 use Rattle.std.proofs.lemmas.Bool.{le-leb, lt-leb}
 use Rattle.iom_world_effects.proofs.SoundFrom.{unmarked}
-use Rattle.iom_ledger.specs.declared.refusal.Refusal.{Refusal}
-use Rattle.iom_ledger.specs.declared.refusal.Refusal.TheVariants.{FrameOutOfRange, FrameReserved}
+use Rattle.iom_base.specs.declared.refusal.Refusal.{Refusal}
+use Rattle.iom_base.specs.declared.refusal.Refusal.TheVariants.{FrameOutOfRange, FrameReserved}
 use Rattle.iom_machine.specs.declared.outcome.Outcome.{Outcome}
 use Rattle.iom_machine.specs.declared.outcome.Outcome.TheVariants.{Done, Refused, BadSpan, Bytes, Free}
 use Rattle.iom_machine.specs.declared.state.State.{State}
 use Rattle.iom_machine.specs.Frames.{stored}
 use Rattle.iom_machine.specs.Machine.{Pokes, Peeks, TellsFree, ShowsBytes}
 use Rattle.iom_machine.specs.Refusals.{NeverElse, frame_reasons, poke_reasons}
-use Rattle.iom_ledger.specs.Refusals.{IsRefusedBy, NoneApplies}
+use Rattle.iom_base.specs.Refusals.{IsRefusedBy, NoneApplies}
 use Rattle.iom_world_effects.specs.Parts.{Parts}
 use Rattle.iom_world_effects.specs.Processor.{PokesBytes, PeeksBytes, AsksFree, StoresIfAny, ShowsAt, IsNoPlace}
 use Rattle.iom_world_effects.specs.Shows.{PartsShow}

@@ -7,11 +7,11 @@ use Rattle.iom_driver.specs.Devices.{is_plugged, is_away}
 use Rattle.iom_driver.specs.Fences.{last_fence}
 use Rattle.iom_driver.specs.Reasons.{why_not_quarantine, lacks_places}
 use Rattle.iom_iommu.specs.Parts.{registers_of}
-use Rattle.iom_ledger.specs.declared.refusal.Refusal.{Refusal}
-use Rattle.iom_ledger.specs.declared.refusal.Refusal.TheVariants.{NoSuchDevice, NotAttached, NotStarted, TooManyPending, QueueFull, NumbersUsedUp}
-use Rattle.iom_ledger.specs.declared.refusal.Refusal.TheVariants as refusal
+use Rattle.iom_base.specs.declared.refusal.Refusal.{Refusal}
+use Rattle.iom_base.specs.declared.refusal.Refusal.TheVariants.{NoSuchDevice, NotAttached, NotStarted, TooManyPending, QueueFull, NumbersUsedUp}
+use Rattle.iom_base.specs.declared.refusal.Refusal.TheVariants as refusal
 use Rattle.iom_ledger.specs.History.{pending_limit}
-use Rattle.iom_ledger.specs.Refusals.{first_that_applies, NoneApplies, IsRefusedBy}
+use Rattle.iom_base.specs.Refusals.{first_that_applies, NoneApplies, IsRefusedBy}
 use Rattle.iom_machine.specs.declared.state.Attachment.{Attachment}
 use Rattle.iom_machine.specs.declared.state.State.{State}
 use Rattle.iom_machine.specs.Refusals as machine

@@ -18,7 +18,7 @@ use Rattle.iom_driver.proofs.Places.{attached_is, attached_there, attachment_set
 use Rattle.iom_iommu.specs.Parts.{mmio, flights_of}
 use Rattle.iom_inflight.specs.Flights.{Flights}
 use Rattle.iom_ledger.specs.declared.entry.HistoryEntry.TheVariants as entry
-use Rattle.iom_ledger.specs.declared.refusal.Refusal.{Refusal}
+use Rattle.iom_base.specs.declared.refusal.Refusal.{Refusal}
 use Rattle.iom_machine.specs.CuttingOff.{cut_off_under}
 use Rattle.iom_machine.specs.declared.outcome.Outcome.{Outcome}
 use Rattle.iom_machine.specs.declared.outcome.Outcome.TheVariants as outcome

@@ -15,15 +15,16 @@ use Rattle.iom_driver.specs.Reasons.{why_not_plug, why_not_attach, why_not_grant
 use Rattle.iom_inflight.specs.Flights.{FlightRow}
 use Rattle.iom_iommu.specs.Parts.{registers_of, flights_of}
 use Rattle.iom_ledger.specs.declared.ledger.Ledger.{Ledger}
-use Rattle.iom_ledger.specs.declared.refusal.Refusal.{Refusal}
-use Rattle.iom_ledger.specs.declared.refusal.Refusal.TheVariants.{NoSuchDevice, AlreadyAttached, NotAttached, NotTrusted, IdTooWide, NotStarted, FrameOutOfRange, FrameReserved, IovaOutOfRange, IovaBusy, NotGranted, StillGranted, TooManyPending, QueueFull, NumbersUsedUp, AlreadyPlugged, TooManyDevices}
-use Rattle.iom_ledger.specs.declared.refusal.Refusal.TheVariants as refusal
+use Rattle.iom_base.specs.declared.refusal.Refusal.{Refusal}
+use Rattle.iom_base.specs.declared.refusal.Refusal.TheVariants.{NoSuchDevice, AlreadyAttached, NotAttached, NotTrusted, IdTooWide, NotStarted, FrameOutOfRange, FrameReserved, IovaOutOfRange, IovaBusy, NotGranted, StillGranted, TooManyPending, QueueFull, NumbersUsedUp, AlreadyPlugged, TooManyDevices}
+use Rattle.iom_base.specs.declared.refusal.Refusal.TheVariants as refusal
 use Rattle.iom_ledger.specs.History.{Pair, pending_limit}
-use Rattle.iom_ledger.specs.Refusals.{first_that_applies, NoneApplies, IsRefusedBy}
+use Rattle.iom_base.specs.Refusals.{first_that_applies, NoneApplies, IsRefusedBy}
 use Rattle.iom_ledger.specs.Shown.{Agrees, held_in, released_in, lingering_in}
 use Rattle.iom_machine.specs.Frames.{is_reserved}
 use Rattle.iom_machine.specs.Refusals as machine
-use Rattle.iom_machine.specs.Refusals.{attachment_of, is_detached, is_leaving, is_quarantined, is_held, is_lingering, has_grants, is_too_wide, is_trusted, has_cache, page_limit_at, MayFindNoPlace}
+use Rattle.iom_base.specs.DeviceKinds.{has_cache}
+use Rattle.iom_machine.specs.Refusals.{attachment_of, is_detached, is_leaving, is_quarantined, is_held, is_lingering, has_grants, is_too_wide, is_trusted, page_limit_at, MayFindNoPlace}
 use Rattle.iom_machine.proofs.GrantLemmas.{grants_are_at_pages}
 use Rattle.iom_machine.specs.Tickets.{last_confirmed, pending_tickets}
 use Rattle.iom_machine.specs.declared.state.Attachment.{Attachment}

@@ -8,7 +8,7 @@ use Rattle.iom_base.specs.Accesses.{read_of, write_of}
 use Rattle.iom_inflight.specs.declared.made.MadeAt.{MadeAt}
 use Rattle.iom_iommu.specs.declared.reply.Reply.{Reply}
 use Rattle.iom_iommu.specs.declared.reply.Reply.TheVariants.{Accepted, Busy, BadSpan, Fault}
-use Rattle.iom_ledger.specs.declared.refusal.Refusal.{Refusal}
+use Rattle.iom_base.specs.declared.refusal.Refusal.{Refusal}
 use Rattle.iom_machine.specs.declared.event.Event.{Event}
 use Rattle.iom_machine.specs.declared.event.Event.TheVariants as events
 use Rattle.iom_machine.specs.declared.outcome.BlockStep.{BlockStep}
@@ -23,8 +23,8 @@ use Rattle.iom_world_effects.specs.Processor.{PokesBytes, StoresIfAny}
 use Rattle.iom_fabric.specs.declared.message.Message.TheVariants as sent
 use Rattle.iom_iommu.specs.Requests.{AnswersRequest}
 use Rattle.iom_iommu.specs.Translated.{AnswersTranslated}
-use Rattle.iom_machine.specs.declared.state.DeviceKind.{DeviceKind}
-use Rattle.iom_machine.specs.Kinds.{sends_untranslated, sends_through_cache, forges, asks_questions, is_block_device}
+use Rattle.iom_base.specs.declared.device_kind.DeviceKind.{DeviceKind}
+use Rattle.iom_base.specs.DeviceKinds.{sends_untranslated, sends_through_cache, forges, asks_questions, is_block_device}
 use Rattle.iom_virtqueue.specs.declared.layout.Layout.{Layout}
 use Rattle.iom_virtqueue.specs.Layouts.{layout_of}
 use Rattle.iom_coherence.specs.Attachments.{caches_translations}

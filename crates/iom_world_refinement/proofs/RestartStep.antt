@@ -8,9 +8,9 @@ use Rattle.iom_driver.specs.Restarts.{turned_off_and_on, restart_commands, Queue
 use Rattle.iom_driver.specs.State.{DriverState}
 use Rattle.iom_iommu.specs.Parts.{mmio, flights_of}
 use Rattle.iom_inflight.specs.Flights.{Flights}
-use Rattle.iom_ledger.specs.declared.refusal.Refusal.{Refusal}
-use Rattle.iom_ledger.specs.declared.refusal.Refusal.TheVariants.{NotStarted, NumbersUsedUp}
-use Rattle.iom_ledger.specs.Refusals.{first_that_applies}
+use Rattle.iom_base.specs.declared.refusal.Refusal.{Refusal}
+use Rattle.iom_base.specs.declared.refusal.Refusal.TheVariants.{NotStarted, NumbersUsedUp}
+use Rattle.iom_base.specs.Refusals.{first_that_applies}
 use Rattle.iom_machine.specs.declared.outcome.Outcome.{Outcome}
 use Rattle.iom_machine.specs.declared.outcome.Outcome.TheVariants as outcome
 use Rattle.iom_machine.specs.declared.state.State.{State}

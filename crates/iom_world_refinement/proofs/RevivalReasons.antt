@@ -7,9 +7,9 @@ use Rattle.iom_driver.specs.declared.device.Stages.{Stages}
 use Rattle.iom_driver.specs.Devices as as_known
 use Rattle.iom_driver.specs.Devices.{is_plugged, is_away, attached_stages}
 use Rattle.iom_driver.specs.Reasons.{why_not_revive, waits_for_its_ticket}
-use Rattle.iom_ledger.specs.declared.refusal.Refusal.TheVariants.{NotStarted, NoSuchDevice, NotAttached, AlreadyAttached, StillGranted}
+use Rattle.iom_base.specs.declared.refusal.Refusal.TheVariants.{NotStarted, NoSuchDevice, NotAttached, AlreadyAttached, StillGranted}
 use Rattle.iom_ledger.specs.History.{History, confirms}
-use Rattle.iom_ledger.specs.Refusals.{first_that_applies}
+use Rattle.iom_base.specs.Refusals.{first_that_applies}
 use Rattle.iom_machine.specs.Refusals as machine
 use Rattle.iom_machine.specs.Refusals.{attachment_of, is_detached, is_leaving, is_attached, may_still_reach}
 use Rattle.iom_machine.specs.declared.state.Attachment.{Attachment}

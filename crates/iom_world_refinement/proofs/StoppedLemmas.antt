@@ -1,7 +1,7 @@
 -- From a timeout to the next restart nothing goes on: each fetch is answered Stopped, and whatever happens leaves the completion word and the mark of the timeout.
 use Rattle.std.proofs.Common.{◌≡◌, ◌≢◌, ◌+◌, ◌*◌, ◌/◌, ◌⊎◌, ◌∙◌, inl, inr, ℕ, Bool, true, false, not, List, length, remove, Option, Some, None, Result, Ok, Err, slice_get, refl, sym, ap, subst, arith}
 use Rattle.std.proofs.lemmas.Bool.{false≢true}
-use Rattle.iom_base.specs.Accesses.{read_of, write_of}
+use Rattle.iom_base.specs.Accesses.{read_of, write_of, at_frame}
 use Rattle.iom_base.specs.declared.access.Access.{Access}
 use Rattle.iom_base.specs.declared.cause.Cause.{Cause}
 use Rattle.iom_base.specs.declared.mode.Mode.{Mode}
@@ -39,16 +39,15 @@ use Rattle.iom_iommu.specs.Questions.{AnswersQuestion, RefusesQuestion, RecordsU
 use Rattle.iom_iommu.specs.Requests.{Answers, ServesRequest, faulted_of, fault_of}
 use Rattle.iom_iommu.specs.Timeouts.{TimesOut}
 use Rattle.iom_iommu.specs.Translated.{ServesTranslated}
-use Rattle.iom_ledger.specs.declared.refusal.Refusal.{Refusal}
+use Rattle.iom_base.specs.declared.refusal.Refusal.{Refusal}
 use Rattle.iom_machine.specs.declared.event.Event.{Event}
 use Rattle.iom_machine.specs.declared.event.Event.TheVariants as events
 use Rattle.iom_machine.specs.declared.outcome.Fetched.TheVariants as tells
 use Rattle.iom_machine.specs.declared.outcome.Outcome.{Outcome}
 use Rattle.iom_machine.specs.declared.outcome.Outcome.TheVariants as outcome
-use Rattle.iom_machine.specs.declared.state.DeviceKind.{DeviceKind}
-use Rattle.iom_machine.specs.declared.state.NewDevice.{NewDevice}
-use Rattle.iom_machine.specs.Kinds.{asks_questions, forges, is_block_device, sends_untranslated, sends_through_cache}
-use Rattle.iom_machine.specs.ThroughCache.{at_frame}
+use Rattle.iom_base.specs.declared.device_kind.DeviceKind.{DeviceKind}
+use Rattle.iom_base.specs.declared.device_kind.NewDevice.{NewDevice}
+use Rattle.iom_base.specs.DeviceKinds.{asks_questions, forges, is_block_device, sends_untranslated, sends_through_cache}
 use Rattle.iom_page_table.specs.FirstTables.{unmapped}
 use Rattle.iom_phys_mem.specs.Words.{word_at}
 use Rattle.iom_registers.specs.Queues.{command_status, is_processing_commands}

@@ -1,7 +1,7 @@
 -- An access of a device through its own cache is a lawful step of the ledger machine.
 use Rattle.std.proofs.Common.{◌≡◌, ◌∙◌, inl, inr, ℕ, Bool, true, Option, None, Some, Result, Ok, Err, refl, sym, ap, subst, arith}
 use Rattle.iom_base.specs.declared.access.Access.{Access}
-use Rattle.iom_base.specs.Accesses.{IsWithinPage, page_of}
+use Rattle.iom_base.specs.Accesses.{IsWithinPage, page_of, at_frame}
 use Rattle.iom_base.specs.declared.cause.Cause.{Cause}
 use Rattle.iom_driver.specs.declared.device.Attachment.TheVariants as attached
 use Rattle.iom_driver.specs.declared.device.Stages.{Stages}
@@ -16,11 +16,11 @@ use Rattle.iom_machine.specs.declared.outcome.Outcome.{Outcome}
 use Rattle.iom_machine.specs.declared.outcome.Outcome.TheVariants as outcome
 use Rattle.iom_machine.specs.declared.state.Device as machine
 use Rattle.iom_machine.specs.declared.state.State.{State}
-use Rattle.iom_machine.specs.declared.state.DeviceKind.{DeviceKind}
+use Rattle.iom_base.specs.declared.device_kind.DeviceKind.{DeviceKind}
 use Rattle.iom_machine.specs.Machine.{Acts}
 use Rattle.iom_machine.specs.Requests.{with_accepted, cause_without_context}
 use Rattle.iom_machine.specs.Translated.{MayLackContext}
-use Rattle.iom_machine.specs.ThroughCache.{at_frame, MayGoThrough, MayAnswerThroughCache, state_after_cached}
+use Rattle.iom_machine.specs.ThroughCache.{MayGoThrough, MayAnswerThroughCache, state_after_cached}
 use Rattle.iom_stage_walk.specs.declared.walked.WalkFault.{WalkFault}
 use Rattle.iom_tlb.specs.declared.trans_cache.Translation.{Translation}
 use Rattle.iom_world_effects.specs.Devices.{shown_attachment, shown_device}

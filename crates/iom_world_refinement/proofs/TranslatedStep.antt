@@ -13,7 +13,7 @@ use Rattle.iom_machine.specs.declared.outcome.Outcome.{Outcome}
 use Rattle.iom_machine.specs.declared.outcome.Outcome.TheVariants as outcome
 use Rattle.iom_machine.specs.declared.state.Device as machine
 use Rattle.iom_machine.specs.declared.state.State.{State}
-use Rattle.iom_machine.specs.Kinds.{forges}
+use Rattle.iom_base.specs.DeviceKinds.{forges}
 use Rattle.iom_machine.specs.Machine.{RequestsTranslated}
 use Rattle.iom_machine.specs.Requests.{cause_without_context}
 use Rattle.iom_machine.specs.Translated.{MayLackContext, MayFaultTranslated, MayAnswerTranslated}

@@ -1,5 +1,5 @@
 use Rattle.std.proofs.Common.{◌≡◌, ◌∙◌, refl, sym, subst}
-use Rattle.iom_machine.specs.Refusals.{has_cache}
+use Rattle.iom_base.specs.DeviceKinds.{has_cache}
 use Rattle.iom_machine.specs.declared.state.Device.{Device}
 use Rattle.iom_machine.proofs.StepLemmas.{read_again}
 use Rattle.iom_doubts.specs.Begun.{AreOpen}

@@ -1,6 +1,6 @@
 use Rattle.std.proofs.Common.{rules, ◌≡◌, ℕ, Option, sym, subst}
 use Rattle.std.proofs.lemmas.Fn.{filter_same}
-use Rattle.iom_machine.specs.Disks.{without_disk}
+use Rattle.iom_base.specs.Disks.{without_disk}
 use Rattle.iom_known.proofs.disks.take_out.Goals as goal
 
 pub returns-in-Some : goal.returns-in-Some

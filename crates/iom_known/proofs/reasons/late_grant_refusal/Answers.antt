@@ -1,5 +1,5 @@
 use Rattle.std.proofs.Common.{◌∙◌, ℕ, Bool, ap}
-use Rattle.iom_ledger.specs.Refusals.{first_that_applies}
+use Rattle.iom_base.specs.Refusals.{first_that_applies}
 use Rattle.iom_machine.specs.Refusals.{attachment_of, page_limit_at}
 use Rattle.iom_machine.specs.declared.state.Attachment.{Attachment}
 use Rattle.iom_known.specs.Reasons.{bare, late_grant_reasons_by}

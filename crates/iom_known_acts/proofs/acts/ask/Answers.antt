@@ -1,7 +1,7 @@
 use Rattle.std.proofs.Common.{◌≡◌, ◌∙◌, Some, slice_get, refl, sym}
 use Rattle.std.proofs.lemmas.Option.{slice_get_read}
 use Rattle.iom_machine.specs.Messages.{Sends}
-use Rattle.iom_machine.specs.Kinds.{asks_questions}
+use Rattle.iom_base.specs.DeviceKinds.{asks_questions}
 use Rattle.iom_machine.specs.Machine.{Asks}
 use Rattle.iom_machine.specs.declared.state.Device.{Device}
 use Rattle.iom_machine.specs.declared.state.State.{State}

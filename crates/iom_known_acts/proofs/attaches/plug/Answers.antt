@@ -1,5 +1,5 @@
 use Rattle.std.proofs.Common.{sym, subst}
-use Rattle.iom_ledger.specs.Refusals.{IsRefusedBy}
+use Rattle.iom_base.specs.Refusals.{IsRefusedBy}
 use Rattle.iom_machine.specs.Refusals.{MayRefusePlug, plug_reasons}
 use Rattle.iom_machine.specs.declared.event.Event.TheVariants as events
 use Rattle.iom_known.specs.Allowed.{state_of}

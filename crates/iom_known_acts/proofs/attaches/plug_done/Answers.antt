@@ -1,5 +1,5 @@
 use Rattle.std.proofs.Common.{◌∙◌, ℕ, [], ◌∷◌, ◌++◌, Option, is_some, sym, ap}
-use Rattle.iom_machine.specs.Disks.{without_disk}
+use Rattle.iom_base.specs.Disks.{without_disk}
 use Rattle.iom_machine.specs.declared.state.Device.{Device}
 use Rattle.iom_machine.proofs.CallLemmas.{none_if_not_some}
 use Rattle.iom_known_acts.proofs.PlugSteps.{plugged_as, plug_explained}

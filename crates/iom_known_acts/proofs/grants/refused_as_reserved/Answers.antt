@@ -1,6 +1,6 @@
 use Rattle.std.proofs.Common.{◌≡◌, ◌∙◌, inl, ℕ, List, sym, subst}
 use Rattle.std.specs.Int.{bit_at}
-use Rattle.iom_ledger.specs.declared.refusal.Refusal.TheVariants as refusals
+use Rattle.iom_base.specs.declared.refusal.Refusal.TheVariants as refusals
 use Rattle.iom_machine.specs.Refusals.{MayRefuseGrant, grant_reasons}
 use Rattle.iom_machine.specs.declared.event.Event.TheVariants as events
 use Rattle.iom_machine.specs.declared.outcome.Outcome.TheVariants as outcomes

@@ -2,7 +2,7 @@ use Rattle.std.proofs.Common.{◌≡◌, ◌∙◌, ℕ, ◌<◌, List, Some, sy
 use Rattle.std.proofs.lemmas.List.{length-set}
 use Rattle.std.proofs.lemmas.Option.{slice_get_within}
 use Rattle.iom_ledger.specs.declared.ledger.Ledger.{Ledger}
-use Rattle.iom_ledger.specs.declared.refusal.Refusal.TheVariants as refusals
+use Rattle.iom_base.specs.declared.refusal.Refusal.TheVariants as refusals
 use Rattle.iom_machine.specs.Frames.{FewerThan}
 use Rattle.iom_machine.specs.Refusals.{MayRefuseGrant, attachment_of, grant_reasons, table_limit_at}
 use Rattle.iom_machine.specs.declared.event.Event.TheVariants as events

@@ -1,6 +1,6 @@
 use Rattle.std.proofs.Common.{false}
 use Rattle.std.proofs.lemmas.Bool.{false≢true}
-use Rattle.iom_ledger.specs.Refusals.{IsRefusedBy}
+use Rattle.iom_base.specs.Refusals.{IsRefusedBy}
 use Rattle.iom_machine.specs.Refusals.{NeverElse, frame_reasons}
 use Rattle.iom_machine.specs.declared.event.Event.TheVariants as events
 use Rattle.iom_known.specs.Allowed.{state_of}

@@ -1,6 +1,6 @@
 use Rattle.std.proofs.Common.{◌≡◌, sym, subst}
-use Rattle.iom_ledger.specs.declared.refusal.Refusal.{Refusal}
-use Rattle.iom_ledger.specs.Refusals.{IsRefusedBy}
+use Rattle.iom_base.specs.declared.refusal.Refusal.{Refusal}
+use Rattle.iom_base.specs.Refusals.{IsRefusedBy}
 use Rattle.iom_machine.specs.Refusals.{NeverElse, poke_reasons}
 use Rattle.iom_known.specs.Steps.{IsLedBack}
 use Rattle.iom_known_acts.proofs.ByteSteps.{with_both, poke_outside_explained, poke_reserved_explained}

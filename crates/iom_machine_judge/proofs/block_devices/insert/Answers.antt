@@ -1,6 +1,6 @@
 use Rattle.std.proofs.Common.{◌≡◌, sym, subst, ◌∙◌}
 use Rattle.std.proofs.lemmas.Bool.{false≢true}
-use Rattle.iom_ledger.specs.declared.refusal.Refusal.TheVariants.{BadMedium}
+use Rattle.iom_base.specs.declared.refusal.Refusal.TheVariants.{BadMedium}
 use Rattle.iom_machine.specs.declared.state.Device.{Device}
 use Rattle.iom_machine.specs.BlockDevices.{MayInsert}
 use Rattle.iom_machine.proofs.StepLemmas.{read_again}

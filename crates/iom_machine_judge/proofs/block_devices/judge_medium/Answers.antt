@@ -1,7 +1,7 @@
 use Rattle.std.proofs.Common.{sym, ◌∙◌}
 use Rattle.iom_machine.specs.declared.state.Device.{Device}
 use Rattle.iom_machine.specs.declared.state.State.{State}
-use Rattle.iom_machine.specs.Kinds.{is_block_device}
+use Rattle.iom_base.specs.DeviceKinds.{is_block_device}
 use Rattle.iom_machine.specs.BlockDevices.{Inserts}
 use Rattle.iom_machine_judge.proofs.LeftLemmas.{absent_by, unable_at, able_at, read_there}
 use Rattle.iom_machine_judge.proofs.block_devices.judge_medium.Goals as goal

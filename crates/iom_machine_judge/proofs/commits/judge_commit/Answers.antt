@@ -1,7 +1,7 @@
 use Rattle.std.proofs.Common.{refl}
 use Rattle.iom_machine.specs.declared.state.Device.{Device}
 use Rattle.iom_machine.specs.declared.state.State.{State}
-use Rattle.iom_machine.specs.Kinds.{is_any_kind}
+use Rattle.iom_base.specs.DeviceKinds.{is_any_kind}
 use Rattle.iom_machine.specs.Machine.{Makes}
 use Rattle.iom_machine.proofs.HeadlineLemmas.{element_at}
 use Rattle.iom_machine_judge.proofs.LeftLemmas.{absent_by, able_at}

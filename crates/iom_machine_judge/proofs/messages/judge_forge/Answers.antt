@@ -1,7 +1,7 @@
 use Rattle.std.proofs.Common.{sym, ◌∙◌}
 use Rattle.iom_machine.specs.declared.state.Device.{Device}
 use Rattle.iom_machine.specs.declared.state.State.{State}
-use Rattle.iom_machine.specs.Kinds.{forges}
+use Rattle.iom_base.specs.DeviceKinds.{forges}
 use Rattle.iom_machine.specs.Messages.{Sends}
 use Rattle.iom_machine.proofs.StepLemmas.{acts_there}
 use Rattle.iom_machine_judge.specs.Deciding.{left_by}

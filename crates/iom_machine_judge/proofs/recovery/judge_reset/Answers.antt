@@ -2,7 +2,7 @@ use Rattle.std.proofs.Common.{◌≡◌, refl, sym}
 use Rattle.iom_machine.specs.declared.outcome.Outcome.TheVariants.{Done}
 use Rattle.iom_machine.specs.declared.state.Device.{Device}
 use Rattle.iom_machine.specs.declared.state.State.{State}
-use Rattle.iom_machine.specs.Kinds.{is_any_kind}
+use Rattle.iom_base.specs.DeviceKinds.{is_any_kind}
 use Rattle.iom_machine_judge.proofs.LeftLemmas.{absent_by, able_stays}
 use Rattle.iom_machine_judge.proofs.recovery.judge_reset.Goals as goal
 

@@ -2,7 +2,7 @@ use Rattle.std.proofs.Common.{◌≡◌, Some, None, sym, ◌∙◌}
 use Rattle.std.proofs.lemmas.Bool.{false≢true}
 use Rattle.iom_machine.specs.declared.state.Device.{Device}
 use Rattle.iom_machine.specs.declared.state.State.{State}
-use Rattle.iom_machine.specs.Kinds.{sends_untranslated}
+use Rattle.iom_base.specs.DeviceKinds.{sends_untranslated}
 use Rattle.iom_machine.specs.Requests.{MayAnswer, state_after}
 use Rattle.iom_machine.proofs.StepLemmas.{lawful, unlawful, acts_there, own_place}
 use Rattle.iom_machine_judge.proofs.LeftLemmas.{absent_by, unable_at, read_there}

@@ -1,7 +1,7 @@
 use Rattle.std.proofs.Common.{◌≡◌, sym, ◌∙◌}
 use Rattle.iom_machine.specs.declared.state.Device.{Device}
 use Rattle.iom_machine.specs.declared.state.State.{State}
-use Rattle.iom_machine.specs.Kinds.{forges}
+use Rattle.iom_base.specs.DeviceKinds.{forges}
 use Rattle.iom_machine.specs.Translated.{MayAnswerTranslated}
 use Rattle.iom_machine_judge.proofs.LeftLemmas.{absent_by, unable_by, able_stays}
 use Rattle.iom_machine_judge.proofs.translated.judge_translated.Goals as goal

@@ -1,6 +1,6 @@
 use Rattle.std.proofs.Common.{◌≡◌, ◌∙◌, false, ap, subst, arith}
 use Rattle.std.proofs.lemmas.Option.{get_or_from_slice_get}
-use Rattle.iom_machine.specs.Disks.{is_among}
+use Rattle.iom_base.specs.Disks.{is_among}
 use Rattle.iom_platform.specs.Agreement.{numbers_of}
 use Rattle.iom_platform.specs.Places.{IsDiskAt, others_than}
 use Rattle.iom_platform.proofs.DiskLemmas.{takes_out}

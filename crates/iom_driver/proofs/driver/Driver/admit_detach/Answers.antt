@@ -1,7 +1,7 @@
 use Rattle.std.proofs.Common.{◌≡◌, ◌∙◌, ◌↔◌, inl, Bool, true, false, Option, Some, None, IsSome, IsTrue, refl, sym}
 use Rattle.std.proofs.lemmas.Bool.{false≢true}
 use Rattle.std.proofs.lemmas.Result.{err_from_is_err_and}
-use Rattle.iom_ledger.specs.declared.refusal.Refusal.TheVariants.{StillGranted}
+use Rattle.iom_base.specs.declared.refusal.Refusal.TheVariants.{StillGranted}
 use Rattle.iom_ledger.specs.Shown.{held_in}
 use Rattle.iom_driver.specs.Fences.{last_fence}
 use Rattle.iom_driver.specs.Reasons.{detaching_reasons, lacks_places, HasGrants}

@@ -2,7 +2,7 @@ use Rattle.std.proofs.Common.{◌≡◌, ◌+◌, ◌<◌, ◌∙◌, Bool, true
 use Rattle.std.proofs.lemmas.Bool.{false≢true}
 use Rattle.std.proofs.lemmas.Result.{err_from_is_err_and}
 use Rattle.iom_command_queue.specs.Waiting.{how_many}
-use Rattle.iom_ledger.specs.declared.refusal.Refusal.TheVariants.{NotGranted}
+use Rattle.iom_base.specs.declared.refusal.Refusal.TheVariants.{NotGranted}
 use Rattle.iom_ledger.specs.Shown.{held_in}
 use Rattle.iom_driver.specs.declared.device.Stages.{Stages}
 use Rattle.iom_driver.specs.Devices.{stages_of}

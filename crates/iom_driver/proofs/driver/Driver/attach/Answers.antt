@@ -1,7 +1,7 @@
 use Rattle.std.proofs.Common.{◌≡◌, ◌⊎◌, ◌∙◌, ℕ, List, length, None, refl, sym, ap, subst}
 use Rattle.iom_base.specs.declared.mode.Mode.{Mode}
 use Rattle.iom_directory_build.specs.Pages.{root_level, missing_pages}
-use Rattle.iom_ledger.specs.declared.refusal.Refusal.TheVariants.{NoFrames}
+use Rattle.iom_base.specs.declared.refusal.Refusal.TheVariants.{NoFrames}
 use Rattle.iom_table_frames.specs.Marks.{HasFree}
 use Rattle.iom_driver.specs.Attaching.{NoRootBelow, LacksRoot, lacking_pages, limit_below}
 use Rattle.iom_driver.specs.Choices.{AreHighestFree}

@@ -9,7 +9,7 @@ use Rattle.iom_base.specs.Modes.{size_in}
 use Rattle.iom_ledger.specs.Changes.{IsUnchanged, ShowsGrant}
 use Rattle.iom_ledger.specs.declared.entry.HistoryEntry.TheVariants as entry
 use Rattle.iom_ledger.specs.declared.ledger.Ledger.{Ledger}
-use Rattle.iom_ledger.specs.declared.refusal.Refusal.TheVariants.{NoFrames}
+use Rattle.iom_base.specs.declared.refusal.Refusal.TheVariants.{NoFrames}
 use Rattle.iom_ledger.specs.History.{History}
 use Rattle.iom_ledger.specs.Shown.{Agrees}
 use Rattle.iom_page_table.specs.declared.leaf.PageLeaf.{PageLeaf}

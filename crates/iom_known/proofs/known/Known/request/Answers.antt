@@ -2,7 +2,7 @@ use Rattle.std.proofs.Common.{◌≡◌, ◌∙◌, false, IsTrue, Some, slice_g
 use Rattle.std.proofs.lemmas.Option.{slice_get_read}
 use Rattle.iom_machine.specs.BlockDevices.{IsAnswered}
 use Rattle.iom_machine.specs.Judging.{StandsAt}
-use Rattle.iom_machine.specs.Kinds.{sends_untranslated}
+use Rattle.iom_base.specs.DeviceKinds.{sends_untranslated}
 use Rattle.iom_machine.specs.Machine.{Requests}
 use Rattle.iom_machine.specs.declared.state.Device.{Device}
 use Rattle.iom_machine.specs.declared.state.State.{State}

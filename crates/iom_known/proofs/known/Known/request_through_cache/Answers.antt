@@ -2,7 +2,7 @@ use Rattle.std.proofs.Common.{◌≡◌, ◌∙◌, true, IsTrue, Some, slice_ge
 use Rattle.std.proofs.lemmas.Option.{slice_get_read}
 use Rattle.iom_machine.specs.BlockDevices.{IsAnswered}
 use Rattle.iom_machine.specs.Judging.{StandsAt}
-use Rattle.iom_machine.specs.Kinds.{sends_through_cache}
+use Rattle.iom_base.specs.DeviceKinds.{sends_through_cache}
 use Rattle.iom_machine.specs.Machine.{RequestsThroughCache}
 use Rattle.iom_machine.specs.declared.state.Device.{Device}
 use Rattle.iom_machine.specs.declared.state.State.{State}

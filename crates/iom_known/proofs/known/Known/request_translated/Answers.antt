@@ -1,7 +1,7 @@
 use Rattle.std.proofs.Common.{◌≡◌, ◌∙◌, Some, slice_get, refl, sym}
 use Rattle.std.proofs.lemmas.Option.{slice_get_read}
 use Rattle.iom_machine.specs.Translated.{MayAnswerTranslated}
-use Rattle.iom_machine.specs.Kinds.{forges}
+use Rattle.iom_base.specs.DeviceKinds.{forges}
 use Rattle.iom_machine.specs.Machine.{RequestsTranslated}
 use Rattle.iom_machine.specs.declared.state.Device.{Device}
 use Rattle.iom_machine.specs.declared.state.State.{State}

@@ -2,7 +2,7 @@ use Rattle.std.proofs.Common.{◌≡◌, ◌∙◌, IsTrue, Some, slice_get, ref
 use Rattle.std.proofs.lemmas.Option.{slice_get_read}
 use Rattle.iom_machine.specs.BlockDevices.{TakesStep}
 use Rattle.iom_machine.specs.Judging.{StandsAt}
-use Rattle.iom_machine.specs.Kinds.{is_block_device}
+use Rattle.iom_base.specs.DeviceKinds.{is_block_device}
 use Rattle.iom_machine.specs.Machine.{Steps}
 use Rattle.iom_machine.specs.declared.state.Device.{Device}
 use Rattle.iom_machine.specs.declared.state.State.{State}

@@ -1,6 +1,6 @@
 use Rattle.std.proofs.Common.{◌≡◌, ◌≤◌, ◌∙◌, ℕ, List, Some, true, false, ap, sym, subst}
 use Rattle.iom_base.specs.Sizes.{device_limit}
-use Rattle.iom_machine.specs.Disks.{is_among, without_disk}
+use Rattle.iom_base.specs.Disks.{is_among, without_disk}
 use Rattle.iom_world.specs.Seen.{parts_of, disks_of}
 use Rattle.iom_platform.specs.Agreement.{Entry}
 use Rattle.iom_platform.specs.Places.{has_in, with_has}

@@ -1,6 +1,6 @@
 use Rattle.std.proofs.Common.{◌∙◌, ◌++◌, ◌∷◌, [], List, Some, true, false, ap, sym}
 use Rattle.iom_machine.specs.declared.event.Event.TheVariants as events
-use Rattle.iom_machine.specs.Disks.{without_disk}
+use Rattle.iom_base.specs.Disks.{without_disk}
 use Rattle.iom_world.specs.Seen.{parts_of, disks_of}
 use Rattle.iom_platform.specs.Agreement.{Entry}
 use Rattle.iom_platform.proofs.PlugLemmas.{agree_pass, few_blocks, plugged, taken_by_plug}

@@ -6,7 +6,7 @@ use Rattle.iom_iommu.specs.Requests.{access_of}
 use Rattle.iom_machine.specs.declared.outcome.BlockStep.TheVariants.{Asked}
 use Rattle.iom_machine.specs.declared.outcome.Outcome.{Outcome}
 use Rattle.iom_machine.specs.declared.outcome.Outcome.TheVariants as outcome
-use Rattle.iom_machine.specs.Kinds.{is_block_device}
+use Rattle.iom_base.specs.DeviceKinds.{is_block_device}
 use Rattle.iom_world_effects.specs.BlockDevices.{AsksIfMissed}
 use Rattle.iom_device.specs.Caches.{epoch_in}
 use Rattle.iom_world_effects.specs.Messages.{with_sent}

@@ -3,7 +3,7 @@ use Rattle.iom_base.specs.Accesses.{read_of, write_of}
 use Rattle.iom_machine.specs.declared.event.Event.{Event}
 use Rattle.iom_machine.specs.declared.outcome.Outcome.{Outcome}
 use Rattle.iom_world_effects.specs.Does.{Does}
-use Rattle.iom_machine.specs.Kinds.{sends_through_cache}
+use Rattle.iom_base.specs.DeviceKinds.{sends_through_cache}
 use Rattle.iom_world.specs.Seen.{parts_of, disks_of}
 use Rattle.iom_world_effects.specs.ThroughCache.{AsksThroughCache}
 use Rattle.iom_world.proofs.world.World.dispatch_ats.Goals as goal

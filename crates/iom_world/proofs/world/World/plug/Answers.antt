@@ -1,10 +1,9 @@
 use Rattle.std.proofs.Common.{◌≡◌, ◌∙◌, rules, inr, ℕ, List, false, refl, sym, ap, subst, arith, Ok, Err}
 use Rattle.iom_driver.specs.Calls.{AnswersPlug}
 use Rattle.iom_driver.specs.Seen.{state_of}
-use Rattle.iom_ledger.specs.declared.refusal.Refusal.TheVariants.{Memory}
-use Rattle.iom_machine.specs.Disks.{is_missing}
-use Rattle.iom_machine.specs.Kinds.{kind_of, disk_of}
-use Rattle.iom_machine.specs.Refusals.{has_cache}
+use Rattle.iom_base.specs.declared.refusal.Refusal.TheVariants.{Memory}
+use Rattle.iom_base.specs.Disks.{is_missing}
+use Rattle.iom_base.specs.DeviceKinds.{kind_of, disk_of, has_cache}
 use Rattle.iom_machine.specs.declared.outcome.Outcome.TheVariants.{Done}
 use Rattle.iom_world_effects.specs.Parts.{Parts}
 use Rattle.iom_world_effects.specs.Places.{IsAbsent}

@@ -2,7 +2,7 @@ use Rattle.std.proofs.Common.{◌∙◌, inl, inr, refl, sym}
 use Rattle.iom_base.specs.Accesses.{write_of}
 use Rattle.iom_driver.specs.Seen.{state_of}
 use Rattle.iom_iommu.specs.Parts.{flights_of}
-use Rattle.iom_machine.specs.Kinds.{sends_untranslated}
+use Rattle.iom_base.specs.DeviceKinds.{sends_untranslated}
 use Rattle.iom_world_effects.specs.Parts.{Parts}
 use Rattle.iom_world_effects.specs.Requests.{reply_told_of}
 use Rattle.iom_world.specs.Seen.{parts_of}

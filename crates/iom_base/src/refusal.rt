@@ -1,5 +1,5 @@
 ghost use Rattle.std.specs.Prelude.{◌≡◌, Some};
-ghost use Rattle.iom_ledger.specs.Refusals.{number_of, name_of, text_of};
+ghost use Rattle.iom_base.specs.Refusals.{number_of, name_of, text_of};
 
 use std::fmt;
 

@@ -1,9 +1,9 @@
 -- The numbers and names of refusals, the line that tells one, and which of several reasons is told. The reasons of each call, in their
--- order, are not the ledger's: `specs/Refusals.antt` of iom_machine has them.
+-- order, are the ledger machine's: `specs/Refusals.antt` of iom_machine has them.
 use Rattle.std.specs.Prelude.{◌≡◌, ℕ, Bool, List, [], ◌∷◌, ◌++◌, Option, Some, None, MatchOption, codes, if◌then◌else◌}
 use Rattle.std.specs.Fmt.{decimal}
-use Rattle.iom_ledger.specs.declared.refusal.Refusal.{Refusal}
-use Rattle.iom_ledger.specs.declared.refusal.Refusal.TheVariants.{NoSuchDevice, AlreadyAttached, NotAttached, NotTrusted, FrameOutOfRange, FrameReserved, IovaOutOfRange, IovaBusy, NotGranted, NoFrames, QueueFull, TooManyPending, Quarantined, NumbersUsedUp, Memory, StillGranted, IdTooWide, TooManyDevices, NotStarted, AlreadyPlugged, WrongKind, BadMedium, BadQueue}
+use Rattle.iom_base.specs.declared.refusal.Refusal.{Refusal}
+use Rattle.iom_base.specs.declared.refusal.Refusal.TheVariants.{NoSuchDevice, AlreadyAttached, NotAttached, NotTrusted, FrameOutOfRange, FrameReserved, IovaOutOfRange, IovaBusy, NotGranted, NoFrames, QueueFull, TooManyPending, Quarantined, NumbersUsedUp, Memory, StillGranted, IdTooWide, TooManyDevices, NotStarted, AlreadyPlugged, WrongKind, BadMedium, BadQueue}
 
 -- the number of a refusal
 abbrev pub number_of : Refusal → ℕ
