@@ -1,18 +1,19 @@
--- A commit of the first device that has something in flight makes one access.
-use Rattle.std.proofs.Common.{◌≡◌, ◌∙◌, ℕ, suc, List, [], ◌∷◌, Contains, Option, Some, None, sym, ap, subst, inl, inr}
+-- A commit of the first device that has something in flight makes one access, the first in turn.
+use Rattle.std.proofs.Common.{◌≡◌, ◌∙◌, ℕ, List, [], ◌∷◌, Contains, Option, Some, None, sym, ap, subst, inl, inr}
 use Rattle.std.proofs.lemmas.Bool.Decides.{eqb_tells}
 use Rattle.iom_coherence.proofs.ListLemmas.{in_none, cons_cases, contains_head, contains_tail}
 use Rattle.iom_device.specs.declared.device.Device.{Device}
 use Rattle.iom_inflight.specs.declared.made.MadeAt.{MadeAt}
 use Rattle.iom_inflight.specs.Calls.{Makes}
-use Rattle.iom_inflight.specs.Flights.{NumberedAccess, FlightRow, Flights, row_of, count_all, first_busy}
+use Rattle.iom_inflight.specs.Flights.{NumberedAccess, FlightRow, Flights, row_of, first_busy}
 use Rattle.iom_inflight.specs.Sound.{AreFlights}
 use Rattle.iom_iommu.specs.Parts.{flights_of}
 use Rattle.iom_machine.specs.declared.outcome.Outcome.{Outcome}
 use Rattle.iom_world_effects.specs.Commits.{CommitsAccess}
 use Rattle.iom_world_effects.specs.Parts.{Parts}
 use Rattle.iom_world_effects.specs.Sound.{AreSound, ids_of, row_ids}
-use Rattle.iom_settling.proofs.IdleLemmas.{IsBusyRow, busy_where, one_less}
+use Rattle.iom_settling.specs.Idle.{waiting_by}
+use Rattle.iom_settling.proofs.IdleLemmas.{IsBusyRow, busy_where, first_waits}
 
 -- a device that has a row is there
 row_there : (rows : List FlightRow) (id : ℕ) (row : FlightRow) → row_of rows id ≡ Some row → Contains (row_ids rows) id
@@ -29,20 +30,20 @@ with_id (first ∷ others) id there = elim (cons_cases first.id (ids_of others) 
   | inr later ↦ let rest = with_id others id later in (rest.0, contains_tail first others rest.0 rest.1, rest.2)
 ]
 
--- where the row isn't idle, one access is made
-made_one : (memory memory' : List (List ℕ)) (old new : Flights) (id : ℕ) (made : Option MadeAt) → Makes memory old id made memory' new → (busy : IsBusyRow old.rows id)
-    → suc (count_all new.rows) ≡ count_all old.rows
-made_one memory memory' old new id None makes busy =
+-- where the row isn't idle, one access is made, and it was the first in turn
+made_first : (memory memory' : List (List ℕ)) (old new : Flights) (id : ℕ) (made : Option MadeAt) → first_busy old.rows ≡ Some id → Makes memory old id made memory' new
+    → (busy : IsBusyRow old.rows id) → waiting_by old.rows ≡ id ∷ waiting_by new.rows
+made_first memory memory' old new id None first makes busy =
     let same : Some makes.0.row ≡ Some busy.row = sym makes.0.stands ∙ busy.stands in
     let is : makes.0.row ≡ busy.row = cc in
     let none : ◌≡◌ {A = List NumberedAccess} [] (busy.oldest ∷ busy.later) = sym makes.0.idle ∙ ap (λ (r : FlightRow). r.waiting) is ∙ busy.waiting in
     cc
-made_one memory memory' old new id (Some made) is busy =
-    ap (λ (f : Flights). suc (count_all f.rows)) is.after ∙ one_less old.rows id is.row is.oldest is.later is.stands is.waiting
+made_first memory memory' old new id (Some made) first is busy =
+    first_waits old.rows id is.row is.oldest is.later first is.stands is.waiting ∙ ap (λ (f : Flights). id ∷ waiting_by f.rows) (sym is.after)
 
 -- A COMMIT
 pub committed : (old new : Parts) (events id : ℕ) (told : Outcome) → AreSound old events → AreFlights (flights_of old.iommu) → first_busy (flights_of old.iommu).rows ≡ Some id
-    → CommitsAccess old id told new → suc (count_all (flights_of new.iommu).rows) ≡ count_all (flights_of old.iommu).rows
+    → CommitsAccess old id told new → waiting_by (flights_of old.iommu).rows ≡ id ∷ waiting_by (flights_of new.iommu).rows
 committed old new events id told sound flights found commits = by commits
   where
     busy : IsBusyRow (flights_of old.iommu).rows id
@@ -51,9 +52,9 @@ committed old new events id told sound flights found commits = by commits
     there : (device : Device) × Contains old.devices device × (device.id ≡ id)
     there = with_id old.devices id (subst (λ (ids : List ℕ). Contains ids id) sound.known.iommu (row_there (flights_of old.iommu).rows id busy.row busy.stands))
 
-    by : CommitsAccess old id told new → suc (count_all (flights_of new.iommu).rows) ≡ count_all (flights_of old.iommu).rows
+    by : CommitsAccess old id told new → waiting_by (flights_of old.iommu).rows ≡ id ∷ waiting_by (flights_of new.iommu).rows
     by (inl unknown) = absurd (unknown.absent there.0 there.1 there.2)
-    by (inr makes) = made_one old.memory new.memory (flights_of old.iommu) (flights_of new.iommu) id makes.made makes.call.makes busy
+    by (inr makes) = made_first old.memory new.memory (flights_of old.iommu) (flights_of new.iommu) id makes.made found makes.call.makes busy
 
 -- the driver stays
 pub commit_drives : (old new : Parts) (id : ℕ) (told : Outcome) → CommitsAccess old id told new → new.driver ≡ old.driver

@@ -11,7 +11,8 @@ use Rattle.iom_base.specs.DeviceKinds.{is_any_kind}
 use Rattle.iom_machine.specs.Machine.{Makes, Commits, Restarts, Fetches, Polls, Step, Run}
 use Rattle.iom_machine.specs.Messages.{Delivers}
 use Rattle.iom_machine.proofs.InFlightLemmas.{act_cases, some_case}
-use Rattle.iom_settling.specs.Settles.{AreAll, IsSettling, HoldAsBefore}
+use Rattle.iom_settling.specs.Kinds.{AreAll, IsSettling}
+use Rattle.iom_settling.specs.Settles.{HoldAsBefore}
 
 -- a confirmation ends no holding
 held_confirmed : (first n : ℕ) (history : History) (device page : ℕ) → held_at (confirmed_from first n history) device page ≡ held_at history device page

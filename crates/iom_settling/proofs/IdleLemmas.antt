@@ -1,11 +1,12 @@
 -- What is in flight becomes less by each access that is made.
-use Rattle.std.proofs.Common.{◌≡◌, ◌+◌, ◌*◌, ◌≤◌, inl, inr, ℕ, suc, true, List, [], ◌∷◌, length, Option, None, Some, refl, sym, ap, ◌∙◌, arith, if◌then◌else◌}
+use Rattle.std.proofs.Common.{◌≡◌, ◌≢◌, ◌+◌, ◌*◌, ◌≤◌, inl, inr, ℕ, true, List, [], ◌∷◌, ◌++◌, length, map, Option, None, Some, refl, sym, ap, ◌∙◌, arith, if◌then◌else◌}
 use Rattle.std.specs.List.{list_all}
 use Rattle.std.proofs.lemmas.Bool.Decides.{eqb_tells}
+use Rattle.std.proofs.lemmas.List.{length-append, length-map}
 use Rattle.iom_base.specs.declared.access.AccessKind.{AccessKind}
 use Rattle.iom_inflight.specs.Flights.{NumberedAccess, FlightRow, Flights, row_of, with_row, count_all, has_access, first_busy, is_row_drained, are_drained}
 use Rattle.iom_inflight.specs.Sound.{AreSoundRows, AreDistinct, AreFlights}
-use Rattle.iom_settling.specs.Idle.{AreIdle}
+use Rattle.iom_settling.specs.Idle.{AreIdle, waiting_by}
 
 -- nobody has something in flight
 pub idle_where : (rows : List FlightRow) → first_busy rows ≡ None → AreIdle rows
@@ -55,27 +56,30 @@ busy_where (row ∷ rows) device distinct found = by row.waiting refl (busy_wher
           | inr ne ↦ absurd (ne.1 same)
         ]
 
--- an access that is made is in flight no more
-pub one_less : (rows : List FlightRow) (device : ℕ) (row : FlightRow) (oldest : NumberedAccess) (later : List NumberedAccess) → row_of rows device ≡ Some row → row.waiting ≡ oldest ∷ later
-    → suc (count_all (with_row rows (record row { waiting = later }))) ≡ count_all rows
-one_less [] device row oldest later at waiting = cc
-one_less (first ∷ others) device row oldest later at waiting = elim (eqb_tells first.device device) [
+-- where an access of the first device that has something in flight is made, it was the first in turn, and is in flight no more
+pub first_waits : (rows : List FlightRow) (device : ℕ) (row : FlightRow) (oldest : NumberedAccess) (later : List NumberedAccess) → first_busy rows ≡ Some device
+    → row_of rows device ≡ Some row → row.waiting ≡ oldest ∷ later → waiting_by rows ≡ device ∷ waiting_by (with_row rows (record row { waiting = later }))
+first_waits [] device row oldest later found at waiting = cc
+first_waits (first ∷ others) device row oldest later found at waiting = elim (eqb_tells first.device device) [
   | inl e ↦
       let same : Some first ≡ Some row = rw e.0 at at in
       let is : first ≡ row = cc in
+      let own : row.device ≡ device = ap (λ (r : FlightRow). r.device) (sym is) ∙ e.1 in
+      let waits : first.waiting ≡ oldest ∷ later = ap (λ (r : FlightRow). r.waiting) is ∙ waiting in
       elim (eqb_tells first.device row.device) [
-        | inl own ↦
-            let long : length first.waiting ≡ suc (length later) = ap (λ (r : FlightRow). length r.waiting) is ∙ ap (λ (l : List NumberedAccess). length l) waiting in
-            rw own.0 (omega (arith, long))
-        | inr ne ↦ absurd (ne.1 (ap (λ (r : FlightRow). r.device) is))
+        | inl there ↦
+            rw there.0
+            (ap (λ (l : List NumberedAccess). map (λ access. first.device) l ++ waiting_by others) waits
+            ∙ ap (λ d. d ∷ (map (λ (access : NumberedAccess). d) later ++ waiting_by others)) e.1
+            ∙ ap (λ d. device ∷ (map (λ (access : NumberedAccess). d) later ++ waiting_by others)) (sym own))
+        | inr other ↦ absurd (other.1 (e.1 ∙ sym own))
       ]
   | inr ne ↦
       let there : row_of others device ≡ Some row = rw ne.0 at at in
       let own : row.device ≡ device = owner others there in
-      let rest = one_less others device row oldest later there waiting in
       elim (eqb_tells first.device row.device) [
         | inl e ↦ absurd (ne.1 (e.1 ∙ own))
-        | inr other ↦ rw other.0 (omega (arith, rest))
+        | inr other ↦ rw other.0 (behind ne.1 first.waiting found (λ busy. first_waits others device row oldest later busy there waiting))
       ]
 ]
   where
@@ -85,6 +89,27 @@ one_less (first ∷ others) device row oldest later at waiting = elim (eqb_tells
       | inl e ↦ let same : Some r ≡ Some row = rw e.0 at at in let is : r ≡ row = cc in ap (λ (x : FlightRow). x.device) (sym is) ∙ e.1
       | inr ne ↦ owner rows (rw ne.0 at at)
     ]
+
+    behind : first.device ≢ device → (waits : List NumberedAccess) → (if has_access waits then Some first.device else first_busy others) ≡ Some device
+        → (first_busy others ≡ Some device → waiting_by others ≡ device ∷ waiting_by (with_row others (record row { waiting = later })))
+        → map (λ (access : NumberedAccess). first.device) waits ++ waiting_by others
+        ≡ device ∷ (map (λ (access : NumberedAccess). first.device) waits ++ waiting_by (with_row others (record row { waiting = later })))
+    behind differ [] busy rest = rest busy
+    behind differ (one ∷ more) busy rest = let same : first.device ≡ device = cc in absurd (differ same)
+
+-- as many are in flight as are counted
+pub count_waiting : (rows : List FlightRow) → count_all rows ≡ length (waiting_by rows)
+count_waiting [] = refl
+count_waiting (row ∷ rows) =
+    let own = length-map row.waiting (λ (access : NumberedAccess). row.device) in
+    let both = length-append (map (λ (access : NumberedAccess). row.device) row.waiting) (waiting_by rows) in
+    let rest = count_waiting rows in
+    omega (arith, own, both, rest)
+
+-- where nothing is in flight, nobody's turn is next
+pub none_waits : (rows : List FlightRow) → AreIdle rows → waiting_by rows ≡ []
+none_waits [] idle = refl
+none_waits (row ∷ rows) idle = rw (idle.0, none_waits rows idle.1) refl
 
 -- of each device eight are in flight at most
 count_rows : (so_far : ℕ) (rows : List FlightRow) → AreSoundRows so_far rows → count_all rows ≤ 8 * length rows

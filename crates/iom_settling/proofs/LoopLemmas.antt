@@ -1,6 +1,7 @@
 -- The loops of settling, one event more: over whatever takes events as a world does.
-use Rattle.std.proofs.Common.{◌≡◌, ◌+◌, ◌*◌, ◌^◌, ◌<◌, ◌≤◌, ◌∙◌, ◌==◌, ◌≢◌, inl, inr, ℕ, suc, Bool, true, false, not, nat_le, nat_lt, List, [], ◌∷◌, length, Option, None, Some, Result, Ok, Err, refl, sym, ap, subst, arith}
+use Rattle.std.proofs.Common.{◌≡◌, ◌+◌, ◌*◌, ◌^◌, ◌<◌, ◌≤◌, ◌∙◌, ◌==◌, ◌≢◌, inl, inr, ℕ, suc, Bool, true, false, not, nat_le, nat_lt, List, [], ◌∷◌, ◌++◌, length, map, append_assoc, Option, None, Some, Result, Ok, Err, refl, sym, ap, subst, arith}
 use Rattle.std.proofs.lemmas.Bool.{false≢true, leb-true, leb-false}
+use Rattle.std.proofs.lemmas.List.{append-nil}
 use Rattle.iom_command_queue.specs.declared.command.Command.{Command}
 use Rattle.iom_driver.specs.Fences.{last_fence}
 use Rattle.iom_driver.specs.Restarts.{all_requeued, AnswersRestart}
@@ -16,8 +17,13 @@ use Rattle.iom_base.specs.declared.refusal.Refusal.TheVariants.{NotStarted, Numb
 use Rattle.iom_base.specs.Refusals.{first_that_applies}
 use Rattle.iom_machine.specs.declared.event.Event.{Event}
 use Rattle.iom_machine.specs.declared.event.Event.TheVariants as events
+use Rattle.iom_machine.specs.declared.outcome.CommandName.{CommandName}
+use Rattle.iom_machine.specs.declared.outcome.CommandName.TheVariants as names
+use Rattle.iom_machine.specs.declared.outcome.Fetched.TheVariants as tells
 use Rattle.iom_machine.specs.declared.outcome.Outcome.{Outcome}
-use Rattle.iom_world_effects.specs.Does.{Does, FetchesNext}
+use Rattle.iom_machine.specs.declared.outcome.Outcome.TheVariants as outcome
+use Rattle.iom_world_effects.specs.Answers.{told_of}
+use Rattle.iom_world_effects.specs.Does.{Does, FetchesNext, name_of_command}
 use Rattle.iom_world_effects.specs.Parts.{Parts}
 use Rattle.iom_world_effects.specs.Recovery.{RestartsQueue}
 use Rattle.iom_world_effects.specs.Sound.{AreSound}
@@ -27,15 +33,16 @@ use Rattle.iom_settling.specs.declared.told.Told.{Told}
 use Rattle.iom_settling.specs.declared.told.Told.TheVariants.{Waits, Empty, Other}
 use Rattle.iom_settling.specs.CatchingUp.{NothingIsInFlight, CatchesUp, HasCaughtUp}
 use Rattle.iom_settling.specs.Commands.{requests_among}
-use Rattle.iom_settling.specs.Settles.{IsCommit, IsDelivery, AreAll, AreQuieting, AreFetches, AreFetching, AreCatchingUp, AreSettling, AreInSettlingOrder}
+use Rattle.iom_settling.specs.Kinds.{IsDelivery}
+use Rattle.iom_settling.specs.Settles.{AreBehindCommits, AreInSettlingOrder}
 use Rattle.iom_settling.specs.Went.{Went}
-use Rattle.iom_settling.specs.Stages.{brief, IsInProgress, IsAfter, FollowsFetch, FetchedOnce, IsCommitting, IsDelivering, IsWorking, Settled}
+use Rattle.iom_settling.specs.Stages.{brief, flights_by, commits_of, AreCommitsOf, AreDeliveries, AreRound, AwaitFetch, AwaitPoll, IsInProgress, IsAfter, FollowsFetch, FetchedOnce, IsCommitting, IsDelivering, IsWorking, Settled}
 use Rattle.iom_settling.specs.Weights.{weight, weights}
 use Rattle.iom_settling.proofs.LawLemmas.{commits_make_one, at_most_128, deliveries_get_lighter, restarts_catch_up, few_are_requeued, fetches_do_one, fences_end, fetches_find_none, deliveries_catch_up, polls_confirm_all}
 use Rattle.iom_settling.proofs.CommitLemmas.{commit_drives}
-use Rattle.iom_settling.proofs.IdleLemmas.{count_some}
-use Rattle.iom_settling.proofs.OrderLemmas.{AreBegun, all_both, fetch_first, fetches_both, are_fetching, are_begun, are_catching_up, are_settling}
-use Rattle.iom_settling.proofs.WentLemmas.{went_none, went_once, went_more, went_both, went_as}
+use Rattle.iom_settling.proofs.IdleLemmas.{count_some, none_waits}
+use Rattle.iom_settling.proofs.OrderLemmas.{all_both, await_first, await_more, await_poll, are_settling}
+use Rattle.iom_settling.proofs.WentLemmas.{went_none, went_once, went_first, went_more, went_both, went_as}
 
 -- what a trait says of whatever takes events
 pub record ActsAsWorld {S : Type 0} (parts : S → Parts) (counted : S → ℕ) (happens : S → Event → Outcome → S → Type 0) : Type 0 where
@@ -65,28 +72,36 @@ under_way_few p so_far (inl queue) = let few = queue.few in omega (arith, few)
 under_way_few p so_far (inr (inl fence)) = let few = fence.few in omega (arith, few)
 under_way_few p so_far (inr (inr behind)) = behind.few
 
+-- which outcome of a fetch tells this
+abbrev pub IsTold : Told → Outcome → Type 0
+IsTold Waits told = told ≡ outcome.Fetched tells.Waiting
+IsTold Empty told = told ≡ outcome.Fetched tells.Empty
+IsTold Other told = (name : CommandName) × (told ≡ outcome.Fetched (tells.Did name))
+
 module _ {S : Type 0} (parts : S → Parts) (counted : S → ℕ) (happens : S → Event → Outcome → S → Type 0) (acts : ActsAsWorld parts counted happens) where
   -- COMMITS
   pub commits_begin : (first : S) → AreFlights (flights_of (parts first).iommu) → IsCommitting parts counted happens first first 0
   commits_begin first flights =
       let few = at_most_128 (parts first) flights in
-      record { went = went_none happens (AreAll IsCommit) first tt; driver = refl; left = omega (arith, few); counted = omega arith }
+      record { went = went_none happens (λ all outcomes. all ++ commits_of (parts first) ≡ commits_of (parts first)) first refl; driver = refl; left = omega (arith, few); counted = omega arith }
 
   pub one_in_flight_less : (mid new : S) (device : ℕ) (told : Outcome) → AreFlights (flights_of (parts mid).iommu) → first_busy (flights_of (parts mid).iommu).rows ≡ Some device
-      → happens mid (events.Commit device) told new → count_all (flights_of (parts new).iommu).rows + 1 ≡ count_all (flights_of (parts mid).iommu).rows
+      → happens mid (events.Commit device) told new
+      → (flights_by (parts mid) ≡ device ∷ flights_by (parts new)) × (count_all (flights_of (parts new).iommu).rows + 1 ≡ count_all (flights_of (parts mid).iommu).rows)
   one_in_flight_less mid new device told flights found happen =
       commits_make_one (parts mid) (parts new) (counted mid) device told (acts.sound mid) flights found (acts.does mid new (events.Commit device) told happen).1
 
   pub commits_more : (first mid new : S) (n device : ℕ) (told : Outcome) → IsCommitting parts counted happens first mid n → AreFlights (flights_of (parts mid).iommu)
       → first_busy (flights_of (parts mid).iommu).rows ≡ Some device → happens mid (events.Commit device) told new → IsCommitting parts counted happens first new (n + 1)
   commits_more first mid new n device told so_far flights found happen =
-      let less = one_in_flight_less mid new device told flights found happen in
+      let one_less = one_in_flight_less mid new device told flights found happen in
+      let less = one_less.1 in
       let left = so_far.left in
       let before = so_far.counted in
       let one = acts.counts mid new (events.Commit device) told happen in
       record {
-        went = went_more happens (AreAll IsCommit) (AreAll IsCommit) first mid new n (events.Commit device) told
-            (λ these are. all_both IsCommit these (events.Commit device ∷ []) are (tt, tt)) so_far.went happen;
+        went = went_more happens (λ all outcomes. all ++ commits_of (parts mid) ≡ commits_of (parts first)) (λ all outcomes. all ++ commits_of (parts new) ≡ commits_of (parts first)) first mid new n (events.Commit device) told
+            (λ these outcomes are. append_assoc these (events.Commit device ∷ []) (commits_of (parts new)) ∙ ap (λ ids. these ++ map events.Commit ids) (sym one_less.0) ∙ are) so_far.went happen;
         driver = commit_drives (parts mid) (parts new) device told (acts.does mid new (events.Commit device) told happen).1 ∙ so_far.driver;
         left = omega (arith, less, left);
         counted = omega (arith, before, one);
@@ -100,9 +115,15 @@ module _ {S : Type 0} (parts : S → Parts) (counted : S → ℕ) (happens : S �
       let some = busy_some (parts mid) device flights found in
       omega (arith, left, before, some, room)
 
+  -- they are all, where nothing is in flight any more
+  pub commits_end : (first last : S) (n : ℕ) → IsCommitting parts counted happens first last n → NothingIsInFlight (parts last) → Went happens (AreCommitsOf (parts first)) first n last
+  commits_end first last n so_far idle =
+      went_as happens (λ all outcomes. all ++ commits_of (parts last) ≡ commits_of (parts first)) (AreCommitsOf (parts first)) first last n
+      (λ these outcomes are. sym (append-nil these) ∙ ap (λ ids. these ++ map events.Commit ids) (sym (none_waits (flights_of (parts last).iommu).rows idle)) ∙ are) so_far.went
+
   -- DELIVERIES
   pub deliveries_begin : (first : S) → IsDelivering parts counted happens first first 0
-  deliveries_begin first = record { went = went_none happens (AreAll IsDelivery) first tt; left = omega arith; idle = λ idle. idle; driver = refl; catches = λ number commands catches. catches; counted = omega arith }
+  deliveries_begin first = record { went = went_none happens AreDeliveries first tt; left = omega arith; idle = λ idle. idle; driver = refl; catches = λ number commands catches. catches; counted = omega arith }
 
   pub deliveries_more : (first mid new : S) (n : ℕ) (told : Outcome) (on : OnLink) (others : List OnLink) → IsDelivering parts counted happens first mid n → (parts mid).fabric ≡ on ∷ others
       → happens mid (events.Deliver 0) told new → IsDelivering parts counted happens first new (n + 1)
@@ -114,8 +135,8 @@ module _ {S : Type 0} (parts : S → Parts) (counted : S → ℕ) (happens : S �
       let before = so_far.counted in
       let one = acts.counts mid new (events.Deliver 0) told happen in
       record {
-        went = went_more happens (AreAll IsDelivery) (AreAll IsDelivery) first mid new n (events.Deliver 0) told
-            (λ these are. all_both IsDelivery these (events.Deliver 0 ∷ []) are (refl, tt)) so_far.went happen;
+        went = went_more happens AreDeliveries AreDeliveries first mid new n (events.Deliver 0) told
+            (λ these outcomes are. all_both IsDelivery these (events.Deliver 0 ∷ []) are (refl, tt)) so_far.went happen;
         left = omega (arith, lighter, left);
         idle = λ idle. by.idle (so_far.idle idle);
         driver = by.driver ∙ so_far.driver;
@@ -157,27 +178,31 @@ module _ {S : Type 0} (parts : S → Parts) (counted : S → ℕ) (happens : S �
     caught_now : HasCaughtUp (parts new) (last_fence (parts mid).driver) → HasCaughtUp (parts new) (last_fence (parts new).driver)
     caught_now caught = subst (HasCaughtUp (parts new)) (sym same_number) caught
 
-    told_as : (t : Told) → brief told ≡ t → IsAfter t (parts new) (so_far + 1) → IsAfter (brief told) (parts new) (so_far + 1)
-    told_as t is after = subst (λ (b : Told). IsAfter b (parts new) (so_far + 1)) (sym is) after
+    -- it told this, and what is so then
+    abbrev pub IsFetched : Told → Type 0
+    IsFetched t = IsTold t told × IsAfter t (parts new) (so_far + 1)
 
-    at_fence : CatchesUp (parts mid) (last_fence (parts mid).driver) [] → (so_far + weights (parts mid).fabric ≤ 81) → ((parts mid).fabric ≢ [] → so_far + weights (parts mid).fabric ≤ 80) → IsAfter (brief told) (parts new) (so_far + 1)
+    told_as : (t : Told) → brief told ≡ t → IsFetched t → IsFetched (brief told)
+    told_as t is after = subst IsFetched (sym is) after
+
+    at_fence : CatchesUp (parts mid) (last_fence (parts mid).driver) [] → (so_far + weights (parts mid).fabric ≤ 81) → ((parts mid).fabric ≢ [] → so_far + weights (parts mid).fabric ≤ 80) → IsFetched (brief told)
     at_fence catches few fewer = elim (fences_end (parts mid) (parts new) (counted mid) number told small (acts.sound mid) (acts.own mid) catches fetches) [
       | inl waits ↦
           let light = fewer waits.under_way in
           let same : weights (parts new).fabric ≡ weights (parts mid).fabric = ap weights waits.fabric in
-          told_as Waits (ap brief waits.told_so) (catches_now [] waits.still, omega (arith, light, same), omega (arith, light, same))
-      | inr done ↦ told_as Other (ap brief done.told_so) (inr (inr (record { done = caught_now done.done; few = omega (arith, few) })))
+          told_as Waits (ap brief waits.told_so) (waits.told_so, (catches_now [] waits.still, omega (arith, light, same), omega (arith, light, same)))
+      | inr done ↦ told_as Other (ap brief done.told_so) ((names.IofenceC, done.told_so), inr (inr (record { done = caught_now done.done; few = omega (arith, few) })))
     ]
 
     in_queue : (commands : List Command) → CatchesUp (parts mid) (last_fence (parts mid).driver) commands → so_far + length commands + weights (parts mid).fabric + 2 * requests_among commands ≤ 80
-        → IsAfter (brief told) (parts new) (so_far + 1)
+        → IsFetched (brief told)
     in_queue [] catches few = at_fence catches (omega (arith, few)) (λ some. omega (arith, few))
     in_queue (command ∷ commands) catches few =
         let one = fetches_do_one (parts mid) (parts new) (counted mid) number command commands told (acts.sound mid) (acts.own mid) catches fetches in
         let heavier = one.heavier in
-        told_as Other (ap brief one.told_so) (inl (record { commands = commands; catches = catches_now commands one.rest; few = omega (arith, few, heavier) }))
+        told_as Other (ap brief one.told_so) ((name_of_command command, one.told_so), inl (record { commands = commands; catches = catches_now commands one.rest; few = omega (arith, few, heavier) }))
 
-    pub fetched : IsInProgress (parts mid) so_far → IsAfter (brief told) (parts new) (so_far + 1)
+    pub fetched : IsInProgress (parts mid) so_far → IsFetched (brief told)
     fetched (inl queue) = in_queue queue.commands queue.catches queue.few
     fetched (inr (inl fence)) =
         let few = fence.few in
@@ -186,12 +211,12 @@ module _ {S : Type 0} (parts : S → Parts) (counted : S → ℕ) (happens : S �
     fetched (inr (inr behind)) =
         let none = fetches_find_none (parts mid) (parts new) (counted mid) number told (acts.sound mid) (acts.own mid) behind.done fetches in
         let few = behind.few in
-        told_as Empty (ap brief none.0) (caught_now none.1, omega (arith, few))
+        told_as Empty (ap brief none.0) (none.0, (caught_now none.1, omega (arith, few)))
 
   -- WHAT FOLLOWS IT, where the fence waits
-  pub waited : (mid new : S) (so_far more : ℕ) → IsAfter Waits (parts mid) so_far → Went happens (AreAll IsDelivery) mid more new → more ≤ weights (parts mid).fabric → (parts new).fabric ≡ []
+  pub waited : (mid new : S) (so_far more : ℕ) → IsAfter Waits (parts mid) so_far → Went happens AreDeliveries mid more new → more ≤ weights (parts mid).fabric → (parts new).fabric ≡ []
       → (parts new).driver ≡ (parts mid).driver → ((number : ℕ) (commands : List Command) → CatchesUp (parts mid) number commands → CatchesUp (parts new) number commands)
-      → counted new ≡ counted mid + more → FollowsFetch parts counted happens mid so_far (Some (so_far + more)) new
+      → counted new ≡ counted mid + more → FollowsFetch parts counted happens mid so_far Waits (Some (so_far + more)) new
   waited mid new so_far more after went few quiet driver catches count =
       let light = after.1 in (
         more,
@@ -205,36 +230,48 @@ module _ {S : Type 0} (parts : S → Parts) (counted : S → ℕ) (happens : S �
         })),
       )
 
-  pub went_on : (mid : S) (so_far : ℕ) → IsAfter Other (parts mid) so_far → FollowsFetch parts counted happens mid so_far (Some so_far) mid
-  went_on mid so_far after = (0, omega arith, went_none happens (AreAll IsDelivery) mid tt, omega arith, after)
-
   -- A FETCH AND WHAT FOLLOWS IT
-  pub once : (old mid new : S) (so_far : ℕ) (told : Outcome) (answer : Option ℕ) → happens old events.Fetch told mid → FollowsFetch parts counted happens mid (so_far + 1) answer new
-      → FetchedOnce parts counted happens old so_far answer new
-  once old mid new so_far told None happen follows =
+  pub once : (old mid new : S) (so_far : ℕ) (told : Outcome) (t : Told) (answer : Option ℕ) → IsTold t told → happens old events.Fetch told mid
+      → FollowsFetch parts counted happens mid (so_far + 1) t answer new → FetchedOnce parts counted happens old so_far answer new
+  once old mid new so_far told Waits (Some now) is happen follows =
+      let one = acts.counts old mid events.Fetch told happen in
+      let more = follows.1 in
+      let count = follows.3 in (
+        1 + follows.0,
+        omega (arith, more),
+        omega arith,
+        went_first happens AreDeliveries AreRound old mid new follows.0 events.Fetch told
+            (λ those others long delivered. subst (λ (o : Outcome). AreRound (events.Fetch ∷ those) (o ∷ others)) (sym is) delivered) happen follows.2,
+        omega (arith, one, count),
+        follows.4,
+      )
+  once old mid new so_far told Waits None is happen follows = absurd follows
+  once old mid new so_far told Other (Some now) is happen follows =
+      let one = acts.counts old mid events.Fetch told happen in
+      let count = ap counted follows.0 in
+      let same = follows.1 in (
+        1,
+        same,
+        omega arith,
+        went_once happens AreRound old new events.Fetch told (subst (λ (o : Outcome). AreRound (events.Fetch ∷ []) (o ∷ [])) (sym is.1) tt)
+            (subst (λ s. happens old events.Fetch told s) (sym follows.0) happen),
+        omega (arith, one, count),
+        follows.2,
+      )
+  once old mid new so_far told Other None is happen follows = absurd follows
+  once old mid new so_far told Empty None is happen follows =
       let one = acts.counts old mid events.Fetch told happen in
       let few = follows.2 in (
-        (told, subst (λ s. happens old events.Fetch told s) (sym follows.0) happen),
+        subst (λ (o : Outcome). happens old events.Fetch o new) is (subst (λ s. happens old events.Fetch told s) (sym follows.0) happen),
         ap counted follows.0 ∙ one,
         follows.1,
         omega (arith, few),
       )
-  once old mid new so_far told (Some now) happen follows =
-      let one = acts.counts old mid events.Fetch told happen in
-      let is = follows.1 in
-      let count = follows.3 in (
-        1 + follows.0,
-        omega (arith, is),
-        omega arith,
-        went_both happens (λ (these : List Event). these ≡ events.Fetch ∷ []) (AreAll IsDelivery) AreFetches old mid new 1 follows.0 fetch_first
-            (went_once happens old mid events.Fetch told happen) follows.2,
-        omega (arith, one, count),
-        follows.4,
-      )
+  once old mid new so_far told Empty (Some now) is happen follows = absurd follows
 
   -- THE QUEUE IS WORKED OFF
   pub work_begins : (first : S) → IsInProgress (parts first) 0 → IsWorking parts counted happens first first 0
-  work_begins first stage = record { went = went_none happens AreFetches first tt; stage = stage; counted = omega arith }
+  work_begins first stage = record { went = went_none happens AwaitFetch first await_first; stage = stage; counted = omega arith }
 
   pub work_more : (first mid new : S) (n now : ℕ) → IsWorking parts counted happens first mid n → FetchedOnce parts counted happens mid n (Some now) new → IsWorking parts counted happens first new now
   work_more first mid new n now so_far once =
@@ -242,13 +279,14 @@ module _ {S : Type 0} (parts : S → Parts) (counted : S → ℕ) (happens : S �
       let before = so_far.counted in
       let count = once.4 in
       record {
-        went = subst (λ k. Went happens AreFetches first k new) (sym is) (went_both happens AreFetches AreFetches AreFetches first mid new n once.0 fetches_both so_far.went once.3);
+        went = subst (λ k. Went happens AwaitFetch first k new) (sym is) (went_both happens AwaitFetch AreRound AwaitFetch first mid new n once.0
+            (λ these those outcomes others one other await round. await_more these those outcomes others other await round) so_far.went once.3);
         stage = once.5;
         counted = omega (arith, is, before, count);
       }
 
-  pub work_ends : (first mid new : S) (n : ℕ) → IsWorking parts counted happens first mid n → FetchedOnce parts counted happens mid n None new → Went happens AreFetching first (n + 1) new
-  work_ends first mid new n so_far once = went_more happens AreFetches AreFetching first mid new n events.Fetch once.0.0 are_fetching so_far.went once.0.1
+  pub work_ends : (first mid new : S) (n : ℕ) → IsWorking parts counted happens first mid n → FetchedOnce parts counted happens mid n None new → Went happens AwaitPoll first (n + 1) new
+  work_ends first mid new n so_far once = went_more happens AwaitFetch AwaitPoll first mid new n events.Fetch (outcome.Fetched tells.Empty) await_poll so_far.went once.0
 
   -- A RESTART
   restart_answers : (d : DriverState) (why : Refusal) → d.started ≡ true → nat_le 4294967295 (last_fence d) ≡ false
@@ -261,26 +299,30 @@ module _ {S : Type 0} (parts : S → Parts) (counted : S → ℕ) (happens : S �
       by true false started left is = cc
 
   pub restarts : (mid new : S) (told : Outcome) → NothingIsInFlight (parts mid) → (parts mid).fabric ≡ [] → nat_le 4294967295 (last_fence (parts mid).driver) ≡ false → happens mid events.Restart told new
-      → IsInProgress (parts new) 0
-  restarts mid new told idle quiet left happen = by does.answer does.call
+      → (told ≡ outcome.Done) × IsInProgress (parts new) 0
+  restarts mid new told idle quiet left happen = by does.answer does.told_so does.call
     where
       does : RestartsQueue (parts mid) told (parts new)
       does = (acts.does mid new events.Restart told happen).1
 
-      by : (answer : Result (Unit {0}) Refusal) → AnswersRestart mmio (parts mid).driver (parts mid).memory (parts mid).iommu answer (parts new).driver (parts new).memory (parts new).iommu → IsInProgress (parts new) 0
-      by (Ok done) (admitted, queues) =
+      by : (answer : Result (Unit {0}) Refusal) → told ≡ told_of answer
+          → AnswersRestart mmio (parts mid).driver (parts mid).memory (parts mid).iommu answer (parts new).driver (parts new).memory (parts new).iommu
+          → (told ≡ outcome.Done) × IsInProgress (parts new) 0
+      by (Ok done) is (admitted, queues) =
           let catches = restarts_catch_up (parts mid) (parts new) (counted mid) (counted new) (acts.sound mid) (acts.sound new) (acts.own mid) idle quiet queues does.devices does.fabric in
           let few = few_are_requeued (parts mid) (acts.own mid) in
           let long = few.0 in
           let requests = few.1 in
           let number : last_fence (parts new).driver ≡ last_fence (parts mid).driver + 1 = ap (λ (d : DriverState). last_fence d) queues.driver ∙ omega arith in
-          let light : weights (parts new).fabric ≡ 0 = ap weights (does.fabric ∙ quiet) in
-          inl (record {
-            commands = all_requeued (parts mid).driver.devices;
-            catches = subst (λ n. CatchesUp (parts new) n (all_requeued (parts mid).driver.devices)) (sym number) catches;
-            few = omega (arith, long, requests, light);
-          })
-      by (Err why) (refused, driver, memory, iommu) = absurd (restart_answers (parts mid).driver why (acts.sound mid).started left refused)
+          let light : weights (parts new).fabric ≡ 0 = ap weights (does.fabric ∙ quiet) in (
+            is,
+            inl (record {
+              commands = all_requeued (parts mid).driver.devices;
+              catches = subst (λ n. CatchesUp (parts new) n (all_requeued (parts mid).driver.devices)) (sym number) catches;
+              few = omega (arith, long, requests, light);
+            }),
+          )
+      by (Err why) is (refused, driver, memory, iommu) = absurd (restart_answers (parts mid).driver why (acts.sound mid).started left refused)
 
   -- THE POLL
   pub polls : (mid new : S) (told : Outcome) → HasCaughtUp (parts mid) (last_fence (parts mid).driver) → happens mid events.Poll told new → (parts new).driver.confirmed ≡ (parts new).driver.given
@@ -291,33 +333,33 @@ module _ {S : Type 0} (parts : S → Parts) (counted : S → ℕ) (happens : S �
   polls_idle mid new told caught happen = rw ((acts.does mid new events.Poll told happen).1.iommu) caught.idle
 
   -- SETTLING
-  pub caught_up : (old mid late new : S) (k : ℕ) (told last : Outcome) → happens old events.Restart told mid → Went happens AreFetching mid k late → happens late events.Poll last new
-      → Went happens AreCatchingUp old (k + 2) new
-  caught_up old mid late new k told last restart work poll =
-      let first = went_once happens old mid events.Restart told restart in
-      let through = went_both happens (λ (these : List Event). these ≡ events.Restart ∷ []) AreFetching AreBegun old mid late 1 k are_begun first work in
-      let whole = went_more happens AreBegun AreCatchingUp old late new (1 + k) events.Poll last are_catching_up through poll in
-      let same : 1 + k + 1 ≡ k + 2 = omega arith in
-      subst (λ c. Went happens AreCatchingUp old c new) same whole
+  pub caught_up : (old mid late new : S) (k : ℕ) (told last : Outcome) → told ≡ outcome.Done → happens old events.Restart told mid → Went happens AwaitPoll mid k late
+      → happens late events.Poll last new → Went happens (AreBehindCommits true) old (k + 2) new
+  caught_up old mid late new k told last done restart work poll =
+      let polled = went_more happens AwaitPoll (λ all outcomes. AreBehindCommits true (events.Restart ∷ all) (told ∷ outcomes)) mid late new k events.Poll last
+      (λ these outcomes await. subst (λ (o : Outcome). AreBehindCommits true (events.Restart ∷ (these ++ events.Poll ∷ [])) (o ∷ (outcomes ++ last ∷ []))) (sym done) (await last)) work poll in
+      let whole = went_first happens (λ all outcomes. AreBehindCommits true (events.Restart ∷ all) (told ∷ outcomes)) (AreBehindCommits true) old mid new (k + 1) events.Restart told
+      (λ those others long are. are) restart polled in
+      let same : 1 + (k + 1) ≡ k + 2 = omega arith in
+      subst (λ c. Went happens (AreBehindCommits true) old c new) same whole
 
   -- whether a ticket was unconfirmed, which commits and deliveries leave
   pending_before : (old mid : S) (pending told : Bool) → (parts mid).driver ≡ (parts old).driver → pending ≡ nat_lt (parts mid).driver.confirmed (parts mid).driver.given → pending ≡ told
       → told ≡ nat_lt (parts old).driver.confirmed (parts old).driver.given
   pending_before old mid pending told driver is so = sym so ∙ is ∙ ap (λ (d : DriverState). nat_lt d.confirmed d.given) driver
 
-  pub settled_at_once : (old new : S) (n : ℕ) (pending : Bool) → Went happens AreQuieting old n new → n ≤ 256 → (parts new).driver ≡ (parts old).driver → NothingIsInFlight (parts new)
+  pub settled_at_once : (old new : S) (n : ℕ) (pending : Bool) → Went happens (AreInSettlingOrder false (flights_by (parts old))) old n new → n ≤ 256 → (parts new).driver ≡ (parts old).driver → NothingIsInFlight (parts new)
       → pending ≡ nat_lt (parts new).driver.confirmed (parts new).driver.given → pending ≡ false → Settled parts happens old (Ok n) new
   settled_at_once old new n pending went few driver idle is none =
       let all : (parts new).driver.given < suc (parts new).driver.confirmed = leb-false (suc (parts new).driver.confirmed) (parts new).driver.given (sym is ∙ none) in
       let high = (acts.own new).tickets.ordered in (
-        went_as happens AreQuieting (AreInSettlingOrder (nat_lt (parts old).driver.confirmed (parts old).driver.given)) old new n
-            (λ these are. subst (λ (b : Bool). AreInSettlingOrder b these) (pending_before old new pending false driver is none) are) went,
+        subst (λ (b : Bool). Went happens (AreInSettlingOrder b (flights_by (parts old))) old n new) (pending_before old new pending false driver is none) went,
         omega (arith, few),
         idle,
         omega (arith, all, high),
       )
 
-  pub settled_never : (old new : S) (n : ℕ) (pending used : Bool) → Went happens AreQuieting old n new → NothingIsInFlight (parts new) → (parts new).fabric ≡ []
+  pub settled_never : (old new : S) (n : ℕ) (pending used : Bool) → Went happens (AreInSettlingOrder false (flights_by (parts old))) old n new → NothingIsInFlight (parts new) → (parts new).fabric ≡ []
       → pending ≡ nat_lt (parts new).driver.confirmed (parts new).driver.given → pending ≡ true
       → used ≡ nat_le 4294967295 (last_fence (parts new).driver) → used ≡ true → Settled parts happens old (Err NumbersUsedUp) new
   settled_never old new n pending used went idle quiet is some at up = (
@@ -328,13 +370,13 @@ module _ {S : Type 0} (parts : S → Parts) (counted : S → ℕ) (happens : S �
     leb-true 4294967295 (last_fence (parts new).driver) (sym at ∙ up),
   )
 
-  pub settled_then : (old mid new : S) (n k : ℕ) (pending : Bool) → Went happens AreQuieting old n mid → n ≤ 256 → (parts mid).driver ≡ (parts old).driver
-      → pending ≡ nat_lt (parts mid).driver.confirmed (parts mid).driver.given → pending ≡ true → Went happens AreCatchingUp mid k new → k ≤ 85 → NothingIsInFlight (parts new)
+  pub settled_then : (old mid new : S) (n k : ℕ) (pending : Bool) → Went happens (AreInSettlingOrder false (flights_by (parts old))) old n mid → n ≤ 256 → (parts mid).driver ≡ (parts old).driver
+      → pending ≡ nat_lt (parts mid).driver.confirmed (parts mid).driver.given → pending ≡ true → Went happens (AreBehindCommits true) mid k new → k ≤ 85 → NothingIsInFlight (parts new)
       → (parts new).driver.confirmed ≡ (parts new).driver.given → Settled parts happens old (Ok (n + k)) new
   settled_then old mid new n k pending quiet few driver is some work short idle confirmed = (
-    went_as happens AreSettling (AreInSettlingOrder (nat_lt (parts old).driver.confirmed (parts old).driver.given)) old new (n + k)
-        (λ these are. subst (λ (b : Bool). AreInSettlingOrder b these) (pending_before old mid pending true driver is some) are)
-        (went_both happens AreQuieting AreCatchingUp AreSettling old mid new n k are_settling quiet work),
+    subst (λ (b : Bool). Went happens (AreInSettlingOrder b (flights_by (parts old))) old (n + k) new) (pending_before old mid pending true driver is some)
+        (went_both happens (AreInSettlingOrder false (flights_by (parts old))) (AreBehindCommits true) (AreInSettlingOrder true (flights_by (parts old))) old mid new n k
+        (λ these those outcomes others one other quieting catching. are_settling (flights_by (parts old)) these those outcomes others quieting catching) quiet work),
     omega (arith, few, short),
     idle,
     confirmed,

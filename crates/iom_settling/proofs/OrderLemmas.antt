@@ -1,99 +1,114 @@
 -- The order of events: what stands behind what.
-use Rattle.std.proofs.Common.{◌≡◌, Bool, true, false, List, [], ◌∷◌, ◌++◌, refl, sym, ap, subst}
+use Rattle.std.proofs.Common.{◌≡◌, ◌∙◌, Bool, true, false, ℕ, List, [], ◌∷◌, ◌++◌, length, map, refl, sym, ap, subst, arith, append_assoc}
+use Rattle.std.proofs.lemmas.List.{append-nil}
 use Rattle.iom_machine.specs.declared.event.Event.{Event}
 use Rattle.iom_machine.specs.declared.event.Event.TheVariants as events
-use Rattle.iom_settling.specs.Settles.{IsCommit, IsDelivery, IsFetchOrDelivery, IsSettling, AreAll, AreQuieting, AreFetches, AreFetching, AreCatchingUp, AreSettling, AreInSettlingOrder}
+use Rattle.iom_machine.specs.declared.outcome.Fetched.{Fetched}
+use Rattle.iom_machine.specs.declared.outcome.Fetched.TheVariants as tells
+use Rattle.iom_machine.specs.declared.outcome.Outcome.{Outcome}
+use Rattle.iom_machine.specs.declared.outcome.Outcome.TheVariants as outcome
+use Rattle.iom_world_effects.specs.Parts.{Parts}
+use Rattle.iom_settling.specs.Kinds.{AreAll, IsSettling}
+use Rattle.iom_settling.specs.Settles.{AreBehindFetch, AreBehindCommits, AreInSettlingOrder}
+use Rattle.iom_settling.specs.Stages.{flights_by, AreCommitsOf, AreDeliveries, AreRound, AwaitFetch, AwaitPoll}
 
 -- EACH OF THEM IS SO
 pub all_both : (Is : Event → Type 0) (these those : List Event) → AreAll Is these → AreAll Is those → AreAll Is (these ++ those)
 all_both Is [] those first rest = rest
 all_both Is (event ∷ these) those first rest = (first.0, all_both Is these those first.1 rest)
 
-pub all_as : (One Other : Event → Type 0) (these : List Event) → ((event : Event) → One event → Other event) → AreAll One these → AreAll Other these
-all_as One Other [] also all = tt
-all_as One Other (event ∷ these) also all = (also event all.0, all_as One Other these also all.1)
+-- DELIVERIES behind the commits, and what stands behind them
+deliveries_then : (pending : Bool) (these those : List Event) (outcomes others : List Outcome) → length these ≡ length outcomes → AreDeliveries these outcomes
+    → AreBehindCommits pending those others → AreBehindCommits pending (these ++ those) (outcomes ++ others)
+deliveries_then pending [] those [] others long delivered rest = rest
+deliveries_then pending [] those (outcome ∷ outcomes) others long delivered rest = absurd (omega (arith, long))
+deliveries_then pending (event ∷ these) those [] others long delivered rest = absurd (omega (arith, long))
+deliveries_then pending (events.Deliver place ∷ these) those (outcome ∷ outcomes) others long delivered rest =
+    (delivered.0, deliveries_then pending these those outcomes others (omega (arith, long)) delivered.1 rest)
+deliveries_then pending (_ ∷ these) those (outcome ∷ outcomes) others long delivered rest = absurd delivered.0
 
-delivery_between : (event : Event) → IsDelivery event → IsFetchOrDelivery event
-delivery_between (events.Deliver place) is = is
-delivery_between events.Fetch is = absurd is
-delivery_between _ is = absurd is
+-- COMMITS of these devices, and what stands behind them
+commits_then : (pending : Bool) (ids : List ℕ) (those : List Event) (outcomes others : List Outcome) → length (map events.Commit ids) ≡ length outcomes
+    → AreBehindCommits pending those others → AreInSettlingOrder pending ids (map events.Commit ids ++ those) (outcomes ++ others)
+commits_then pending [] those [] others long rest = rest
+commits_then pending [] those (outcome ∷ outcomes) others long rest = absurd (omega (arith, long))
+commits_then pending (id ∷ ids) those [] others long rest = absurd (omega (arith, long))
+commits_then pending (id ∷ ids) those (outcome ∷ outcomes) others long rest = (refl, commits_then pending ids those outcomes others (omega (arith, long)) rest)
 
--- ONE BEHIND THE OTHER
-pub are_quieting : (these those : List Event) → AreAll IsCommit these → AreAll IsDelivery those → AreQuieting (these ++ those)
-are_quieting these those committed delivered = record { commits = these; deliveries = those; are = refl; committed = committed; delivered = delivered }
+-- both
+pub are_quieting : (parts : Parts) (these those : List Event) (outcomes others : List Outcome) → length these ≡ length outcomes → length those ≡ length others
+    → AreCommitsOf parts these outcomes → AreDeliveries those others → AreInSettlingOrder false (flights_by parts) (these ++ those) (outcomes ++ others)
+are_quieting parts these those outcomes others one other committed delivered =
+    let rest : AreBehindCommits false those others =
+    subst (λ l. AreBehindCommits false l others) (append-nil those)
+    (subst (λ l. AreBehindCommits false (those ++ []) l) (append-nil others) (deliveries_then false those [] others [] other delivered tt)) in
+    subst (λ l. AreInSettlingOrder false (flights_by parts) (l ++ those) (outcomes ++ others)) (sym committed)
+    (commits_then false (flights_by parts) those outcomes others (ap (λ (l : List Event). length l) (sym committed) ∙ one) rest)
 
--- a fetch, and deliveries
-pub fetch_first : (these those : List Event) → these ≡ events.Fetch ∷ [] → AreAll IsDelivery those → AreFetches (these ++ those)
-fetch_first these those is delivered =
-    subst (λ (l : List Event). AreFetches (l ++ those)) (sym is) (refl, all_as IsDelivery IsFetchOrDelivery those delivery_between delivered)
+-- where a ticket is unconfirmed, there is more behind them
+deliveries_on : (these those : List Event) (outcomes others : List Outcome) → AreBehindCommits false these outcomes → AreBehindCommits true those others
+    → AreBehindCommits true (these ++ those) (outcomes ++ others)
+deliveries_on [] those [] others first rest = rest
+deliveries_on (events.Deliver place ∷ these) those (told ∷ outcomes) others first rest = (first.0, deliveries_on these those outcomes others first.1 rest)
+deliveries_on _ those _ others first rest = absurd first
 
-fetches_between : (those : List Event) → AreFetches those → AreAll IsFetchOrDelivery those
-fetches_between [] are = tt
-fetches_between (event ∷ later) are = (subst IsFetchOrDelivery (sym are.0) tt, are.1)
+pub are_settling : (ids : List ℕ) (these those : List Event) (outcomes others : List Outcome) → AreInSettlingOrder false ids these outcomes → AreBehindCommits true those others
+    → AreInSettlingOrder true ids (these ++ those) (outcomes ++ others)
+are_settling [] these those outcomes others first rest = deliveries_on these those outcomes others first rest
+are_settling (id ∷ ids) (events.Commit device ∷ these) those (told ∷ outcomes) others first rest = (first.0, are_settling ids these those outcomes others first.1 rest)
+are_settling (id ∷ ids) _ those _ others first rest = absurd first
 
-pub fetches_both : (these those : List Event) → AreFetches these → AreFetches those → AreFetches (these ++ those)
-fetches_both [] those first rest = rest
-fetches_both (event ∷ later) those first rest = (first.0, all_both IsFetchOrDelivery later those first.1 (fetches_between those rest))
+-- FETCHES. Deliveries behind one that waits, and the next fetch
+deliveries_between : (these later : List Event) (outcomes more : List Outcome) (next : Fetched) → length these ≡ length outcomes → AreDeliveries these outcomes
+    → AreBehindFetch next later more → AreBehindFetch tells.Waiting (these ++ events.Fetch ∷ later) (outcomes ++ outcome.Fetched next ∷ more)
+deliveries_between [] later [] more next long delivered rest = rest
+deliveries_between [] later (told ∷ outcomes) more next long delivered rest = absurd (omega (arith, long))
+deliveries_between (event ∷ these) later [] more next long delivered rest = absurd (omega (arith, long))
+deliveries_between (events.Deliver place ∷ these) later (told ∷ outcomes) more next long delivered rest =
+    (delivered.0, deliveries_between these later outcomes more next (omega (arith, long)) delivered.1 rest)
+deliveries_between (_ ∷ these) later (told ∷ outcomes) more next long delivered rest = absurd delivered.0
 
--- the last fetch
-pub are_fetching : (these : List Event) → AreFetches these → AreFetching (these ++ events.Fetch ∷ [])
-are_fetching these fetched = record { before = these; are = refl; fetched = fetched }
+-- none yet
+pub await_first : AwaitFetch [] []
+await_first next later more behind = behind
 
--- a restart, and what follows it
-abbrev pub AreBegun : List Event → Type 0
-AreBegun all = (between : List Event) × (all ≡ events.Restart ∷ between) × AreFetching between
+-- one more, and what may stand between it and the next
+await_after : (these those : List Event) (outcomes others : List Outcome) (told : Fetched) → AwaitFetch these outcomes
+    → ((next : Fetched) (later : List Event) (more : List Outcome) → AreBehindFetch next later more
+    → AreBehindFetch told (those ++ events.Fetch ∷ later) (others ++ outcome.Fetched next ∷ more))
+    → AwaitFetch (these ++ events.Fetch ∷ those) (outcomes ++ outcome.Fetched told ∷ others)
+await_after these those outcomes others told await behind next later more rest =
+    rw (append_assoc these (events.Fetch ∷ those), append_assoc outcomes (outcome.Fetched told ∷ others)) (await told (those ++ events.Fetch ∷ later) (others ++ outcome.Fetched next ∷ more) (behind next later more rest))
 
-pub are_begun : (these those : List Event) → these ≡ events.Restart ∷ [] → AreFetching those → AreBegun (these ++ those)
-are_begun these those is are = (those, ap (λ (l : List Event). l ++ those) is, are)
+pub await_more : (these those : List Event) (outcomes others : List Outcome) → length those ≡ length others → AwaitFetch these outcomes → AreRound those others
+    → AwaitFetch (these ++ those) (outcomes ++ others)
+await_more these (events.Fetch ∷ []) outcomes (outcome.Fetched (tells.Did name) ∷ []) long await round =
+    await_after these [] outcomes [] (tells.Did name) await (λ next later more rest. rest)
+await_more these (events.Fetch ∷ those) outcomes (outcome.Fetched tells.Waiting ∷ others) long await round =
+    await_after these those outcomes others tells.Waiting await
+    (λ next later more rest. deliveries_between those later others more next (omega (arith, long)) round rest)
+await_more these _ outcomes _ long await round = absurd round
 
--- the poll
-pub are_catching_up : (these : List Event) → AreBegun these → AreCatchingUp (these ++ events.Poll ∷ [])
-are_catching_up these begun = record { between = begun.0; are = ap (λ (l : List Event). l ++ events.Poll ∷ []) begun.1; fetching = begun.2 }
-
--- all of them
-pub are_settling : (these those : List Event) → AreQuieting these → AreCatchingUp those → AreSettling (these ++ those)
-are_settling these those quieting catching_up = record { early = these; late = those; are = refl; quieting = quieting; catching_up = catching_up }
+-- the last finds the queue empty
+pub await_poll : (these : List Event) (outcomes : List Outcome) → AwaitFetch these outcomes → AwaitPoll (these ++ events.Fetch ∷ []) (outcomes ++ outcome.Fetched tells.Empty ∷ [])
+await_poll these outcomes await polled =
+    rw (append_assoc these (events.Fetch ∷ []), append_assoc outcomes (outcome.Fetched tells.Empty ∷ [])) (await tells.Empty (events.Poll ∷ []) (polled ∷ []) tt)
 
 -- THEY ARE ALL OF SETTLING'S KINDS
-commit_settles : (event : Event) → IsCommit event → IsSettling event
-commit_settles (events.Commit device) is = tt
-commit_settles (events.Deliver place) is = absurd is
-commit_settles events.Restart is = absurd is
-commit_settles events.Fetch is = absurd is
-commit_settles events.Poll is = absurd is
-commit_settles _ is = absurd is
+fetching_settles : (told : Fetched) (all : List Event) (outcomes : List Outcome) → AreBehindFetch told all outcomes → AreAll IsSettling all
+fetching_settles (tells.Did name) (events.Fetch ∷ later) (outcome.Fetched next ∷ outcomes) are = (tt, fetching_settles next later outcomes are)
+fetching_settles tells.Waiting (events.Deliver place ∷ later) (told ∷ outcomes) are = (are.0, fetching_settles tells.Waiting later outcomes are.1)
+fetching_settles tells.Waiting (events.Fetch ∷ later) (outcome.Fetched next ∷ outcomes) are = (tt, fetching_settles next later outcomes are)
+fetching_settles tells.Empty (events.Poll ∷ []) (told ∷ []) are = (tt, tt)
+fetching_settles _ _ _ are = absurd are
 
-between_settles : (event : Event) → IsFetchOrDelivery event → IsSettling event
-between_settles (events.Commit device) is = absurd is
-between_settles (events.Deliver place) is = is
-between_settles events.Restart is = absurd is
-between_settles events.Fetch is = tt
-between_settles events.Poll is = absurd is
-between_settles _ is = absurd is
+behind_settles : (pending : Bool) (all : List Event) (outcomes : List Outcome) → AreBehindCommits pending all outcomes → AreAll IsSettling all
+behind_settles pending (events.Deliver place ∷ later) (told ∷ outcomes) are = (are.0, behind_settles pending later outcomes are.1)
+behind_settles true (events.Restart ∷ events.Fetch ∷ later) (outcome.Done ∷ outcome.Fetched first ∷ outcomes) are = (tt, (tt, fetching_settles first later outcomes are))
+behind_settles false [] [] are = tt
+behind_settles _ _ _ are = absurd are
 
-delivery_settles : (event : Event) → IsDelivery event → IsSettling event
-delivery_settles event is = between_settles event (delivery_between event is)
-
-quieting_settles : (all : List Event) → AreQuieting all → AreAll IsSettling all
-quieting_settles all are =
-    subst (AreAll IsSettling) (sym are.are)
-    (all_both IsSettling are.commits are.deliveries
-    (all_as IsCommit IsSettling are.commits commit_settles are.committed)
-    (all_as IsDelivery IsSettling are.deliveries delivery_settles are.delivered))
-
-fetching_settles : (all : List Event) → AreFetching all → AreAll IsSettling all
-fetching_settles all are =
-    subst (AreAll IsSettling) (sym are.are)
-    (all_both IsSettling are.before (events.Fetch ∷ [])
-    (all_as IsFetchOrDelivery IsSettling are.before between_settles (fetches_between are.before are.fetched)) (tt, tt))
-
-catching_settles : (all : List Event) → AreCatchingUp all → AreAll IsSettling all
-catching_settles all are =
-    subst (AreAll IsSettling) (sym are.are)
-    (tt, all_both IsSettling are.between (events.Poll ∷ []) (fetching_settles are.between are.fetching) (tt, tt))
-
-pub all_settling : (pending : Bool) (all : List Event) → AreInSettlingOrder pending all → AreAll IsSettling all
-all_settling false all are = quieting_settles all are
-all_settling true all are =
-    subst (AreAll IsSettling) (sym are.are)
-    (all_both IsSettling are.early are.late (quieting_settles are.early are.quieting) (catching_settles are.late are.catching_up))
+pub all_settling : (pending : Bool) (ids : List ℕ) (all : List Event) (outcomes : List Outcome) → AreInSettlingOrder pending ids all outcomes → AreAll IsSettling all
+all_settling pending [] all outcomes are = behind_settles pending all outcomes are
+all_settling pending (id ∷ ids) (events.Commit device ∷ later) (told ∷ outcomes) are = (tt, all_settling pending ids later outcomes are.1)
+all_settling pending (id ∷ ids) _ _ are = absurd are

@@ -25,15 +25,17 @@ use Rattle.iom_world_effects.specs.Stays.{waiting_in}
 use Rattle.iom_world_effects.proofs.DriverLemmas.{IsSoundDriver}
 use Rattle.iom_settling.specs.CatchingUp.{NothingIsInFlight, CatchesUp, HasCaughtUp}
 use Rattle.iom_settling.specs.Commands.{requests_by, requests_among}
+use Rattle.iom_settling.specs.Idle.{waiting_by}
 use Rattle.iom_settling.specs.Settles.{Settles}
 use Rattle.iom_settling.specs.Weights.{weights}
 
--- COMMITS. Of the first device that has something in flight one access is made, and so there is one less; at most 128 are in flight, and where nobody has
--- something in flight, nothing is.
+-- COMMITS. Of the first device that has something in flight one access is made, the first in turn, and so there is one less; at most 128 are in flight, and where
+-- nobody has something in flight, nothing is.
 abbrev pub CommitsMakeOne : Type 0
 CommitsMakeOne = (old new : Parts) (events id : ℕ) (told : Outcome) → AreSound old events → AreFlights (flights_of old.iommu)
     → first_busy (flights_of old.iommu).rows ≡ Some id → CommitsAccess old id told new
-    → count_all (flights_of new.iommu).rows + 1 ≡ count_all (flights_of old.iommu).rows
+    → (waiting_by (flights_of old.iommu).rows ≡ id ∷ waiting_by (flights_of new.iommu).rows)
+    × (count_all (flights_of new.iommu).rows + 1 ≡ count_all (flights_of old.iommu).rows)
 
 abbrev pub AtMost128 : Type 0
 AtMost128 = (parts : Parts) → AreFlights (flights_of parts.iommu) → count_all (flights_of parts.iommu).rows ≤ 128

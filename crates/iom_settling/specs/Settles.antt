@@ -1,83 +1,47 @@
 -- WHAT SETTLING IS: a run of some events, after which no ticket is unconfirmed.
-use Rattle.std.specs.Prelude.{◌≡◌, ℕ, ◌≤◌, ◌<◌, nat_lt, ⊤, Bool, true, false, List, [], ◌∷◌, ◌++◌, length, Result, Ok, Err}
+use Rattle.std.specs.Prelude.{◌≡◌, ℕ, ◌≤◌, ◌<◌, nat_lt, ⊤, Bool, true, false, List, [], ◌∷◌, length, map, flat_map, Result, Ok, Err}
 use Rattle.iom_ledger.specs.History.{History, held_at}
 use Rattle.iom_base.specs.declared.refusal.Refusal.{Refusal}
 use Rattle.iom_base.specs.declared.refusal.Refusal.TheVariants.{NumbersUsedUp}
 use Rattle.iom_machine.specs.declared.event.Event.{Event}
 use Rattle.iom_machine.specs.declared.event.Event.TheVariants as events
+use Rattle.iom_machine.specs.declared.outcome.Fetched.{Fetched}
+use Rattle.iom_machine.specs.declared.outcome.Fetched.TheVariants as tells
 use Rattle.iom_machine.specs.declared.outcome.Outcome.{Outcome}
+use Rattle.iom_machine.specs.declared.outcome.Outcome.TheVariants as outcome
+use Rattle.iom_machine.specs.declared.state.Device.{Device}
 use Rattle.iom_machine.specs.declared.state.State.{State}
 use Rattle.iom_machine.specs.Machine.{Run}
 use Rattle.iom_machine.specs.Tickets.{pending_tickets}
 use Rattle.iom_machine.specs.Traces.{count_in_flight}
 
--- the event is a commit
-abbrev pub IsCommit : Event → Type 0
-IsCommit (events.Commit device) = ⊤
-IsCommit _ = ⊥
+-- IN WHICH ORDER ITS EVENTS ARE, with what these are answered
 
--- a delivery of the oldest message
-abbrev pub IsDelivery : Event → Type 0
-IsDelivery (events.Deliver place) = place ≡ 0
-IsDelivery _ = ⊥
+-- What stands behind a fetch, by its answer. A command was done: then the next fetch. A command has to wait: then deliveries of the oldest message, and the next
+-- fetch. The queue is empty: then a poll, and that is all.
+abbrev pub AreBehindFetch : Fetched → List Event → List Outcome → Type 0
+AreBehindFetch (tells.Did name) (events.Fetch ∷ later) (outcome.Fetched next ∷ outcomes) = AreBehindFetch next later outcomes
+AreBehindFetch tells.Waiting (events.Deliver place ∷ later) (delivered ∷ outcomes) = (place ≡ 0) × AreBehindFetch tells.Waiting later outcomes
+AreBehindFetch tells.Waiting (events.Fetch ∷ later) (outcome.Fetched next ∷ outcomes) = AreBehindFetch next later outcomes
+AreBehindFetch tells.Empty (events.Poll ∷ []) (polled ∷ []) = ⊤
+AreBehindFetch _ _ _ = ⊥
 
--- such a delivery, or a fetch
-abbrev pub IsFetchOrDelivery : Event → Type 0
-IsFetchOrDelivery (events.Deliver place) = place ≡ 0
-IsFetchOrDelivery events.Fetch = ⊤
-IsFetchOrDelivery _ = ⊥
+-- What stands behind the commits: deliveries of the oldest message; and then, where a ticket was unconfirmed, a restart, a fetch, and what stands behind that.
+abbrev pub AreBehindCommits : Bool → List Event → List Outcome → Type 0
+AreBehindCommits pending (events.Deliver place ∷ later) (delivered ∷ outcomes) = (place ≡ 0) × AreBehindCommits pending later outcomes
+AreBehindCommits true (events.Restart ∷ events.Fetch ∷ later) (outcome.Done ∷ outcome.Fetched first ∷ outcomes) = AreBehindFetch first later outcomes
+AreBehindCommits false [] [] = ⊤
+AreBehindCommits _ _ _ = ⊥
 
--- or any of settling: so it is no loss, no timeout and no reset, and asks for nothing
-abbrev pub IsSettling : Event → Type 0
-IsSettling (events.Commit device) = ⊤
-IsSettling (events.Deliver place) = place ≡ 0
-IsSettling events.Restart = ⊤
-IsSettling events.Fetch = ⊤
-IsSettling events.Poll = ⊤
-IsSettling _ = ⊥
+-- whose accesses are in flight, device by device in the order of plugging: its id once for each of them
+abbrev pub in_flight_by : List Device → List ℕ
+in_flight_by devices = flat_map (λ device. map (λ access. device.id) device.in_flight) devices
 
--- each of them is so
-abbrev pub AreAll : (Event → Type 0) → List Event → Type 0
-AreAll Is [] = ⊤
-AreAll Is (event ∷ later) = Is event × AreAll Is later
-
--- IN WHICH ORDER. First commits, then deliveries
-pub record AreQuieting (all : List Event) : Type 0 where
-  pub commits : List Event
-  pub deliveries : List Event
-  pub are : all ≡ commits ++ deliveries
-  pub committed : AreAll IsCommit commits
-  pub delivered : AreAll IsDelivery deliveries
-
--- none, or a fetch and then fetches and deliveries: each group of deliveries is behind a fetch
-abbrev pub AreFetches : List Event → Type 0
-AreFetches [] = ⊤
-AreFetches (event ∷ later) = (event ≡ events.Fetch) × AreAll IsFetchOrDelivery later
-
--- fetches, with deliveries between them
-pub record AreFetching (all : List Event) : Type 0 where
-  pub before : List Event
-  pub are : all ≡ before ++ events.Fetch ∷ []
-  pub fetched : AreFetches before
-
--- a restart, such fetches, and a poll
-pub record AreCatchingUp (all : List Event) : Type 0 where
-  pub between : List Event
-  pub are : all ≡ events.Restart ∷ (between ++ events.Poll ∷ [])
-  pub fetching : AreFetching between
-
--- commits and deliveries, and then a restart and what is behind it
-pub record AreSettling (all : List Event) : Type 0 where
-  pub early : List Event
-  pub late : List Event
-  pub are : all ≡ early ++ late
-  pub quieting : AreQuieting early
-  pub catching_up : AreCatchingUp late
-
--- THE ORDER OF ITS EVENTS: all of these where a ticket was unconfirmed, and else commits and deliveries alone
-abbrev pub AreInSettlingOrder : Bool → List Event → Type 0
-AreInSettlingOrder false all = AreQuieting all
-AreInSettlingOrder true all = AreSettling all
+-- THE ORDER: a commit of each of these devices, and then what stands behind the commits
+abbrev pub AreInSettlingOrder : Bool → List ℕ → List Event → List Outcome → Type 0
+AreInSettlingOrder pending [] all outcomes = AreBehindCommits pending all outcomes
+AreInSettlingOrder pending (id ∷ ids) (events.Commit device ∷ later) (committed ∷ outcomes) = (device ≡ id) × AreInSettlingOrder pending ids later outcomes
+AreInSettlingOrder _ _ _ _ = ⊥
 
 -- what each device holds is as before
 abbrev pub HoldAsBefore : History → History → Type 0
@@ -89,20 +53,20 @@ pub record SettlesBy (old : State) (count : ℕ) (new : State) : Type 0 where
   pub events : List Event
   pub outcomes : List Outcome
   pub run : Run old events outcomes new
-  pub order : AreInSettlingOrder (nat_lt 0 (pending_tickets old)) events
+  pub order : AreInSettlingOrder (nat_lt 0 (pending_tickets old)) (in_flight_by old.devices) events outcomes
   pub counted : length events ≡ count
   pub few : count ≤ 400
   pub idle : count_in_flight new.devices ≡ 0
   pub confirmed : pending_tickets new ≡ 0
   pub held : HoldAsBefore old.history new.history
 
--- or it is refused, since the numbers of fences are used up, where a ticket is unconfirmed: then commits happened and deliveries behind them, and nothing is
--- in flight
+-- or it is refused, since the numbers of fences are used up, where a ticket is unconfirmed: then its commits happened and deliveries behind them, as if none were,
+-- and nothing is in flight
 pub record RefusesToSettle (old : State) (why : Refusal) (new : State) : Type 0 where
   pub events : List Event
   pub outcomes : List Outcome
   pub run : Run old events outcomes new
-  pub order : AreQuieting events
+  pub order : AreInSettlingOrder false (in_flight_by old.devices) events outcomes
   pub idle : count_in_flight new.devices ≡ 0
   pub used_up : why ≡ NumbersUsedUp
   pub unconfirmed : 0 < pending_tickets new

@@ -1,12 +1,12 @@
 // Settling, as loops over events.
-ghost use Rattle.std.specs.Prelude.{◌≡◌, ◌+◌, ◌<◌, ◌≤◌, ◌^◌, ℕ, List, [], nat_le, false};
+ghost use Rattle.std.specs.Prelude.{◌≡◌, ◌+◌, ◌<◌, ◌≤◌, ◌^◌, ℕ, List, [], nat_le, true, false};
 ghost use Rattle.iom_command_queue.specs.declared.command.Command.{Command};
 ghost use Rattle.iom_driver.specs.Fences.{last_fence};
 ghost use Rattle.iom_base.specs.declared.refusal.Refusal.TheVariants.{NumbersUsedUp};
 ghost use Rattle.iom_settling.specs.CatchingUp.{NothingIsInFlight, CatchesUp, HasCaughtUp};
-ghost use Rattle.iom_settling.specs.Settles.{IsCommit, IsDelivery, AreAll, AreQuieting, AreFetching, AreCatchingUp};
+ghost use Rattle.iom_settling.specs.Settles.{AreBehindCommits, AreInSettlingOrder};
 ghost use Rattle.iom_settling.specs.Went.{Went};
-ghost use Rattle.iom_settling.specs.Stages.{IsInProgress, IsAfter, FollowsFetch, FetchedOnce, Settled};
+ghost use Rattle.iom_settling.specs.Stages.{flights_by, AreCommitsOf, AreDeliveries, AwaitPoll, IsInProgress, IsAfter, FollowsFetch, FetchedOnce, Settled};
 ghost use Rattle.iom_settling.specs.Weights.{weights};
 
 use crate::takes_events::TakesEvents;
@@ -17,7 +17,7 @@ use iom_machine::Event;
 /// Commits of each device in the order of plugging, while it has accesses in flight. How many.
 fn commit_all<T: TakesEvents>(world: &mut T) -> u32
     requires count { T.counted world.old + 128 < 2 ^ 64 }
-    ensures went { Went T.happens (AreAll IsCommit) world.old result world.new }
+    ensures went { Went T.happens (AreCommitsOf (T.parts world.old)) world.old result world.new }
     ensures few { result ≤ 128 }
     ensures driver { (T.parts world.new).driver ≡ (T.parts world.old).driver }
     ensures idle { NothingIsInFlight (T.parts world.new) }
@@ -37,7 +37,7 @@ fn commit_all<T: TakesEvents>(world: &mut T) -> u32
 fn deliver_all<T: TakesEvents>(world: &mut T) -> u32
     requires light { weights (T.parts world.old).fabric ≤ 128 }
     requires count { T.counted world.old + weights (T.parts world.old).fabric < 2 ^ 64 }
-    ensures went { Went T.happens (AreAll IsDelivery) world.old result world.new }
+    ensures went { Went T.happens AreDeliveries world.old result world.new }
     ensures few { result ≤ weights (T.parts world.old).fabric }
     ensures quiet { (T.parts world.new).fabric ≡ [] }
     ensures idle { NothingIsInFlight (T.parts world.old) → NothingIsInFlight (T.parts world.new) }
@@ -58,7 +58,7 @@ fn deliver_all<T: TakesEvents>(world: &mut T) -> u32
 fn after_fetch<T: TakesEvents>(world: &mut T, told: Told, so_far: u32) -> Option<u32>
     requires stage { IsAfter told (T.parts world.old) so_far }
     requires count { T.counted world.old + 83 < 2 ^ 64 + so_far }
-    ensures { FollowsFetch T.parts T.counted T.happens world.old so_far result world.new }
+    ensures { FollowsFetch T.parts T.counted T.happens world.old so_far told result world.new }
 {
     match told {
         Told::Waits => Some(so_far + deliver_all(world)),
@@ -81,7 +81,7 @@ fn fetch_once<T: TakesEvents>(world: &mut T, so_far: u32) -> Option<u32>
 fn work_off<T: TakesEvents>(world: &mut T) -> u32
     requires stage { IsInProgress (T.parts world.old) 0 }
     requires count { T.counted world.old + 83 < 2 ^ 64 }
-    ensures went { Went T.happens AreFetching world.old result world.new }
+    ensures went { Went T.happens AwaitPoll world.old result world.new }
     ensures few { result ≤ 83 }
     ensures done { HasCaughtUp (T.parts world.new) (last_fence (T.parts world.new).driver) }
     ensures counted { T.counted world.new ≡ T.counted world.old + result }
@@ -96,7 +96,7 @@ fn work_off<T: TakesEvents>(world: &mut T) -> u32
 /// Commits, and deliveries, until nothing is in flight and no message is under way. How many of both.
 fn quiet_down<T: TakesEvents>(world: &mut T) -> u32
     requires count { T.counted world.old + 256 < 2 ^ 64 }
-    ensures went { Went T.happens AreQuieting world.old result world.new }
+    ensures went { Went T.happens (AreInSettlingOrder false (flights_by (T.parts world.old))) world.old result world.new }
     ensures few { result ≤ 256 }
     ensures driver { (T.parts world.new).driver ≡ (T.parts world.old).driver }
     ensures idle { NothingIsInFlight (T.parts world.new) }
@@ -114,7 +114,7 @@ fn catch_up<T: TakesEvents>(world: &mut T) -> u32
     requires quiet { (T.parts world.old).fabric ≡ [] }
     requires left { nat_le 4294967295 (last_fence (T.parts world.old).driver) ≡ false }
     requires count { T.counted world.old + 86 < 2 ^ 64 }
-    ensures went { Went T.happens AreCatchingUp world.old result world.new }
+    ensures went { Went T.happens (AreBehindCommits true) world.old result world.new }
     ensures few { result ≤ 85 }
     ensures idle { NothingIsInFlight (T.parts world.new) }
     ensures confirmed { (T.parts world.new).driver.confirmed ≡ (T.parts world.new).driver.given }

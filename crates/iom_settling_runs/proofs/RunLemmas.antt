@@ -17,15 +17,16 @@ use Rattle.iom_settling.specs.Idle.{AreIdle}
 use Rattle.iom_platform.specs.Happens.{HappensHere}
 use Rattle.iom_platform.specs.Runs.{GoesThrough, uncounted}
 use Rattle.iom_platform.specs.Seen.{Seen}
-use Rattle.iom_settling.specs.Settles.{AreInSettlingOrder, Settles, ran_in}
+use Rattle.iom_settling.specs.Settles.{in_flight_by, AreInSettlingOrder, Settles, ran_in}
 use Rattle.iom_settling.specs.Went.{Takes}
-use Rattle.iom_settling.specs.Stages.{Settled}
+use Rattle.iom_settling.specs.Stages.{flights_by, Settled}
 use Rattle.iom_settling.proofs.HoldLemmas.{run_holds}
 use Rattle.iom_settling.proofs.OrderLemmas.{all_settling}
 use Rattle.iom_world.specs.declared.world.World.{World}
 use Rattle.iom_world.specs.Seen.{parts_of}
 use Rattle.iom_world.specs.Shows.{Shows}
 use Rattle.iom_settling_runs.specs.Laws.{GoesThroughAll}
+use Rattle.iom_settling_runs.proofs.TurnLemmas.{same_turns}
 
 -- where nothing is in flight in the IOMMU's rows, nothing is in the machine's devices
 idle_in : (rows : List FlightRow) (id : ℕ) → AreIdle rows → in_flight_of rows id ≡ []
@@ -65,6 +66,13 @@ still_pending world state shows =
     ∙ ap (λ n. nat_lt 0 (n - (parts_of world).driver.confirmed)) (sym shows.0.given)
     ∙ ap (λ n. nat_lt 0 (state.last_ticket - n)) (sym shows.0.confirmed)
 
+-- the same accesses are in flight, in the same order: so these events are in the order of settling for either
+same_order : (world : World) (state : State) → Shows world state → (pending : Bool) (events : List Event) (outcomes : List Outcome)
+    → AreInSettlingOrder pending (flights_by (parts_of world)) events outcomes → AreInSettlingOrder pending (in_flight_by state.devices) events outcomes
+same_order world state shows pending events outcomes order =
+    let turns = same_turns _ _ (parts_of world).devices world.sound.known.own_ids world.sound.known.iommu in
+    subst (λ (ids : List ℕ). AreInSettlingOrder pending ids events outcomes) (sym (ap in_flight_by shows.0.devices ∙ turns)) order
+
 module _ {S : Type 0} (seen_of : S → Seen) where
   -- the event does so to what is seen as a platform
   abbrev Does : S → Event → Outcome → S → Type 0
@@ -96,12 +104,13 @@ module _ {S : Type 0} (seen_of : S → Seen) where
           events = went.events;
           outcomes = went.outcomes;
           run = run.1;
-          order = subst (λ (b : Bool). AreInSettlingOrder b went.events) (still_pending (seen_of old).world state shows) went.order;
+          order = subst (λ (b : Bool). AreInSettlingOrder b (in_flight_by state.devices) went.events went.outcomes) (still_pending (seen_of old).world state shows)
+              (same_order (seen_of old).world state shows _ went.events went.outcomes went.order);
           counted = went.counted;
           few = omega (arith, few);
           idle = ap count_in_flight run.2.0.devices ∙ idle_all _ _ (parts_of (seen_of new).world).devices idle;
           confirmed = omega (arith, given, last, confirmed);
-          held = run_holds state run.0 went.events went.outcomes run.1 (all_settling _ went.events went.order);
+          held = run_holds state run.0 went.events went.outcomes run.1 (all_settling _ _ went.events went.outcomes went.order);
         },
         run.2,
         run.3,
@@ -115,7 +124,7 @@ module _ {S : Type 0} (seen_of : S → Seen) where
           events = went.1.events;
           outcomes = went.1.outcomes;
           run = run.1;
-          order = went.1.order;
+          order = same_order (seen_of old).world state shows false went.1.events went.1.outcomes went.1.order;
           idle = ap count_in_flight run.2.0.devices ∙ idle_all _ _ (parts_of (seen_of new).world).devices idle;
           used_up = used_up;
           unconfirmed = omega (arith, given, last, unconfirmed);

@@ -3,7 +3,7 @@
 use Rattle.iom_machine.specs.declared.outcome.Outcome.{Outcome}
 use Rattle.iom_machine.specs.declared.outcome.Outcome.TheVariants as outcome
 use Rattle.iom_world.specs.declared.told.Told.{Told}
-use Rattle.iom_world.specs.declared.told.Told.TheVariants.{Done, Refused, Ticket, Confirmed, NoneConfirmed, Record, NoRecord, Fetched, TimedOut, NoEffect, Accepted, Busy, BadSpan, Fault, Wrote, NothingInFlight, Free, Miss, Sent, Lost, Answered, Kept, Stale, AnswerRefused, Ignored, Invalidated, Closed, NotClosed, Dropped, Repeated, NoMessage, Stepped, Status}
+use Rattle.iom_world.specs.declared.told.Told.TheVariants.{Done, Refused, Ticket, Confirmed, NoneConfirmed, Record, NoRecord, TimedOut, NoEffect, Accepted, Busy, BadSpan, Fault, Wrote, NothingInFlight, Free, Miss, Sent, Lost, Answered, Kept, Stale, AnswerRefused, Ignored, Invalidated, Closed, NotClosed, Dropped, Repeated, NoMessage, Stepped, Status}
 
 -- the outcome that says the same
 abbrev pub outcome_of : Told → Outcome
@@ -14,7 +14,6 @@ outcome_of (Confirmed first last timed_out) = outcome.Confirmed first last timed
 outcome_of (NoneConfirmed timed_out) = outcome.NoneConfirmed timed_out
 outcome_of (Record taken) = outcome.Record taken
 outcome_of NoRecord = outcome.NoRecord
-outcome_of (Fetched fetched) = outcome.Fetched fetched
 outcome_of TimedOut = outcome.TimedOut
 outcome_of NoEffect = outcome.NoEffect
 outcome_of (Accepted number) = outcome.Accepted number

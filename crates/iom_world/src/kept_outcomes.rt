@@ -1,12 +1,13 @@
 //! Where the outcomes of events are told.
 ghost use Rattle.std.specs.Prelude.{◌≡◌};
+ghost use Rattle.iom_machine.specs.declared.outcome.Outcome.TheVariants as outcome;
 ghost use Rattle.iom_world_effects.specs.Requests.{reply_told_of};
 ghost use Rattle.iom_world.specs.Told.{outcome_of};
 
 use crate::told::Told;
 use arrayvec::ArrayVec;
 use iom_iommu::Reply;
-use iom_machine::Outcome;
+use iom_machine::{Fetched, Outcome};
 
 /// A place for each kind of outcome, so that what a place held before is of the same kind as what is
 /// told there next, and only what differs is written. Who takes many events keeps one for all of them.
@@ -64,7 +65,7 @@ impl KeptOutcomes {
             none_confirmed: Outcome::NoneConfirmed { timed_out: false },
             record: Outcome::Done,
             no_record: Outcome::NoRecord,
-            fetched: Outcome::Done,
+            fetched: Outcome::Fetched(Fetched::Empty),
             timed_out: Outcome::TimedOut,
             no_effect: Outcome::NoEffect,
             accepted: Outcome::Done,
@@ -104,7 +105,6 @@ impl KeptOutcomes {
             Told::NoneConfirmed { .. } => &mut self.none_confirmed,
             Told::Record(_) => &mut self.record,
             Told::NoRecord => &mut self.no_record,
-            Told::Fetched(_) => &mut self.fetched,
             Told::TimedOut => &mut self.timed_out,
             Told::NoEffect => &mut self.no_effect,
             Told::Accepted(_) => &mut self.accepted,
@@ -142,6 +142,19 @@ impl KeptOutcomes {
         let place = self.place_for(&told);
         told.tell(place);
         place
+    }
+
+    /// The outcome that says what a fetch did.
+    // Written into its place as it is, since fetches come most: what is told needn't be put together first.
+    #[inline(always)]
+    pub(crate) fn tell_fetched(&mut self, fetched: Fetched) -> &mut Outcome
+        ensures { result.now ≡ outcome.Fetched fetched }
+    {
+        match &mut self.fetched {
+            Outcome::Fetched(held) => *held = fetched,
+            place => *place = Outcome::Fetched(fetched),
+        }
+        &mut self.fetched
     }
 
     /// The outcome that says what the IOMMU answered to a request.

@@ -56,7 +56,7 @@ impl World {
         ensures disks { disks_of self.new ≡ disks_of self.old }
         ensures events { self.new.events ≡ self.old.events }
     {
-        kept.tell(self.fetch())
+        kept.tell_fetched(self.fetch())
     }
 
     /// What [`World::poll`] tells.

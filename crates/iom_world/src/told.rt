@@ -7,7 +7,7 @@ ghost use Rattle.iom_world_effects.specs.Answers.{TellsBytes, TellsShown};
 use arrayvec::ArrayVec;
 use iom_base::{Cause, Refusal};
 use iom_fabric::Translation;
-use iom_machine::{BlockStep, FaultRecord, Fetched, Outcome};
+use iom_machine::{BlockStep, FaultRecord, Outcome};
 
 /// What comes of an event, but for bytes that are read. An outcome is as large as a page, since those
 /// stand in it; this is small, and is handed from call to call.
@@ -26,7 +26,6 @@ pub(crate) enum Told {
     },
     Record(FaultRecord),
     NoRecord,
-    Fetched(Fetched),
     TimedOut,
     NoEffect,
     Accepted(u64),
@@ -75,7 +74,6 @@ impl Told {
             Told::NoneConfirmed { timed_out } => Outcome::NoneConfirmed { timed_out },
             Told::Record(record) => Outcome::Record(record),
             Told::NoRecord => Outcome::NoRecord,
-            Told::Fetched(fetched) => Outcome::Fetched(fetched),
             Told::TimedOut => Outcome::TimedOut,
             Told::NoEffect => Outcome::NoEffect,
             Told::Accepted(number) => Outcome::Accepted(number),
@@ -159,7 +157,6 @@ impl Told {
                 *held = timed_out;
             }
             (Told::Record(record), Outcome::Record(held)) => *held = record,
-            (Told::Fetched(fetched), Outcome::Fetched(held)) => *held = fetched,
             (Told::Accepted(number), Outcome::Accepted(held)) => *held = number,
             (Told::Fault(cause), Outcome::Fault(held)) => *held = cause,
             (Told::Wrote(count), Outcome::Wrote(held)) => *held = count,

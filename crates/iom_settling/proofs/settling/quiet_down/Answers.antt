@@ -1,5 +1,6 @@
-use Rattle.std.proofs.Common.{◌∙◌, arith}
-use Rattle.iom_settling.specs.Settles.{IsCommit, IsDelivery, AreAll, AreQuieting}
+use Rattle.std.proofs.Common.{◌∙◌, false, arith}
+use Rattle.iom_settling.specs.Settles.{AreInSettlingOrder}
+use Rattle.iom_settling.specs.Stages.{flights_by, AreCommitsOf, AreDeliveries}
 use Rattle.iom_settling.proofs.LawLemmas.{at_most_twice}
 use Rattle.iom_settling.proofs.OrderLemmas.{are_quieting}
 use Rattle.iom_settling.proofs.WentLemmas.{went_both}
@@ -31,7 +32,8 @@ returns g c =
     let before = c.commit_all-commits.ensures.counted in
     let after = c.deliver_all.ensures.counted in
     record {
-      went = went_both g.T.TakesEvents.happens (AreAll IsCommit) (AreAll IsDelivery) AreQuieting _ _ _ c.commit_all-commits.result c.deliver_all.result are_quieting c.commit_all-commits.ensures.went c.deliver_all.ensures.went;
+      went = went_both g.T.TakesEvents.happens (AreCommitsOf (g.T.TakesEvents.parts c.args.world.now)) AreDeliveries (AreInSettlingOrder false (flights_by (g.T.TakesEvents.parts c.args.world.now))) _ _ _ c.commit_all-commits.result c.deliver_all.result
+          (are_quieting (g.T.TakesEvents.parts c.args.world.now)) c.commit_all-commits.ensures.went c.deliver_all.ensures.went;
       few = omega (arith, many, light, few, more);
       driver = c.deliver_all.ensures.driver ∙ c.commit_all-commits.ensures.driver;
       idle = c.deliver_all.ensures.idle c.commit_all-commits.ensures.idle;
