@@ -1,0 +1,9 @@
+pub mod Permitted
+pub mod DeviceLists
+pub mod SoundThen
+pub mod Sent
+pub mod SoundReplies
+pub mod MakeLemmas
+pub mod SoundDeliveries
+pub mod SoundPlugging
+pub mod SoftwareLemmas

@@ -1,0 +1,43 @@
+// What is done about a device that doesn't answer.
+ghost use Rattle.std.specs.Prelude.{◌+◌, ◌<◌, ◌^◌};
+ghost use Rattle.iom_hardware.specs.Commits.{GivesUpFence, Resets};
+ghost use Rattle.iom_hardware.specs.Counted.{IsCounted};
+ghost use Rattle.iom_hardware.specs.HardwareParts.{hardware_parts};
+ghost use Rattle.iom_hardware.specs.Sound.{IsSoundHardware};
+
+use crate::hardware::Hardware;
+use crate::permits::Act;
+use iom_base::{DeviceId, Refusal};
+use iom_device::reset;
+
+impl Hardware {
+    /// A fence that waits for devices is given up (`cmd_to` of `cqcsr`, IOMMU specification, section 3.1.4): its requests
+    /// are closed, and the command queue stops there. False where none waits so, and then nothing changes.
+    pub fn timeout(&mut self) -> bool
+        requires sound { IsSoundHardware (hardware_parts self.old) self.old.events }
+        requires count { self.old.events + 1 < 2 ^ 64 }
+        ensures effect { GivesUpFence (hardware_parts self.old) result (hardware_parts self.new) }
+        ensures sound { IsSoundHardware (hardware_parts self.new) self.new.events }
+        ensures counted { IsCounted self.old self.new }
+    {
+        self.events += 1;
+        self.iommu.timeout()
+    }
+
+    /// A device is reset: where it has a cache, that is empty then, and a new epoch has begun. Nothing changes where no
+    /// device has the id, `NoSuchDevice`.
+    pub fn reset(&mut self, id: DeviceId) -> Result<(), Refusal>
+        requires sound { IsSoundHardware (hardware_parts self.old) self.old.events }
+        requires count { self.old.events + 1 < 2 ^ 64 }
+        ensures effect { Resets (hardware_parts self.old) id result (hardware_parts self.new) }
+        ensures sound { IsSoundHardware (hardware_parts self.new) self.new.events }
+        ensures counted { IsCounted self.old self.new }
+    {
+        self.events += 1;
+        if let Some(why) = self.refusal(Act::Any, id) {
+            return Err(why);
+        }
+        reset(&mut self.devices, id);
+        Ok(())
+    }
+}
