@@ -15,7 +15,6 @@ pub software_keeps : SoftwareKeepsSound
 software_keeps old new events sound changes = record {
   size = changes.frames ∙ sound.size ∙ sym changes.size;
   own_ids = subst AreOfOneId (sym changes.devices) sound.own_ids;
-  few = subst (λ (ds : List Device). length ds ≤ 16) (sym changes.devices) sound.few;
   rows = ap (λ (f : Flights). flight_ids f.rows) changes.flights ∙ sound.rows ∙ sym (ap device_ids changes.devices);
   caches = subst HaveTheirCaches (sym changes.devices) sound.caches;
   askers = subst (λ (ds : List Device). All (IsMessageOf ds) new.fabric) (sym changes.devices) (subst (λ (f : List OnLink). All (IsMessageOf old.devices) f) (sym changes.fabric) sound.askers);

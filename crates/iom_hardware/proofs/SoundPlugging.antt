@@ -176,7 +176,6 @@ adds_sound disks old new events id what left sound adds =
     record {
       size = adds.row.frames ∙ sound.size ∙ sym (ap (λ m. length m) adds.memory);
       own_ids = subst AreOfOneId (sym adds.devices) (own_ids_new old.devices one sound.own_ids (none_at old.devices id (absent_of disks old id what adds.admitted)));
-      few = subst (λ (ds : List Device). length ds ≤ 16) (sym adds.devices) (omega (arith, few, long));
       rows = ap flight_ids rows_now ∙ map_pushed (λ (r : FlightRow). r.device) (flights_of old.iommu).rows (new_row id)
           ∙ ap (λ ids. ids ++ id ∷ []) sound.rows ∙ sym (ap device_ids adds.devices ∙ map_pushed (λ (d : Device). d.id) old.devices one);
       caches = subst HaveTheirCaches (sym adds.devices) (All-push HasItsCache old.devices one sound.caches (its_cache id what));

@@ -29,7 +29,6 @@ pub sound_then : (old new : HardwareParts) (events : ℕ) → IsSoundHardware ol
 sound_then old new events sound memory iommu devices fabric = record {
   size = iommu.frames ∙ sound.size ∙ sym memory;
   own_ids = own_ids_kept old.devices new.devices devices.ids sound.own_ids;
-  few = subst (λ (n : ℕ). n ≤ 16) (sym (length_kept old.devices new.devices devices.ids)) sound.few;
   rows = iommu.rows ∙ sound.rows ∙ sym devices.ids;
   caches = devices.caches;
   askers = messages_kept old.devices new.devices new.fabric devices.ids fabric;

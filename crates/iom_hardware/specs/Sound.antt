@@ -37,7 +37,6 @@ IsMessageOf devices on = IsOfPlugged (is_some (device_with devices on.device)) o
 pub record IsSoundHardware (parts : HardwareParts) (events : ℕ) : Type 0 where
   pub size : frames_of parts.iommu ≡ length parts.memory
   pub own_ids : AreOfOneId parts.devices
-  pub few : length parts.devices ≤ 16
   pub rows : flight_ids (flights_of parts.iommu).rows ≡ device_ids parts.devices
   pub caches : HaveTheirCaches parts.devices
   pub askers : All (IsMessageOf parts.devices) parts.fabric

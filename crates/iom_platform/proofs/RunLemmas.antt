@@ -95,7 +95,7 @@ goes_on wants takes state next events i event outcome trace before mid after fir
 pub ends_at : {S : Type 0} (wants : S → Bool) (takes fails : S → Outcome → Option Trace → S → Type 0) (state next : State) (events : List Event) (i : ℕ) (event : Event) (outcome : Outcome) (trace : Option Trace)
     (before mid after : S) (first old new : Seen)
     → (so_far : RunsTo wants takes state first (take i events) before mid old)
-    → event ≡ get_or events i event → i < length events → new.world.events ≡ first.world.events + i + 1
+    → event ≡ get_or events i event → i < length events → new.world.hardware.events ≡ first.world.hardware.events + i + 1
     → Step so_far.2 event outcome next → HappensHere old event outcome new → AreCounts next new.world trace → Shows new.world next → is_some trace ≡ wants mid → fails mid outcome trace after
     → FailsAfter wants takes fails state first events before after new
 ends_at wants takes fails state next events i event outcome trace before mid after first old new so_far is lt count step happens counts shows wanted failed =
@@ -113,5 +113,5 @@ ends_at wants takes fails state next events i event outcome trace before mid aft
       so_far.4,
       wanted,
       failed,
-      count ∙ ap (λ n. first.world.events + n + 1) (sym long),
+      count ∙ ap (λ n. first.world.hardware.events + n + 1) (sym long),
     )

@@ -60,4 +60,4 @@ FailsAfter wants takes fails state old events before after new =
     × (length outcomes < length events)
     × AreOutcomes state old (take (length outcomes + 1) events) (outcomes ++ last ∷ []) (traces ++ trace ∷ []) next new
     × TakesAll wants takes before outcomes traces middle × (is_some trace ≡ wants middle) × fails middle last trace after
-    × (new.world.events ≡ old.world.events + length outcomes + 1)
+    × (new.world.hardware.events ≡ old.world.hardware.events + length outcomes + 1)

@@ -24,7 +24,7 @@ use iom_world::{KeptOutcomes, World};
 #[inline(never)]
 fn world_takes<'a>(world: &mut World, event: &Event, kept: &'a mut KeptOutcomes) -> &'a mut Outcome
     requires event { IsNoChoice event.now }
-    requires count { world.old.events + 1 < 2 ^ 64 }
+    requires count { world.old.hardware.events + 1 < 2 ^ 64 }
     ensures { Happens world.old event.now result.now world.new }
 {
     world.take(event, kept)
@@ -59,7 +59,7 @@ impl<D: Disk> Platform<D> {
         new: NewDevice,
         kept: &'a mut KeptOutcomes,
     ) -> &'a mut Outcome
-        requires count { self.old.world.events + 1 < 2 ^ 64 }
+        requires count { self.old.world.hardware.events + 1 < 2 ^ 64 }
         ensures { HappensHere (platform_seen D.seen self.old) (events.Plug device new) result.now (platform_seen D.seen self.new) }
     {
         let told = world_takes(&mut self.world, &Event::Plug { device, new }, kept);
@@ -78,7 +78,7 @@ impl<D: Disk> Platform<D> {
         disk: u64,
         kept: &'a mut KeptOutcomes,
     ) -> &'a mut Outcome
-        requires count { self.old.world.events + 1 < 2 ^ 64 }
+        requires count { self.old.world.hardware.events + 1 < 2 ^ 64 }
         ensures { HappensHere (platform_seen D.seen self.old) (events.Medium device disk) result.now (platform_seen D.seen self.new) }
     {
         let told = world_takes(&mut self.world, &Event::Medium { device, disk }, kept);
@@ -90,7 +90,7 @@ impl<D: Disk> Platform<D> {
 
     /// A device is detached: a block device is reset, and its disk dropped.
     fn detach<'a>(&mut self, device: DeviceId, kept: &'a mut KeptOutcomes) -> &'a mut Outcome
-        requires count { self.old.world.events + 1 < 2 ^ 64 }
+        requires count { self.old.world.hardware.events + 1 < 2 ^ 64 }
         ensures { HappensHere (platform_seen D.seen self.old) (events.Detach device) result.now (platform_seen D.seen self.new) }
     {
         let told = world_takes(&mut self.world, &Event::Detach { device }, kept);
@@ -102,7 +102,7 @@ impl<D: Disk> Platform<D> {
 
     /// A device that was cut off is attached again, and reset.
     fn revive<'a>(&mut self, device: DeviceId, kept: &'a mut KeptOutcomes) -> &'a mut Outcome
-        requires count { self.old.world.events + 1 < 2 ^ 64 }
+        requires count { self.old.world.hardware.events + 1 < 2 ^ 64 }
         ensures { HappensHere (platform_seen D.seen self.old) (events.Revive device) result.now (platform_seen D.seen self.new) }
     {
         let told = world_takes(&mut self.world, &Event::Revive { device }, kept);
@@ -114,7 +114,7 @@ impl<D: Disk> Platform<D> {
 
     /// A device is reset.
     fn reset<'a>(&mut self, device: DeviceId, kept: &'a mut KeptOutcomes) -> &'a mut Outcome
-        requires count { self.old.world.events + 1 < 2 ^ 64 }
+        requires count { self.old.world.hardware.events + 1 < 2 ^ 64 }
         ensures { HappensHere (platform_seen D.seen self.old) (events.Reset device) result.now (platform_seen D.seen self.new) }
     {
         let told = world_takes(&mut self.world, &Event::Reset { device }, kept);
@@ -134,7 +134,7 @@ impl<D: Disk> Platform<D> {
         used: u64,
         kept: &'a mut KeptOutcomes,
     ) -> &'a mut Outcome
-        requires count { self.old.world.events + 1 < 2 ^ 64 }
+        requires count { self.old.world.hardware.events + 1 < 2 ^ 64 }
         ensures { HappensHere (platform_seen D.seen self.old) (events.Queue device size descriptors available used) result.now
             (platform_seen D.seen self.new) }
     {
@@ -159,7 +159,7 @@ impl<D: Disk> Platform<D> {
 
     /// The oldest access in flight of a device is made: a block device hears of it.
     fn commit<'a>(&mut self, device: DeviceId, kept: &'a mut KeptOutcomes) -> &'a mut Outcome
-        requires count { self.old.world.events + 1 < 2 ^ 64 }
+        requires count { self.old.world.hardware.events + 1 < 2 ^ 64 }
         ensures { HappensHere (platform_seen D.seen self.old) (events.Commit device) result.now (platform_seen D.seen self.new) }
     {
         let oldest = self.world.oldest_access(device);
@@ -177,7 +177,7 @@ impl<D: Disk> Platform<D> {
 
     /// A message is delivered: a block device hears of an answer that has no translation, where that counts.
     fn deliver<'a>(&mut self, place: u64, kept: &'a mut KeptOutcomes) -> &'a mut Outcome
-        requires count { self.old.world.events + 1 < 2 ^ 64 }
+        requires count { self.old.world.hardware.events + 1 < 2 ^ 64 }
         ensures { HappensHere (platform_seen D.seen self.old) (events.Deliver place) result.now (platform_seen D.seen self.new) }
     {
         let message = self.world.message(place);
@@ -194,7 +194,7 @@ impl<D: Disk> Platform<D> {
 
     /// A block device takes a step.
     fn take_step<'a>(&mut self, device: DeviceId, kept: &'a mut KeptOutcomes) -> &'a mut Outcome
-        requires count { self.old.world.events + 1 < 2 ^ 64 }
+        requires count { self.old.world.hardware.events + 1 < 2 ^ 64 }
         ensures { HappensHere (platform_seen D.seen self.old) (events.Step device) result.now (platform_seen D.seen self.new) }
     {
         // Without a block device of this id the world refuses the step, whatever it is.
@@ -206,7 +206,7 @@ impl<D: Disk> Platform<D> {
 
     /// The status of a block device is read.
     fn tell_status<'a>(&mut self, device: DeviceId, kept: &'a mut KeptOutcomes) -> &'a mut Outcome
-        requires count { self.old.world.events + 1 < 2 ^ 64 }
+        requires count { self.old.world.hardware.events + 1 < 2 ^ 64 }
         ensures { HappensHere (platform_seen D.seen self.old) (events.Status device) result.now (platform_seen D.seen self.new) }
     {
         // Without a block device of this id the world refuses to tell it.
@@ -220,7 +220,7 @@ impl<D: Disk> Platform<D> {
     /// Any other event. (None comes here: `take` hands them to the world itself.)
     fn pass<'a>(&mut self, event: &Event, kept: &'a mut KeptOutcomes) -> &'a mut Outcome
         requires other { StaysBeside event.now false }
-        requires count { self.old.world.events + 1 < 2 ^ 64 }
+        requires count { self.old.world.hardware.events + 1 < 2 ^ 64 }
         ensures { HappensHere (platform_seen D.seen self.old) event.now result.now (platform_seen D.seen self.new) }
     {
         world_takes(&mut self.world, event, kept)
@@ -233,7 +233,7 @@ impl<D: Disk> Platform<D> {
         event: &Event,
         kept: &'a mut KeptOutcomes,
     ) -> &'a mut Outcome
-        requires count { self.old.world.events + 1 < 2 ^ 64 }
+        requires count { self.old.world.hardware.events + 1 < 2 ^ 64 }
         ensures { HappensHere (platform_seen D.seen self.old) event.now result.now (platform_seen D.seen self.new) }
     {
         match event {

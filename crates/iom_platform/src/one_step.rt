@@ -53,7 +53,7 @@ fn begin<'a, D: Disk>(
 ) -> &'a mut Outcome
     requires able { IsAble is_block_device (parts_of world.old).devices id }
     requires want { LiesInPage (access_wanted blk.now.front.buffer want.now) }
-    requires count { world.old.events + 1 < 2 ^ 64 }
+    requires count { world.old.hardware.events + 1 < 2 ^ 64 }
     ensures happens { Happens world.old (events.Step id) result.now world.new }
     ensures begins { BeginsWanted (access_wanted blk.now.front.buffer want.now) (parts_of world.old) id result.now (parts_of world.new) }
 {
@@ -79,7 +79,7 @@ pub(crate) fn step_once<'a, D: Disk>(
     kept: &'a mut KeptOutcomes,
 ) -> &'a mut Outcome
     requires able { IsAble is_block_device (parts_of world.old).devices id }
-    requires count { world.old.events + 1 < 2 ^ 64 }
+    requires count { world.old.hardware.events + 1 < 2 ^ 64 }
     ensures happens { Happens world.old (events.Step id) result.now world.new }
     ensures steps { StepsOnce (parts_of world.old) id result.now (parts_of world.new)
         (device blk.old.front (disk_in D.seen blk.old.drive.disk)) (device blk.new.front (disk_in D.seen blk.new.drive.disk)) }

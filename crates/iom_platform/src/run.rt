@@ -73,7 +73,7 @@ impl<D: Disk> Platform<D> {
         kept: &mut KeptOutcomes,
         sink: &mut S,
     ) -> Result<(), S::Fault>
-        requires count { self.old.world.events + 1 < 2 ^ 64 }
+        requires count { self.old.world.hardware.events + 1 < 2 ^ 64 }
         ensures { (outcome : spec.Outcome) × HappensHere (platform_seen D.seen self.old) event.now outcome (platform_seen D.seen self.new)
             × (trace : Option counts.Trace) × (is_some trace ≡ S.wants sink.old) × ((state : State) → Shows self.new.world state → AreCounts state self.new.world trace)
             × OnOk result (S.takes sink.old outcome trace sink.new) × OnErr result (S.fails sink.old outcome trace sink.new) }
@@ -91,13 +91,13 @@ impl<D: Disk> Platform<D> {
     /// frame, what is made touches its own, what is held is accepted, and what is free is touched by nobody until
     /// it is granted.
     pub fn run<S: Sink>(&mut self, events: &[Event], sink: &mut S) -> Result<(), S::Fault>
-        requires count { self.old.world.events + length events.now < 2 ^ 64 }
+        requires count { self.old.world.hardware.events + length events.now < 2 ^ 64 }
         ensures ran { (state : State) → Shows self.old.world state
             → OnOk result (RunsTo S.wants S.takes state (platform_seen D.seen self.old) events.now sink.old sink.new (platform_seen D.seen self.new)) }
         ensures failed { (state : State) → Shows self.old.world state
             → OnErr result (FailsAfter S.wants S.takes S.fails state (platform_seen D.seen self.old) events.now sink.old sink.new (platform_seen D.seen self.new)) }
-        ensures counted { OnOk result (self.new.world.events ≡ self.old.world.events + length events.now) }
-        ensures counted_at_most { OnErr result (self.new.world.events ≤ self.old.world.events + length events.now) }
+        ensures counted { OnOk result (self.new.world.hardware.events ≡ self.old.world.hardware.events + length events.now) }
+        ensures counted_at_most { OnErr result (self.new.world.hardware.events ≤ self.old.world.hardware.events + length events.now) }
     {
         let mut kept = KeptOutcomes::new();
         for event in events {

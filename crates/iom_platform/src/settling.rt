@@ -27,7 +27,7 @@ fn brief(outcome: &Outcome) -> Told
 impl<D: Disk> TakesEvents for Platform<D> {
     ghost parts = { λ platform. parts_of platform.world };
 
-    ghost counted = { λ platform. platform.world.events };
+    ghost counted = { λ platform. platform.world.hardware.events };
 
     ghost happens = { λ old event told new. HappensHere (platform_seen D.seen old) event told (platform_seen D.seen new) };
 
@@ -74,9 +74,9 @@ impl<D: Disk> Platform<D> {
     /// `NumbersUsedUp` where a restart has no number left for its fence; then the commits and the first deliveries have
     /// happened, and nothing else.
     pub fn settle(&mut self) -> Result<u32, Refusal>
-        requires count { self.old.world.events + 400 < 2 ^ 64 }
+        requires count { self.old.world.hardware.events + 400 < 2 ^ 64 }
         ensures settled { Settled (λ platform. parts_of platform.world) (λ old event told new. HappensHere (platform_seen D.seen old) event told (platform_seen D.seen new)) self.old result self.new }
-        ensures counted { self.new.world.events ≤ self.old.world.events + 341 }
+        ensures counted { self.new.world.hardware.events ≤ self.old.world.hardware.events + 341 }
     {
         settle(self)
     }

@@ -50,7 +50,7 @@ impl<D: Disk> Platform<D> {
     // Written into the loop of a run. Where there are no block devices, it is the world's own call.
     #[inline(always)]
     pub(crate) fn take<'a>(&mut self, event: &Event, kept: &'a mut KeptOutcomes) -> &'a mut Outcome
-        requires count { self.old.world.events + 1 < 2 ^ 64 }
+        requires count { self.old.world.hardware.events + 1 < 2 ^ 64 }
         ensures { HappensHere (platform_seen D.seen self.old) event.now result.now (platform_seen D.seen self.new) }
     {
         if concerns(event, are_none(&self.blocks)) {
@@ -66,7 +66,7 @@ impl<D: Disk> Platform<D> {
     /// access still wants that page. A reset, a revival, a queue that is set and a detach make it give up what
     /// it had in work, and a detach drops its disk. A disk goes into one device, once.
     pub fn step(&mut self, event: &Event) -> Outcome
-        requires count { self.old.world.events + 1 < 2 ^ 64 }
+        requires count { self.old.world.hardware.events + 1 < 2 ^ 64 }
         ensures { HappensHere (platform_seen D.seen self.old) event.now result (platform_seen D.seen self.new) }
     {
         let mut kept = KeptOutcomes::new();
@@ -75,14 +75,14 @@ impl<D: Disk> Platform<D> {
 
     /// The access that a commit of the device would make. None where nothing of it is in flight, or no device has the id.
     pub fn oldest(&self, id: DeviceId) -> Option<MadeAt>
-        ensures { result ≡ oldest_in (row_of (flights_of self.now.world.iommu).rows id) }
+        ensures { result ≡ oldest_in (row_of (flights_of self.now.world.hardware.iommu).rows id) }
     {
         self.world.oldest(id)
     }
 
     /// How many events there were since power-on.
     pub fn events(&self) -> u64
-        ensures { result ≡ self.now.world.events }
+        ensures { result ≡ self.now.world.hardware.events }
     {
         self.world.events()
     }

@@ -59,11 +59,11 @@ fn tell_settling<W: Write, D: Disk>(
     platform: &mut Platform<D>,
     lines: &mut LineWriter<'_, W>,
 ) -> Result<(), WriteFault>
-    requires count { platform.old.world.events + 400 < 2 ^ 64 }
+    requires count { platform.old.world.hardware.events + 400 < 2 ^ 64 }
     ensures told { (answer : Answer) × (trace : Option Trace) × LineHappens (platform_seen D.seen platform.old) says.Settle answer trace (platform_seen D.seen platform.new)
         × (is_some trace ≡ lines.old.counts) × OnOk result (TakesText W.contents lines.old (told_answer answer trace) lines.new)
         × OnErr result (FailsAt W.contents lines.old (told_answer answer trace) lines.new) }
-    ensures counted { platform.new.world.events ≤ platform.old.world.events + 400 }
+    ensures counted { platform.new.world.hardware.events ≤ platform.old.world.hardware.events + 400 }
 {
     let answer = platform.settle();
     let trace = platform.trace_for(lines);
@@ -78,11 +78,11 @@ fn tell_line<W: Write, D: Disk>(
     kept: &mut KeptOutcomes,
     lines: &mut LineWriter<'_, W>,
 ) -> Result<(), WriteFault>
-    requires count { platform.old.world.events + 400 < 2 ^ 64 }
+    requires count { platform.old.world.hardware.events + 400 < 2 ^ 64 }
     ensures told { (answer : Answer) × (trace : Option Trace) × LineHappens (platform_seen D.seen platform.old) line.now answer trace (platform_seen D.seen platform.new)
         × (is_some trace ≡ lines.old.counts) × OnOk result (TakesText W.contents lines.old (told_answer answer trace) lines.new)
         × OnErr result (FailsAt W.contents lines.old (told_answer answer trace) lines.new) }
-    ensures counted { platform.new.world.events ≤ platform.old.world.events + 400 }
+    ensures counted { platform.new.world.hardware.events ≤ platform.old.world.hardware.events + 400 }
 {
     match line {
         ScriptLine::Event(event) => platform.run_one(event, kept, lines),
@@ -96,7 +96,7 @@ fn tell_lines<W: Write, D: Disk>(
     script: &[ScriptLine],
     lines: &mut LineWriter<'_, W>,
 ) -> Result<(), WriteFault>
-    requires count { platform.old.world.events + 400 * length script.now < 2 ^ 64 }
+    requires count { platform.old.world.hardware.events + 400 * length script.now < 2 ^ 64 }
     ensures ran { (state : State) → Shows platform.old.world state
         → OnOk result (RunsAlong W.contents state (platform_seen D.seen platform.old) script.now lines.old lines.new (platform_seen D.seen platform.new)) }
     ensures failed { (state : State) → Shows platform.old.world state
@@ -115,7 +115,7 @@ fn tell_all<W: Write, D: Disk>(
     script: &[ScriptLine],
     lines: &mut LineWriter<'_, W>,
 ) -> Result<(), WriteFault>
-    requires count { platform.old.world.events + 400 * length script.now < 2 ^ 64 }
+    requires count { platform.old.world.hardware.events + 400 * length script.now < 2 ^ 64 }
     requires empty { lines.old.buffer ≡ [] }
     ensures same_writer { (setting : Setting) (size : WorldSize) → BeginsAt size.frames size.levels setting.disks (platform_seen D.seen platform.old)
         → KeepsWriter lines.old lines.new }
@@ -140,7 +140,7 @@ fn tell_run<W: Write, D: Disk>(
     buffer: LineBuffer,
     writer: &mut W,
 ) -> Result<(), RunFault>
-    requires count { platform.old.world.events + 400 * length script.now < 2 ^ 64 }
+    requires count { platform.old.world.hardware.events + 400 * length script.now < 2 ^ 64 }
     requires empty { buffer ≡ [] }
     ensures told { (setting : Setting) (size : WorldSize) → BeginsAt size.frames size.levels setting.disks (platform_seen D.seen platform.old)
         → counts ≡ setting.counts → OnOk result (WritesRun setting size script.now (W.contents writer.old) (W.contents writer.new)) }

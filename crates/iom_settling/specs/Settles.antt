@@ -60,8 +60,8 @@ pub record SettlesBy (old : State) (count : ℕ) (new : State) : Type 0 where
   pub confirmed : pending_tickets new ≡ 0
   pub held : HoldAsBefore old.history new.history
 
--- or it is refused, since the numbers of fences are used up, where a ticket is unconfirmed: then its commits happened and deliveries behind them, as if none were,
--- and nothing is in flight
+-- or it is refused, since the numbers of fences are used up, where a ticket is unconfirmed: then the events are those of a settling where none is, commits and
+-- deliveries, and nothing is in flight
 pub record RefusesToSettle (old : State) (why : Refusal) (new : State) : Type 0 where
   pub events : List Event
   pub outcomes : List Outcome

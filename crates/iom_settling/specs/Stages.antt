@@ -1,5 +1,4 @@
--- How far the queue of a restart is worked off, after so many fetches and deliveries.
--- For the loops of settling alone.
+-- How far settling is, and what it answers in the end (`Settled`). All but that is for its loops alone.
 use Rattle.std.specs.Prelude.{◌≡◌, ◌⊎◌, ℕ, ◌+◌, ◌*◌, ◌<◌, ◌≤◌, nat_lt, ⊤, true, false, List, [], ◌∷◌, ◌++◌, length, map, Option, None, Some, Result, Ok, Err}
 use Rattle.iom_command_queue.specs.declared.command.Command.{Command}
 use Rattle.iom_driver.specs.Fences.{last_fence}
@@ -75,7 +74,7 @@ AreCommitsOf parts all outcomes = all ≡ commits_of parts
 abbrev pub AreDeliveries : List Event → List Outcome → Type 0
 AreDeliveries all outcomes = AreAll IsDelivery all
 
--- a fetch of a command that has to wait, and deliveries; or a fetch that does a command
+-- one round: a fetch of a command that has to wait, and deliveries; or a fetch that does a command
 abbrev pub AreRound : List Event → List Outcome → Type 0
 AreRound (events.Fetch ∷ later) (outcome.Fetched tells.Waiting ∷ outcomes) = AreDeliveries later outcomes
 AreRound (events.Fetch ∷ []) (outcome.Fetched (tells.Did name) ∷ []) = ⊤
@@ -132,6 +131,9 @@ FetchedOnce parts counted happens old so_far None new =
 -- WHAT SETTLING ANSWERS
 abbrev pub Settled : {S : Type 0} → (S → Parts) → (S → Event → Outcome → S → Type 0) → S → Result ℕ Refusal → S → Type 0
 Settled parts happens old (Ok count) new =
-    Went happens (AreInSettlingOrder (nat_lt (parts old).driver.confirmed (parts old).driver.given) (flights_by (parts old))) old count new × (count ≤ 341) × NothingIsInFlight (parts new) × ((parts new).driver.confirmed ≡ (parts new).driver.given)
+    Went happens (AreInSettlingOrder (nat_lt (parts old).driver.confirmed (parts old).driver.given) (flights_by (parts old))) old count new
+    × (count ≤ 341) × NothingIsInFlight (parts new) × ((parts new).driver.confirmed ≡ (parts new).driver.given)
 Settled parts happens old (Err why) new =
-    (why ≡ NumbersUsedUp) × ((count : ℕ) × Went happens (AreInSettlingOrder false (flights_by (parts old))) old count new) × (NothingIsInFlight (parts new) × ((parts new).fabric ≡ [])) × ((parts new).driver.confirmed < (parts new).driver.given) × (4294967295 ≤ last_fence (parts new).driver)
+    (why ≡ NumbersUsedUp) × ((count : ℕ) × Went happens (AreInSettlingOrder false (flights_by (parts old))) old count new)
+    × (NothingIsInFlight (parts new) × ((parts new).fabric ≡ []))
+    × ((parts new).driver.confirmed < (parts new).driver.given) × (4294967295 ≤ last_fence (parts new).driver)

@@ -1,11 +1,10 @@
 -- Whose accesses are in flight: the ledger machine's devices say the same of it as the IOMMU's rows.
-use Rattle.std.proofs.Common.{suc, ◌≡◌, ◌≢◌, ◌==◌, ◌∙◌, inl, inr, ℕ, List, [], ◌∷◌, ◌++◌, map, Option, Some, None, slice_get, refl, sym, ap, arith, if◌then◌else◌}
-use Rattle.std.specs.List.{flat_map}
+use Rattle.std.proofs.Common.{suc, ◌≡◌, ◌≢◌, ◌∙◌, inl, inr, ℕ, List, [], ◌∷◌, map, Some, slice_get, refl, sym, ap, arith}
 use Rattle.std.proofs.lemmas.Bool.Decides.{eqb_tells}
 use Rattle.iom_device.specs.declared.device.Device.{Device}
 use Rattle.iom_driver.specs.declared.device.Device as known
 use Rattle.iom_inflight.specs.Flights.{NumberedAccess, FlightRow}
-use Rattle.iom_world_effects.specs.Devices.{in_flight_of, shown_devices}
+use Rattle.iom_world_effects.specs.Devices.{shown_devices}
 use Rattle.iom_world_effects.specs.Sound.{HaveOwnIds, ids_of, row_ids}
 use Rattle.iom_settling.specs.Idle.{waiting_by}
 use Rattle.iom_settling.specs.Settles.{in_flight_by}

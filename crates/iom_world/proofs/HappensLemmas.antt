@@ -127,22 +127,22 @@ module _ (laws : ServiceLaws) (disks : List ℕ) (old new : Parts) (counted befo
 
 -- WHAT HAPPENS
 pub happens : LawsBelow → (old new : World) (event : Event) (told : Outcome) → AddressFits event → Does (disks_of old) (parts_of old) event told (parts_of new)
-    → disks_of new ≡ disks_after event told (disks_of old) → new.events ≡ old.events + 1 → Happens old event told new
+    → disks_of new ≡ disks_after event told (disks_of old) → new.hardware.events ≡ old.hardware.events + 1 → Happens old event told new
 happens laws old new event told fits does disks counted =
     let service = service_laws laws in
     let reported = reported_of laws.reported old.driver in
     record {
       step = λ state shows.
-          let after = steps service (disks_of old) (parts_of old) (parts_of new) new.events old.events old.sound (sound_driver old.driver) reported new.sound event told fits does state shows.0 shows.1 in (
+          let after = steps service (disks_of old) (parts_of old) (parts_of new) new.hardware.events old.hardware.events old.sound (sound_driver old.driver) reported new.sound event told fits does state shows.0 shows.1 in (
             after.0,
             after.1,
             (after.2, step_disks state after.0 event told after.1 ∙ ap (disks_after event told) shows.1 ∙ sym disks),
           );
       does = does;
       disks = disks;
-      commands = commands_stay (disks_of old) (parts_of old) (parts_of new) old.events event told old.sound (sound_driver old.driver) reported does;
-      guest = λ state shows id access. reads_guest_tables service (parts_of old) old.events old.sound (sound_driver old.driver) state shows.0 id access;
-      stopped = λ stopped. stays_stopped (parts_of old) (parts_of new) old.events new.events old.sound (sound_driver old.driver) reported new.sound stopped (disks_of old) event told does;
+      commands = commands_stay (disks_of old) (parts_of old) (parts_of new) old.hardware.events event told old.sound (sound_driver old.driver) reported does;
+      guest = λ state shows id access. reads_guest_tables service (parts_of old) old.hardware.events old.sound (sound_driver old.driver) state shows.0 id access;
+      stopped = λ stopped. stays_stopped (parts_of old) (parts_of new) old.hardware.events new.hardware.events old.sound (sound_driver old.driver) reported new.sound stopped (disks_of old) event told does;
       refused = refused_same (disks_of old) (parts_of old) (parts_of new) event told does;
       events = counted;
     }

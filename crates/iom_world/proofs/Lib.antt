@@ -1,1 +1,3 @@
 pub mod HappensLemmas
+pub mod InParts
+pub mod OfHardware

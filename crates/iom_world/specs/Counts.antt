@@ -8,7 +8,7 @@ use Rattle.iom_world.specs.declared.world.World.{World}
 
 -- the counts are those of the state; the messages, of which the machine knows nothing, are those that are under way in the world
 abbrev pub IsTraceOf : State → World → Trace → Type 0
-IsTraceOf state world trace = IsTrace state trace × (trace.messages ≡ length world.fabric)
+IsTraceOf state world trace = IsTrace state trace × (trace.messages ≡ length world.hardware.fabric)
 
 -- where so many were ever accepted, the number of the oldest of those in flight: the later ones are the last of the accepted
 abbrev pub first_number : ℕ → List NumberedAccess → Option ℕ

@@ -25,4 +25,4 @@ pub record Happens (old : World) (event : Event) (told : Outcome) (new : World) 
   pub guest : (state : State) → Shows old state → (id : ℕ) (access : Access) → ReadsGuestTables (parts_of old) state.history id access
   pub stopped : HasTimedOut (parts_of old) → StaysStopped event told (parts_of old) (parts_of new)
   pub refused : SameIfRefused told (parts_of old) (parts_of new)
-  pub events : new.events ≡ old.events + 1
+  pub events : new.hardware.events ≡ old.hardware.events + 1

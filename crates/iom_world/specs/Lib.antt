@@ -4,4 +4,4 @@ pub mod Shows
 pub mod PowerOn
 pub mod Happens
 pub mod Counts
-pub mod Senders
+pub mod OnHardware

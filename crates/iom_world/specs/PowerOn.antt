@@ -13,13 +13,13 @@ use Rattle.iom_world.specs.Shows.{Shows}
 -- new, and the driver started both, from that fence; no device is plugged in, no command waits, no message is under way, and no event was counted
 pub record BeginsFrom (first_fence frames levels : ℕ) (disks : List ℕ) (world : World) : Type 0 where
   pub shows : Shows world (opening frames levels disks)
-  pub memory : world.memory ≡ replicate frames zeroed
-  pub iommu : IsStartedIommu frames levels world.iommu
+  pub memory : world.hardware.memory ≡ replicate frames zeroed
+  pub iommu : IsStartedIommu frames levels world.hardware.iommu
   pub driver : IsStartedDriver first_fence frames levels (state_of world.driver)
-  pub devices : world.devices.items ≡ []
+  pub devices : world.hardware.devices.items ≡ []
   pub commands : commands_of world ≡ []
-  pub fabric : world.fabric ≡ []
-  pub events : world.events ≡ 0
+  pub fabric : world.hardware.fabric ≡ []
+  pub events : world.hardware.events ≡ 0
 
 -- the same, with no number of a fence used up: the first fence has number 1
 abbrev pub BeginsAt : ℕ → ℕ → List ℕ → World → Type 0

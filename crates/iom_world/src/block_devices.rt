@@ -19,13 +19,13 @@ ghost use Rattle.iom_world.specs.Told.{outcome_of};
 
 use crate::disks::{is_among, take_out};
 use crate::kept_outcomes::KeptOutcomes;
-use crate::sender::Sender;
 use crate::told::Told;
 use crate::world::World;
 use iom_base::{AccessKind, DeviceId, DeviceKind, PAGE_SIZE, Refusal};
 use iom_device::{Device, place_of, reset};
 use iom_driver::Ticket;
 use iom_fabric::{Message, PageNumber};
+use iom_hardware::Sender;
 use iom_machine::{BlockStep, Outcome};
 use iom_virtqueue::Layout;
 use iom_world_effects::laws_below;
@@ -117,21 +117,23 @@ impl World {
     /// The disk is put into the block device: `BadMedium` where that has one, or the disk was in a device before,
     /// or there is none of this number. Nothing changes where it is refused.
     pub(crate) fn medium(&mut self, id: DeviceId, disk: u64) -> Told
+        requires count { self.old.hardware.events + 1 < 2 ^ 64 }
         ensures does { InsertsMedium (disks_of self.old) (parts_of self.old) id disk (outcome_of result) (parts_of self.new) }
         ensures disks { disks_of self.new ≡ disks_after (events.Medium id disk) (outcome_of result) (disks_of self.old) }
-        ensures events { self.new.events ≡ self.old.events }
+        ensures events { self.new.hardware.events ≡ self.old.hardware.events + 1 }
     {
+        self.hardware.events += 1;
         let Some(device) = self.device_with(id) else {
             return Told::Refused(Refusal::NoSuchDevice);
         };
         if !device.kind.is_block_device() {
             return Told::Refused(Refusal::WrongKind);
         }
-        if !may_take(&self.disks, device, disk) {
+        if !may_take(&self.hardware.disks, device, disk) {
             return Told::Refused(Refusal::BadMedium);
         }
-        take_out(&mut self.disks, Some(disk));
-        set_has_disk(&mut self.devices, id, true);
+        take_out(&mut self.hardware.disks, Some(disk));
+        set_has_disk(&mut self.hardware.devices, id, true);
         Told::Done
     }
 
@@ -145,12 +147,12 @@ impl World {
         available: u64,
         used: u64,
     ) -> Told
-        requires epochs { (id : ℕ) → epoch_in self.old.devices.items id < self.old.events }
-        requires count { self.old.events < 2 ^ 64 }
+        requires count { self.old.hardware.events + 1 < 2 ^ 64 }
         ensures does { SetsQueue (parts_of self.old) id (layout_of size descriptors available used) (outcome_of result) (parts_of self.new) }
         ensures disks { disks_of self.new ≡ disks_of self.old }
-        ensures events { self.new.events ≡ self.old.events }
+        ensures events { self.new.hardware.events ≡ self.old.hardware.events + 1 }
     {
+        self.hardware.events += 1;
         let Some(kind) = self.kind_of(id) else {
             return Told::Refused(Refusal::NoSuchDevice);
         };
@@ -160,7 +162,7 @@ impl World {
         if Layout::new(size, descriptors, available, used).is_none() {
             return Told::Refused(Refusal::BadQueue);
         }
-        reset(&mut self.devices, id);
+        reset(&mut self.hardware.devices, id);
         Told::Done
     }
 
@@ -190,39 +192,6 @@ impl World {
         Told::Status(status)
     }
 
-    /// A block device without a cache asks for an access: answered as that of any device is. What the device with this
-    /// id is, is known.
-    fn block_request<'a>(
-        &mut self,
-        id: DeviceId,
-        known: Option<DeviceKind>,
-        address: u64,
-        len: u64,
-        kind: AccessKind,
-        bytes: &[u8],
-        kept: &'a mut KeptOutcomes,
-    ) -> &'a mut Outcome
-        requires below { (flights_of self.old.iommu).so_far < self.old.events }
-        requires count { (flights_of self.old.iommu).so_far + 1 < 2 ^ 64 }
-        requires wants { MayWant (access_of address len kind bytes.now) }
-        requires known { known ≡ kind_in self.old.devices.items id }
-        ensures does { AsksAccess is_block_device (parts_of self.old) id (access_of address len kind bytes.now) result.now (parts_of self.new) }
-        ensures disks { disks_of self.new ≡ disks_of self.old }
-        ensures events { self.new.events ≡ self.old.events }
-    {
-        laws_below();
-        let Some(device) = known else {
-            return kept.tell(Told::Refused(Refusal::NoSuchDevice));
-        };
-        if !device.is_block_device() {
-            return kept.tell(Told::Refused(Refusal::WrongKind));
-        }
-        kept.tell_reply(
-            self.iommu
-                .request(&mut self.memory, id, address, len, kind, bytes),
-        )
-    }
-
     /// A block device with a cache has an access through that. Where it misses there, the device asks for the
     /// translation; the question is lost where 64 messages are under way.
     fn block_through_cache(
@@ -233,26 +202,25 @@ impl World {
         kind: AccessKind,
         bytes: &[u8],
     ) -> Told
-        requires below { (flights_of self.old.iommu).so_far < self.old.events }
-        requires count { (flights_of self.old.iommu).so_far + 1 < 2 ^ 64 }
+        requires count { self.old.hardware.events + 1 < 2 ^ 64 }
         requires wants { MayWant (access_of address len kind bytes.now) }
         ensures does { GoesThroughCache (parts_of self.old) id (access_of address len kind bytes.now) (outcome_of result) (parts_of self.new) }
         ensures disks { disks_of self.new ≡ disks_of self.old }
-        ensures events { self.new.events ≡ self.old.events }
+        ensures events { self.new.hardware.events ≡ self.old.hardware.events + 1 }
     {
-        let told = self.through_cache(Sender::Block, id, address, len, kind, bytes);
+        let told = self.through_cache(Sender::Step, id, address, len, kind, bytes);
         if !is_miss(told) {
             return told;
         }
         let epoch = self.epoch_of(id);
         let page = PageNumber::new(address / PAGE_SIZE).unwrap();
-        self.fabric.send(id, Message::Ask { epoch, page });
+        self.hardware.fabric.send(id, Message::Ask { epoch, page });
         Told::Stepped(BlockStep::Asked)
     }
 
     /// The step of a block device wants this access, within one page: `Accepted`, `Busy` or `Fault` as for any
     /// device's, be it untranslated or, where the device has a cache, through that; `Stepped(Asked)` where it
-    /// misses there. The event is counted by the caller.
+    /// misses there.
     pub(crate) fn access<'a>(
         &mut self,
         id: DeviceId,
@@ -262,18 +230,17 @@ impl World {
         bytes: &[u8],
         kept: &'a mut KeptOutcomes,
     ) -> &'a mut Outcome
-        requires below { (flights_of self.old.iommu).so_far < self.old.events }
-        requires count { (flights_of self.old.iommu).so_far + 1 < 2 ^ 64 }
+        requires count { self.old.hardware.events + 1 < 2 ^ 64 }
         requires wants { MayWant (access_of address len kind bytes.now) }
         ensures does { BeginsAccess (parts_of self.old) id (access_of address len kind bytes.now) result.now (parts_of self.new) }
         ensures fits { address < 2 ^ 64 }
         ensures disks { disks_of self.new ≡ disks_of self.old }
-        ensures events { self.new.events ≡ self.old.events }
+        ensures events { self.new.hardware.events ≡ self.old.hardware.events + 1 }
     {
         let known = self.kind_of(id);
         if caches(known) {
             return kept.tell(self.block_through_cache(id, address, len, kind, bytes));
         }
-        self.block_request(id, known, address, len, kind, bytes, kept)
+        kept.tell(self.request(Sender::Step, id, address, len, kind, bytes))
     }
 }

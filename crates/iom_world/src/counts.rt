@@ -19,44 +19,44 @@ impl World {
     /// The number, among the device's accepted accesses, of its oldest one in flight, which a commit makes. None
     /// where nothing of the device is in flight, or no device has the id.
     pub fn oldest_access(&self, id: DeviceId) -> Option<u64>
-        ensures { result ≡ oldest_number (row_of (flights_of self.now.iommu).rows id) }
+        ensures { result ≡ oldest_number (row_of (flights_of self.now.hardware.iommu).rows id) }
     {
-        let in_flight = self.iommu.in_flight(id);
+        let in_flight = self.hardware.iommu.in_flight(id);
         if in_flight == 0 {
             return None;
         }
         let later = (in_flight - 1) as u64;
-        Some(self.iommu.accepted(id).saturating_sub(later))
+        Some(self.hardware.iommu.accepted(id).saturating_sub(later))
     }
 
     /// What holds of accesses in flight and of messages, whatever events there were. It does nothing.
     pub fn facts(&self)
-        ensures flights { AreFlights (flights_of self.now.iommu) }
-        ensures messages { length self.now.fabric ≤ 64 }
+        ensures flights { AreFlights (flights_of self.now.hardware.iommu) }
+        ensures messages { length self.now.hardware.fabric ≤ 64 }
     {
-        self.iommu.facts();
-        self.fabric.facts();
+        self.hardware.iommu.facts();
+        self.hardware.fabric.facts();
     }
 
     /// The access that a commit of the device would make. None where nothing of it is in flight, or no device has the id.
     pub fn oldest(&self, id: DeviceId) -> Option<MadeAt>
-        ensures { result ≡ oldest_in (row_of (flights_of self.now.iommu).rows id) }
+        ensures { result ≡ oldest_in (row_of (flights_of self.now.hardware.iommu).rows id) }
     {
-        self.iommu.oldest(id)
+        self.hardware.iommu.oldest(id)
     }
 
     /// The first device, in the order of plugging, that has an access in flight. None where none has.
     pub fn first_busy(&self) -> Option<DeviceId>
-        ensures { result ≡ first_busy (flights_of self.now.iommu).rows }
+        ensures { result ≡ first_busy (flights_of self.now.hardware.iommu).rows }
     {
-        self.iommu.first_busy()
+        self.hardware.iommu.first_busy()
     }
 
     /// Whether no message is under way.
     pub fn is_quiet(&self) -> bool
-        ensures { result ≡ (length self.now.fabric == 0) }
+        ensures { result ≡ (length self.now.hardware.fabric == 0) }
     {
-        self.fabric.is_empty()
+        self.hardware.fabric.is_empty()
     }
 
     /// Whether a ticket isn't confirmed.
@@ -75,9 +75,9 @@ impl World {
 
     /// The message at the place, counted from 0, and the link that it is on; it stays. None where there is none.
     pub fn message(&self, place: u64) -> Option<OnLink>
-        ensures { result ≡ slice_get self.now.fabric place }
+        ensures { result ≡ slice_get self.now.hardware.fabric place }
     {
-        self.fabric.get(place as usize)
+        self.hardware.fabric.get(place as usize)
     }
 
     /// The counts that stand beside an outcome: tickets given and not confirmed, accesses in flight over all
@@ -85,11 +85,11 @@ impl World {
     pub fn trace(&self) -> Trace
         ensures { (state : State) → Shows self.now state → IsTraceOf state self.now result }
     {
-        self.iommu.facts();
+        self.hardware.iommu.facts();
         Trace {
             tickets: self.driver.pending() as u64,
-            flight: self.iommu.all_in_flight() as u64,
-            messages: self.fabric.len() as u64,
+            flight: self.hardware.iommu.all_in_flight() as u64,
+            messages: self.hardware.fabric.len() as u64,
             free: u64::from(self.driver.count_free()),
         }
     }

@@ -68,54 +68,73 @@ impl Told {
 impl World {
     /// A device is attached in the mode, with ATS or without.
     pub(crate) fn attach(&mut self, id: DeviceId, mode: Mode, ats: bool) -> Told
+        requires count { self.old.hardware.events + 1 < 2 ^ 64 }
         ensures does { AttachesDevice (parts_of self.old) id mode ats (outcome_of result) (parts_of self.new) }
         ensures disks { disks_of self.new ≡ disks_of self.old }
-        ensures events { self.new.events ≡ self.old.events }
+        ensures events { self.new.hardware.events ≡ self.old.hardware.events + 1 }
     {
-        Told::of(self.driver.attach(&mut self.memory, id, mode, ats))
+        self.hardware.events += 1;
+        Told::of(self.driver.attach(&mut self.hardware.memory, id, mode, ats))
     }
 
     /// A device gets a frame at a page.
     pub(crate) fn grant(&mut self, id: DeviceId, page: u64, frame: u64, rights: GrantRights) -> Told
+        requires count { self.old.hardware.events + 1 < 2 ^ 64 }
         ensures does { GrantsPage (parts_of self.old) id page frame rights (outcome_of result) (parts_of self.new) }
         ensures disks { disks_of self.new ≡ disks_of self.old }
-        ensures events { self.new.events ≡ self.old.events }
+        ensures events { self.new.hardware.events ≡ self.old.hardware.events + 1 }
     {
-        Told::of(self.driver.grant(&mut self.memory, id, page, frame, rights))
+        self.hardware.events += 1;
+        Told::of(
+            self.driver
+                .grant(&mut self.hardware.memory, id, page, frame, rights),
+        )
     }
 
     /// What a device holds at a page is released.
     pub(crate) fn release(&mut self, id: DeviceId, page: u64) -> Told
+        requires count { self.old.hardware.events + 1 < 2 ^ 64 }
         ensures does { ReleasesPage (parts_of self.old) id page (outcome_of result) (parts_of self.new) }
         ensures disks { disks_of self.new ≡ disks_of self.old }
-        ensures events { self.new.events ≡ self.old.events }
+        ensures events { self.new.hardware.events ≡ self.old.hardware.events + 1 }
     {
-        let answer = self
-            .driver
-            .release(&mut self.memory, &mut self.iommu, id, page);
+        self.hardware.events += 1;
+        let answer = self.driver.release(
+            &mut self.hardware.memory,
+            &mut self.hardware.iommu,
+            id,
+            page,
+        );
         Told::of_ticket(answer)
     }
 
     /// A device is detached: it leaves until the ticket is confirmed, and its disk goes at once.
     pub(crate) fn detach(&mut self, id: DeviceId) -> Told
-        requires epochs { (id : ℕ) → epoch_in self.old.devices.items id < self.old.events }
-        requires count { self.old.events < 2 ^ 64 }
+        requires count { self.old.hardware.events + 1 < 2 ^ 64 }
         ensures does { DetachesDevice (parts_of self.old) id (outcome_of result) (parts_of self.new) }
         ensures disks { disks_of self.new ≡ disks_of self.old }
-        ensures events { self.new.events ≡ self.old.events }
+        ensures events { self.new.hardware.events ≡ self.old.hardware.events + 1 }
     {
-        let answer = self.driver.detach(&mut self.memory, &mut self.iommu, id);
-        let_go(&mut self.devices, id, &answer);
+        self.hardware.events += 1;
+        let answer = self
+            .driver
+            .detach(&mut self.hardware.memory, &mut self.hardware.iommu, id);
+        let_go(&mut self.hardware.devices, id, &answer);
         Told::of_ticket(answer)
     }
 
     /// The driver learns which tickets' fences are done, and forgets what waited for them: what a device that is leaving had is given back.
     pub(crate) fn poll(&mut self) -> Told
+        requires count { self.old.hardware.events + 1 < 2 ^ 64 }
         ensures does { PollsTickets (parts_of self.old) (outcome_of result) (parts_of self.new) }
         ensures disks { disks_of self.new ≡ disks_of self.old }
-        ensures events { self.new.events ≡ self.old.events }
+        ensures events { self.new.hardware.events ≡ self.old.hardware.events + 1 }
     {
-        match self.driver.poll(&mut self.memory, &self.iommu) {
+        self.hardware.events += 1;
+        match self
+            .driver
+            .poll(&mut self.hardware.memory, &self.hardware.iommu)
+        {
             Ok(polled) => Told::of_poll(polled),
             Err(why) => Told::Refused(why),
         }
@@ -124,10 +143,15 @@ impl World {
     /// The driver takes the oldest fault record of the queue; where it finds none, records are written again
     /// that were dropped before.
     pub(crate) fn faults(&mut self) -> Told
+        requires count { self.old.hardware.events + 1 < 2 ^ 64 }
         ensures does { TakesReport (parts_of self.old) (outcome_of result) (parts_of self.new) }
         ensures disks { disks_of self.new ≡ disks_of self.old }
-        ensures events { self.new.events ≡ self.old.events }
+        ensures events { self.new.hardware.events ≡ self.old.hardware.events + 1 }
     {
-        Told::of_report(self.driver.faults(&self.memory, &mut self.iommu))
+        self.hardware.events += 1;
+        Told::of_report(
+            self.driver
+                .faults(&self.hardware.memory, &mut self.hardware.iommu),
+        )
     }
 }

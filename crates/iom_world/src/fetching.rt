@@ -1,11 +1,9 @@
 // What the IOMMU does with the driver's commands.
 ghost use Rattle.std.specs.Prelude.{◌≡◌, ◌+◌, ◌<◌, ◌^◌};
-ghost use Rattle.iom_iommu.specs.Parts.{slots_of};
 ghost use Rattle.iom_machine.specs.declared.outcome.Outcome.TheVariants as outcome;
 ghost use Rattle.iom_world_effects.specs.Does.{name_of_command, fetch_named, FetchesNext};
 ghost use Rattle.iom_world.specs.Seen.{parts_of, disks_of};
 
-use crate::messages::send_opened;
 use crate::world::World;
 use iom_command_queue::Command;
 use iom_machine::{CommandName, Fetched};
@@ -40,15 +38,12 @@ impl World {
     /// The IOMMU takes its next command. Where that is an invalidation of a device's own translations, the
     /// device is asked for it.
     pub(crate) fn fetch(&mut self) -> Fetched
-        requires below { (slots_of self.old.iommu).last < self.old.events }
-        requires count { (slots_of self.old.iommu).last + 1 < 2 ^ 64 }
+        requires count { self.old.hardware.events + 1 < 2 ^ 64 }
         ensures does { FetchesNext (parts_of self.old) (outcome.Fetched result) (parts_of self.new) }
         ensures disks { disks_of self.new ≡ disks_of self.old }
-        ensures events { self.new.events ≡ self.old.events }
+        ensures events { self.new.hardware.events ≡ self.old.hardware.events + 1 }
     {
         laws_below();
-        let answer = self.iommu.fetch(&mut self.memory);
-        send_opened(&mut self.fabric, &answer, self.iommu.opened());
-        named(answer)
+        named(self.hardware.fetch())
     }
 }

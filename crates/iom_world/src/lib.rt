@@ -1,5 +1,6 @@
-//! The world: memory, the IOMMU, its driver and the devices, as one value that takes events and answers each
-//! with one outcome.
+//! The world: hardware (`iom_hardware`) and its driver, as one value that takes events and answers each with one
+//! outcome. An event either goes to the hardware, or is a call of the driver, which is lent the hardware's memory and
+//! registers.
 //!
 //! Page tables stand in memory and are walked for every request (RISC-V Privileged Architecture,
 //! "Sv39" and "Sv48"); the driver and the IOMMU talk in commands of 16 bytes and in registers (RISC-V IOMMU
@@ -14,7 +15,6 @@
 mod block_devices;
 mod commits;
 mod counts;
-mod deliveries;
 mod disks;
 mod driving;
 mod fetching;
@@ -24,13 +24,11 @@ mod plugging;
 mod processor;
 mod recovery;
 mod requests;
-mod sender;
 mod start;
 mod stepping;
 mod telling;
 mod through_cache;
 mod told;
-mod translated;
 mod world;
 
 pub use kept_outcomes::KeptOutcomes;

@@ -1,50 +1,31 @@
 // What is sent between the IOMMU and the devices with caches of their own (PCI Express Base Specification, chapter
 // 10, "Address Translation Services"), and what becomes of it on the way.
-ghost use Rattle.std.specs.Prelude.{◌≡◌, if◌then◌else◌};
-ghost use Rattle.iom_machine.specs.declared.outcome.Outcome.TheVariants as outcome;
-ghost use Rattle.iom_world_effects.specs.Messages.{range_of, sent_told, repeat_told, with_fetched, AsksQuestion, ForgesCompletion, DropsMessage, RepeatsMessage};
+ghost use Rattle.std.specs.Prelude.{◌≡◌, ◌+◌, ◌<◌, ◌^◌};
+ghost use Rattle.iom_ats_cache.specs.declared.taken.Taken.{Taken};
+ghost use Rattle.iom_world_effects.specs.Deliveries.{taken_told, DeliversMessage};
+ghost use Rattle.iom_world_effects.specs.Messages.{repeat_told, AsksQuestion, ForgesCompletion, DropsMessage, RepeatsMessage};
+ghost use Rattle.iom_world.specs.OnHardware.{told_unless, sending_told, delivered_told};
 ghost use Rattle.iom_world.specs.Seen.{parts_of, disks_of};
 ghost use Rattle.iom_world.specs.Told.{outcome_of};
 
 use crate::told::Told;
 use crate::world::World;
+use iom_ats_cache::Taken;
 use iom_base::{DeviceId, Refusal};
-use iom_command_queue::{AtsRange, Command, Slot};
-use iom_fabric::{Fabric, Message, PageNumber, Range, Repeat};
-use iom_iommu::Fetched;
-
-/// What a command asks a device to drop, as the request to it says.
-fn range_of(range: AtsRange) -> Range
-    ensures { result ≡ range_of range }
-{
-    match range {
-        AtsRange::Page(page) => Range::Page(PageNumber::new(page.number()).unwrap()),
-        AtsRange::Everything => Range::Everything,
-    }
-}
-
-/// The request to invalidate that a fetch opened, if it did, is sent to its device. Where the fabric is full
-/// it is lost, and stays open.
-pub(crate) fn send_opened(fabric: &mut Fabric, answer: &Fetched, opened: Option<Slot>)
-    ensures { fabric.new ≡ with_fetched answer.now opened fabric.old }
-{
-    let Fetched::Did(Command::AtsInval { range, .. }) = *answer else {
-        return;
-    };
-    let Some(slot) = opened else {
-        return;
-    };
-    let serial = slot.serial;
-    let range = range_of(range);
-    fabric.send(slot.device, Message::InvReq { serial, range });
-}
+use iom_fabric::{PageNumber, Repeat};
+use iom_hardware::Delivered;
+use iom_world_effects::laws_below;
 
 impl Told {
-    /// What is told of a message that was sent, or lost.
-    fn of_send(is_sent: bool) -> Told
-        ensures { outcome_of result ≡ (if is_sent then outcome.Sent else outcome.Lost) }
+    /// What is told of a message that a device sends.
+    fn of_send(answer: Result<bool, Refusal>) -> Told
+        ensures { outcome_of result ≡ told_unless sending_told answer }
     {
-        if is_sent { Told::Sent } else { Told::Lost }
+        match answer {
+            Ok(true) => Told::Sent,
+            Ok(false) => Told::Lost,
+            Err(why) => Told::Refused(why),
+        }
     }
 
     /// What is told of a message that was repeated.
@@ -57,51 +38,81 @@ impl Told {
             Repeat::Nothing => Told::NoMessage,
         }
     }
+
+    /// What is told of an answer, by what the device does with it.
+    fn of_taken(taken: Taken) -> Told
+        ensures { outcome_of result ≡ taken_told taken }
+    {
+        match taken {
+            Taken::Kept => Told::Kept,
+            Taken::Stale => Told::Stale,
+            Taken::Refused => Told::AnswerRefused,
+        }
+    }
+
+    /// What is told of a message that arrives.
+    fn of_delivered(delivered: Delivered) -> Told
+        ensures { outcome_of result ≡ delivered_told delivered }
+    {
+        match delivered {
+            Delivered::NoMessage => Told::NoMessage,
+            Delivered::Answered(answer) => Told::Answered(answer),
+            Delivered::Taken(taken) => Told::of_taken(taken),
+            Delivered::Ignored => Told::Ignored,
+            Delivered::Invalidated(serial) => Told::Invalidated(serial),
+            Delivered::Closed(serial) => Told::Closed(serial),
+            Delivered::NotClosed(serial) => Told::NotClosed(serial),
+        }
+    }
 }
 
 impl World {
     /// A device asks for the translation of a page, in the epoch of its cache: `Sent`, or `Lost` where 64 messages
     /// are under way; `Refused(NoSuchDevice)`, and `Refused(WrongKind)` for a block device.
     pub(crate) fn ask(&mut self, id: DeviceId, page: PageNumber) -> Told
+        requires count { self.old.hardware.events + 1 < 2 ^ 64 }
         ensures does { AsksQuestion (parts_of self.old) id page (outcome_of result) (parts_of self.new) }
         ensures disks { disks_of self.new ≡ disks_of self.old }
-        ensures events { self.new.events ≡ self.old.events }
+        ensures events { self.new.hardware.events ≡ self.old.hardware.events + 1 }
     {
-        let Some(device) = self.device_with(id) else {
-            return Told::Refused(Refusal::NoSuchDevice);
-        };
-        if !device.kind.asks_questions() {
-            return Told::Refused(Refusal::WrongKind);
-        }
-        let epoch = device.epoch();
         // What it ensures is known from here on: the page is one of the address space.
         page.number();
-        Told::of_send(self.fabric.send(id, Message::Ask { epoch, page }))
+        Told::of_send(self.hardware.ask(id, page))
     }
 
     /// A device says that it completed the request with this number, whether it was asked or not: answered as a
     /// question is; only a raw device does so.
     pub(crate) fn forge(&mut self, id: DeviceId, serial: u64) -> Told
+        requires count { self.old.hardware.events + 1 < 2 ^ 64 }
         ensures does { ForgesCompletion (parts_of self.old) id serial (outcome_of result) (parts_of self.new) }
         ensures disks { disks_of self.new ≡ disks_of self.old }
-        ensures events { self.new.events ≡ self.old.events }
+        ensures events { self.new.hardware.events ≡ self.old.hardware.events + 1 }
     {
-        let Some(kind) = self.kind_of(id) else {
-            return Told::Refused(Refusal::NoSuchDevice);
-        };
-        if !kind.forges() {
-            return Told::Refused(Refusal::WrongKind);
-        }
-        Told::of_send(self.fabric.send(id, Message::InvDone { serial }))
+        Told::of_send(self.hardware.forge(id, serial))
+    }
+
+    /// The message at the place arrives, and is under way no more: `NoMessage` where there is none. A question is
+    /// `Answered`. An answer is `Kept`, `Stale` or `AnswerRefused`, and a request to invalidate `Invalidated`; a
+    /// device without a cache has `Ignored` them. A word that such a request is completed is `Closed` where that is
+    /// open for the device, and else `NotClosed`.
+    pub(crate) fn deliver(&mut self, place: u64) -> Told
+        requires count { self.old.hardware.events + 1 < 2 ^ 64 }
+        ensures does { DeliversMessage (parts_of self.old) place (outcome_of result) (parts_of self.new) }
+        ensures disks { disks_of self.new ≡ disks_of self.old }
+        ensures events { self.new.hardware.events ≡ self.old.hardware.events + 1 }
+    {
+        laws_below();
+        Told::of_delivered(self.hardware.deliver(place))
     }
 
     /// The message at the place is lost; `NoMessage` where there is none.
     pub(crate) fn drop_message(&mut self, place: u64) -> Told
+        requires count { self.old.hardware.events + 1 < 2 ^ 64 }
         ensures does { DropsMessage (parts_of self.old) place (outcome_of result) (parts_of self.new) }
         ensures disks { disks_of self.new ≡ disks_of self.old }
-        ensures events { self.new.events ≡ self.old.events }
+        ensures events { self.new.hardware.events ≡ self.old.hardware.events + 1 }
     {
-        if self.fabric.drop(place as usize) {
+        if self.hardware.drop_message(place) {
             Told::Dropped
         } else {
             Told::NoMessage
@@ -111,10 +122,11 @@ impl World {
     /// A copy of the message at the place is sent, and may be `Lost` where 64 are under way; `NoMessage` where there
     /// is none.
     pub(crate) fn repeat(&mut self, place: u64) -> Told
+        requires count { self.old.hardware.events + 1 < 2 ^ 64 }
         ensures does { RepeatsMessage (parts_of self.old) place (outcome_of result) (parts_of self.new) }
         ensures disks { disks_of self.new ≡ disks_of self.old }
-        ensures events { self.new.events ≡ self.old.events }
+        ensures events { self.new.hardware.events ≡ self.old.hardware.events + 1 }
     {
-        Told::of_repeat(self.fabric.repeat(place as usize))
+        Told::of_repeat(self.hardware.repeat(place))
     }
 }

@@ -1,5 +1,5 @@
 // Which devices there are, and how one is plugged in.
-ghost use Rattle.std.specs.Prelude.{◌≡◌, ◌↔◌, IsTrue, option_map};
+ghost use Rattle.std.specs.Prelude.{◌≡◌, ◌↔◌, ◌+◌, ◌<◌, ◌^◌, IsTrue, option_map};
 ghost use Rattle.iom_machine.specs.declared.event.Event.TheVariants as events;
 ghost use Rattle.iom_device.specs.Caches.{kind_in, device_with, epoch_in};
 ghost use Rattle.iom_world_effects.specs.Does.{PlugsDevice, disks_after};
@@ -16,23 +16,24 @@ use iom_device::Device;
 impl World {
     /// Whether a device is plugged in with this id.
     pub(crate) fn is_plugged(&self, id: DeviceId) -> bool
-        ensures { IsTrue result ↔ IsPresent self.now.devices.items id }
+        ensures { IsTrue result ↔ IsPresent self.now.hardware.devices.items id }
     {
-        self.devices.iter().any(|device| device.id == id)
+        self.hardware.devices.iter().any(|device| device.id == id)
     }
 
     /// The device with this id, if one is plugged in.
     pub(crate) fn device_with(&self, id: DeviceId) -> Option<&Device>
-        ensures { option_map (λ device. device.now) result ≡ device_with self.now.devices.items id }
+        ensures { option_map (λ device. device.now) result ≡ device_with self.now.hardware.devices.items id }
     {
-        self.devices.iter().find(|device| device.id == id)
+        self.hardware.devices.iter().find(|device| device.id == id)
     }
 
     /// What the device with this id is, if one is plugged in.
     pub fn kind_of(&self, id: DeviceId) -> Option<DeviceKind>
-        ensures { result ≡ kind_in self.now.devices.items id }
+        ensures { result ≡ kind_in self.now.hardware.devices.items id }
     {
-        self.devices
+        self.hardware
+            .devices
             .iter()
             .find(|device| device.id == id)
             .map(|device| device.kind)
@@ -40,7 +41,7 @@ impl World {
 
     /// The epoch of its cache; 0 where it has none, or isn't plugged in.
     pub fn epoch_of(&self, id: DeviceId) -> u64
-        ensures { result ≡ epoch_in self.now.devices.items id }
+        ensures { result ≡ epoch_in self.now.hardware.devices.items id }
     {
         match self.device_with(id) {
             Some(device) => device.epoch(),
@@ -51,30 +52,35 @@ impl World {
     /// A device is plugged in, attached to nothing and with nothing in flight; a block device with the disk that
     /// it names. The driver learns of it once there is room for it: so nothing is half done.
     pub(crate) fn plug(&mut self, id: DeviceId, what: NewDevice) -> Told
+        requires count { self.old.hardware.events + 1 < 2 ^ 64 }
         ensures does { PlugsDevice (disks_of self.old) (parts_of self.old) id what (outcome_of result) (parts_of self.new) }
         ensures disks { disks_of self.new ≡ disks_after (events.Plug id what) (outcome_of result) (disks_of self.old) }
-        ensures events { self.new.events ≡ self.old.events }
+        ensures events { self.new.hardware.events ≡ self.old.hardware.events + 1 }
     {
+        self.hardware.events += 1;
         let kind = what.kind();
         let disk = what.disk();
         if self.is_plugged(id) {
             return Told::Refused(Refusal::AlreadyPlugged);
         }
-        if self.devices.len() >= MAX_DEVICES {
+        if self.hardware.devices.len() >= MAX_DEVICES {
             return Told::Refused(Refusal::TooManyDevices);
         }
-        if is_missing(&self.disks, disk) {
+        if is_missing(&self.hardware.disks, disk) {
             return Told::Refused(Refusal::BadMedium);
         }
-        if self.devices.reserve(1).is_err() {
+        if self.hardware.devices.reserve(1).is_err() {
             return Told::Refused(Refusal::Memory);
         }
         if let Err(why) = self.driver.plug(id, kind.has_cache()) {
             return Told::Refused(why);
         }
-        self.iommu.add(id);
-        take_out(&mut self.disks, disk);
-        self.devices.push(Device::new(id, kind, disk)).unwrap();
+        self.hardware.iommu.add(id);
+        take_out(&mut self.hardware.disks, disk);
+        self.hardware
+            .devices
+            .push(Device::new(id, kind, disk))
+            .unwrap();
         Told::Done
     }
 }

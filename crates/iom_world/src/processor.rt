@@ -1,5 +1,5 @@
 // What the processor writes and reads, and what it is told of a frame.
-ghost use Rattle.std.specs.Prelude.{◌≡◌, ◌+◌, ◌≤◌, length};
+ghost use Rattle.std.specs.Prelude.{◌≡◌, ◌+◌, ◌<◌, ◌≤◌, ◌^◌, length};
 ghost use Rattle.iom_base.specs.Bytes.{with_bytes};
 ghost use Rattle.iom_world.specs.Seen.{parts_of, disks_of};
 ghost use Rattle.iom_world_effects.specs.Processor.{PokesBytes, PeeksBytes, AsksFree};
@@ -26,22 +26,24 @@ impl World {
     /// changes where it is told `BadSpan`, since they are none or too many or leave their frame,
     /// `FrameOutOfRange` or `FrameReserved`.
     pub(crate) fn poke(&mut self, address: u64, bytes: &[u8]) -> Told
+        requires count { self.old.hardware.events + 1 < 2 ^ 64 }
         ensures does { PokesBytes (parts_of self.old) address bytes.now (outcome_of result) (parts_of self.new) }
         ensures disks { disks_of self.new ≡ disks_of self.old }
-        ensures events { self.new.events ≡ self.old.events }
+        ensures events { self.new.hardware.events ≡ self.old.hardware.events + 1 }
     {
+        self.hardware.events += 1;
         laws_below();
         if Span::new(address, bytes.len() as u64).is_none() {
             return Told::BadSpan;
         }
         let number = address / PAGE_SIZE;
-        if number >= u64::from(self.memory.frames()) {
+        if number >= u64::from(self.hardware.memory.frames()) {
             return Told::Refused(Refusal::FrameOutOfRange);
         }
         if self.driver.is_reserved(number as u32) {
             return Told::Refused(Refusal::FrameReserved);
         }
-        let frame = self.memory.frame_mut(number as u32).unwrap();
+        let frame = self.hardware.memory.frame_mut(number as u32).unwrap();
         store(frame, (address % PAGE_SIZE) as usize, bytes);
         Told::Done
     }
@@ -50,21 +52,25 @@ impl World {
     /// place then; or `BadSpan`, or `FrameOutOfRange`. Nothing changes.
     #[inline(never)]
     pub(crate) fn peek<'a>(
-        &self,
+        &mut self,
         address: u64,
         len: u64,
         kept: &'a mut KeptOutcomes,
     ) -> &'a mut Outcome
-        ensures { PeeksBytes (parts_of self.now) address len result.now }
+        requires count { self.old.hardware.events + 1 < 2 ^ 64 }
+        ensures does { PeeksBytes (parts_of self.old) address len result.now × (parts_of self.new ≡ parts_of self.old) }
+        ensures disks { disks_of self.new ≡ disks_of self.old }
+        ensures events { self.new.hardware.events ≡ self.old.hardware.events + 1 }
     {
+        self.hardware.events += 1;
         if Span::new(address, len).is_none() {
             return kept.tell(Told::BadSpan);
         }
         let number = address / PAGE_SIZE;
-        if number >= u64::from(self.memory.frames()) {
+        if number >= u64::from(self.hardware.memory.frames()) {
             return kept.tell(Told::Refused(Refusal::FrameOutOfRange));
         }
-        let frame = self.memory.frame(number as u32).unwrap();
+        let frame = self.hardware.memory.frame(number as u32).unwrap();
         let offset = (address % PAGE_SIZE) as usize;
         tell_shown(&frame[offset..offset + len as usize], &mut kept.shown);
         &mut kept.shown
@@ -72,10 +78,14 @@ impl World {
 
     /// Whether the frame is free: no device holds it or may still reach it, and it isn't reserved.
     /// `FrameOutOfRange` where memory has no such frame. Nothing changes.
-    pub(crate) fn free(&self, frame: u64) -> Told
-        ensures { AsksFree (parts_of self.now) frame (outcome_of result) }
+    pub(crate) fn free(&mut self, frame: u64) -> Told
+        requires count { self.old.hardware.events + 1 < 2 ^ 64 }
+        ensures does { AsksFree (parts_of self.old) frame (outcome_of result) × (parts_of self.new ≡ parts_of self.old) }
+        ensures disks { disks_of self.new ≡ disks_of self.old }
+        ensures events { self.new.hardware.events ≡ self.old.hardware.events + 1 }
     {
-        if frame >= u64::from(self.memory.frames()) {
+        self.hardware.events += 1;
+        if frame >= u64::from(self.hardware.memory.frames()) {
             return Told::Refused(Refusal::FrameOutOfRange);
         }
         Told::Free(self.driver.is_free(frame as u32))

@@ -1,15 +1,19 @@
 // What a device asks of memory, and what it is answered.
 ghost use Rattle.std.specs.Prelude.{◌≡◌, ◌+◌, ◌<◌, ◌^◌};
 ghost use Rattle.iom_base.specs.Accesses.{read_of, write_of};
-ghost use Rattle.iom_iommu.specs.Parts.{flights_of};
 ghost use Rattle.iom_base.specs.DeviceKinds.{sends_untranslated};
-ghost use Rattle.iom_world_effects.specs.Requests.{AsksAccess, reply_told_of};
+ghost use Rattle.iom_hardware.specs.Senders.{untranslated_by};
+ghost use Rattle.iom_inflight.specs.Sound.{CarriesBytes};
+ghost use Rattle.iom_iommu.specs.Requests.{access_of};
+ghost use Rattle.iom_world_effects.specs.Requests.{AsksAccess, AsksTranslated, reply_told_of};
+ghost use Rattle.iom_world.specs.OnHardware.{told_unless};
 ghost use Rattle.iom_world.specs.Seen.{parts_of, disks_of};
 ghost use Rattle.iom_world.specs.Told.{outcome_of};
 
 use crate::told::Told;
 use crate::world::World;
 use iom_base::{AccessKind, DeviceId, Refusal};
+use iom_hardware::Sender;
 use iom_iommu::Reply;
 use iom_world_effects::laws_below;
 
@@ -25,52 +29,104 @@ impl Told {
             Reply::Fault(cause) => Told::Fault(cause),
         }
     }
+
+    /// What a request is told as.
+    fn of_request(answer: Result<Reply, Refusal>) -> Told
+        ensures { outcome_of result ≡ told_unless reply_told_of answer }
+    {
+        match answer {
+            Ok(reply) => Told::of_reply(reply),
+            Err(why) => Told::Refused(why),
+        }
+    }
 }
 
 impl World {
-    /// A device asks for a read of so many bytes at the address. `Accepted`, with the access's number
-    /// among the device's, where it is in flight now; else nothing is: `Refused(NoSuchDevice)`,
-    /// `Refused(WrongKind)` for a block device, `BadSpan`, `Busy`, or `Fault` with its cause, whose record goes into the fault queue.
+    /// A device asks for an access to so many bytes at the address. `Accepted`, with the access's number among the
+    /// device's, where it is in flight now; else nothing is: `Refused(NoSuchDevice)`, `Refused(WrongKind)` where its kind
+    /// sends none so, `BadSpan`, `Busy`, or `Fault` with its cause, whose record goes into the fault queue.
+    pub(crate) fn request(
+        &mut self,
+        sender: Sender,
+        id: DeviceId,
+        address: u64,
+        len: u64,
+        kind: AccessKind,
+        bytes: &[u8],
+    ) -> Told
+        requires count { self.old.hardware.events + 1 < 2 ^ 64 }
+        requires carries { CarriesBytes kind len bytes.now }
+        ensures does { AsksAccess (untranslated_by sender) (parts_of self.old) id (access_of address len kind bytes.now) (outcome_of result) (parts_of self.new) }
+        ensures fits { address < 2 ^ 64 }
+        ensures disks { disks_of self.new ≡ disks_of self.old }
+        ensures events { self.new.hardware.events ≡ self.old.hardware.events + 1 }
+    {
+        laws_below();
+        let answer = self.hardware.request(sender, id, address, len, kind, bytes);
+        Told::of_request(answer)
+    }
+
+    /// A device asks for a read of so many bytes at the address.
     pub(crate) fn read(&mut self, id: DeviceId, address: u64, len: u64) -> Told
-        requires below { (flights_of self.old.iommu).so_far < self.old.events }
-        requires count { (flights_of self.old.iommu).so_far + 1 < 2 ^ 64 }
+        requires count { self.old.hardware.events + 1 < 2 ^ 64 }
         ensures does { AsksAccess sends_untranslated (parts_of self.old) id (read_of address len) (outcome_of result) (parts_of self.new) }
         ensures fits { address < 2 ^ 64 }
         ensures disks { disks_of self.new ≡ disks_of self.old }
-        ensures events { self.new.events ≡ self.old.events }
+        ensures events { self.new.hardware.events ≡ self.old.hardware.events + 1 }
     {
-        laws_below();
-        let Some(kind) = self.kind_of(id) else {
-            return Told::Refused(Refusal::NoSuchDevice);
-        };
-        if !kind.sends_untranslated() {
-            return Told::Refused(Refusal::WrongKind);
-        }
-        Told::of_reply(
-            self.iommu
-                .request(&mut self.memory, id, address, len, AccessKind::Read, &[]),
-        )
+        self.request(Sender::Own, id, address, len, AccessKind::Read, &[])
     }
 
     /// A device asks for a write of the bytes at the address: answered as a read is.
     pub(crate) fn write(&mut self, id: DeviceId, address: u64, bytes: &[u8]) -> Told
-        requires below { (flights_of self.old.iommu).so_far < self.old.events }
-        requires count { (flights_of self.old.iommu).so_far + 1 < 2 ^ 64 }
+        requires count { self.old.hardware.events + 1 < 2 ^ 64 }
         ensures does { AsksAccess sends_untranslated (parts_of self.old) id (write_of address bytes.now) (outcome_of result) (parts_of self.new) }
         ensures fits { address < 2 ^ 64 }
         ensures disks { disks_of self.new ≡ disks_of self.old }
-        ensures events { self.new.events ≡ self.old.events }
+        ensures events { self.new.hardware.events ≡ self.old.hardware.events + 1 }
+    {
+        let len = bytes.len() as u64;
+        self.request(Sender::Own, id, address, len, AccessKind::Write, bytes)
+    }
+
+    /// A raw device asks for an access at an address of memory, and says that it is translated. Answered as an
+    /// untranslated one is; only a raw device does so.
+    fn translated(
+        &mut self,
+        id: DeviceId,
+        address: u64,
+        len: u64,
+        kind: AccessKind,
+        bytes: &[u8],
+    ) -> Told
+        requires count { self.old.hardware.events + 1 < 2 ^ 64 }
+        requires carries { CarriesBytes kind len bytes.now }
+        ensures does { AsksTranslated (parts_of self.old) id (access_of address len kind bytes.now) (outcome_of result) (parts_of self.new) }
+        ensures disks { disks_of self.new ≡ disks_of self.old }
+        ensures events { self.new.hardware.events ≡ self.old.hardware.events + 1 }
     {
         laws_below();
-        let Some(kind) = self.kind_of(id) else {
-            return Told::Refused(Refusal::NoSuchDevice);
-        };
-        if !kind.sends_untranslated() {
-            return Told::Refused(Refusal::WrongKind);
-        }
+        Told::of_request(self.hardware.translated(id, address, len, kind, bytes))
+    }
+
+    /// A raw device asks so for a read of so many bytes.
+    pub(crate) fn read_translated(&mut self, id: DeviceId, address: u64, len: u64) -> Told
+        requires count { self.old.hardware.events + 1 < 2 ^ 64 }
+        ensures does { AsksTranslated (parts_of self.old) id (read_of address len) (outcome_of result) (parts_of self.new) }
+        ensures disks { disks_of self.new ≡ disks_of self.old }
+        ensures events { self.new.hardware.events ≡ self.old.hardware.events + 1 }
+    {
+        self.translated(id, address, len, AccessKind::Read, &[])
+    }
+
+    /// A raw device asks so for a write of the bytes.
+    pub(crate) fn write_translated(&mut self, id: DeviceId, address: u64, bytes: &[u8]) -> Told
+        requires count { self.old.hardware.events + 1 < 2 ^ 64 }
+        ensures does { AsksTranslated (parts_of self.old) id (write_of address bytes.now) (outcome_of result) (parts_of self.new) }
+        ensures disks { disks_of self.new ≡ disks_of self.old }
+        ensures events { self.new.hardware.events ≡ self.old.hardware.events + 1 }
+    {
         let len = bytes.len() as u64;
-        Told::of_reply(
-            self.iommu.request(&mut self.memory, id, address, len, AccessKind::Write, bytes),
-        )
+        self.translated(id, address, len, AccessKind::Write, bytes)
     }
 }

@@ -10,6 +10,7 @@ use crate::world::World;
 use iom_base::MAX_DEVICES;
 use iom_driver::Driver;
 use iom_fabric::Fabric;
+use iom_hardware::Hardware;
 use iom_iommu::Iommu;
 use iom_phys_mem::{MemError, Memory};
 use iom_tlb::Ioatc;
@@ -73,14 +74,14 @@ impl World {
         };
         driver.start_from(first_fence, &mut memory, &mut iommu);
         let fabric = Fabric::new();
-        Ok(World {
+        let hardware = Hardware {
             memory,
             iommu,
-            driver,
             devices,
             fabric,
             disks: numbers,
             events: 0,
-        })
+        };
+        Ok(World { hardware, driver })
     }
 }

@@ -1,12 +1,10 @@
 // One event, and what comes of it.
-ghost use Rattle.std.specs.Prelude.{◌≡◌, ◌+◌, ◌<◌, ◌^◌, ℕ};
-ghost use Rattle.iom_iommu.specs.Parts.{flights_of};
+ghost use Rattle.std.specs.Prelude.{◌≡◌, ◌+◌, ◌<◌, ◌^◌};
 ghost use Rattle.iom_iommu.specs.Requests.{access_of};
 ghost use Rattle.iom_machine.specs.declared.event.Event.TheVariants as events;
 ghost use Rattle.iom_base.specs.Accesses.{MayWant};
 ghost use Rattle.iom_world_effects.specs.Below.{AddressFits, IsOfAts, IsOfRecovery, IsSeldom, IsOfBlockDevice};
 ghost use Rattle.iom_world_effects.specs.BlockDevices.{BeginsAccess, IsRest, Rests, TellsStatus};
-ghost use Rattle.iom_device.specs.Caches.{epoch_in};
 ghost use Rattle.iom_world_effects.specs.Does.{Does, disks_after};
 ghost use Rattle.iom_world.specs.Happens.{Happens};
 ghost use Rattle.iom_world_effects.specs.Stays.{IsNoChoice};
@@ -26,12 +24,10 @@ impl World {
     #[inline(never)]
     fn dispatch_ats<'a>(&mut self, event: &Event, kept: &'a mut KeptOutcomes) -> &'a mut Outcome
         requires event { IsOfAts event.now }
-        requires count { self.old.events < 2 ^ 64 }
-        requires below { (flights_of self.old.iommu).so_far < self.old.events }
-        requires epochs { (id : ℕ) → epoch_in self.old.devices.items id < self.old.events }
+        requires count { self.old.hardware.events + 1 < 2 ^ 64 }
         ensures does { Does (disks_of self.old) (parts_of self.old) event.now result.now (parts_of self.new) }
         ensures disks { disks_of self.new ≡ disks_after event.now result.now (disks_of self.old) }
-        ensures counted { self.new.events ≡ self.old.events }
+        ensures counted { self.new.hardware.events ≡ self.old.hardware.events + 1 }
     {
         match event {
             Event::ReadTranslated {
@@ -71,11 +67,10 @@ impl World {
         kept: &'a mut KeptOutcomes,
     ) -> &'a mut Outcome
         requires event { IsOfRecovery event.now }
-        requires count { self.old.events < 2 ^ 64 }
-        requires epochs { (id : ℕ) → epoch_in self.old.devices.items id < self.old.events }
+        requires count { self.old.hardware.events + 1 < 2 ^ 64 }
         ensures does { Does (disks_of self.old) (parts_of self.old) event.now result.now (parts_of self.new) }
         ensures disks { disks_of self.new ≡ disks_after event.now result.now (disks_of self.old) }
-        ensures counted { self.new.events ≡ self.old.events }
+        ensures counted { self.new.hardware.events ≡ self.old.hardware.events + 1 }
     {
         match event {
             Event::Quarantine { device } => kept.tell(self.quarantine(*device)),
@@ -91,11 +86,10 @@ impl World {
     #[inline(never)]
     fn dispatch_seldom<'a>(&mut self, event: &Event, kept: &'a mut KeptOutcomes) -> &'a mut Outcome
         requires event { IsSeldom event.now }
-        requires count { self.old.events < 2 ^ 64 }
-        requires epochs { (id : ℕ) → epoch_in self.old.devices.items id < self.old.events }
+        requires count { self.old.hardware.events + 1 < 2 ^ 64 }
         ensures does { Does (disks_of self.old) (parts_of self.old) event.now result.now (parts_of self.new) }
         ensures disks { disks_of self.new ≡ disks_after event.now result.now (disks_of self.old) }
-        ensures counted { self.new.events ≡ self.old.events }
+        ensures counted { self.new.hardware.events ≡ self.old.hardware.events + 1 }
     {
         match event {
             Event::Plug { device, new: what } => kept.tell(self.plug(*device, *what)),
@@ -111,11 +105,10 @@ impl World {
     #[inline(never)]
     fn dispatch_block<'a>(&mut self, event: &Event, kept: &'a mut KeptOutcomes) -> &'a mut Outcome
         requires event { IsOfBlockDevice event.now }
-        requires count { self.old.events < 2 ^ 64 }
-        requires epochs { (id : ℕ) → epoch_in self.old.devices.items id < self.old.events }
+        requires count { self.old.hardware.events + 1 < 2 ^ 64 }
         ensures does { Does (disks_of self.old) (parts_of self.old) event.now result.now (parts_of self.new) }
         ensures disks { disks_of self.new ≡ disks_after event.now result.now (disks_of self.old) }
-        ensures counted { self.new.events ≡ self.old.events }
+        ensures counted { self.new.hardware.events ≡ self.old.hardware.events + 1 }
     {
         match event {
             Event::Medium { device, disk } => kept.tell(self.medium(*device, *disk)),
@@ -130,18 +123,17 @@ impl World {
         }
     }
 
-    /// The event is counted, and goes to whom it is for.
+    /// The event goes to whom it is for, and is counted.
     // Written into the loop of a run, as `take` is: a call would save and restore registers for each event.
     #[inline(always)]
     fn dispatch<'a>(&mut self, event: &Event, kept: &'a mut KeptOutcomes) -> &'a mut Outcome
         requires event { IsNoChoice event.now }
-        requires count { self.old.events + 1 < 2 ^ 64 }
+        requires count { self.old.hardware.events + 1 < 2 ^ 64 }
         ensures does { Does (disks_of self.old) (parts_of self.old) event.now result.now (parts_of self.new) }
         ensures disks { disks_of self.new ≡ disks_after event.now result.now (disks_of self.old) }
         ensures fits { AddressFits event.now }
-        ensures counted { self.new.events ≡ self.old.events + 1 }
+        ensures counted { self.new.hardware.events ≡ self.old.hardware.events + 1 }
     {
-        self.events += 1;
         match event {
             Event::Grant {
                 device,
@@ -189,7 +181,7 @@ impl World {
     #[inline(always)]
     pub fn take<'a>(&mut self, event: &Event, kept: &'a mut KeptOutcomes) -> &'a mut Outcome
         requires event { IsNoChoice event.now }
-        requires count { self.old.events + 1 < 2 ^ 64 }
+        requires count { self.old.hardware.events + 1 < 2 ^ 64 }
         ensures { Happens self.old event.now result.now self.new }
     {
         laws_below();
@@ -199,7 +191,7 @@ impl World {
     /// The same, with an outcome of its own.
     pub fn step(&mut self, event: &Event) -> Outcome
         requires event { IsNoChoice event.now }
-        requires count { self.old.events + 1 < 2 ^ 64 }
+        requires count { self.old.hardware.events + 1 < 2 ^ 64 }
         ensures { Happens self.old event.now result self.new }
     {
         let mut kept = KeptOutcomes::new();
@@ -219,12 +211,11 @@ impl World {
         kept: &'a mut KeptOutcomes,
     ) -> &'a mut Outcome
         requires wants { MayWant (access_of address len kind bytes.now) }
-        requires count { self.old.events + 1 < 2 ^ 64 }
+        requires count { self.old.hardware.events + 1 < 2 ^ 64 }
         ensures happens { Happens self.old (events.Step device) result.now self.new }
         ensures begins { BeginsAccess (parts_of self.old) device (access_of address len kind bytes.now) result.now (parts_of self.new) }
     {
         laws_below();
-        self.events += 1;
         self.access(device, address, len, kind, bytes, kept)
     }
 
@@ -236,12 +227,12 @@ impl World {
         kept: &'a mut KeptOutcomes,
     ) -> &'a mut Outcome
         requires rests { IsRest step }
-        requires count { self.old.events + 1 < 2 ^ 64 }
+        requires count { self.old.hardware.events + 1 < 2 ^ 64 }
         ensures happens { Happens self.old (events.Step device) result.now self.new }
         ensures rests { Rests (parts_of self.old) device step result.now (parts_of self.new) }
     {
         laws_below();
-        self.events += 1;
+        self.hardware.events += 1;
         kept.tell(self.stepped(device, step))
     }
 
@@ -252,19 +243,19 @@ impl World {
         status: u8,
         kept: &'a mut KeptOutcomes,
     ) -> &'a mut Outcome
-        requires count { self.old.events + 1 < 2 ^ 64 }
+        requires count { self.old.hardware.events + 1 < 2 ^ 64 }
         ensures happens { Happens self.old (events.Status device) result.now self.new }
         ensures tells { TellsStatus (parts_of self.old) device status result.now (parts_of self.new) }
     {
         laws_below();
-        self.events += 1;
+        self.hardware.events += 1;
         kept.tell(self.has_status(device, status))
     }
 
     /// How many events there were since power-on.
     pub fn events(&self) -> u64
-        ensures { result ≡ self.now.events }
+        ensures { result ≡ self.now.hardware.events }
     {
-        self.events
+        self.hardware.events
     }
 }

@@ -2,7 +2,6 @@
 // keeps on the stack, and the choice between them stays short enough to be written into the loop of a run.
 ghost use Rattle.std.specs.Prelude.{◌≡◌, ◌+◌, ◌<◌, ◌^◌};
 ghost use Rattle.iom_base.specs.Accesses.{read_of, write_of};
-ghost use Rattle.iom_iommu.specs.Parts.{flights_of, slots_of};
 ghost use Rattle.iom_base.specs.DeviceKinds.{sends_untranslated};
 ghost use Rattle.iom_world_effects.specs.Does.{GrantsPage, ReleasesPage, FetchesNext, PollsTickets};
 ghost use Rattle.iom_world_effects.specs.Processor.{PokesBytes};
@@ -25,9 +24,10 @@ impl World {
         rights: GrantRights,
         kept: &'a mut KeptOutcomes,
     ) -> &'a mut Outcome
+        requires count { self.old.hardware.events + 1 < 2 ^ 64 }
         ensures does { GrantsPage (parts_of self.old) id page frame rights result.now (parts_of self.new) }
         ensures disks { disks_of self.new ≡ disks_of self.old }
-        ensures events { self.new.events ≡ self.old.events }
+        ensures events { self.new.hardware.events ≡ self.old.hardware.events + 1 }
     {
         kept.tell(self.grant(id, page, frame, rights))
     }
@@ -40,9 +40,10 @@ impl World {
         page: u64,
         kept: &'a mut KeptOutcomes,
     ) -> &'a mut Outcome
+        requires count { self.old.hardware.events + 1 < 2 ^ 64 }
         ensures does { ReleasesPage (parts_of self.old) id page result.now (parts_of self.new) }
         ensures disks { disks_of self.new ≡ disks_of self.old }
-        ensures events { self.new.events ≡ self.old.events }
+        ensures events { self.new.hardware.events ≡ self.old.hardware.events + 1 }
     {
         kept.tell(self.release(id, page))
     }
@@ -50,11 +51,10 @@ impl World {
     /// What [`World::fetch`] tells.
     #[inline(never)]
     pub(crate) fn tell_fetch<'a>(&mut self, kept: &'a mut KeptOutcomes) -> &'a mut Outcome
-        requires below { (slots_of self.old.iommu).last < self.old.events }
-        requires count { (slots_of self.old.iommu).last + 1 < 2 ^ 64 }
+        requires count { self.old.hardware.events + 1 < 2 ^ 64 }
         ensures does { FetchesNext (parts_of self.old) result.now (parts_of self.new) }
         ensures disks { disks_of self.new ≡ disks_of self.old }
-        ensures events { self.new.events ≡ self.old.events }
+        ensures events { self.new.hardware.events ≡ self.old.hardware.events + 1 }
     {
         kept.tell_fetched(self.fetch())
     }
@@ -62,9 +62,10 @@ impl World {
     /// What [`World::poll`] tells.
     #[inline(never)]
     pub(crate) fn tell_poll<'a>(&mut self, kept: &'a mut KeptOutcomes) -> &'a mut Outcome
+        requires count { self.old.hardware.events + 1 < 2 ^ 64 }
         ensures does { PollsTickets (parts_of self.old) result.now (parts_of self.new) }
         ensures disks { disks_of self.new ≡ disks_of self.old }
-        ensures events { self.new.events ≡ self.old.events }
+        ensures events { self.new.hardware.events ≡ self.old.hardware.events + 1 }
     {
         kept.tell(self.poll())
     }
@@ -78,12 +79,11 @@ impl World {
         len: u64,
         kept: &'a mut KeptOutcomes,
     ) -> &'a mut Outcome
-        requires below { (flights_of self.old.iommu).so_far < self.old.events }
-        requires count { (flights_of self.old.iommu).so_far + 1 < 2 ^ 64 }
+        requires count { self.old.hardware.events + 1 < 2 ^ 64 }
         ensures does { AsksAccess sends_untranslated (parts_of self.old) id (read_of address len) result.now (parts_of self.new) }
         ensures fits { address < 2 ^ 64 }
         ensures disks { disks_of self.new ≡ disks_of self.old }
-        ensures events { self.new.events ≡ self.old.events }
+        ensures events { self.new.hardware.events ≡ self.old.hardware.events + 1 }
     {
         kept.tell(self.read(id, address, len))
     }
@@ -97,12 +97,11 @@ impl World {
         bytes: &[u8],
         kept: &'a mut KeptOutcomes,
     ) -> &'a mut Outcome
-        requires below { (flights_of self.old.iommu).so_far < self.old.events }
-        requires count { (flights_of self.old.iommu).so_far + 1 < 2 ^ 64 }
+        requires count { self.old.hardware.events + 1 < 2 ^ 64 }
         ensures does { AsksAccess sends_untranslated (parts_of self.old) id (write_of address bytes.now) result.now (parts_of self.new) }
         ensures fits { address < 2 ^ 64 }
         ensures disks { disks_of self.new ≡ disks_of self.old }
-        ensures events { self.new.events ≡ self.old.events }
+        ensures events { self.new.hardware.events ≡ self.old.hardware.events + 1 }
     {
         kept.tell(self.write(id, address, bytes))
     }
@@ -115,9 +114,10 @@ impl World {
         bytes: &[u8],
         kept: &'a mut KeptOutcomes,
     ) -> &'a mut Outcome
+        requires count { self.old.hardware.events + 1 < 2 ^ 64 }
         ensures does { PokesBytes (parts_of self.old) address bytes.now result.now (parts_of self.new) }
         ensures disks { disks_of self.new ≡ disks_of self.old }
-        ensures events { self.new.events ≡ self.old.events }
+        ensures events { self.new.hardware.events ≡ self.old.hardware.events + 1 }
     {
         kept.tell(self.poke(address, bytes))
     }

@@ -11,5 +11,5 @@ invariant-loop-line g l =
     record {
       ran : (state : State) → Shows l.fn.platform.world state
           → RunsAlong g.W.Write.contents state (platform_seen g.D.Disk.seen l.fn.platform) (take l.line-index l.script) l.fn.lines l.lines (platform_seen g.D.Disk.seen l.platform);
-      counted : l.platform.world.events ≤ l.fn.platform.world.events + 400 * l.line-index;
+      counted : l.platform.world.hardware.events ≤ l.fn.platform.world.hardware.events + 400 * l.line-index;
     }

@@ -12,5 +12,5 @@ invariant-loop-event g l =
       ran : (state : State) → Shows l.fn.self.world state
           → RunsTo g.S.Sink.wants g.S.Sink.takes state (platform_seen g.D.Disk.seen l.fn.self) (take l.event-index l.events) l.fn.sink l.sink
           (platform_seen g.D.Disk.seen l.self);
-      counted : l.self.world.events ≡ l.fn.self.world.events + l.event-index;
+      counted : l.self.world.hardware.events ≡ l.fn.self.world.hardware.events + l.event-index;
     }

@@ -1,17 +1,18 @@
 use Rattle.iom_world.specs.Seen.{parts_of}
 use Rattle.iom_world_effects.specs.Parts.{Parts}
 use Rattle.iom_driver.specs.Seen.{state_of}
-use Rattle.std.proofs.Common.{refl}
+use Rattle.std.proofs.Common.{◌+◌, refl}
 use Rattle.iom_world_effects.specs.Answers.{told_of}
 use Rattle.iom_world_invariant.proofs.DriverKeeps.{keeps_attached}
 use Rattle.iom_world_effects.proofs.DriverLemmas.{sound_driver}
+use Rattle.iom_world.proofs.OfHardware.{counted}
 use Rattle.iom_world.proofs.world.World.attach.Goals as goal
 
 pub invariant_of-self : goal.invariant_of-self
 invariant_of-self c =
     let world = c.args.self.now in
-    let new : Parts = record { memory = c.attach.new.memory; iommu = world.iommu; driver = state_of c.attach.new.self; devices = world.devices.items; fabric = world.fabric } in
+    let new : Parts = record { memory = c.attach.new.memory; iommu = world.hardware.iommu; driver = state_of c.attach.new.self; devices = world.hardware.devices.items; fabric = world.hardware.fabric } in
     record {
-      sound = keeps_attached (parts_of world) new world.events c.args.id c.args.mode c.args.ats (told_of c.attach.result) world.sound (sound_driver world.driver) (c.attach.ensures.ready _ world.sound.ready)
+      sound = keeps_attached (parts_of world) new (world.hardware.events + 1) c.args.id c.args.mode c.args.ats (told_of c.attach.result) (counted world) (sound_driver world.driver) (c.attach.ensures.ready _ (counted world).ready)
           record { answer = c.attach.result; told_so = refl; call = c.attach.ensures.effect; iommu = refl; devices = refl; fabric = refl };
     }

@@ -38,10 +38,10 @@ asks_so : (c : After-send) → AsksIfMissed outcome.Miss (parts_of c.through_cac
 asks_so c =
     let between = c.through_cache-told.new.self in
     let page = subst (λ o. IfSome o (λ p. p ≡ c.args.address / 4096)) c.unwrap-page.ensures c.new.ensures.value in
-    let fabric = sent_as between.fabric c.send.new.self c.args.id (sent.Ask c.epoch_of-epoch.result c.unwrap-page.result) c.send.result c.send.ensures.room c.send.ensures.sent c.send.ensures.lost in (
+    let fabric = sent_as between.hardware.fabric c.send.new.self c.args.id (sent.Ask c.epoch_of-epoch.result c.unwrap-page.result) c.send.result c.send.ensures.room c.send.ensures.sent c.send.ensures.lost in (
       refl,
       ap (λ (f : List OnLink). record (parts_of between) { fabric = f })
-          (fabric ∙ ap (λ n. with_sent between.fabric c.args.id (sent.Ask n c.unwrap-page.result)) c.epoch_of-epoch.ensures ∙ ap (λ p. with_sent between.fabric c.args.id (sent.Ask (epoch_in between.devices.items c.args.id) p)) page),
+          (fabric ∙ ap (λ n. with_sent between.hardware.fabric c.args.id (sent.Ask n c.unwrap-page.result)) c.epoch_of-epoch.ensures ∙ ap (λ p. with_sent between.hardware.fabric c.args.id (sent.Ask (epoch_in between.hardware.devices.items c.args.id) p)) page),
     )
 
 tries_so : (c : After-send) → AsksThroughCache is_block_device (parts_of c.args.self.now) c.args.id (access_of c.args.address c.args.len c.args.kind c.args.bytes.now) outcome.Miss (parts_of c.through_cache-told.new.self)
@@ -53,7 +53,7 @@ pub invariant_of-self : goal.invariant_of-self
 invariant_of-self c =
     let between = c.through_cache-told.new.self in
     record {
-      sound = asked_sound outcome.Miss (parts_of c.args.self.now) (parts_of between) (record (parts_of between) { fabric = c.send.new.self }) between.events c.args.id
+      sound = asked_sound outcome.Miss (parts_of c.args.self.now) (parts_of between) (record (parts_of between) { fabric = c.send.new.self }) between.hardware.events c.args.id
           (access_of c.args.address c.args.len c.args.kind c.args.bytes.now) (outcome.Stepped Asked) between.sound c.ranges.address.fits (tries_so c) (asks_so c);
     }
 

@@ -1,47 +1,35 @@
-use Rattle.std.proofs.Common.{◌≡◌, ◌∙◌, List, Option, None, remove, slice_get, refl, sym, ap, subst, arith}
-use Rattle.iom_driver.specs.Seen.{state_of}
-use Rattle.iom_fabric.specs.declared.fabric.OnLink.{OnLink}
-use Rattle.iom_world_effects.specs.Deliveries.{ArrivesIfAny, Arrives}
-use Rattle.iom_world_effects.specs.Parts.{Parts}
-use Rattle.iom_world.specs.Seen.{parts_of}
-use Rattle.iom_world.specs.Told.{outcome_of}
-use Rattle.iom_world_invariant.proofs.AskedLemmas.{service_laws}
-use Rattle.iom_world_refinement.proofs.DeliverStep.{removed_none, keeps_arrived}
+use Rattle.std.proofs.Common.{◌+◌, refl, sym, subst}
+use Rattle.iom_machine.specs.declared.outcome.Outcome.{Outcome}
+use Rattle.iom_world_effects.specs.Deliveries.{DeliversMessage}
 use Rattle.iom_world_effects.proofs.DriverLemmas.{sound_driver}
-use Rattle.iom_world_invariant.proofs.MessageKeeps.{dropped_sound}
 use Rattle.iom_world_effects.proofs.PartsLemmas.{stays_of, reported_of}
+use Rattle.iom_world_invariant.proofs.AskedLemmas.{service_laws}
+use Rattle.iom_world_refinement.proofs.EventLemmas.{epochs_counted}
+use Rattle.iom_world.specs.OnHardware.{delivered_told}
+use Rattle.iom_world.proofs.OfHardware.{keeps_delivered}
+use Rattle.iom_world.proofs.InParts.{delivered_in_parts}
+use Rattle.iom_world.proofs.OfHardware.{with_driver, counted, at_count, hardware_sound}
+use Rattle.iom_world.specs.Seen.{parts_of}
+use Rattle.iom_driver.specs.Seen.{state_of}
 use Rattle.iom_world.proofs.world.World.deliver.Goals as goal
+
+pub deliver-requires-clause-sound : goal.deliver-requires-clause-sound
+deliver-requires-clause-sound c = let world = c.args.self.now in hardware_sound (parts_of world) world.hardware.events world.sound
 
 pub invariant_of-self : goal.invariant_of-self
 invariant_of-self c =
     let world = c.args.self.now in
-    record { sound = rw c.take.ensures.rest (dropped_sound (parts_of world) world.events c.args.place world.sound) }
-
-pub returns-in_default-clause-does : goal.returns-in_default-clause-does
-returns-in_default-clause-does c =
-    let world = c.args.self.now in
-    let none : slice_get world.fabric c.args.place ≡ None = sym c.take.ensures.taken ∙ c.in_default.is in
-    let same = c.take.ensures.rest ∙ removed_none world.fabric c.args.place none in
-    rw none (refl, ap (λ (f : List OnLink). record (parts_of world) { fabric = f }) same)
-
-pub arrive-requires-clause-epoch : goal.arrive-requires-clause-epoch
-arrive-requires-clause-epoch c = let below = c.requires.epochs c.in-Some.on.device in let count = c.requires.count in omega (arith, below, count)
-
-pub invariant_of-self-2 : goal.invariant_of-self-2
-invariant_of-self-2 c =
-    let world = c.args.self.now in
-    let driver = state_of world.driver in
-    let new : Parts = record { memory = c.arrive.new.memory; iommu = c.arrive.new.iommu; driver = driver; devices = c.arrive.new.devices.items; fabric = c.arrive.new.fabric } in
-    let arrives = subst (λ (f : List OnLink). Arrives c.in-Some.on.message (parts_of world) c.in-Some.on.device f (outcome_of c.arrive.result) new) c.take.ensures.rest (c.arrive.ensures driver world.fabric) in
+    let new = with_driver c.deliver.new.self (state_of world.driver) in
+    let effect = delivered_in_parts (parts_of world) new refl c.args.place c.deliver.result c.deliver.ensures.effect in
     record {
-      sound = keeps_arrived (service_laws c.laws_below.ensures) (parts_of world) new world.events c.args.place (outcome_of c.arrive.result) world.sound (sound_driver world.driver)
-          (reported_of c.laws_below.ensures.reported world.driver) (stays_of c.laws_below.ensures.stays world.driver) c.requires.epochs c.in-Some.on (sym c.take.ensures.taken ∙ c.in-Some.is) arrives;
+      sound = at_count new (world.hardware.events + 1) c.deliver.new.self.events c.deliver.ensures.counted.events
+          (keeps_delivered (service_laws c.laws_below.ensures) (parts_of world) new (world.hardware.events + 1) c.args.place (delivered_told c.deliver.result) (counted world) (sound_driver world.driver)
+          (reported_of c.laws_below.ensures.reported world.driver) (stays_of c.laws_below.ensures.stays world.driver) (epochs_counted (parts_of world) world.hardware.events world.sound) effect);
     }
 
 pub returns-clause-does : goal.returns-clause-does
 returns-clause-does c =
     let world = c.args.self.now in
-    let driver = state_of world.driver in
-    let new : Parts = record { memory = c.arrive.new.memory; iommu = c.arrive.new.iommu; driver = driver; devices = c.arrive.new.devices.items; fabric = c.arrive.new.fabric } in
-    let arrives = subst (λ (f : List OnLink). Arrives c.in-Some.on.message (parts_of world) c.in-Some.on.device f (outcome_of c.arrive.result) new) c.take.ensures.rest (c.arrive.ensures driver world.fabric) in
-    subst (λ (o : Option OnLink). ArrivesIfAny o (parts_of world) (remove world.fabric c.args.place) (outcome_of c.arrive.result) new) (sym (sym c.take.ensures.taken ∙ c.in-Some.is)) arrives
+    let new = with_driver c.deliver.new.self (state_of world.driver) in
+    subst (λ (told : Outcome). DeliversMessage (parts_of world) c.args.place told new) (sym c.of_delivered.ensures)
+    (delivered_in_parts (parts_of world) new refl c.args.place c.deliver.result c.deliver.ensures.effect)

@@ -1,23 +1,31 @@
-use Rattle.std.proofs.Common.{refl, sym, ap, ◌∙◌}
-use Rattle.iom_driver.specs.Seen.{state_of}
+use Rattle.std.proofs.Common.{◌+◌, refl, sym, subst}
 use Rattle.iom_machine.specs.declared.outcome.Outcome.TheVariants as outcome
-use Rattle.iom_world_effects.specs.Does.{fetch_named}
-use Rattle.iom_world_effects.specs.Parts.{Parts}
-use Rattle.iom_world.specs.Seen.{parts_of}
+use Rattle.iom_world_effects.specs.Does.{FetchesNext, fetch_named}
 use Rattle.iom_world_effects.proofs.DriverLemmas.{sound_driver}
 use Rattle.iom_world_effects.proofs.PartsLemmas.{stays_of}
 use Rattle.iom_world_invariant.proofs.FetchKeeps.{keeps_fetched}
+use Rattle.iom_world_refinement.proofs.EventLemmas.{serials_counted}
+use Rattle.iom_world.proofs.InParts.{fetched_in_parts}
+use Rattle.iom_world.proofs.OfHardware.{with_driver, counted, at_count, hardware_sound}
+use Rattle.iom_world.specs.Seen.{parts_of}
+use Rattle.iom_driver.specs.Seen.{state_of}
 use Rattle.iom_world.proofs.world.World.fetch.Goals as goal
-use Rattle.iom_world_effects.specs.Messages.{with_fetched}
 
-pub fetch-answer-requires-clause-memory : goal.fetch-answer-requires-clause-memory
-fetch-answer-requires-clause-memory c = sym c.args.self.now.sound.size
+pub fetch-requires-clause-sound : goal.fetch-requires-clause-sound
+fetch-requires-clause-sound c = let world = c.args.self.now in hardware_sound (parts_of world) world.hardware.events world.sound
 
 pub invariant_of-self : goal.invariant_of-self
 invariant_of-self c =
     let world = c.args.self.now in
-    let new : Parts = record { memory = c.fetch-answer.new.memory; iommu = c.fetch-answer.new.self; driver = state_of world.driver; devices = world.devices.items; fabric = c.send_opened.new.fabric } in
+    let new = with_driver c.fetch.new.self (state_of world.driver) in
     record {
-      sound = keeps_fetched (parts_of world) new world.events (outcome.Fetched (fetch_named c.fetch-answer.result)) world.sound (sound_driver world.driver) (stays_of c.laws_below.ensures.stays world.driver) c.requires.below
-          record { answer = c.fetch-answer.result; told_so = refl; call = c.fetch-answer.ensures; driver = refl; devices = refl; fabric = c.send_opened.ensures ∙ ap (λ opened. with_fetched c.fetch-answer.result opened world.fabric) c.opened.ensures };
+      sound = at_count new (world.hardware.events + 1) c.fetch.new.self.events c.fetch.ensures.counted.events
+          (keeps_fetched (parts_of world) new (world.hardware.events + 1) (outcome.Fetched (fetch_named c.fetch.result)) (counted world) (sound_driver world.driver) (stays_of c.laws_below.ensures.stays world.driver)
+          (serials_counted (parts_of world) world.hardware.events world.sound) (fetched_in_parts (parts_of world) new refl c.fetch.result c.fetch.ensures.effect));
     }
+
+pub returns-clause-does : goal.returns-clause-does
+returns-clause-does c =
+    let world = c.args.self.now in
+    let new = with_driver c.fetch.new.self (state_of world.driver) in
+    subst (λ f. FetchesNext (parts_of world) (outcome.Fetched f) new) (sym c.named.ensures) (fetched_in_parts (parts_of world) new refl c.fetch.result c.fetch.ensures.effect)

@@ -1,18 +1,19 @@
-use Rattle.std.proofs.Common.{refl}
+use Rattle.std.proofs.Common.{◌+◌, refl}
 use Rattle.iom_driver.specs.Seen.{state_of}
 use Rattle.iom_world_effects.specs.Answers.{told_of}
 use Rattle.iom_world_effects.specs.Parts.{Parts}
 use Rattle.iom_world.specs.Seen.{parts_of}
 use Rattle.iom_world_invariant.proofs.DriverKeeps.{keeps_granted}
 use Rattle.iom_world_effects.proofs.DriverLemmas.{sound_driver}
+use Rattle.iom_world.proofs.OfHardware.{counted}
 use Rattle.iom_world.proofs.world.World.grant.Goals as goal
 
 pub invariant_of-self : goal.invariant_of-self
 invariant_of-self c =
     let world = c.args.self.now in
-    let new : Parts = record { memory = c.grant.new.memory; iommu = world.iommu; driver = state_of c.grant.new.self; devices = world.devices.items; fabric = world.fabric } in
+    let new : Parts = record { memory = c.grant.new.memory; iommu = world.hardware.iommu; driver = state_of c.grant.new.self; devices = world.hardware.devices.items; fabric = world.hardware.fabric } in
     record {
-      sound = keeps_granted (parts_of world) new world.events c.args.id c.args.page c.args.frame c.args.rights (told_of c.grant.result) world.sound (sound_driver world.driver)
-          (c.grant.ensures.ready _ world.sound.ready)
+      sound = keeps_granted (parts_of world) new (world.hardware.events + 1) c.args.id c.args.page c.args.frame c.args.rights (told_of c.grant.result) (counted world) (sound_driver world.driver)
+          (c.grant.ensures.ready _ (counted world).ready)
           record { answer = c.grant.result; told_so = refl; call = c.grant.ensures.effect; iommu = refl; devices = refl; fabric = refl };
     }

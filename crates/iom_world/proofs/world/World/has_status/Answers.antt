@@ -5,4 +5,4 @@ use Rattle.iom_world.proofs.world.World.has_status.Goals as goal
 pub returns-in_default : goal.returns-in_default
 returns-in_default c =
     let world = c.args.self.now in
-    inl (record { absent = kind_absent world.devices.items c.args.id (sym c.kind_of.ensures ∙ c.in_default.is); told_so = refl; same = refl })
+    inl (record { absent = kind_absent world.hardware.devices.items c.args.id (sym c.kind_of.ensures ∙ c.in_default.is); told_so = refl; same = refl })

@@ -1,14 +1,18 @@
-use Rattle.std.proofs.Common.{◌∙◌, ◌/◌, sym, arith}
+use Rattle.std.proofs.Common.{◌+◌, ◌∙◌, ◌/◌, sym, arith}
 use Rattle.iom_world.specs.Seen.{parts_of}
 use Rattle.iom_world_effects.proofs.DriverLemmas.{sound_driver}
 use Rattle.iom_world_effects.proofs.PartsLemmas.{stays_of}
 use Rattle.iom_world_invariant.proofs.ProcessorKeeps.{keeps_stored}
 use Rattle.iom_world_effects.proofs.SoundFrom.{unmarked}
+use Rattle.iom_world.proofs.OfHardware.{counted}
 use Rattle.iom_world.proofs.world.World.poke.Goals as goal
 
 pub invariant_of-self : goal.invariant_of-self
-invariant_of-self c =
+invariant_of-self c = record { sound = counted c.args.self.now }
+
+pub invariant_of-self-2 : goal.invariant_of-self-2
+invariant_of-self-2 c =
     let world = c.args.self.now in
     let n = c.args.address / 4096 in
     let free = unmarked world.driver.marks n (rw (sym world.sound.ready.stand.size) (omega arith)) (sym c.is_reserved.ensures ∙ c.if-is_reserved.false) in
-    record { sound = keeps_stored (parts_of world) n c.store.new.frame world.events world.sound (sound_driver world.driver) (stays_of c.laws_below.ensures.stays world.driver) free }
+    record { sound = keeps_stored (parts_of world) n c.store.new.frame (world.hardware.events + 1) (counted world) (sound_driver world.driver) (stays_of c.laws_below.ensures.stays world.driver) free }

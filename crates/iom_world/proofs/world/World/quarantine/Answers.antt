@@ -1,17 +1,18 @@
-use Rattle.std.proofs.Common.{refl}
+use Rattle.std.proofs.Common.{◌+◌, refl}
 use Rattle.iom_driver.specs.Seen.{state_of}
 use Rattle.iom_world_effects.specs.Answers.{ticket_told_of}
 use Rattle.iom_world_effects.specs.Parts.{Parts}
 use Rattle.iom_world.specs.Seen.{parts_of}
 use Rattle.iom_world_effects.proofs.DriverLemmas.{sound_driver}
 use Rattle.iom_world_invariant.proofs.QuarantineKeeps.{keeps_quarantined}
+use Rattle.iom_world.proofs.OfHardware.{counted}
 use Rattle.iom_world.proofs.world.World.quarantine.Goals as goal
 
 pub invariant_of-self : goal.invariant_of-self
 invariant_of-self c =
     let world = c.args.self.now in
-    let new : Parts = record { memory = c.quarantine-answer.new.memory; iommu = c.quarantine-answer.new.io; driver = state_of c.quarantine-answer.new.self; devices = world.devices.items; fabric = world.fabric } in
+    let new : Parts = record { memory = c.quarantine-answer.new.memory; iommu = c.quarantine-answer.new.io; driver = state_of c.quarantine-answer.new.self; devices = world.hardware.devices.items; fabric = world.hardware.fabric } in
     record {
-      sound = keeps_quarantined (parts_of world) new world.events c.args.id (ticket_told_of c.quarantine-answer.result) world.sound (sound_driver world.driver) c.quarantine-answer.ensures.ready
+      sound = keeps_quarantined (parts_of world) new (world.hardware.events + 1) c.args.id (ticket_told_of c.quarantine-answer.result) (counted world) (sound_driver world.driver) c.quarantine-answer.ensures.ready
           record { answer = c.quarantine-answer.result; told_so = refl; call = c.quarantine-answer.ensures.effect; devices = refl; fabric = refl };
     }

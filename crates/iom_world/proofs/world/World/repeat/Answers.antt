@@ -1,8 +1,29 @@
+use Rattle.std.proofs.Common.{◌+◌, refl, sym, subst}
+use Rattle.iom_machine.specs.declared.outcome.Outcome.{Outcome}
+use Rattle.iom_world_effects.specs.Messages.{RepeatsMessage, repeat_told}
+use Rattle.iom_world_invariant.proofs.MessageKeeps.{keeps_repeated}
+use Rattle.iom_world.proofs.InParts.{repeated_in_parts}
+use Rattle.iom_world.proofs.OfHardware.{with_driver, counted, at_count, hardware_sound}
 use Rattle.iom_world.specs.Seen.{parts_of}
-use Rattle.iom_world_invariant.proofs.MessageKeeps.{repeated_sound}
+use Rattle.iom_driver.specs.Seen.{state_of}
 use Rattle.iom_world.proofs.world.World.repeat.Goals as goal
+
+pub repeat-requires-clause-sound : goal.repeat-requires-clause-sound
+repeat-requires-clause-sound c = let world = c.args.self.now in hardware_sound (parts_of world) world.hardware.events world.sound
 
 pub invariant_of-self : goal.invariant_of-self
 invariant_of-self c =
     let world = c.args.self.now in
-    record { sound = rw c.repeat.ensures.list (repeated_sound (parts_of world) world.events c.args.place world.sound) }
+    let new = with_driver c.repeat.new.self (state_of world.driver) in
+    let effect = repeated_in_parts (parts_of world) new refl c.args.place c.repeat.result c.repeat.ensures.effect in
+    record {
+      sound = at_count new (world.hardware.events + 1) c.repeat.new.self.events c.repeat.ensures.counted.events
+          (keeps_repeated (parts_of world) new (world.hardware.events + 1) c.args.place (repeat_told c.repeat.result) (counted world) effect);
+    }
+
+pub returns-clause-does : goal.returns-clause-does
+returns-clause-does c =
+    let world = c.args.self.now in
+    let new = with_driver c.repeat.new.self (state_of world.driver) in
+    subst (λ (told : Outcome). RepeatsMessage (parts_of world) c.args.place told new) (sym c.of_repeat.ensures)
+    (repeated_in_parts (parts_of world) new refl c.args.place c.repeat.result c.repeat.ensures.effect)

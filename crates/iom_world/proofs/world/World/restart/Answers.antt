@@ -1,17 +1,18 @@
-use Rattle.std.proofs.Common.{refl}
+use Rattle.std.proofs.Common.{◌+◌, refl}
 use Rattle.iom_driver.specs.Seen.{state_of}
 use Rattle.iom_world_effects.specs.Answers.{told_of}
 use Rattle.iom_world_effects.specs.Parts.{Parts}
 use Rattle.iom_world.specs.Seen.{parts_of}
 use Rattle.iom_world_effects.proofs.DriverLemmas.{sound_driver}
 use Rattle.iom_world_invariant.proofs.RestartKeeps.{keeps_restarted}
+use Rattle.iom_world.proofs.OfHardware.{counted}
 use Rattle.iom_world.proofs.world.World.restart.Goals as goal
 
 pub invariant_of-self : goal.invariant_of-self
 invariant_of-self c =
     let world = c.args.self.now in
-    let new : Parts = record { memory = c.restart.new.memory; iommu = c.restart.new.io; driver = state_of c.restart.new.self; devices = world.devices.items; fabric = world.fabric } in
+    let new : Parts = record { memory = c.restart.new.memory; iommu = c.restart.new.io; driver = state_of c.restart.new.self; devices = world.hardware.devices.items; fabric = world.hardware.fabric } in
     record {
-      sound = keeps_restarted (parts_of world) new world.events (told_of c.restart.result) world.sound (sound_driver world.driver) c.restart.ensures.ready
+      sound = keeps_restarted (parts_of world) new (world.hardware.events + 1) (told_of c.restart.result) (counted world) (sound_driver world.driver) c.restart.ensures.ready
           record { answer = c.restart.result; told_so = refl; call = c.restart.ensures.effect; devices = refl; fabric = refl };
     }

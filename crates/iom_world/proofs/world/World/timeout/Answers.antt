@@ -1,15 +1,31 @@
-use Rattle.std.proofs.Common.{refl, if◌then◌else◌}
+use Rattle.std.proofs.Common.{◌+◌, refl, sym, subst}
+use Rattle.iom_machine.specs.declared.outcome.Outcome.{Outcome}
+use Rattle.std.proofs.Common.{if◌then◌else◌}
 use Rattle.iom_machine.specs.declared.outcome.Outcome.TheVariants as outcome
-use Rattle.iom_world_effects.specs.Parts.{Parts}
-use Rattle.iom_world.specs.Seen.{parts_of}
+use Rattle.iom_world_effects.specs.Recovery.{TimesOutFence}
 use Rattle.iom_world_invariant.proofs.TimeoutKeeps.{keeps_timed_out}
+use Rattle.iom_world.proofs.InParts.{timed_out_in_parts}
+use Rattle.iom_world.proofs.OfHardware.{with_driver, counted, at_count, hardware_sound}
+use Rattle.iom_world.specs.Seen.{parts_of}
+use Rattle.iom_driver.specs.Seen.{state_of}
 use Rattle.iom_world.proofs.world.World.timeout.Goals as goal
+
+pub timeout-requires-clause-sound : goal.timeout-requires-clause-sound
+timeout-requires-clause-sound c = let world = c.args.self.now in hardware_sound (parts_of world) world.hardware.events world.sound
 
 pub invariant_of-self : goal.invariant_of-self
 invariant_of-self c =
     let world = c.args.self.now in
-    let new : Parts = record (parts_of world) { iommu = c.timeout.new.self } in
+    let new = with_driver c.timeout.new.self (state_of world.driver) in
+    let effect = timed_out_in_parts (parts_of world) new refl c.timeout.result c.timeout.ensures.effect in
     record {
-      sound = keeps_timed_out (parts_of world) new world.events (if c.timeout.result then outcome.TimedOut else outcome.NoEffect) world.sound
-          record { answer = c.timeout.result; told_so = refl; call = c.timeout.ensures; memory = refl; driver = refl; devices = refl; fabric = refl };
+      sound = at_count new (world.hardware.events + 1) c.timeout.new.self.events c.timeout.ensures.counted.events
+          (keeps_timed_out (parts_of world) new (world.hardware.events + 1) (if c.timeout.result then outcome.TimedOut else outcome.NoEffect) (counted world) effect);
     }
+
+pub returns-clause-does : goal.returns-clause-does
+returns-clause-does c =
+    let world = c.args.self.now in
+    let new = with_driver c.timeout.new.self (state_of world.driver) in
+    subst (λ (told : Outcome). TimesOutFence (parts_of world) told new) (sym c.of_timeout.ensures)
+    (timed_out_in_parts (parts_of world) new refl c.timeout.result c.timeout.ensures.effect)

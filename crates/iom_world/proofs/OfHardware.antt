@@ -1,0 +1,105 @@
+-- A world and its hardware: what stays true of the one is true of the other, and each event is counted.
+use Rattle.std.proofs.Common.{◌≡◌, ◌+◌, ◌<◌, inr, ℕ, Bool, List, remove, slice_get, Option, None, Some, Result, Ok, Err, refl, subst}
+use Rattle.iom_base.specs.declared.access.AccessKind.TheVariants.{Read}
+use Rattle.iom_base.specs.declared.refusal.Refusal.{Refusal}
+use Rattle.iom_device.specs.Caches.{epoch_in}
+use Rattle.iom_driver.specs.State.{DriverState}
+use Rattle.iom_driver.specs.Seen.{state_of}
+use Rattle.iom_fabric.specs.declared.fabric.OnLink.{OnLink}
+use Rattle.iom_fabric.specs.declared.message.Message.{Message}
+use Rattle.iom_fabric.specs.declared.message.Message.TheVariants as sent
+use Rattle.iom_hardware.specs.declared.hardware.Hardware.{Hardware}
+use Rattle.iom_hardware.specs.Commits.{Commits, StandWhereMade}
+use Rattle.iom_hardware.specs.Sound.{IsOfPlugged, IsSoundHardware}
+use Rattle.iom_inflight.specs.declared.made.MadeAt.{MadeAt}
+use Rattle.iom_iommu.specs.Parts.{flights_of}
+use Rattle.iom_machine.specs.declared.outcome.Outcome.{Outcome}
+use Rattle.iom_world.specs.declared.world.World.{World}
+use Rattle.iom_world.specs.OnHardware.{hardware_of}
+use Rattle.iom_world.specs.Seen.{parts_of}
+use Rattle.iom_world_effects.specs.Answers.{TellsBytes}
+use Rattle.iom_world_effects.specs.Commits.{CommitsAccess, TellsKind, TellsMade}
+use Rattle.iom_world_effects.specs.Deliveries.{ArrivesIfAny, DeliversMessage}
+use Rattle.iom_world_effects.specs.Parts.{Parts}
+use Rattle.iom_world_effects.specs.Sound.{AreSound, IsAsked}
+use Rattle.iom_world_effects.proofs.DriverLemmas.{IsSoundDriver}
+use Rattle.iom_world_effects.proofs.MadeFrames.{made_unreserved, read_told}
+use Rattle.iom_world_effects.proofs.PartsLemmas.{StaysReady, StaysReported}
+use Rattle.iom_world_effects.proofs.ServedLemmas.{ServiceLaws}
+use Rattle.iom_world_invariant.proofs.CommitKeeps.{keeps_oldest}
+use Rattle.iom_world_refinement.proofs.DeliverStep.{keeps_arrived}
+use Rattle.iom_world.proofs.InParts.{uncommitted, committed}
+use Rattle.iom_world_refinement.proofs.EventLemmas.{sound_counted}
+
+-- hardware, with a driver
+abbrev pub with_driver : Hardware → DriverState → Parts
+with_driver hardware driver =
+    record { memory = hardware.memory; iommu = hardware.iommu; driver = driver; devices = hardware.devices.items; fabric = hardware.fabric }
+
+-- one event more is counted
+pub counted : (world : World) → AreSound (parts_of world) (world.hardware.events + 1)
+counted world = sound_counted (parts_of world) world.hardware.events world.sound
+
+-- what is sound is so at the count that the hardware has
+pub at_count : (parts : Parts) (events count : ℕ) → count ≡ events → AreSound parts events → AreSound parts count
+at_count parts events count is sound = rw is sound
+
+of_plugged : (is_plugged : Bool) (message : Message) → IsAsked is_plugged message → IsOfPlugged is_plugged message
+of_plugged is_plugged (sent.Ask epoch page) asked = asked
+of_plugged is_plugged (sent.Answer epoch page translation) asked = tt
+of_plugged is_plugged (sent.InvReq serial range) asked = tt
+of_plugged is_plugged (sent.InvDone serial) asked = tt
+
+-- the hardware of a sound world is sound
+pub hardware_sound : (parts : Parts) (events : ℕ) → AreSound parts events → IsSoundHardware (hardware_of parts) events
+hardware_sound parts events sound = record {
+  size = sound.size;
+  own_ids = sound.known.own_ids;
+  rows = sound.known.iommu;
+  caches = sound.known.caches;
+  askers = λ k on inside. of_plugged _ _ (sound.known.askers k on inside);
+  accepted = sound.counted;
+  serials = sound.serials;
+  epochs = sound.epochs;
+}
+
+-- a delivery keeps what is sound
+pub keeps_delivered : (laws : ServiceLaws) (old new : Parts) (events place : ℕ) (told : Outcome) → AreSound old events → IsSoundDriver old.driver → StaysReported old.driver → StaysReady old.driver
+    → ((id : ℕ) → epoch_in old.devices id < events) → DeliversMessage old place told new → AreSound new events
+keeps_delivered laws old new events place told sound own reported stays below delivers = by (slice_get old.fabric place) refl delivers
+  where
+    by : (on : Option OnLink) → slice_get old.fabric place ≡ on → ArrivesIfAny on old (remove old.fabric place) told new → AreSound new events
+    by None at (none, same) = rw same sound
+    by (Some on) at arrives = keeps_arrived laws old new events place told sound own reported stays below on at arrives
+
+-- so does a commit
+pub keeps_committed : (old new : Parts) (events id : ℕ) (answer : Result (Option MadeAt) Refusal) → AreSound old events → IsSoundDriver old.driver → StaysReady old.driver → new.driver ≡ old.driver
+    → Commits (hardware_of old) id answer (hardware_of new) → AreSound new events
+keeps_committed old new events id (Err why) sound own stays driver commits = rw (uncommitted old new driver id why commits).same sound
+keeps_committed old new events id (Ok made) sound own stays driver commits =
+    let makes = (committed old new driver id made commits).1 in
+    keeps_oldest old new events id made sound own stays makes.call (made_unreserved old events id made new.memory (flights_of new.iommu) sound own makes.call.makes) driver makes.devices makes.fabric
+
+-- the oldest access is made, or none is
+pub makes_in_parts : (old new : Parts) (events id : ℕ) (made : Option MadeAt) (told : Outcome) → AreSound old events → IsSoundDriver old.driver → new.driver ≡ old.driver
+    → Commits (hardware_of old) id (Ok made) (hardware_of new) → TellsMade old.memory made told → CommitsAccess old id told new
+makes_in_parts old new events id made told sound own driver commits tells =
+    let (present, makes) = committed old new driver id made commits in
+    inr (record {
+      present = present;
+      made = made;
+      told_so = tells;
+      call = makes.call;
+      unreserved = made_unreserved old events id made new.memory (flights_of new.iommu) sound own makes.call.makes;
+      driver = driver;
+      devices = makes.devices;
+      fabric = makes.fabric;
+    })
+
+-- what stands where a read was made is what it tells
+pub read_in_parts : (old new : Parts) (id : ℕ) (made : MadeAt) (bytes : List ℕ) (told : Outcome) → new.driver ≡ old.driver → Commits (hardware_of old) id (Ok (Some made)) (hardware_of new)
+    → made.kind ≡ Read → StandWhereMade new.memory made bytes → TellsBytes told bytes → TellsKind old.memory made made.kind told
+read_in_parts old new id made bytes told driver commits reads stand tells =
+    let makes = (committed old new driver id (Some made) commits).1 in
+    read_told old.memory new.memory (flights_of old.iommu) id made (flights_of new.iommu) told makes.call.makes reads
+    record { bytes = stand.frame; there = stand.there; told_so = subst (TellsBytes told) stand.part tells }

@@ -1,0 +1,36 @@
+use Rattle.std.proofs.Common.{◌+◌, refl, sym, subst}
+use Rattle.iom_iommu.specs.Requests.{access_of}
+use Rattle.iom_machine.specs.declared.outcome.Outcome.{Outcome}
+use Rattle.iom_world_effects.specs.Requests.{AsksTranslated, reply_told_of}
+use Rattle.iom_world_effects.proofs.DriverLemmas.{sound_driver}
+use Rattle.iom_world_invariant.proofs.AskedLemmas.{keeps_translated_counted}
+use Rattle.iom_world_refinement.proofs.EventLemmas.{below_counted}
+use Rattle.iom_world.specs.OnHardware.{told_unless}
+use Rattle.iom_world.proofs.InParts.{translated_in_parts}
+use Rattle.iom_world.proofs.OfHardware.{with_driver, counted, at_count, hardware_sound}
+use Rattle.iom_world.specs.Seen.{parts_of}
+use Rattle.iom_driver.specs.Seen.{state_of}
+use Rattle.iom_world.proofs.world.World.translated.Goals as goal
+
+pub translated-requires-clause-sound : goal.translated-requires-clause-sound
+translated-requires-clause-sound c = let world = c.args.self.now in hardware_sound (parts_of world) world.hardware.events world.sound
+
+pub invariant_of-self : goal.invariant_of-self
+invariant_of-self c =
+    let world = c.args.self.now in
+    let new = with_driver c.translated.new.self (state_of world.driver) in
+    let access = access_of c.args.address c.args.len c.args.kind c.args.bytes.now in
+    let asks = translated_in_parts (parts_of world) new refl c.args.id access c.translated.result c.translated.ensures.effect in
+    record {
+      sound = at_count new (world.hardware.events + 1) c.translated.new.self.events c.translated.ensures.counted.events
+          (keeps_translated_counted c.laws_below.ensures world.driver (parts_of world) new (world.hardware.events + 1) c.args.id access
+          (told_unless reply_told_of c.translated.result) (counted world) (sound_driver world.driver) refl (below_counted (parts_of world) world.hardware.events world.sound) asks);
+    }
+
+pub returns-clause-does : goal.returns-clause-does
+returns-clause-does c =
+    let world = c.args.self.now in
+    let new = with_driver c.translated.new.self (state_of world.driver) in
+    let access = access_of c.args.address c.args.len c.args.kind c.args.bytes.now in
+    subst (λ (told : Outcome). AsksTranslated (parts_of world) c.args.id access told new) (sym c.of_request.ensures)
+    (translated_in_parts (parts_of world) new refl c.args.id access c.translated.result c.translated.ensures.effect)

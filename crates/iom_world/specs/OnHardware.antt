@@ -1,0 +1,42 @@
+-- The hardware of a world, by its parts, and what its answers are told as.
+-- For the calls inside this crate alone; no public contract cites these.
+use Rattle.std.specs.Prelude.{Bool, Option, None, Some, Result, Ok, Err, if◌then◌else◌}
+use Rattle.iom_ats_cache.specs.declared.taken.Taken.{Taken}
+use Rattle.iom_base.specs.declared.refusal.Refusal.{Refusal}
+use Rattle.iom_fabric.specs.declared.fabric.Repeat.{Repeat}
+use Rattle.iom_hardware.specs.declared.answers.CacheReply.{CacheReply}
+use Rattle.iom_hardware.specs.declared.answers.CacheReply.TheVariants.{Miss, Replied}
+use Rattle.iom_hardware.specs.declared.answers.Delivered.{Delivered}
+use Rattle.iom_hardware.specs.declared.answers.Delivered.TheVariants as delivered
+use Rattle.iom_hardware.specs.HardwareParts.{HardwareParts}
+use Rattle.iom_iommu.specs.declared.reply.Reply.{Reply}
+use Rattle.iom_machine.specs.declared.outcome.Outcome.{Outcome}
+use Rattle.iom_machine.specs.declared.outcome.Outcome.TheVariants as outcome
+use Rattle.iom_world_effects.specs.Deliveries.{taken_told}
+use Rattle.iom_world_effects.specs.Parts.{Parts}
+use Rattle.iom_world_effects.specs.Requests.{reply_told_of}
+
+-- all of it but the driver
+abbrev pub hardware_of : Parts → HardwareParts
+hardware_of parts = record { memory = parts.memory; iommu = parts.iommu; devices = parts.devices; fabric = parts.fabric }
+
+-- what a device's call is told as, by what comes of it where it isn't refused
+abbrev pub told_unless : {A : Type 0} → (A → Outcome) → Result A Refusal → Outcome
+told_unless told_as (Ok given) = told_as given
+told_unless told_as (Err why) = outcome.Refused why
+
+abbrev pub cache_reply_told : CacheReply → Outcome
+cache_reply_told Miss = outcome.Miss
+cache_reply_told (Replied reply) = reply_told_of reply
+
+abbrev pub sending_told : Bool → Outcome
+sending_told is_sent = if is_sent then outcome.Sent else outcome.Lost
+
+abbrev pub delivered_told : Delivered → Outcome
+delivered_told delivered.NoMessage = outcome.NoMessage
+delivered_told (delivered.Answered answer) = outcome.Answered answer
+delivered_told (delivered.Taken taking) = taken_told taking
+delivered_told delivered.Ignored = outcome.Ignored
+delivered_told (delivered.Invalidated serial) = outcome.Invalidated serial
+delivered_told (delivered.Closed serial) = outcome.Closed serial
+delivered_told (delivered.NotClosed serial) = outcome.NotClosed serial
