@@ -17,6 +17,7 @@ impl Hardware {
     /// The oldest access of the device in flight is made, on the frame that it was translated to: where its bytes are then.
     /// None where nothing of the device is in flight, and then nothing changes; nor does anything where no device has
     /// the id, `NoSuchDevice`.
+    #[inline(always)]
     pub fn commit(&mut self, id: DeviceId) -> Result<Option<MadeAt>, Refusal>
         requires sound { IsSoundHardware (hardware_parts self.old) self.old.events }
         requires count { self.old.events + 1 < 2 ^ 64 }
@@ -41,6 +42,7 @@ impl Hardware {
     }
 
     /// The bytes that stand where an access was made, or would be: after the commit of a read those that it gave.
+    #[inline(always)]
     pub fn bytes_of(&self, made: MadeAt) -> &[u8]
         requires within { IsWithinFrame (length self.now.memory) made }
         ensures { StandWhereMade self.now.memory made result.now }

@@ -12,6 +12,7 @@ use iom_iommu::Fetched;
 impl Hardware {
     /// The IOMMU takes the command at the head of its queue, if it can (section 3.1, "Command-Queue (CQ)"). Where that is
     /// an invalidation of a device's own translations, the request to the device is sent.
+    #[inline(always)]
     pub fn fetch(&mut self) -> Fetched
         requires sound { IsSoundHardware (hardware_parts self.old) self.old.events }
         requires count { self.old.events + 1 < 2 ^ 64 }

@@ -26,6 +26,7 @@ pub(crate) enum Act {
 
 impl Act {
     /// Whether a device of this kind can.
+    #[inline(always)]
     fn is_for(self, kind: DeviceKind) -> bool
         ensures { result ≡ kinds_for self kind }
     {
@@ -42,6 +43,7 @@ impl Act {
     }
 
     /// Why a device of this kind is refused that: it isn't there, or can't. None where it can.
+    #[inline(always)]
     fn refusal(self, known: Option<DeviceKind>) -> Option<Refusal>
         ensures { IsPermitted (kinds_for self) known result }
     {
@@ -58,6 +60,7 @@ impl Act {
 
 impl Hardware {
     /// Why the device with this id is refused that: none has the id, or it is of a kind that can't. None where it can.
+    #[inline(always)]
     pub(crate) fn refusal(&self, act: Act, id: DeviceId) -> Option<Refusal>
         ensures { IsPermitted (kinds_for act) (kind_in self.now.devices.items id) result }
     {

@@ -19,6 +19,7 @@ impl Hardware {
     /// translate an IOVA"). `Accepted`, with the access's number among the device's, where it is in flight now; else nothing is:
     /// `BadSpan`, `Busy`, or `Fault` with its cause, whose record goes into the fault queue. `NoSuchDevice` where no device
     /// has the id, `WrongKind` where its kind sends none so; nothing changes then.
+    #[inline(always)]
     pub fn request(
         &mut self,
         sender: Sender,

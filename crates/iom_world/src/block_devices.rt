@@ -241,6 +241,6 @@ impl World {
         if caches(known) {
             return kept.tell(self.block_through_cache(id, address, len, kind, bytes));
         }
-        kept.tell(self.request(Sender::Step, id, address, len, kind, bytes))
+        kept.tell_request(self.request(Sender::Step, id, address, len, kind, bytes))
     }
 }

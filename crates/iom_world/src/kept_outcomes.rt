@@ -2,10 +2,12 @@
 ghost use Rattle.std.specs.Prelude.{◌≡◌};
 ghost use Rattle.iom_machine.specs.declared.outcome.Outcome.TheVariants as outcome;
 ghost use Rattle.iom_world_effects.specs.Requests.{reply_told_of};
+ghost use Rattle.iom_world.specs.OnHardware.{told_unless};
 ghost use Rattle.iom_world.specs.Told.{outcome_of};
 
 use crate::told::Told;
 use arrayvec::ArrayVec;
+use iom_base::Refusal;
 use iom_iommu::Reply;
 use iom_machine::{Fetched, Outcome};
 
@@ -168,6 +170,17 @@ impl KeptOutcomes {
             Reply::Busy => self.tell(Told::Busy),
             Reply::BadSpan => self.tell(Told::BadSpan),
             Reply::Fault(cause) => self.tell(Told::Fault(cause)),
+        }
+    }
+
+    /// The outcome that says what came of a request.
+    #[inline(always)]
+    pub(crate) fn tell_request(&mut self, answer: Result<Reply, Refusal>) -> &mut Outcome
+        ensures { result.now ≡ told_unless reply_told_of answer }
+    {
+        match answer {
+            Ok(reply) => self.tell_reply(reply),
+            Err(why) => self.tell(Told::Refused(why)),
         }
     }
 }

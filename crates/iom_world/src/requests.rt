@@ -29,22 +29,13 @@ impl Told {
             Reply::Fault(cause) => Told::Fault(cause),
         }
     }
-
-    /// What a request is told as.
-    fn of_request(answer: Result<Reply, Refusal>) -> Told
-        ensures { outcome_of result ≡ told_unless reply_told_of answer }
-    {
-        match answer {
-            Ok(reply) => Told::of_reply(reply),
-            Err(why) => Told::Refused(why),
-        }
-    }
 }
 
 impl World {
     /// A device asks for an access to so many bytes at the address. `Accepted`, with the access's number among the
-    /// device's, where it is in flight now; else nothing is: `Refused(NoSuchDevice)`, `Refused(WrongKind)` where its kind
-    /// sends none so, `BadSpan`, `Busy`, or `Fault` with its cause, whose record goes into the fault queue.
+    /// device's, where it is in flight now; else nothing is: `NoSuchDevice`, `WrongKind` where its kind sends none so,
+    /// `BadSpan`, `Busy`, or `Fault` with its cause, whose record goes into the fault queue.
+    #[inline(always)]
     pub(crate) fn request(
         &mut self,
         sender: Sender,
@@ -53,23 +44,22 @@ impl World {
         len: u64,
         kind: AccessKind,
         bytes: &[u8],
-    ) -> Told
+    ) -> Result<Reply, Refusal>
         requires count { self.old.hardware.events + 1 < 2 ^ 64 }
         requires carries { CarriesBytes kind len bytes.now }
-        ensures does { AsksAccess (untranslated_by sender) (parts_of self.old) id (access_of address len kind bytes.now) (outcome_of result) (parts_of self.new) }
+        ensures does { AsksAccess (untranslated_by sender) (parts_of self.old) id (access_of address len kind bytes.now) (told_unless reply_told_of result) (parts_of self.new) }
         ensures fits { address < 2 ^ 64 }
         ensures disks { disks_of self.new ≡ disks_of self.old }
         ensures events { self.new.hardware.events ≡ self.old.hardware.events + 1 }
     {
         laws_below();
-        let answer = self.hardware.request(sender, id, address, len, kind, bytes);
-        Told::of_request(answer)
+        self.hardware.request(sender, id, address, len, kind, bytes)
     }
 
     /// A device asks for a read of so many bytes at the address.
-    pub(crate) fn read(&mut self, id: DeviceId, address: u64, len: u64) -> Told
+    pub(crate) fn read(&mut self, id: DeviceId, address: u64, len: u64) -> Result<Reply, Refusal>
         requires count { self.old.hardware.events + 1 < 2 ^ 64 }
-        ensures does { AsksAccess sends_untranslated (parts_of self.old) id (read_of address len) (outcome_of result) (parts_of self.new) }
+        ensures does { AsksAccess sends_untranslated (parts_of self.old) id (read_of address len) (told_unless reply_told_of result) (parts_of self.new) }
         ensures fits { address < 2 ^ 64 }
         ensures disks { disks_of self.new ≡ disks_of self.old }
         ensures events { self.new.hardware.events ≡ self.old.hardware.events + 1 }
@@ -78,9 +68,14 @@ impl World {
     }
 
     /// A device asks for a write of the bytes at the address: answered as a read is.
-    pub(crate) fn write(&mut self, id: DeviceId, address: u64, bytes: &[u8]) -> Told
+    pub(crate) fn write(
+        &mut self,
+        id: DeviceId,
+        address: u64,
+        bytes: &[u8],
+    ) -> Result<Reply, Refusal>
         requires count { self.old.hardware.events + 1 < 2 ^ 64 }
-        ensures does { AsksAccess sends_untranslated (parts_of self.old) id (write_of address bytes.now) (outcome_of result) (parts_of self.new) }
+        ensures does { AsksAccess sends_untranslated (parts_of self.old) id (write_of address bytes.now) (told_unless reply_told_of result) (parts_of self.new) }
         ensures fits { address < 2 ^ 64 }
         ensures disks { disks_of self.new ≡ disks_of self.old }
         ensures events { self.new.hardware.events ≡ self.old.hardware.events + 1 }
@@ -98,21 +93,26 @@ impl World {
         len: u64,
         kind: AccessKind,
         bytes: &[u8],
-    ) -> Told
+    ) -> Result<Reply, Refusal>
         requires count { self.old.hardware.events + 1 < 2 ^ 64 }
         requires carries { CarriesBytes kind len bytes.now }
-        ensures does { AsksTranslated (parts_of self.old) id (access_of address len kind bytes.now) (outcome_of result) (parts_of self.new) }
+        ensures does { AsksTranslated (parts_of self.old) id (access_of address len kind bytes.now) (told_unless reply_told_of result) (parts_of self.new) }
         ensures disks { disks_of self.new ≡ disks_of self.old }
         ensures events { self.new.hardware.events ≡ self.old.hardware.events + 1 }
     {
         laws_below();
-        Told::of_request(self.hardware.translated(id, address, len, kind, bytes))
+        self.hardware.translated(id, address, len, kind, bytes)
     }
 
     /// A raw device asks so for a read of so many bytes.
-    pub(crate) fn read_translated(&mut self, id: DeviceId, address: u64, len: u64) -> Told
+    pub(crate) fn read_translated(
+        &mut self,
+        id: DeviceId,
+        address: u64,
+        len: u64,
+    ) -> Result<Reply, Refusal>
         requires count { self.old.hardware.events + 1 < 2 ^ 64 }
-        ensures does { AsksTranslated (parts_of self.old) id (read_of address len) (outcome_of result) (parts_of self.new) }
+        ensures does { AsksTranslated (parts_of self.old) id (read_of address len) (told_unless reply_told_of result) (parts_of self.new) }
         ensures disks { disks_of self.new ≡ disks_of self.old }
         ensures events { self.new.hardware.events ≡ self.old.hardware.events + 1 }
     {
@@ -120,9 +120,14 @@ impl World {
     }
 
     /// A raw device asks so for a write of the bytes.
-    pub(crate) fn write_translated(&mut self, id: DeviceId, address: u64, bytes: &[u8]) -> Told
+    pub(crate) fn write_translated(
+        &mut self,
+        id: DeviceId,
+        address: u64,
+        bytes: &[u8],
+    ) -> Result<Reply, Refusal>
         requires count { self.old.hardware.events + 1 < 2 ^ 64 }
-        ensures does { AsksTranslated (parts_of self.old) id (write_of address bytes.now) (outcome_of result) (parts_of self.new) }
+        ensures does { AsksTranslated (parts_of self.old) id (write_of address bytes.now) (told_unless reply_told_of result) (parts_of self.new) }
         ensures disks { disks_of self.new ≡ disks_of self.old }
         ensures events { self.new.hardware.events ≡ self.old.hardware.events + 1 }
     {

@@ -34,12 +34,12 @@ impl World {
                 device,
                 address,
                 len,
-            } => kept.tell(self.read_translated(*device, *address, *len)),
+            } => kept.tell_request(self.read_translated(*device, *address, *len)),
             Event::WriteTranslated {
                 device,
                 address,
                 bytes,
-            } => kept.tell(self.write_translated(*device, *address, bytes.as_slice())),
+            } => kept.tell_request(self.write_translated(*device, *address, bytes.as_slice())),
             Event::ReadThroughCache {
                 device,
                 address,

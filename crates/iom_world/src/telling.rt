@@ -85,7 +85,7 @@ impl World {
         ensures disks { disks_of self.new ≡ disks_of self.old }
         ensures events { self.new.hardware.events ≡ self.old.hardware.events + 1 }
     {
-        kept.tell(self.read(id, address, len))
+        kept.tell_request(self.read(id, address, len))
     }
 
     /// What [`World::write`] tells.
@@ -103,7 +103,7 @@ impl World {
         ensures disks { disks_of self.new ≡ disks_of self.old }
         ensures events { self.new.hardware.events ≡ self.old.hardware.events + 1 }
     {
-        kept.tell(self.write(id, address, bytes))
+        kept.tell_request(self.write(id, address, bytes))
     }
 
     /// What [`World::poke`] tells.

@@ -25,8 +25,8 @@ returns-clause-does c =
     let is : caches_translations (kind_in old.devices c.args.id) ≡ false = ap caches_translations (sym c.kind_of-known.ensures) ∙ sym c.caches.ensures ∙ c.if-caches.false in
     let access = access_of c.args.address c.args.len c.args.kind c.args.bytes.now in
     let new = parts_of c.request.new.self in
-    subst (λ (b : Bool). GoesToMemory b old c.args.id access c.tell-2.result.now new) (sym is)
-    (subst (λ (told : Outcome). AsksAccess is_block_device old c.args.id access told new) (sym c.tell-2.ensures) c.request.ensures.does)
+    subst (λ (b : Bool). GoesToMemory b old c.args.id access c.tell_request.result.now new) (sym is)
+    (subst (λ (told : Outcome). AsksAccess is_block_device old c.args.id access told new) (sym c.tell_request.ensures) c.request.ensures.does)
 
 pub request-requires-clause-carries : goal.request-requires-clause-carries
 request-requires-clause-carries c = carries_of c.args.kind c.args.len c.args.bytes.now c.requires.wants.1

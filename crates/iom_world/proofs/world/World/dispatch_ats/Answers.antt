@@ -12,8 +12,8 @@ pub returns-in-ReadThroughCache-clause-does : goal.returns-in-ReadThroughCache-c
 returns-in-ReadThroughCache-clause-does c =
     let old = parts_of c.args.self.now in
     let new = parts_of c.read_through_cache.new.self in
-    subst (λ (e : Event). Does (disks_of c.args.self.now) old e c.tell-in-ReadThroughCache.result.now new) (sym c.in-ReadThroughCache.is)
-    (subst (λ (t : Outcome). AsksThroughCache sends_through_cache old c.in-ReadThroughCache.device (read_of c.in-ReadThroughCache.address c.in-ReadThroughCache.len) t new) (sym c.tell-in-ReadThroughCache.ensures) c.read_through_cache.ensures.does)
+    subst (λ (e : Event). Does (disks_of c.args.self.now) old e c.tell.result.now new) (sym c.in-ReadThroughCache.is)
+    (subst (λ (t : Outcome). AsksThroughCache sends_through_cache old c.in-ReadThroughCache.device (read_of c.in-ReadThroughCache.address c.in-ReadThroughCache.len) t new) (sym c.tell.ensures) c.read_through_cache.ensures.does)
 
 pub returns-in-WriteThroughCache-clause-does : goal.returns-in-WriteThroughCache-clause-does
 returns-in-WriteThroughCache-clause-does c =

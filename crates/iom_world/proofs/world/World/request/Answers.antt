@@ -1,8 +1,7 @@
-use Rattle.std.proofs.Common.{◌+◌, refl, sym, subst}
+use Rattle.std.proofs.Common.{◌+◌, refl}
 use Rattle.iom_hardware.specs.Senders.{untranslated_by}
 use Rattle.iom_iommu.specs.Requests.{access_of}
-use Rattle.iom_machine.specs.declared.outcome.Outcome.{Outcome}
-use Rattle.iom_world_effects.specs.Requests.{AsksAccess, reply_told_of}
+use Rattle.iom_world_effects.specs.Requests.{reply_told_of}
 use Rattle.iom_world_effects.proofs.DriverLemmas.{sound_driver}
 use Rattle.iom_world_invariant.proofs.AskedLemmas.{keeps_asked_counted}
 use Rattle.iom_world_refinement.proofs.EventLemmas.{below_counted}
@@ -13,25 +12,24 @@ use Rattle.iom_world.specs.Seen.{parts_of}
 use Rattle.iom_driver.specs.Seen.{state_of}
 use Rattle.iom_world.proofs.world.World.request.Goals as goal
 
-pub request-answer-requires-clause-sound : goal.request-answer-requires-clause-sound
-request-answer-requires-clause-sound c = let world = c.args.self.now in hardware_sound (parts_of world) world.hardware.events world.sound
+pub request-requires-clause-sound : goal.request-requires-clause-sound
+request-requires-clause-sound c = let world = c.args.self.now in hardware_sound (parts_of world) world.hardware.events world.sound
 
 pub invariant_of-self : goal.invariant_of-self
 invariant_of-self c =
     let world = c.args.self.now in
-    let new = with_driver c.request-answer.new.self (state_of world.driver) in
+    let new = with_driver c.request.new.self (state_of world.driver) in
     let access = access_of c.args.address c.args.len c.args.kind c.args.bytes.now in
-    let asks = asked_in_parts (parts_of world) new refl (untranslated_by c.args.sender) c.args.id access c.request-answer.result c.request-answer.ensures.effect in
+    let asks = asked_in_parts (parts_of world) new refl (untranslated_by c.args.sender) c.args.id access c.request.result c.request.ensures.effect in
     record {
-      sound = at_count new (world.hardware.events + 1) c.request-answer.new.self.events c.request-answer.ensures.counted.events
+      sound = at_count new (world.hardware.events + 1) c.request.new.self.events c.request.ensures.counted.events
           (keeps_asked_counted (untranslated_by c.args.sender) c.laws_below.ensures world.driver (parts_of world) new (world.hardware.events + 1) c.args.id access
-          (told_unless reply_told_of c.request-answer.result) (counted world) (sound_driver world.driver) refl (below_counted (parts_of world) world.hardware.events world.sound) c.ranges.address.fits asks);
+          (told_unless reply_told_of c.request.result) (counted world) (sound_driver world.driver) refl (below_counted (parts_of world) world.hardware.events world.sound) c.ranges.address.fits asks);
     }
 
 pub returns-clause-does : goal.returns-clause-does
 returns-clause-does c =
     let world = c.args.self.now in
-    let new = with_driver c.request-answer.new.self (state_of world.driver) in
+    let new = with_driver c.request.new.self (state_of world.driver) in
     let access = access_of c.args.address c.args.len c.args.kind c.args.bytes.now in
-    subst (λ (told : Outcome). AsksAccess (untranslated_by c.args.sender) (parts_of world) c.args.id access told new) (sym c.of_request.ensures)
-    (asked_in_parts (parts_of world) new refl (untranslated_by c.args.sender) c.args.id access c.request-answer.result c.request-answer.ensures.effect)
+    asked_in_parts (parts_of world) new refl (untranslated_by c.args.sender) c.args.id access c.request.result c.request.ensures.effect

@@ -1,7 +1,6 @@
-use Rattle.std.proofs.Common.{◌+◌, refl, sym, subst}
+use Rattle.std.proofs.Common.{◌+◌, refl}
 use Rattle.iom_iommu.specs.Requests.{access_of}
-use Rattle.iom_machine.specs.declared.outcome.Outcome.{Outcome}
-use Rattle.iom_world_effects.specs.Requests.{AsksTranslated, reply_told_of}
+use Rattle.iom_world_effects.specs.Requests.{reply_told_of}
 use Rattle.iom_world_effects.proofs.DriverLemmas.{sound_driver}
 use Rattle.iom_world_invariant.proofs.AskedLemmas.{keeps_translated_counted}
 use Rattle.iom_world_refinement.proofs.EventLemmas.{below_counted}
@@ -32,5 +31,4 @@ returns-clause-does c =
     let world = c.args.self.now in
     let new = with_driver c.translated.new.self (state_of world.driver) in
     let access = access_of c.args.address c.args.len c.args.kind c.args.bytes.now in
-    subst (λ (told : Outcome). AsksTranslated (parts_of world) c.args.id access told new) (sym c.of_request.ensures)
-    (translated_in_parts (parts_of world) new refl c.args.id access c.translated.result c.translated.ensures.effect)
+    translated_in_parts (parts_of world) new refl c.args.id access c.translated.result c.translated.ensures.effect
