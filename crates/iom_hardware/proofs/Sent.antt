@@ -5,7 +5,6 @@ use Rattle.std.specs.List.{All}
 use Rattle.std.proofs.lemmas.List.Elements.{All-append, All-take, All-drop, All-push}
 use Rattle.std.proofs.lemmas.Option.{get_or_from_slice_get, slice_get_within}
 use Rattle.iom_command_queue.specs.declared.command.Command.TheVariants.{IotinvalVma, IotinvalGvma, IofenceC, IodirInvalDdt, AtsInval}
-use Rattle.iom_command_queue.specs.declared.slot.Slot.{Slot}
 use Rattle.iom_device.specs.declared.device.Device.{Device}
 use Rattle.iom_device.specs.Caches.{device_with}
 use Rattle.iom_fabric.specs.declared.fabric.OnLink.{OnLink}
@@ -63,13 +62,12 @@ messages_repeated devices fabric place (Some on) at all = by (nat_lt (length fab
     by true = All-push (IsMessageOf devices) fabric on all (message_at devices fabric place on at all)
 
 -- a fetch sends a request to invalidate, or nothing
-pub messages_opened : (devices : List Device) (fabric : List OnLink) (fetched : Fetched) (opened : Option Slot) → All (IsMessageOf devices) fabric → All (IsMessageOf devices) (with_opened fetched opened fabric)
-messages_opened devices fabric (Did (AtsInval device range)) (Some slot) all = messages_sent devices fabric slot.device (sent.InvReq slot.serial (dropped_range range)) all tt
-messages_opened devices fabric (Did (IotinvalVma gscid pscid page)) (Some slot) all = all
-messages_opened devices fabric (Did (IotinvalGvma gscid page)) (Some slot) all = all
-messages_opened devices fabric (Did (IofenceC store wsi pr pw)) (Some slot) all = all
-messages_opened devices fabric (Did (IodirInvalDdt device)) (Some slot) all = all
-messages_opened devices fabric (Did command) None all = all
-messages_opened devices fabric Waiting opened all = all
-messages_opened devices fabric Empty opened all = all
-messages_opened devices fabric Stopped opened all = all
+pub messages_opened : (devices : List Device) (fabric : List OnLink) (fetched : Fetched) (last : ℕ) → All (IsMessageOf devices) fabric → All (IsMessageOf devices) (with_opened fetched last fabric)
+messages_opened devices fabric (Did (AtsInval device range)) last all = messages_sent devices fabric device (sent.InvReq last (dropped_range range)) all tt
+messages_opened devices fabric (Did (IotinvalVma gscid pscid page)) last all = all
+messages_opened devices fabric (Did (IotinvalGvma gscid page)) last all = all
+messages_opened devices fabric (Did (IofenceC store wsi pr pw)) last all = all
+messages_opened devices fabric (Did (IodirInvalDdt device)) last all = all
+messages_opened devices fabric Waiting last all = all
+messages_opened devices fabric Empty last all = all
+messages_opened devices fabric Stopped last all = all

@@ -24,11 +24,13 @@ use Rattle.iom_iommu.specs.declared.fetched.Fetched.{Fetched}
 use Rattle.iom_iommu.specs.declared.fetched.Fetched.TheVariants.{Did, Waiting, Empty, Stopped}
 use Rattle.iom_iommu.specs.declared.reply.Reply.{Reply}
 use Rattle.iom_iommu.specs.declared.reply.Reply.TheVariants.{Accepted, Busy, BadSpan, Fault}
-use Rattle.iom_iommu.specs.Fetches.{FetchesCommand, StopsFetching, StopsAtEntry, head_entry, slots_by, store_of}
+use Rattle.iom_iommu.specs.Fetches.{FetchesCommand, head_entry}
+use Rattle.iom_iommu.specs.Effects.{FetchesByAnswer, StopsFetching, StopsAtEntry, slots_by, store_of}
 use Rattle.iom_iommu.specs.Parts.{flights_of, slots_of, frames_of, registers_of}
 use Rattle.iom_iommu.specs.Questions.{AnswersQuestion}
 use Rattle.iom_iommu.specs.Requests.{Answers, CommitsOldest}
 use Rattle.iom_iommu.specs.Translated.{ServesTranslated}
+use Rattle.iom_iommu.proofs.ByAnswer.{by_answer}
 use Rattle.iom_iommu.proofs.FetchLemmas.{store_length}
 use Rattle.iom_registers.specs.Queues.{is_processing_commands}
 use Rattle.iom_stage_walk.specs.declared.walked.WalkFault.{WalkFault}
@@ -145,24 +147,31 @@ serials_low (IofenceC store wsi pr pw) slots events low = omega (arith, low)
 serials_low (IodirInvalDdt device) slots events low = omega (arith, low)
 serials_low (AtsInval device range) slots events low = omega (arith, low)
 
-pub fetched_kept : (old : HardwareParts) (memory : List (List ℕ)) (iommu : Iommu) (events : ℕ) (fetched : Fetched) → IsSoundHardware old events → FetchesCommand old.memory old.iommu fetched memory iommu
+kept_by_answer : (old : HardwareParts) (memory : List (List ℕ)) (iommu : Iommu) (events : ℕ) (fetched : Fetched) → IsSoundHardware old events → FetchesByAnswer old.memory old.iommu fetched memory iommu
     → KeepsIommu old.iommu iommu events
-fetched_kept old memory iommu events (Did command) sound (on, at, free, place, stored, left) = record {
+kept_by_answer old memory iommu events (Did command) sound (on, at, free, place, stored, left) = record {
   frames = left.frames;
   rows = ap (λ (f : Flights). flight_ids f.rows) left.flights;
   accepted = subst (λ (f : Flights). f.so_far ≤ events + 1) (sym left.flights) (let low = sound.accepted in omega (arith, low));
   serials = subst (λ (s : OpenSlots). s.last ≤ events + 1) (sym left.slots) (serials_low command (slots_of old.iommu) events sound.serials);
 }
-fetched_kept old memory iommu events Waiting sound (on, waits, stays, same) = iommu_kept old iommu events sound (ap (λ (i : Iommu). frames_of i) same) (ap (λ (i : Iommu). flights_of i) same) (ap (λ (i : Iommu). slots_of i) same)
-fetched_kept old memory iommu events Empty sound (on, none, stays, same) = iommu_kept old iommu events sound (ap (λ (i : Iommu). frames_of i) same) (ap (λ (i : Iommu). flights_of i) same) (ap (λ (i : Iommu). slots_of i) same)
-fetched_kept old memory iommu events Stopped sound (stops, stays) = by (is_processing_commands (registers_of old.iommu)) stops
+kept_by_answer old memory iommu events Waiting sound (on, waits, stays, same) = iommu_kept old iommu events sound (ap (λ (i : Iommu). frames_of i) same) (ap (λ (i : Iommu). flights_of i) same) (ap (λ (i : Iommu). slots_of i) same)
+kept_by_answer old memory iommu events Empty sound (on, none, stays, same) = iommu_kept old iommu events sound (ap (λ (i : Iommu). frames_of i) same) (ap (λ (i : Iommu). flights_of i) same) (ap (λ (i : Iommu). slots_of i) same)
+kept_by_answer old memory iommu events Stopped sound (stops, stays) = by (is_processing_commands (registers_of old.iommu)) stops
   where
     by : (on : Bool) → StopsFetching on old.memory old.iommu iommu → KeepsIommu old.iommu iommu events
     by false same = iommu_kept old iommu events sound (ap (λ (i : Iommu). frames_of i) same) (ap (λ (i : Iommu). flights_of i) same) (ap (λ (i : Iommu). slots_of i) same)
     by true stops = stopped_kept old iommu events (head_entry old.memory (registers_of old.iommu)) sound stops
 
+pub fetched_kept : (old : HardwareParts) (memory : List (List ℕ)) (iommu : Iommu) (events : ℕ) (fetched : Fetched) → IsSoundHardware old events → FetchesCommand old.memory old.iommu fetched memory iommu
+    → KeepsIommu old.iommu iommu events
+fetched_kept old memory iommu events fetched sound fetches = kept_by_answer old memory iommu events fetched sound (by_answer old.memory memory old.iommu iommu fetched fetches)
+
+length_by_answer : (old : List (List ℕ)) (iommu : Iommu) (fetched : Fetched) (memory : List (List ℕ)) (new : Iommu) → FetchesByAnswer old iommu fetched memory new → length memory ≡ length old
+length_by_answer old iommu (Did command) memory new (on, at, free, place, stored, left) = ap (λ m. length m) stored ∙ store_length old (store_of command)
+length_by_answer old iommu Waiting memory new (on, waits, stays, same) = ap (λ m. length m) stays
+length_by_answer old iommu Empty memory new (on, none, stays, same) = ap (λ m. length m) stays
+length_by_answer old iommu Stopped memory new (stops, stays) = ap (λ m. length m) stays
+
 pub fetched_length : (old : List (List ℕ)) (iommu : Iommu) (fetched : Fetched) (memory : List (List ℕ)) (new : Iommu) → FetchesCommand old iommu fetched memory new → length memory ≡ length old
-fetched_length old iommu (Did command) memory new (on, at, free, place, stored, left) = ap (λ m. length m) stored ∙ store_length old (store_of command)
-fetched_length old iommu Waiting memory new (on, waits, stays, same) = ap (λ m. length m) stays
-fetched_length old iommu Empty memory new (on, none, stays, same) = ap (λ m. length m) stays
-fetched_length old iommu Stopped memory new (stops, stays) = ap (λ m. length m) stays
+fetched_length old iommu fetched memory new fetches = length_by_answer old iommu fetched memory new (by_answer old memory iommu new fetched fetches)

@@ -6,7 +6,7 @@ use Rattle.iom_device.specs.Calls.{with_reset}
 use Rattle.iom_inflight.specs.declared.made.MadeAt.{MadeAt}
 use Rattle.iom_iommu.specs.declared.fetched.Fetched.{Fetched}
 use Rattle.iom_iommu.specs.Fetches.{FetchesCommand}
-use Rattle.iom_iommu.specs.Parts.{opened_of}
+use Rattle.iom_iommu.specs.Parts.{slots_of}
 use Rattle.iom_iommu.specs.Requests.{CommitsOldest}
 use Rattle.iom_iommu.specs.Timeouts.{TimesOut}
 use Rattle.iom_hardware.specs.ByDevice.{ByDevice}
@@ -46,7 +46,7 @@ Resets old id answer new = ByDevice is_any_kind (ClearsCache id) old id answer n
 pub record TakesCommand (old : HardwareParts) (fetched : Fetched) (new : HardwareParts) : Type 0 where
   pub call : FetchesCommand old.memory old.iommu fetched new.memory new.iommu
   pub devices : new.devices ≡ old.devices
-  pub fabric : new.fabric ≡ with_opened fetched (opened_of new.iommu) old.fabric
+  pub fabric : new.fabric ≡ with_opened fetched (slots_of new.iommu).last old.fabric
 
 -- A FENCE that waits for devices is given up, if one does
 pub record GivesUpFence (old : HardwareParts) (has_effect : Bool) (new : HardwareParts) : Type 0 where

@@ -7,7 +7,6 @@ use Rattle.iom_command_queue.specs.declared.command.AtsRange.{AtsRange}
 use Rattle.iom_command_queue.specs.declared.command.AtsRange.TheVariants as named
 use Rattle.iom_command_queue.specs.declared.command.Command.{Command}
 use Rattle.iom_command_queue.specs.declared.command.Command.TheVariants.{IotinvalVma, IotinvalGvma, IofenceC, IodirInvalDdt, AtsInval}
-use Rattle.iom_command_queue.specs.declared.slot.Slot.{Slot}
 use Rattle.iom_device.specs.Caches.{epoch_in}
 use Rattle.iom_fabric.specs.declared.fabric.OnLink.{OnLink}
 use Rattle.iom_fabric.specs.declared.fabric.Repeat.{Repeat}
@@ -30,21 +29,20 @@ abbrev pub dropped_range : AtsRange → Range
 dropped_range (named.Page page) = ranges.Page page
 dropped_range named.Everything = ranges.Everything
 
--- a request to invalidate that was opened is sent to its device (Invalidate Request, section 10.3.1)
-abbrev pub with_invalidation : Command → Slot → List OnLink → List OnLink
-with_invalidation (AtsInval device range) slot fabric = with_message fabric slot.device (InvReq slot.serial (dropped_range range))
-with_invalidation (IotinvalVma gscid pscid page) slot fabric = fabric
-with_invalidation (IotinvalGvma gscid page) slot fabric = fabric
-with_invalidation (IofenceC store wsi pr pw) slot fabric = fabric
-with_invalidation (IodirInvalDdt device) slot fabric = fabric
+-- the request to invalidate that a command is, with the number that it was given, is sent to its device (Invalidate Request, section 10.3.1)
+abbrev pub with_invalidation : Command → ℕ → List OnLink → List OnLink
+with_invalidation (AtsInval device range) serial fabric = with_message fabric device (InvReq serial (dropped_range range))
+with_invalidation (IotinvalVma gscid pscid page) serial fabric = fabric
+with_invalidation (IotinvalGvma gscid page) serial fabric = fabric
+with_invalidation (IofenceC store wsi pr pw) serial fabric = fabric
+with_invalidation (IodirInvalDdt device) serial fabric = fabric
 
--- what a fetch sends, by the slot that it opened, if it did
-abbrev pub with_opened : Fetched → Option Slot → List OnLink → List OnLink
-with_opened (Did command) (Some slot) fabric = with_invalidation command slot fabric
-with_opened (Did command) None fabric = fabric
-with_opened Waiting opened fabric = fabric
-with_opened Empty opened fabric = fabric
-with_opened Stopped opened fabric = fabric
+-- what a fetch sends, by the number of the last request
+abbrev pub with_opened : Fetched → ℕ → List OnLink → List OnLink
+with_opened (Did command) last fabric = with_invalidation command last fabric
+with_opened Waiting last fabric = fabric
+with_opened Empty last fabric = fabric
+with_opened Stopped last fabric = fabric
 
 -- a device sends a message: false where it is lost, and nothing else changes
 pub record SendsMessage (id : ℕ) (message : Message) (old : HardwareParts) (is_sent : Bool) (new : HardwareParts) : Type 0 where

@@ -22,7 +22,7 @@ impl Hardware {
     {
         self.events += 1;
         let answer = self.iommu.fetch(&mut self.memory);
-        send_opened(&mut self.fabric, &answer, self.iommu.opened());
+        send_opened(&mut self.fabric, &answer, self.iommu.slots().last());
         answer
     }
 }

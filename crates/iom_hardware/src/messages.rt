@@ -9,7 +9,7 @@ ghost use Rattle.iom_hardware.specs.Sound.{IsSoundHardware};
 use crate::hardware::Hardware;
 use crate::permits::Act;
 use iom_base::{DeviceId, Refusal};
-use iom_command_queue::{AtsRange, Command, Slot};
+use iom_command_queue::{AtsRange, Command};
 use iom_fabric::{Fabric, Message, PageNumber, Range, Repeat};
 use iom_iommu::Fetched;
 
@@ -23,20 +23,16 @@ fn range_of(range: AtsRange) -> Range
     }
 }
 
-/// The request to invalidate that a fetch opened, if it did, is sent to its device. Where 64 messages are under way
-/// it is lost, and stays open.
-pub(crate) fn send_opened(fabric: &mut Fabric, answer: &Fetched, opened: Option<Slot>)
-    ensures { fabric.new ≡ with_opened answer.now opened fabric.old }
+/// The request to invalidate that a fetch opened, if it did, is sent to its device: its number is that of the last
+/// request. Where 64 messages are under way it is lost, and stays open.
+pub(crate) fn send_opened(fabric: &mut Fabric, answer: &Fetched, serial: u64)
+    ensures { fabric.new ≡ with_opened answer.now serial fabric.old }
 {
-    let Fetched::Did(Command::AtsInval { range, .. }) = *answer else {
+    let Fetched::Did(Command::AtsInval { device, range }) = *answer else {
         return;
     };
-    let Some(slot) = opened else {
-        return;
-    };
-    let serial = slot.serial;
     let range = range_of(range);
-    fabric.send(slot.device, Message::InvReq { serial, range });
+    fabric.send(device.number(), Message::InvReq { serial, range });
 }
 
 impl Hardware {

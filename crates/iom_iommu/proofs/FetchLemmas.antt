@@ -1,5 +1,6 @@
 -- What a fetch does to the list of the commands that wait, to the frames of memory and to the fault queue, and what a timeout does to that list
-use Rattle.std.proofs.Common.{arith, ◌≡◌, ◌≢◌, ◌+◌, ◌/◌, ◌%◌, ◌<◌, ◌≤◌, ◌∙◌, ℕ, Bool, true, false, List, [], ◌∷◌, length, slice_get, Option, Some, None, refl, sym, ap, subst, if◌then◌else◌}
+use Rattle.std.proofs.Common.{arith, not, ◌&&◌, ◌||◌, ◌≡◌, ◌≢◌, ◌+◌, ◌/◌, ◌%◌, ◌<◌, ◌≤◌, ◌∙◌, ℕ, Bool, true, false, List, [], ◌∷◌, length, slice_get, Option, Some, None, refl, sym, ap, subst, if◌then◌else◌}
+use Rattle.std.proofs.lemmas.Bool.{true≢false}
 use Rattle.std.specs.Prelude.{slice_set}
 use Rattle.std.specs.Option.{option_map_or}
 use Rattle.std.proofs.lemmas.List.{length-set}
@@ -8,7 +9,7 @@ use Rattle.iom_base.specs.Bytes.{with_bytes}
 use Rattle.iom_phys_mem.specs.Words.{with_word}
 use Rattle.iom_phys_mem.proofs.Stores.{frame_elsewhere}
 use Rattle.iom_registers.specs.declared.registers.Registers.{Registers}
-use Rattle.iom_registers.specs.Queues.{command_entries, command_head, command_tail, is_processing_commands, with_command_done, with_fence_w_ip, with_cqmf, with_cmd_to, with_cmd_ill}
+use Rattle.iom_registers.specs.Queues.{command_entries, command_base, command_head, command_tail, directory_mode, directory_root, is_command_queue_on, is_command_queue_stopped, is_processing_commands, with_command_done, with_fence_w_ip, with_cqmf, with_cmd_to, with_cmd_ill}
 use Rattle.iom_command_queue.specs.declared.command.Command.{Command}
 use Rattle.iom_command_queue.specs.declared.command.Command.TheVariants.{IotinvalVma, IotinvalGvma, IofenceC, IodirInvalDdt, AtsInval}
 use Rattle.iom_command_queue.specs.declared.command.FenceStore.{FenceStore}
@@ -21,9 +22,10 @@ use Rattle.iom_iommu.specs.declared.iommu.Iommu.{Iommu}
 use Rattle.iom_iommu.specs.declared.fetched.Fetched.{Fetched}
 use Rattle.iom_iommu.specs.declared.fetched.Fetched.TheVariants.{Did, Waiting, Empty, Stopped}
 use Rattle.iom_tlb.specs.declared.trans_cache.TransCache.{Ghosts as Cache}
-use Rattle.iom_iommu.specs.Parts.{registers_of, fence_snapshot_of, slots_of}
+use Rattle.iom_iommu.specs.Parts.{registers_of, slots_of}
 use Rattle.iom_iommu.specs.Timeouts.{TimesOut}
-use Rattle.iom_iommu.specs.Fetches.{counted_in, slots_by, is_waiting_fence, after_none, after_fetched, fence_snapshot_at, waits_at, IsLeft, store_of, asks_for_interrupt, with_store, IsStoredIn, IsOffRing, head_entry, WaitsAt, StopsAtEntry, StopsFetching, FetchesCommand, LeavesFaultQueue}
+use Rattle.iom_iommu.specs.Fetches.{counted_in, with_store, head_entry}
+use Rattle.iom_iommu.specs.Effects.{slots_by, is_waiting_fence, after_fetched, fence_snapshot_at, waits_at, store_of, asks_for_interrupt, with_done, IsStoredIn, IsOffRing, WaitsAt, StopsAtEntry, StopsFetching, FetchesByAnswer, LeavesFaultQueue}
 
 -- something stands at the head, so head and tail aren't the same
 pub apart : (m : List (List ℕ)) (r : Registers) (entry : QueueEntry) → head_entry m r ≡ Some entry → command_head r ≢ command_tail r
@@ -59,7 +61,7 @@ store_length m None = refl
 store_length m (Some store) = word_length 4 store.data store.address m
 
 -- THE FRAMES that no word was stored in
-pub leaves_frames : {C : Type 0} {c : Cache C} (m n : List (List ℕ)) (i j : Iommu C c) (command : Command) → FetchesCommand m i (Did command) n j
+pub leaves_frames : {C : Type 0} {c : Cache C} (m n : List (List ℕ)) (i j : Iommu C c) (command : Command) → FetchesByAnswer m i (Did command) n j
     → ((k : ℕ) → ¬ IsStoredIn (store_of command) k → slice_get n k ≡ slice_get m k) × (length n ≡ length m)
 leaves_frames m n i j command f = (
   (λ k ne. ap (λ x. slice_get x k) f.4 ∙ store_elsewhere m (store_of command) k ne),
@@ -83,7 +85,7 @@ stop_list false m i j s = ap (λ x. commands_in m (registers_of x)) s
 stop_list true m i j s = stop_at_list m (head_entry m (registers_of i)) i j s
 
 -- THE FIRST is taken, and the rest stays
-pub takes_first : {C : Type 0} {c : Cache C} (m n : List (List ℕ)) (i j : Iommu C c) (command : Command) → FetchesCommand m i (Did command) n j
+pub takes_first : {C : Type 0} {c : Cache C} (m n : List (List ℕ)) (i j : Iommu C c) (command : Command) → FetchesByAnswer m i (Did command) n j
     → IsOffRing (registers_of i) (store_of command) → commands_in m (registers_of i) ≡ stands.Command command ∷ commands_in n (registers_of j)
 takes_first m n i j command f off =
     let r = registers_of i in let done = with_command_done r in
@@ -94,14 +96,14 @@ takes_first m n i j command f off =
     ∙ ap (λ xs. stands.Command command ∷ xs) (sym (stays_by_frames m n done alike) ∙ sym (fence_list n done (asks_for_interrupt command)) ∙ sym (ap (λ x. commands_in n x) f.5.registers))
 
 -- any other answer leaves memory, and the list
-pub leaves_memory : {C : Type 0} {c : Cache C} (m n : List (List ℕ)) (i j : Iommu C c) (answer : Fetched) → FetchesCommand m i answer n j
+pub leaves_memory : {C : Type 0} {c : Cache C} (m n : List (List ℕ)) (i j : Iommu C c) (answer : Fetched) → FetchesByAnswer m i answer n j
     → ((command : Command) → ¬ (answer ≡ Did command)) → n ≡ m
 leaves_memory m n i j (Did command) f not_done = absurd (not_done command refl)
 leaves_memory m n i j Waiting f not_done = f.2
 leaves_memory m n i j Empty f not_done = f.2
 leaves_memory m n i j Stopped f not_done = f.1
 
-pub leaves_list : {C : Type 0} {c : Cache C} (m n : List (List ℕ)) (i j : Iommu C c) (answer : Fetched) → FetchesCommand m i answer n j
+pub leaves_list : {C : Type 0} {c : Cache C} (m n : List (List ℕ)) (i j : Iommu C c) (answer : Fetched) → FetchesByAnswer m i answer n j
     → ((command : Command) → ¬ (answer ≡ Did command)) → commands_in n (registers_of j) ≡ commands_in m (registers_of i)
 leaves_list m n i j (Did command) f not_done = absurd (not_done command refl)
 leaves_list m n i j Waiting f not_done = ap (λ x. commands_in x (registers_of j)) f.2 ∙ ap (λ x. commands_in m (registers_of x)) f.3
@@ -125,14 +127,14 @@ none_stops : {C : Type 0} {c : Cache C} (m : List (List ℕ)) (on : Bool) (i j :
 none_stops m on i j is_on none s = subst (λ entry. StopsAtEntry m entry i j) none (subst (λ b. StopsFetching b m i j) is_on s)
 
 -- EMPTY exactly where processing is on and nothing waits
-pub empty_then : {C : Type 0} {c : Cache C} (m n : List (List ℕ)) (i j : Iommu C c) (answer : Fetched) → FetchesCommand m i answer n j
+pub empty_then : {C : Type 0} {c : Cache C} (m n : List (List ℕ)) (i j : Iommu C c) (answer : Fetched) → FetchesByAnswer m i answer n j
     → answer ≡ Empty → (is_processing_commands (registers_of i) ≡ true) × (commands_in m (registers_of i) ≡ [])
 empty_then m n i j (Did command) f e = cc
 empty_then m n i j Waiting f e = cc
 empty_then m n i j Empty f e = (f.0, none_first (commands_in m (registers_of i)) f.1)
 empty_then m n i j Stopped f e = cc
 
-pub empty_where : {C : Type 0} {c : Cache C} (m n : List (List ℕ)) (i j : Iommu C c) (answer : Fetched) → FetchesCommand m i answer n j
+pub empty_where : {C : Type 0} {c : Cache C} (m n : List (List ℕ)) (i j : Iommu C c) (answer : Fetched) → FetchesByAnswer m i answer n j
     → (is_processing_commands (registers_of i) ≡ true) × (commands_in m (registers_of i) ≡ []) → answer ≡ Empty
 empty_where m n i j (Did command) f p = let e = sym (ap (λ xs. slice_get xs 0) p.1) ∙ f.1 in cc
 empty_where m n i j Waiting f p = absurd (none_waits m i (ap (λ xs. slice_get xs 0) p.1) f.1)
@@ -140,89 +142,57 @@ empty_where m n i j Empty f p = refl
 empty_where m n i j Stopped f p =
     absurd (none_stops m (is_processing_commands (registers_of i)) i j p.0 (ap (λ xs. slice_get xs 0) p.1) f.0)
 
+-- WHAT A FETCH DOES TO REGISTERS: nothing, or a command is done, or one of two bits stops the processing. So what holds of these holds of each
+module _ (Leaves : Registers → Registers → Type 0) (same : (r : Registers) → Leaves r r) (done : (r : Registers) (command : Command) → Leaves r (with_done r command))
+    (unloaded : (r : Registers) → Leaves r (with_cqmf r)) (illegal : (r : Registers) → Leaves r (with_cmd_ill r)) where
+  module _ {C : Type 0} {c : Cache C} (m n : List (List ℕ)) (i j : Iommu C c) where
+    leaves_as : (r : Registers) → registers_of j ≡ r → Leaves (registers_of i) r → Leaves (registers_of i) (registers_of j)
+    leaves_as r is leaves = subst (Leaves (registers_of i)) (sym is) leaves
+
+    stop_at_leaves : (entry : Option QueueEntry) → StopsAtEntry m entry i j → Leaves (registers_of i) (registers_of j)
+    stop_at_leaves None s = absurd s
+    stop_at_leaves (Some stands.Outside) s = leaves_as _ (ap registers_of s) (unloaded (registers_of i))
+    stop_at_leaves (Some (stands.Illegal reason)) s = leaves_as _ (ap registers_of s) (illegal (registers_of i))
+    stop_at_leaves (Some (stands.Command command)) s = leaves_as _ (ap registers_of s.2) (unloaded (registers_of i))
+
+    stop_leaves : (on : Bool) → StopsFetching on m i j → Leaves (registers_of i) (registers_of j)
+    stop_leaves false s = leaves_as _ (ap registers_of s) (same (registers_of i))
+    stop_leaves true s = stop_at_leaves (head_entry m (registers_of i)) s
+
+    fetch_leaves : (answer : Fetched) → FetchesByAnswer m i answer n j → Leaves (registers_of i) (registers_of j)
+    fetch_leaves (Did command) f = leaves_as _ f.5.registers (done (registers_of i) command)
+    fetch_leaves Waiting f = leaves_as _ (ap registers_of f.3) (same (registers_of i))
+    fetch_leaves Empty f = leaves_as _ (ap registers_of f.3) (same (registers_of i))
+    fetch_leaves Stopped f = stop_leaves (is_processing_commands (registers_of i)) f.0
+
 -- THE FAULT QUEUE stays
-fence_leaves : (r : Registers) (asks : Bool) → LeavesFaultQueue r (if asks then with_fence_w_ip (with_command_done r) else with_command_done r)
-fence_leaves r true = (refl, refl, refl, refl)
-fence_leaves r false = (refl, refl, refl, refl)
+done_leaves : (r : Registers) (command : Command) → LeavesFaultQueue r (with_done r command)
+done_leaves r command = by (asks_for_interrupt command)
+  where
+    by : (asks : Bool) → LeavesFaultQueue r (if asks then with_fence_w_ip (with_command_done r) else with_command_done r)
+    by true = (refl, refl, refl, refl)
+    by false = (refl, refl, refl, refl)
 
-stop_at_leaves : {C : Type 0} {c : Cache C} (m : List (List ℕ)) (entry : Option QueueEntry) (i j : Iommu C c) → StopsAtEntry m entry i j
+pub leaves_fault_queue : {C : Type 0} {c : Cache C} (m n : List (List ℕ)) (i j : Iommu C c) (answer : Fetched) → FetchesByAnswer m i answer n j
     → LeavesFaultQueue (registers_of i) (registers_of j)
-stop_at_leaves m None i j s = absurd s
-stop_at_leaves m (Some stands.Outside) i j s = subst (λ x. LeavesFaultQueue (registers_of i) (registers_of x)) (sym s) (refl, refl, refl, refl)
-stop_at_leaves m (Some (stands.Illegal reason)) i j s = subst (λ x. LeavesFaultQueue (registers_of i) (registers_of x)) (sym s) (refl, refl, refl, refl)
-stop_at_leaves m (Some (stands.Command command)) i j s = subst (λ x. LeavesFaultQueue (registers_of i) (registers_of x)) (sym s.2) (refl, refl, refl, refl)
+leaves_fault_queue m n i j answer f = fetch_leaves LeavesFaultQueue (λ r. (refl, refl, refl, refl)) done_leaves (λ r. (refl, refl, refl, refl)) (λ r. (refl, refl, refl, refl)) m n i j answer f
 
-stop_leaves : {C : Type 0} {c : Cache C} (on : Bool) (m : List (List ℕ)) (i j : Iommu C c) → StopsFetching on m i j → LeavesFaultQueue (registers_of i) (registers_of j)
-stop_leaves false m i j s = subst (λ x. LeavesFaultQueue (registers_of i) (registers_of x)) (sym s) (refl, refl, refl, refl)
-stop_leaves true m i j s = stop_at_leaves m (head_entry m (registers_of i)) i j s
+-- WHAT SOFTWARE SET UP stays: where the queue lies and ends, whether it is on, and the directory
+abbrev pub LeavesSetup : Registers → Registers → Type 0
+LeavesSetup old new =
+    (command_base new ≡ command_base old) × (command_entries new ≡ command_entries old) × (command_tail new ≡ command_tail old)
+    × (is_command_queue_on new ≡ is_command_queue_on old) × (directory_mode new ≡ directory_mode old) × (directory_root new ≡ directory_root old)
 
-pub leaves_fault_queue : {C : Type 0} {c : Cache C} (m n : List (List ℕ)) (i j : Iommu C c) (answer : Fetched) → FetchesCommand m i answer n j
-    → LeavesFaultQueue (registers_of i) (registers_of j)
-leaves_fault_queue m n i j (Did command) f =
-    subst (λ r. LeavesFaultQueue (registers_of i) r) (sym f.5.registers) (fence_leaves (registers_of i) (asks_for_interrupt command))
-leaves_fault_queue m n i j Waiting f = subst (λ x. LeavesFaultQueue (registers_of i) (registers_of x)) (sym f.3) (refl, refl, refl, refl)
-leaves_fault_queue m n i j Empty f = subst (λ x. LeavesFaultQueue (registers_of i) (registers_of x)) (sym f.3) (refl, refl, refl, refl)
-leaves_fault_queue m n i j Stopped f = stop_leaves (is_processing_commands (registers_of i)) m i j f.0
+done_keeps_setup : (r : Registers) (command : Command) → LeavesSetup r (with_done r command)
+done_keeps_setup r command = by (asks_for_interrupt command)
+  where
+    by : (asks : Bool) → LeavesSetup r (if asks then with_fence_w_ip (with_command_done r) else with_command_done r)
+    by true = (refl, refl, refl, refl, refl, refl)
+    by false = (refl, refl, refl, refl, refl, refl)
 
--- A FETCH begins with no request opened by it: what it answers and leaves is the same, whether the one before opened one
-module _ {C : Type 0} {c : Cache C} (i : Iommu C c) where
-  abbrev begun : Iommu C c
-  begun = after_none i (registers_of i) (fence_snapshot_of i)
-
-  waits_for : (entry : Option QueueEntry) → WaitsAt entry begun → WaitsAt entry i
-  waits_for None w = w
-  waits_for (Some stands.Outside) w = w
-  waits_for (Some (stands.Illegal reason)) w = w
-  waits_for (Some (stands.Command command)) w = w
-
-  counts_for : (entry : Option QueueEntry) → fence_snapshot_at entry begun ≡ fence_snapshot_at entry i
-  counts_for None = refl
-  counts_for (Some stands.Outside) = refl
-  counts_for (Some (stands.Illegal reason)) = refl
-  counts_for (Some (stands.Command command)) = refl
-
-  waits_so_for : (entry : Option QueueEntry) → waits_at entry begun ≡ waits_at entry i
-  waits_so_for None = refl
-  waits_so_for (Some stands.Outside) = refl
-  waits_so_for (Some (stands.Illegal reason)) = refl
-  waits_so_for (Some (stands.Command command)) = refl
-
-  stops_at_for : (m : List (List ℕ)) (entry : Option QueueEntry) (j : Iommu C c) → StopsAtEntry m entry begun j → StopsAtEntry m entry i j
-  stops_at_for m None j s = s
-  stops_at_for m (Some stands.Outside) j s = s
-  stops_at_for m (Some (stands.Illegal reason)) j s = s
-  stops_at_for m (Some (stands.Command command)) j s = s
-
-  stops_for : (m : List (List ℕ)) (on : Bool) (j : Iommu C c) → StopsFetching on m begun j → StopsFetching on m i j
-  stops_for m true j s = stops_at_for m (head_entry m (registers_of i)) j s
-  stops_for m false j s = s
-
-  left_for : (command : Command) (j : Iommu C c) → IsLeft command begun j → IsLeft command i j
-  left_for command j l = record {
-    registers = l.registers;
-    contexts = l.contexts;
-    translations = l.translations;
-    fence_snapshot = l.fence_snapshot;
-    waits = l.waits;
-    slots = l.slots;
-    opened = l.opened;
-    flights = l.flights;
-    frames = l.frames;
-  }
-
-  pub fetches_for : (m n : List (List ℕ)) (old j : Iommu C c) (answer : Fetched) → old ≡ begun → FetchesCommand m old answer n j → FetchesCommand m i answer n j
-  fetches_for m n old j answer is f = by answer (subst (λ x. FetchesCommand m x answer n j) is f) where
-    by : (a : Fetched) → FetchesCommand m begun a n j → FetchesCommand m i a n j
-    by (Did command) f = (f.0, f.1, f.2, f.3, f.4, left_for command j f.5)
-    by Waiting f = (
-      f.0,
-      waits_for (head_entry m (registers_of i)) f.1,
-      f.2,
-      f.3 ∙ ap (λ fence_snapshot. after_fetched i (registers_of i) fence_snapshot (waits_at (head_entry m (registers_of i)) begun)) (counts_for (head_entry m (registers_of i)))
-          ∙ ap (λ waits. after_fetched i (registers_of i) (fence_snapshot_at (head_entry m (registers_of i)) i) waits) (waits_so_for (head_entry m (registers_of i))),
-    )
-    by Empty f = f
-    by Stopped f = (stops_for m (is_processing_commands (registers_of i)) j f.0, f.1)
+pub leaves_setup : {C : Type 0} {c : Cache C} (m n : List (List ℕ)) (i j : Iommu C c) (answer : Fetched) → FetchesByAnswer m i answer n j → LeavesSetup (registers_of i) (registers_of j)
+leaves_setup m n i j answer f =
+    fetch_leaves LeavesSetup (λ r. (refl, refl, refl, refl, refl, refl)) done_keeps_setup (λ r. (refl, refl, refl, refl, refl, refl)) (λ r. (refl, refl, refl, refl, refl, refl)) m n i j answer f
 
 -- ONE NUMBER at most is given to an invalidation request
 last_by : (command : Command) (slots : OpenSlots) → (slots_by command slots).last ≤ slots.last + 1
@@ -233,8 +203,8 @@ last_by (IodirInvalDdt device) slots = omega arith
 last_by (AtsInval device range) slots = omega arith
 
 module _ {C : Type 0} {c : Cache C} (m : List (List ℕ)) (i j : Iommu C c) where
-  same_last : (r : Registers) (fence_snapshot : Option ℕ) → j ≡ after_none i r fence_snapshot → (slots_of j).last ≤ (slots_of i).last + 1
-  same_last r fence_snapshot left = subst (λ x. (slots_of x).last ≤ (slots_of i).last + 1) (sym left) (omega arith)
+  same_last : j ≡ i → (slots_of j).last ≤ (slots_of i).last + 1
+  same_last left = subst (λ x. (slots_of x).last ≤ (slots_of i).last + 1) (sym left) (omega arith)
 
   fetched_last : (r : Registers) (fence_snapshot : Option ℕ) (waits : Bool) → j ≡ after_fetched i r fence_snapshot waits → (slots_of j).last ≤ (slots_of i).last + 1
   fetched_last r fence_snapshot waits left = subst (λ x. (slots_of x).last ≤ (slots_of i).last + 1) (sym left) (omega arith)
@@ -248,11 +218,74 @@ module _ {C : Type 0} {c : Cache C} (m : List (List ℕ)) (i j : Iommu C c) wher
 
   stops_last : (on : Bool) → StopsFetching on m i j → (slots_of j).last ≤ (slots_of i).last + 1
   stops_last true s = stops_at_last (head_entry m (registers_of i)) s
-  stops_last false s = same_last (registers_of i) (fence_snapshot_of i) s
+  stops_last false s = same_last s
 
-  pub opens_one : (n : List (List ℕ)) (answer : Fetched) → FetchesCommand m i answer n j → (slots_of j).last ≤ (slots_of i).last + 1
+  pub opens_one : (n : List (List ℕ)) (answer : Fetched) → FetchesByAnswer m i answer n j → (slots_of j).last ≤ (slots_of i).last + 1
   opens_one n (Did command) f = subst (λ x. x.last ≤ (slots_of i).last + 1) (sym f.5.slots) (last_by command (slots_of i))
   opens_one n Waiting f =
       fetched_last (registers_of i) (fence_snapshot_at (head_entry m (registers_of i)) i) (waits_at (head_entry m (registers_of i)) i) f.3
   opens_one n Empty f = fetched_last (registers_of i) None false f.3
   opens_one n Stopped f = stops_last (is_processing_commands (registers_of i)) f.0
+
+-- STOPPED exactly where commands aren't processed afterwards
+done_goes_on : (r : Registers) (asks : Bool) → is_processing_commands (if asks then with_fence_w_ip (with_command_done r) else with_command_done r) ≡ is_processing_commands r
+done_goes_on r true = refl
+done_goes_on r false = refl
+
+and_not : (one other : Bool) → other ≡ true → (one && not other) ≡ false
+and_not true other is = ap not is
+and_not false other is = refl
+
+last_true : (before : Bool) → (before || true) ≡ true
+last_true true = refl
+last_true false = refl
+
+halted_by_load : (r : Registers) → is_processing_commands (with_cqmf r) ≡ false
+halted_by_load r = and_not (is_command_queue_on r) true refl
+
+halted_as_illegal : (r : Registers) → is_processing_commands (with_cmd_ill r) ≡ false
+halted_as_illegal r = and_not (is_command_queue_on r) (is_command_queue_stopped (with_cmd_ill r)) (last_true (r.cqcsr.cqmf || r.cqcsr.cmd_to))
+
+module _ {C : Type 0} {c : Cache C} (m n : List (List ℕ)) (i j : Iommu C c) where
+  goes_on : (r : Registers) → registers_of j ≡ r → is_processing_commands r ≡ is_processing_commands (registers_of i) → is_processing_commands (registers_of i) ≡ true → is_processing_commands (registers_of j) ≡ true
+  goes_on r is same on = ap is_processing_commands is ∙ same ∙ on
+
+  halts_at : (entry : Option QueueEntry) → StopsAtEntry m entry i j → is_processing_commands (registers_of j) ≡ false
+  halts_at None s = absurd s
+  halts_at (Some stands.Outside) s = ap (λ x. is_processing_commands (registers_of x)) s ∙ halted_by_load (registers_of i)
+  halts_at (Some (stands.Illegal reason)) s = ap (λ x. is_processing_commands (registers_of x)) s ∙ halted_as_illegal (registers_of i)
+  halts_at (Some (stands.Command command)) s = ap (λ x. is_processing_commands (registers_of x)) s.2 ∙ halted_by_load (registers_of i)
+
+  halts : (on : Bool) → is_processing_commands (registers_of i) ≡ on → StopsFetching on m i j → is_processing_commands (registers_of j) ≡ false
+  halts true so s = halts_at (head_entry m (registers_of i)) s
+  halts false so s = ap (λ x. is_processing_commands (registers_of x)) s ∙ so
+
+  -- whether it goes on after each answer
+  abbrev AreProcessed : Fetched → Type 0
+  AreProcessed (Did command) = is_processing_commands (registers_of j) ≡ true
+  AreProcessed Waiting = is_processing_commands (registers_of j) ≡ true
+  AreProcessed Empty = is_processing_commands (registers_of j) ≡ true
+  AreProcessed Stopped = is_processing_commands (registers_of j) ≡ false
+
+  are_processed : (answer : Fetched) → FetchesByAnswer m i answer n j → AreProcessed answer
+  are_processed (Did command) f = goes_on _ f.5.registers (done_goes_on (registers_of i) (asks_for_interrupt command)) f.0
+  are_processed Waiting f = goes_on _ (ap registers_of f.3) refl f.0
+  are_processed Empty f = goes_on _ (ap registers_of f.3) refl f.0
+  are_processed Stopped f = halts (is_processing_commands (registers_of i)) refl f.0
+
+  pub stopped_then : (answer : Fetched) → FetchesByAnswer m i answer n j → answer ≡ Stopped → is_processing_commands (registers_of j) ≡ false
+  stopped_then answer f is = subst AreProcessed is (are_processed answer f)
+
+  pub stopped_where : (answer : Fetched) → FetchesByAnswer m i answer n j → is_processing_commands (registers_of j) ≡ false → answer ≡ Stopped
+  stopped_where (Did command) f off = absurd (true≢false (sym (are_processed (Did command) f) ∙ off))
+  stopped_where Waiting f off = absurd (true≢false (sym (are_processed Waiting f) ∙ off))
+  stopped_where Empty f off = absurd (true≢false (sym (are_processed Empty f) ∙ off))
+  stopped_where Stopped f off = refl
+
+-- the same of whether it hadn't before
+pub nothing_stopped : {C : Type 0} {c : Cache C} (m n : List (List ℕ)) (i j : Iommu C c) (answer : Fetched) → FetchesByAnswer m i answer n j
+    → is_processing_commands (registers_of i) ≡ false → (answer ≡ Stopped) × (n ≡ m) × (j ≡ i)
+nothing_stopped m n i j (Did command) f off = absurd (true≢false (sym f.0 ∙ off))
+nothing_stopped m n i j Waiting f off = absurd (true≢false (sym f.0 ∙ off))
+nothing_stopped m n i j Empty f off = absurd (true≢false (sym f.0 ∙ off))
+nothing_stopped m n i j Stopped f off = (refl, f.1, subst (λ b. StopsFetching b m i j) off f.0)

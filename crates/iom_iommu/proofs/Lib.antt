@@ -1,4 +1,6 @@
 pub mod CachedLemmas
+pub mod ByAnswer
+pub mod FenceLemmas
 pub mod FetchLemmas
 pub mod OneFetch
 pub mod ServiceLemmas

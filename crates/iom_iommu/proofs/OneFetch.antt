@@ -12,7 +12,8 @@ use Rattle.iom_iommu.specs.declared.iommu.Iommu.{Iommu}
 use Rattle.iom_iommu.specs.declared.fetched.Fetched.{Fetched}
 use Rattle.iom_iommu.specs.declared.fetched.Fetched.TheVariants.{Did, Waiting, Empty, Stopped}
 use Rattle.iom_iommu.specs.Parts.{registers_of, contexts_of}
-use Rattle.iom_iommu.specs.Fetches.{is_held, IsLeft, DropsContexts, head_entry, WaitsAt, StopsAtEntry, StopsFetching, FetchesCommand, AreAlike}
+use Rattle.iom_iommu.specs.Fetches.{head_entry}
+use Rattle.iom_iommu.specs.Effects.{is_held, IsLeft, DropsContexts, WaitsAt, StopsAtEntry, StopsFetching, FetchesByAnswer, AreAlike}
 
 dropped_alike : (command : Command) (old one other : Content ℕ Context) → DropsContexts command old one → DropsContexts command old other → IsSameContent one other
 dropped_alike (IotinvalVma gscid pscid page) old one other d e = λ key. e key ∙ sym (d key)
@@ -33,7 +34,6 @@ module _ {C : Type 0} {c : Cache C} (m : List (List ℕ)) (i : Iommu C c) where
     fence_snapshot = refl;
     waits = refl;
     slots = refl;
-    opened = refl;
     flights = refl;
     frames = refl;
   })
@@ -46,7 +46,6 @@ module _ {C : Type 0} {c : Cache C} (m : List (List ℕ)) (i : Iommu C c) where
     fence_snapshot = one.fence_snapshot ∙ sym other.fence_snapshot;
     waits = one.waits ∙ sym other.waits;
     slots = one.slots ∙ sym other.slots;
-    opened = one.opened ∙ sym other.opened;
     flights = one.flights ∙ sym other.flights;
     frames = one.frames ∙ sym other.frames;
   }
@@ -75,33 +74,33 @@ module _ {C : Type 0} {c : Cache C} (m : List (List ℕ)) (i : Iommu C c) where
   stops_alike true j k s t = stops_at_alike (head_entry m (registers_of i)) j k s t
   stops_alike false j k s t = s ∙ sym t
 
-  did_or_waits : (command : Command) (n o : List (List ℕ)) (j k : Iommu C c) → FetchesCommand m i (Did command) n j → ¬ FetchesCommand m i Waiting o k
+  did_or_waits : (command : Command) (n o : List (List ℕ)) (j k : Iommu C c) → FetchesByAnswer m i (Did command) n j → ¬ FetchesByAnswer m i Waiting o k
   did_or_waits command n o j k f w = not_held command f.2 (subst (λ entry. WaitsAt entry i) f.1 w.1)
 
-  did_or_empty : (command : Command) (n o : List (List ℕ)) (j k : Iommu C c) → FetchesCommand m i (Did command) n j → ¬ FetchesCommand m i Empty o k
+  did_or_empty : (command : Command) (n o : List (List ℕ)) (j k : Iommu C c) → FetchesByAnswer m i (Did command) n j → ¬ FetchesByAnswer m i Empty o k
   did_or_empty command n o j k f e = let both = sym f.1 ∙ e.1 in cc
 
-  did_or_stops : (command : Command) (n o : List (List ℕ)) (j k : Iommu C c) → FetchesCommand m i (Did command) n j → ¬ FetchesCommand m i Stopped o k
+  did_or_stops : (command : Command) (n o : List (List ℕ)) (j k : Iommu C c) → FetchesByAnswer m i (Did command) n j → ¬ FetchesByAnswer m i Stopped o k
   did_or_stops command n o j k f s = (on_stops k (Some (stands.Command command)) f.0 f.1 s.0).1 f.3
 
-  waits_or_empty : (n o : List (List ℕ)) (j k : Iommu C c) → FetchesCommand m i Waiting n j → ¬ FetchesCommand m i Empty o k
+  waits_or_empty : (n o : List (List ℕ)) (j k : Iommu C c) → FetchesByAnswer m i Waiting n j → ¬ FetchesByAnswer m i Empty o k
   waits_or_empty n o j k w e = subst (λ entry. WaitsAt entry i) e.1 w.1
 
-  waits_or_stopped : (n o : List (List ℕ)) (j k : Iommu C c) → FetchesCommand m i Waiting n j → ¬ FetchesCommand m i Stopped o k
+  waits_or_stopped : (n o : List (List ℕ)) (j k : Iommu C c) → FetchesByAnswer m i Waiting n j → ¬ FetchesByAnswer m i Stopped o k
   waits_or_stopped n o j k w s = waits_or_stops (head_entry m (registers_of i)) k w.1 (on_stops k (head_entry m (registers_of i)) w.0 refl s.0)
 
-  empty_or_stops : (n o : List (List ℕ)) (j k : Iommu C c) → FetchesCommand m i Empty n j → ¬ FetchesCommand m i Stopped o k
+  empty_or_stops : (n o : List (List ℕ)) (j k : Iommu C c) → FetchesByAnswer m i Empty n j → ¬ FetchesByAnswer m i Stopped o k
   empty_or_stops n o j k e s = on_stops k None e.0 e.1 s.0
 
   -- TWO that did a command did the same one
-  did_both : (one other : Command) (n o : List (List ℕ)) (j k : Iommu C c) → one ≡ other → FetchesCommand m i (Did one) n j → FetchesCommand m i (Did other) o k
+  did_both : (one other : Command) (n o : List (List ℕ)) (j k : Iommu C c) → one ≡ other → FetchesByAnswer m i (Did one) n j → FetchesByAnswer m i (Did other) o k
       → (Did one ≡ Did other) × (n ≡ o) × AreAlike j k
   did_both one other n o j k same f g =
-      let again = subst (λ command. FetchesCommand m i (Did command) o k) (sym same) g in
+      let again = subst (λ command. FetchesByAnswer m i (Did command) o k) (sym same) g in
       (ap (λ command. Did command) same, f.4 ∙ sym again.4, left_alike one j k f.5 again.5)
 
   -- ONE ANSWER and what it leaves
-  pub one_fetch : (n o : List (List ℕ)) (j k : Iommu C c) (one other : Fetched) → FetchesCommand m i one n j → FetchesCommand m i other o k
+  pub one_fetch : (n o : List (List ℕ)) (j k : Iommu C c) (one other : Fetched) → FetchesByAnswer m i one n j → FetchesByAnswer m i other o k
       → (one ≡ other) × (n ≡ o) × AreAlike j k
   one_fetch n o j k (Did one) (Did other) f g = did_both one other n o j k (command_of (head_entry m (registers_of i)) one other f.1 g.1) f g
   one_fetch n o j k (Did one) Waiting f g = absurd (did_or_waits one n o j k f g)

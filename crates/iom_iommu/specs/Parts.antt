@@ -5,7 +5,6 @@ use Rattle.iom_registers.specs.declared.registers.Registers.{Registers}
 use Rattle.iom_registers.specs.declared.mmio.Mmio.{Ghosts}
 use Rattle.iom_registers.specs.Table.{written, at_power_on}
 use Rattle.iom_registers.specs.Queues.{is_command_queue_on}
-use Rattle.iom_command_queue.specs.declared.slot.Slot.{Slot}
 use Rattle.iom_command_queue.specs.OpenSlots.{OpenSlots, no_slots}
 use Rattle.iom_device_dir.specs.declared.context.Context.{Context}
 use Rattle.iom_device_dir.specs.Cached.{cached_contexts, contexts_in_order}
@@ -51,10 +50,6 @@ waits_of iommu = iommu.fence_waits
 abbrev pub slots_of : {C : Type 0} {c : Cache C} → Iommu C c → OpenSlots
 slots_of iommu = iommu.slots
 
--- the request that the last fetch opened, if it did
-abbrev pub opened_of : {C : Type 0} {c : Cache C} → Iommu C c → Option Slot
-opened_of iommu = iommu.opened
-
 -- how many frames the memory has that its calls are lent
 abbrev pub frames_of : {C : Type 0} {c : Cache C} → Iommu C c → ℕ
 frames_of iommu = iommu.frames
@@ -73,7 +68,6 @@ pub record IsAtPowerOn {C : Type 0} {c : Cache C} (count : ℕ) (iommu : Iommu C
   pub fence_snapshot : fence_snapshot_of iommu ≡ None
   pub waits : waits_of iommu ≡ false
   pub slots : slots_of iommu ≡ no_slots
-  pub opened : opened_of iommu ≡ None
   pub frames : frames_of iommu ≡ count
 
 -- a device is added, unless it is there or 16 are
@@ -85,7 +79,6 @@ pub record AddsDevice {C : Type 0} {c : Cache C} (old : Iommu C c) (id : ℕ) (a
   pub fence_snapshot : fence_snapshot_of new ≡ fence_snapshot_of old
   pub waits : waits_of new ≡ waits_of old
   pub slots : slots_of new ≡ slots_of old
-  pub opened : opened_of new ≡ opened_of old
   pub frames : frames_of new ≡ frames_of old
 
 -- what the fence at the head counted is given up where the command queue is off

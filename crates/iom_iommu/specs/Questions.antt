@@ -19,7 +19,7 @@ use Rattle.iom_stage_walk.specs.declared.walked.WalkFault.{WalkFault}
 use Rattle.iom_tlb.specs.declared.trans_cache.TransCache.{Ghosts as Cache}
 use Rattle.iom_tlb.specs.declared.trans_cache.Translation.{Translation}
 use Rattle.iom_tlb.specs.Content.{Content as Translations}
-use Rattle.iom_iommu.specs.Parts.{registers_of, contexts_of, translations_of, flights_of, fence_snapshot_of, waits_of, slots_of, opened_of, frames_of}
+use Rattle.iom_iommu.specs.Parts.{registers_of, contexts_of, translations_of, flights_of, fence_snapshot_of, waits_of, slots_of, frames_of}
 use Rattle.iom_iommu.specs.Requests.{faulted_of, fault_of}
 use Rattle.iom_iommu.specs.Service.{ServesBy, KeepsContext, ats_context_for}
 
@@ -39,7 +39,6 @@ pub record TellsPage {C : Type 0} {c : Cache C} (memory : List (List ℕ)) (old 
   pub fence_snapshot : fence_snapshot_of new ≡ fence_snapshot_of old
   pub waits : waits_of new ≡ waits_of old
   pub slots : slots_of new ≡ slots_of old
-  pub opened : opened_of new ≡ opened_of old
   pub frames : frames_of new ≡ frames_of old
 
 -- there is no lawful path to the page, in the first stage or in the second: of that the device alone is told (profile)
@@ -74,7 +73,6 @@ pub record RefusesQuestion {C : Type 0} {c : Cache C} (memory : List (List ℕ))
   pub fence_snapshot : fence_snapshot_of new ≡ fence_snapshot_of old
   pub waits : waits_of new ≡ waits_of old
   pub slots : slots_of new ≡ slots_of old
-  pub opened : opened_of new ≡ opened_of old
   pub frames : frames_of new ≡ frames_of old
 
 -- A DEVICE ASKS for the translation of a page

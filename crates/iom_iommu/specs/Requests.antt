@@ -22,7 +22,7 @@ use Rattle.iom_stage_walk.specs.declared.walked.WalkFault.{WalkFault}
 use Rattle.iom_tlb.specs.declared.trans_cache.TransCache.{Ghosts as Cache}
 use Rattle.iom_tlb.specs.declared.trans_cache.Translation.{Translation}
 use Rattle.iom_tlb.specs.Content.{Content as Translations}
-use Rattle.iom_iommu.specs.Parts.{registers_of, contexts_of, translations_of, flights_of, fence_snapshot_of, waits_of, slots_of, opened_of, frames_of}
+use Rattle.iom_iommu.specs.Parts.{registers_of, contexts_of, translations_of, flights_of, fence_snapshot_of, waits_of, slots_of, frames_of}
 use Rattle.iom_iommu.specs.Service.{Serves, KeepsContext}
 
 -- the access of so many bytes from an address on, with the bytes of a write
@@ -46,7 +46,6 @@ pub record Accepts {C : Type 0} {c : Cache C} (Served : Result Translation WalkF
   pub fence_snapshot : fence_snapshot_of new ≡ fence_snapshot_of old
   pub waits : waits_of new ≡ waits_of old
   pub slots : slots_of new ≡ slots_of old
-  pub opened : opened_of new ≡ opened_of old
   pub frames : frames_of new ≡ frames_of old
 
 -- what is recorded of a transaction that faults (section 3.2, "Fault/Event-Queue (FQ)"): of its device's number the 24 bits that DID has
@@ -72,7 +71,6 @@ pub record Refuses {C : Type 0} {c : Cache C} (Served : Result Translation WalkF
   pub fence_snapshot : fence_snapshot_of new ≡ fence_snapshot_of old
   pub waits : waits_of new ≡ waits_of old
   pub slots : slots_of new ≡ slots_of old
-  pub opened : opened_of new ≡ opened_of old
   pub frames : frames_of new ≡ frames_of old
 
 -- the first that applies is its answer
@@ -115,5 +113,4 @@ pub record CommitsOldest {C : Type 0} {c : Cache C} (memory : List (List ℕ)) (
   pub fence_snapshot : fence_snapshot_of new ≡ fence_snapshot_of old
   pub waits : waits_of new ≡ waits_of old
   pub slots : slots_of new ≡ slots_of old
-  pub opened : opened_of new ≡ opened_of old
   pub frames : frames_of new ≡ frames_of old

@@ -30,7 +30,6 @@ impl<C: TransCache + Drop> Iommu<C> {
             fence_snapshot: None,
             fence_waits: false,
             slots: Slots::new(),
-            opened: None,
             frames,
         })
     }

@@ -1,23 +1,16 @@
 // Invalidation requests that devices have still to complete (IOMMU specification, section 3.1.4, "IOMMU
 // Address-translation services (ATS) commands").
 ghost use Rattle.std.specs.Prelude.{◌≡◌};
-ghost use Rattle.iom_iommu.specs.Parts.{slots_of, opened_of};
+ghost use Rattle.iom_iommu.specs.Parts.{slots_of};
 ghost use Rattle.iom_iommu.specs.Invalidations.{CompletesRequest};
 
 use crate::iommu::Iommu;
 use iom_base::DeviceId;
-use iom_command_queue::{Slot, Slots};
+use iom_command_queue::Slots;
 use iom_tlb::TransCache;
 
 impl<C: TransCache> Iommu<C> {
-    /// The request that the last fetch opened, which is to be sent. None where it opened none.
-    pub fn opened(&self) -> Option<Slot>
-        ensures { result ≡ opened_of self.now }
-    {
-        self.opened
-    }
-
-    /// The requests that devices have still to complete.
+    /// The requests that devices have still to complete, and the number of the last.
     pub fn slots(&self) -> &Slots
         ensures { result.now ≡ slots_of self.now }
     {

@@ -2,7 +2,7 @@ ghost use Rattle.iom_inflight.specs.Sound.{AreRowsIn};
 ghost use Rattle.iom_inflight.specs.IsFact.{rows_in_prop};
 ghost use Rattle.iom_iommu.specs.Cached.{AreTranslationsIn, translations_in_prop};
 
-use iom_command_queue::{Slot, Slots};
+use iom_command_queue::Slots;
 use iom_device_dir::DirCache;
 use iom_inflight::InFlight;
 use iom_registers::Registers;
@@ -26,8 +26,6 @@ pub struct Iommu<C: TransCache> {
     pub(crate) fence_waits: bool,
     /// The invalidation requests that devices have still to complete.
     pub(crate) slots: Slots,
-    /// The one that the last fetch opened, if it did.
-    pub(crate) opened: Option<Slot>,
     /// How many frames the memory has.
     pub(crate) frames: u32,
     ghost inside: { AreRowsIn frames in_flight.rows } by { rows_in_prop frames in_flight.rows },

@@ -6,13 +6,20 @@ ghost use Rattle.iom_command_queue.specs.declared.command.Command.{Command};
 ghost use Rattle.iom_command_queue.specs.Waiting.{commands_in};
 ghost use Rattle.iom_iommu.specs.declared.fetched.Fetched.{Fetched as Answer};
 ghost use Rattle.iom_iommu.specs.declared.iommu.Iommu.{Iommu};
-ghost use Rattle.iom_iommu.specs.Parts.{registers_of, fence_snapshot_of, slots_of};
+ghost use Rattle.iom_iommu.specs.Parts.{registers_of, slots_of};
 ghost use Rattle.iom_iommu.specs.Timeouts.{TimesOut};
-ghost use Rattle.iom_iommu.specs.Fetches.{FetchesCommand, AreAlike, after_none, store_of, IsStoredIn, IsOffRing, LeavesFaultQueue};
+ghost use Rattle.iom_iommu.specs.Fetches.{FetchesCommand};
+ghost use Rattle.iom_iommu.specs.Effects.{FetchesByAnswer, AreAlike, store_of, IsStoredIn, IsOffRing, LeavesFaultQueue};
 
 use crate::fetched::Fetched;
 use iom_command_queue::QueueEntry;
 use iom_tlb::TransCache;
+
+/// What a fetch leaves, by its answer, and of a command effect by effect.
+pub fn by_answer<C: TransCache>()
+    ensures { (m n : List (List ℕ)) (i j : Iommu C C.TransCache) (answer : Answer)
+        → FetchesCommand m i answer n j → FetchesByAnswer m i answer n j }
+{}
 
 /// Memory and IOMMU decide what a fetch answers and leaves.
 pub fn one_fetch<C: TransCache>()
@@ -43,12 +50,12 @@ pub fn finds_empty<C: TransCache>()
 {}
 
 /// `Stopped` comes exactly where commands aren't processed afterwards. Where they weren't before, nothing
-/// changes, but that this fetch opened no request.
+/// changes.
 pub fn stops<C: TransCache>()
     ensures after { (m n : List (List ℕ)) (i j : Iommu C C.TransCache) (answer : Answer) → FetchesCommand m i answer n j
         → (answer ≡ Fetched.Stopped) ↔ (is_processing_commands (registers_of j) ≡ false) }
     ensures stays { (m n : List (List ℕ)) (i j : Iommu C C.TransCache) (answer : Answer) → FetchesCommand m i answer n j
-        → is_processing_commands (registers_of i) ≡ false → (n ≡ m) × (j ≡ after_none i (registers_of i) (fence_snapshot_of i)) }
+        → is_processing_commands (registers_of i) ≡ false → (n ≡ m) × (j ≡ i) }
 {}
 
 /// Each frame but that of the stored word is as it was, and there are as many.
@@ -84,5 +91,5 @@ pub fn stops_after_timeout<C: TransCache>()
     ensures list { (m : List (List ℕ)) (i j : Iommu C C.TransCache) → TimesOut i true j
         → commands_in m (registers_of j) ≡ commands_in m (registers_of i) }
     ensures fetch { (m n : List (List ℕ)) (i j k : Iommu C C.TransCache) (answer : Answer) → TimesOut i true j
-        → FetchesCommand m j answer n k → (answer ≡ Fetched.Stopped) × (n ≡ m) × (k ≡ after_none j (registers_of j) (fence_snapshot_of j)) }
+        → FetchesCommand m j answer n k → (answer ≡ Fetched.Stopped) × (n ≡ m) × (k ≡ j) }
 {}

@@ -22,6 +22,7 @@
 #![tactic(auto)]
 
 mod building;
+mod commands;
 mod contexts;
 mod fetch;
 mod fetched;

@@ -19,7 +19,7 @@ use Rattle.iom_iommu.specs.declared.fetched.Fetched.{Fetched}
 use Rattle.iom_iommu.specs.declared.fetched.Fetched.TheVariants.{Did, Waiting, Empty, Stopped}
 use Rattle.iom_world_effects.specs.OwnIommu.{Iommu}
 use Rattle.iom_iommu.specs.Fetches.{FetchesCommand}
-use Rattle.iom_iommu.specs.Parts.{mmio, registers_of, opened_of, AddsDevice}
+use Rattle.iom_iommu.specs.Parts.{mmio, registers_of, slots_of, AddsDevice}
 use Rattle.iom_base.specs.declared.refusal.Refusal.{Refusal}
 use Rattle.iom_base.specs.declared.refusal.Refusal.TheVariants.{BadMedium}
 use Rattle.iom_base.specs.Refusals.{NoneApplies}
@@ -151,7 +151,7 @@ pub record FetchesNext (old : Parts) (told : Outcome) (new : Parts) : Type 0 whe
   pub call : FetchesCommand old.memory old.iommu answer new.memory new.iommu
   pub driver : new.driver ≡ old.driver
   pub devices : new.devices ≡ old.devices
-  pub fabric : new.fabric ≡ with_fetched answer (opened_of new.iommu) old.fabric
+  pub fabric : new.fabric ≡ with_fetched answer (slots_of new.iommu).last old.fabric
 
 -- the driver reads the completion word
 pub record PollsTickets (old : Parts) (told : Outcome) (new : Parts) : Type 0 where

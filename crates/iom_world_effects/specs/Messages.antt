@@ -5,7 +5,6 @@ use Rattle.iom_command_queue.specs.declared.command.AtsRange.{AtsRange}
 use Rattle.iom_command_queue.specs.declared.command.AtsRange.TheVariants as named
 use Rattle.iom_command_queue.specs.declared.command.Command.{Command}
 use Rattle.iom_command_queue.specs.declared.command.Command.TheVariants.{IotinvalVma, IotinvalGvma, IofenceC, IodirInvalDdt, AtsInval}
-use Rattle.iom_command_queue.specs.declared.slot.Slot.{Slot}
 use Rattle.iom_fabric.specs.declared.fabric.OnLink.{OnLink}
 use Rattle.iom_fabric.specs.declared.fabric.Repeat.{Repeat}
 use Rattle.iom_fabric.specs.declared.fabric.Repeat.TheVariants as repeat
@@ -33,21 +32,20 @@ abbrev pub range_of : AtsRange → Range
 range_of (named.Page page) = ranges.Page page
 range_of named.Everything = ranges.Everything
 
--- the request that a slot was opened for is sent to its device (Invalidate Request, section 10.3.1): what it is about, the command says
-abbrev pub with_request : Command → Slot → List OnLink → List OnLink
-with_request (AtsInval device range) slot fabric = with_sent fabric slot.device (InvReq slot.serial (range_of range))
-with_request (IotinvalVma gscid pscid page) slot fabric = fabric
-with_request (IotinvalGvma gscid page) slot fabric = fabric
-with_request (IofenceC store wsi pr pw) slot fabric = fabric
-with_request (IodirInvalDdt device) slot fabric = fabric
+-- the request to invalidate that a command is, with the number that it was given, is sent to its device (Invalidate Request, section 10.3.1)
+abbrev pub with_request : Command → ℕ → List OnLink → List OnLink
+with_request (AtsInval device range) serial fabric = with_sent fabric device (InvReq serial (range_of range))
+with_request (IotinvalVma gscid pscid page) serial fabric = fabric
+with_request (IotinvalGvma gscid page) serial fabric = fabric
+with_request (IofenceC store wsi pr pw) serial fabric = fabric
+with_request (IodirInvalDdt device) serial fabric = fabric
 
--- what a fetch sends, by the slot that it opened, if it did
-abbrev pub with_fetched : Fetched → Option Slot → List OnLink → List OnLink
-with_fetched (Did command) (Some slot) fabric = with_request command slot fabric
-with_fetched (Did command) None fabric = fabric
-with_fetched Waiting opened fabric = fabric
-with_fetched Empty opened fabric = fabric
-with_fetched Stopped opened fabric = fabric
+-- what a fetch sends, by the number of the last request
+abbrev pub with_fetched : Fetched → ℕ → List OnLink → List OnLink
+with_fetched (Did command) last fabric = with_request command last fabric
+with_fetched Waiting last fabric = fabric
+with_fetched Empty last fabric = fabric
+with_fetched Stopped last fabric = fabric
 
 -- what is told of a message that is sent
 abbrev pub sent_told : List OnLink → Outcome

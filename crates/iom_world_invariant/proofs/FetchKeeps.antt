@@ -30,8 +30,10 @@ use Rattle.iom_inflight.specs.Flights.{Flights, are_drained}
 use Rattle.iom_iommu.specs.declared.fetched.Fetched.{Fetched}
 use Rattle.iom_iommu.specs.declared.fetched.Fetched.TheVariants.{Did, Waiting, Empty, Stopped}
 use Rattle.iom_world_effects.specs.OwnIommu.{Iommu}
-use Rattle.iom_iommu.specs.Fetches.{FetchesCommand, DropsContexts, DropsTranslations, counted_in, waits_for_accesses, waits_for_slots, is_held, slots_by, request_by, asks_for_interrupt, after_none, after_nothing, fence_snapshot_at, waits_at, WaitsAt, store_of, with_store, with_done, IsStorable, IsStoredIn, IsOffRing, StopsAtEntry, StopsFetching, head_entry}
-use Rattle.iom_iommu.specs.Parts.{registers_of, contexts_of, translations_of, flights_of, fence_snapshot_of, slots_of, opened_of}
+use Rattle.iom_iommu.specs.Fetches.{FetchesCommand, counted_in, with_store, IsStorable, head_entry}
+use Rattle.iom_iommu.specs.Effects.{FetchesByAnswer, DropsContexts, DropsTranslations, waits_for_accesses, waits_for_slots, is_held, slots_by, asks_for_interrupt, after_none, after_nothing, fence_snapshot_at, waits_at, WaitsAt, store_of, with_done, IsStoredIn, IsOffRing, StopsAtEntry, StopsFetching}
+use Rattle.iom_iommu.proofs.ByAnswer.{by_answer}
+use Rattle.iom_iommu.specs.Parts.{registers_of, contexts_of, translations_of, flights_of, fence_snapshot_of, slots_of}
 use Rattle.iom_iommu.proofs.FetchLemmas.{takes_first, leaves_frames}
 use Rattle.iom_machine.specs.declared.outcome.Outcome.{Outcome}
 use Rattle.iom_phys_mem.specs.Words.{word_at, with_word}
@@ -63,7 +65,6 @@ use Rattle.iom_world_effects.proofs.MessageLemmas.{requested, askers_sent}
 use Rattle.iom_world_effects.proofs.SoundLemmas.{kinds_kept, same_epochs, traffic_kept, processes}
 use Rattle.iom_device.specs.Caches.{epoch_in}
 use Rattle.std.specs.List.{All}
-use Rattle.iom_command_queue.specs.declared.slot.Slot.{Slot}
 use Rattle.iom_fabric.specs.declared.message.Message.TheVariants as sent
 
 -- whether what waits is a command of the driver's, a fence with a number from above the one to the other
@@ -328,7 +329,7 @@ last_after (AtsInval device range) slots = omega arith
 -- what is under way then
 module _ (old new : Parts) (devices : new.devices ≡ old.devices) where
   traffic_done : (command : Commanded) → slots_of new.iommu ≡ slots_by command (slots_of old.iommu)
-      → new.fabric ≡ with_fetched (Did command) (request_by command (slots_of old.iommu)) old.fabric → TrafficAfter command (values_of old).traffic (values_of new).traffic
+      → new.fabric ≡ with_fetched (Did command) (slots_by command (slots_of old.iommu)).last old.fabric → TrafficAfter command (values_of old).traffic (values_of new).traffic
   traffic_done (IotinvalVma gscid pscid page) slots fabric = traffic_kept old new devices fabric slots
   traffic_done (IofenceC store wsi pr pw) slots fabric = traffic_kept old new devices fabric slots
   traffic_done (IodirInvalDdt device) slots fabric = traffic_kept old new devices fabric slots
@@ -378,20 +379,19 @@ never_stops old events next sound many stops = by (head_entry old.memory (regist
     by (Some Outside) at stopped = false≢true (head_ours old events sound Outside at)
 
 -- no question is sent by it
-askers_fetched : (old : Parts) (events : ℕ) → AreSound old events → (command : Commanded) (opened : Option Slot) (fabric : List OnLink)
-    → fabric ≡ with_fetched (Did command) opened old.fabric → All (HasAsker old.devices) fabric
-askers_fetched old events sound command None fabric is = rw is sound.known.askers
-askers_fetched old events sound (IotinvalVma gscid pscid page) (Some slot) fabric is = rw is sound.known.askers
-askers_fetched old events sound (IotinvalGvma gscid page) (Some slot) fabric is = rw is sound.known.askers
-askers_fetched old events sound (IofenceC store wsi pr pw) (Some slot) fabric is = rw is sound.known.askers
-askers_fetched old events sound (IodirInvalDdt device) (Some slot) fabric is = rw is sound.known.askers
-askers_fetched old events sound (AtsInval device range) (Some slot) fabric is =
-    rw is (askers_sent old.devices old.fabric slot.device (sent.InvReq slot.serial (range_of range)) sound.known.askers tt)
+askers_fetched : (old : Parts) (events : ℕ) → AreSound old events → (command : Commanded) (last : ℕ) (fabric : List OnLink)
+    → fabric ≡ with_fetched (Did command) last old.fabric → All (HasAsker old.devices) fabric
+askers_fetched old events sound (IotinvalVma gscid pscid page) last fabric is = rw is sound.known.askers
+askers_fetched old events sound (IotinvalGvma gscid page) last fabric is = rw is sound.known.askers
+askers_fetched old events sound (IofenceC store wsi pr pw) last fabric is = rw is sound.known.askers
+askers_fetched old events sound (IodirInvalDdt device) last fabric is = rw is sound.known.askers
+askers_fetched old events sound (AtsInval device range) last fabric is =
+    rw is (askers_sent old.devices old.fabric device (sent.InvReq last (range_of range)) sound.known.askers tt)
 
 -- a command is done
 keeps_done : (old new : Parts) (events : ℕ) (command : Commanded) → AreSound old events → IsSoundDriver old.driver → StaysReady old.driver
-    → (slots_of old.iommu).last < events → FetchesCommand old.memory old.iommu (Did command) new.memory new.iommu → new.driver ≡ old.driver → new.devices ≡ old.devices
-    → new.fabric ≡ with_fetched (Did command) (opened_of new.iommu) old.fabric → AreSound new events
+    → (slots_of old.iommu).last < events → FetchesByAnswer old.memory old.iommu (Did command) new.memory new.iommu → new.driver ≡ old.driver → new.devices ≡ old.devices
+    → new.fabric ≡ with_fetched (Did command) (slots_of new.iommu).last old.fabric → AreSound new events
 keeps_done old new events command sound own stays below fetches driver devices fabric =
     let r = registers_of old.iommu in
     let size : length old.memory ≡ length old.driver.marks = sound.ready.stand.size in
@@ -442,7 +442,7 @@ keeps_done old new events command sound own stays below fetches driver devices f
       fence_snapshot = left.fence_snapshot;
       done = done_if command (flights_of old.iommu) (counted_in old.iommu) free.1;
       closed = closed_if command (slots_of old.iommu) free.0;
-      traffic = traffic_done old new devices command left.slots (fabric ∙ ap (λ opened. with_fetched (Did command) opened old.fabric) left.opened);
+      traffic = traffic_done old new devices command left.slots (fabric ∙ ap (λ (s : OpenSlots). with_fetched (Did command) s.last old.fabric) left.slots);
     } in
     record {
       ready = rw driver (stays old.memory new.memory r (registers_of new.iommu) sound.ready keeps (subst (λ s. KeepsRing r s) (sym left.registers) kept.0));
@@ -455,7 +455,7 @@ keeps_done old new events command sound own stays below fetches driver devices f
         iommu = ap (λ (f : Flights). row_ids f.rows) left.flights ∙ rw devices sound.known.iommu;
         caches = rw devices sound.known.caches;
         trusted = rw (driver, devices) sound.known.trusted;
-        askers = rw devices (askers_fetched old events sound command (opened_of new.iommu) new.fabric fabric);
+        askers = rw devices (askers_fetched old events sound command (slots_of new.iommu).last new.fabric fabric);
       };
       serials = subst (λ (s : OpenSlots). s.last ≤ events) (sym left.slots) (omega (arith, last, below));
       epochs = same_epochs old new events sound devices;
@@ -586,7 +586,8 @@ module _ (old : Parts) (events : ℕ) (sound : AreSound old events) where
 
 pub keeps_fetched : (old new : Parts) (events : ℕ) (told : Outcome) → AreSound old events → IsSoundDriver old.driver → StaysReady old.driver → (slots_of old.iommu).last < events
     → FetchesNext old told new → AreSound new events
-keeps_fetched old new events told sound own stays below fetches = by fetches.answer fetches.call fetches.fabric
+keeps_fetched old new events told sound own stays below fetches =
+    by fetches.answer (by_answer old.memory new.memory old.iommu new.iommu fetches.answer fetches.call) fetches.fabric
   where
     many : 64 ≤ length old.memory
     many = let m = own.sizes.size.0 in let size = sound.ready.stand.size in omega (arith, size, m)
@@ -595,7 +596,7 @@ keeps_fetched old new events told sound own stays below fetches = by fetches.ans
     left iommu kept memory is fabric =
         subst (λ parts. AreSound parts events) (sym (parts_are new old.memory iommu old.driver old.devices old.fabric memory is fetches.driver fetches.devices fabric)) kept
 
-    by : (answer : Fetched) → FetchesCommand old.memory old.iommu answer new.memory new.iommu → new.fabric ≡ with_fetched answer (opened_of new.iommu) old.fabric → AreSound new events
+    by : (answer : Fetched) → FetchesByAnswer old.memory old.iommu answer new.memory new.iommu → new.fabric ≡ with_fetched answer (slots_of new.iommu).last old.fabric → AreSound new events
     by (Did command) call fabric = keeps_done old new events command sound own stays below call fetches.driver fetches.devices fabric
     by Waiting call fabric = left _ (keeps_flag _ events (waits_at (head_entry old.memory (registers_of old.iommu)) old.iommu)
         (keeps_waiting old events sound (goes_on old events sound call.0) call.1)) call.2 call.3 fabric
@@ -604,4 +605,4 @@ keeps_fetched old new events told sound own stays below fetches = by fetches.ans
       where
         stops : (on : Bool) → StopsFetching on old.memory old.iommu new.iommu → AreSound new events
         stops true stopped = absurd (never_stops old events new.iommu sound many stopped)
-        stops false stopped = left _ (keeps_unopened old events sound) call.1 stopped fabric
+        stops false stopped = left old.iommu sound call.1 stopped fabric

@@ -5,7 +5,8 @@ use Rattle.iom_base.specs.declared.owner.Owner.TheVariants.{System}
 use Rattle.iom_driver.specs.Fences.{last_fence}
 use Rattle.iom_iommu.specs.declared.fetched.Fetched.{Fetched}
 use Rattle.iom_iommu.specs.declared.fetched.Fetched.TheVariants.{Did, Waiting, Empty, Stopped}
-use Rattle.iom_iommu.specs.Fetches.{FetchesCommand, StopsFetching}
+use Rattle.iom_iommu.specs.Effects.{FetchesByAnswer, StopsFetching}
+use Rattle.iom_iommu.proofs.ByAnswer.{by_answer}
 use Rattle.iom_iommu.specs.Parts.{registers_of, flights_of}
 use Rattle.iom_iommu.proofs.FetchLemmas.{leaves_frames}
 use Rattle.iom_machine.specs.declared.outcome.Outcome.{Outcome}
@@ -40,7 +41,7 @@ stopped_unseen old new events state sound own true stops memory shows =
 stopped_unseen old new events state sound own false stops memory shows = record { shown = rw memory shows; flights = ap flights_of stops }
 
 fetched_unseen : (old new : Parts) (events : ℕ) (answer : Fetched) (state : State) → AreSound old events → IsSoundDriver old.driver
-    → FetchesCommand old.memory old.iommu answer new.memory new.iommu → ShowsFrames old.memory old.driver.marks state.frames → Unseen old new state.frames
+    → FetchesByAnswer old.memory old.iommu answer new.memory new.iommu → ShowsFrames old.memory old.driver.marks state.frames → Unseen old new state.frames
 fetched_unseen old new events (Did command) state sound own fetches shows =
     let size : length old.memory ≡ length old.driver.marks = sound.ready.stand.size in
     let next = head_next old events sound command fetches.1 in
@@ -60,7 +61,7 @@ fetched_unseen old new events Stopped state sound own fetches shows =
 pub fetch_step : (old new : Parts) (events : ℕ) (told : Outcome) → AreSound old events → IsSoundDriver old.driver → FetchesNext old told new
     → (state : State) → PartsShow old state → (next : State) × machine.Fetches state told next × PartsShow new next
 fetch_step old new events told sound own does state shows =
-    let unseen = fetched_unseen old new events does.answer state sound own does.call shows.frames in (
+    let unseen = fetched_unseen old new events does.answer state sound own (by_answer old.memory new.memory old.iommu new.iommu does.answer does.call) shows.frames in (
       state,
       rw does.told_so refl,
       record {

@@ -33,7 +33,8 @@ use Rattle.iom_iommu.specs.declared.fetched.Fetched.{Fetched}
 use Rattle.iom_iommu.specs.declared.fetched.Fetched.TheVariants.{Did, Waiting, Empty, Stopped}
 use Rattle.iom_iommu.specs.declared.reply.Reply.{Reply}
 use Rattle.iom_iommu.specs.declared.reply.Reply.TheVariants as reply
-use Rattle.iom_iommu.specs.Fetches.{FetchesCommand, StopsFetching}
+use Rattle.iom_iommu.specs.Effects.{FetchesByAnswer, StopsFetching}
+use Rattle.iom_iommu.proofs.ByAnswer.{by_answer}
 use Rattle.iom_iommu.specs.Parts.{mmio, registers_of, frames_of}
 use Rattle.iom_iommu.specs.Questions.{AnswersQuestion, RefusesQuestion, RecordsUnless, is_page_fault}
 use Rattle.iom_iommu.specs.Requests.{Answers, ServesRequest, faulted_of, fault_of}
@@ -373,14 +374,14 @@ module _ (old : Parts) (before : ℕ) (sound : AreSound old before) (own : IsSou
   takes_none = processes old before sound ∙ ap not stopped
 
   fetched : (new : Parts) (told : Outcome) → FetchesNext old told new → (told ≡ outcome.Fetched tells.Stopped) × LeavesFence old new.memory new.iommu
-  fetched new told does = let after = by does.answer does.call in (does.told_so ∙ ap (λ a. outcome.Fetched (fetch_named a)) after.0, after.1)
+  fetched new told does = let after = by does.answer (by_answer old.memory new.memory old.iommu new.iommu does.answer does.call) in (does.told_so ∙ ap (λ a. outcome.Fetched (fetch_named a)) after.0, after.1)
     where
       halted : (on : Bool) → on ≡ false → StopsFetching on old.memory old.iommu new.iommu → new.memory ≡ old.memory → LeavesFence old new.memory new.iommu
       halted true none stops memory = absurd (false≢true (sym none))
       halted false none stops memory =
           registers_stay new.memory new.iommu memory (ap (λ i. command_status (registers_of i)) stops) (ap frames_of stops)
 
-      by : (answer : Fetched) → FetchesCommand old.memory old.iommu answer new.memory new.iommu → (answer ≡ Stopped) × LeavesFence old new.memory new.iommu
+      by : (answer : Fetched) → FetchesByAnswer old.memory old.iommu answer new.memory new.iommu → (answer ≡ Stopped) × LeavesFence old new.memory new.iommu
       by (Did command) call = absurd (false≢true (sym takes_none ∙ call.0))
       by Waiting call = absurd (false≢true (sym takes_none ∙ call.0))
       by Empty call = absurd (false≢true (sym takes_none ∙ call.0))

@@ -16,4 +16,4 @@ returns-clause-sound c =
     let new : HardwareParts = record old { memory = c.fetch-answer.new.memory; iommu = c.fetch-answer.new.self; fabric = c.send_opened.new.fabric } in
     sound_then old new h.events sound (fetched_length old.memory old.iommu c.fetch-answer.result new.memory new.iommu c.fetch-answer.ensures)
     (fetched_kept old new.memory new.iommu h.events c.fetch-answer.result sound c.fetch-answer.ensures) (devices_kept old old.devices h.events sound refl)
-    (subst (λ (f : List OnLink). All (IsMessageOf old.devices) f) (sym c.send_opened.ensures) (messages_opened old.devices old.fabric c.fetch-answer.result c.opened.result sound.askers))
+    (subst (λ (f : List OnLink). All (IsMessageOf old.devices) f) (sym c.send_opened.ensures) (messages_opened old.devices old.fabric c.fetch-answer.result c.last.result sound.askers))

@@ -43,7 +43,6 @@ returns-in-Ok-clause-answered g c = (
     fence_snapshot = refl;
     waits = refl;
     slots = refl;
-    opened = refl;
     frames = refl;
   },
   refl,
