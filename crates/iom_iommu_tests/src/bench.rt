@@ -47,8 +47,8 @@ pub(crate) enum Step<'a> {
     /// A fetch does `ATS.INVAL` of the device's page 3, and opens the request with this number; or those up to it.
     Opens(u64),
     OpensEach(u64),
-    /// The last fetch opened no request.
-    NoneOpened,
+    /// The last request that was opened has this number.
+    Last(u64),
     /// Twice a fetch answers so, no register changes, and the word at 0x5000 is 0.
     Stays(Answer),
     /// The device says that it completed the invalidation request with this number, which was open or not.
@@ -202,15 +202,14 @@ impl Bench {
         }
     }
 
-    /// The last fetch opened the invalidation request with this number, or none.
-    fn expect_opened(&self, rt: &impl Abort, expected: Option<u64>) {
-        let seen = self.iommu.opened().map(|slot| (slot.serial, slot.device));
-        expect(rt, seen == expected.map(|serial| (serial, DEVICE)));
+    /// The last invalidation request that was opened has this number.
+    fn expect_last(&self, rt: &impl Abort, serial: u64) {
+        expect(rt, self.iommu.slots().last() == serial);
     }
 
     fn opens(&mut self, rt: &impl Abort, serial: u64) {
         self.does(rt, INVALIDATE);
-        self.expect_opened(rt, Some(serial));
+        self.expect_last(rt, serial);
     }
 
     fn opens_each(&mut self, rt: &impl Abort, last: u64) {
@@ -341,7 +340,7 @@ impl Bench {
             Step::DoesEach(count, words) => self.does_each(rt, count, words),
             Step::Opens(serial) => self.opens(rt, serial),
             Step::OpensEach(last) => self.opens_each(rt, last),
-            Step::NoneOpened => self.expect_opened(rt, None),
+            Step::Last(serial) => self.expect_last(rt, serial),
             Step::Stays(answer) => self.stays(rt, answer),
             Step::Done(device, serial, is_open) => {
                 expect(rt, self.iommu.done(device, serial) == is_open);

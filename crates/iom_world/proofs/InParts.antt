@@ -1,20 +1,19 @@
 -- What a call of the hardware does is what its event does to the parts of a world, whose driver stays.
-use Rattle.std.proofs.Common.{◌≡◌, ◌⊎◌, ◌∙◌, inl, inr, ℕ, Bool, true, false, nat_lt, List, ◌∷◌, length, remove, slice_get, Option, None, Some, is_some, Result, Ok, Err, if◌then◌else◌, refl, sym, ap, subst}
+use Rattle.std.specs.Option.{option_map, option_map_or}
+use Rattle.std.proofs.Common.{◌≡◌, ◌⊎◌, ◌∙◌, inl, inr, ℕ, Bool, true, false, List, remove, slice_get, Option, None, Some, Result, Ok, Err, if◌then◌else◌, refl, sym, ap, subst}
 use Rattle.iom_ats_cache.specs.Cache.{Cache}
-use Rattle.iom_ats_cache.specs.declared.taken.Taken.{Taken}
-use Rattle.iom_base.specs.Accesses.{IsWithinPage, at_frame}
+use Rattle.iom_base.specs.Accesses.{at_frame}
 use Rattle.iom_base.specs.declared.access.Access.{Access}
 use Rattle.iom_base.specs.declared.device_kind.DeviceKind.{DeviceKind}
-use Rattle.iom_base.specs.DeviceKinds.{asks_questions, forges}
+use Rattle.iom_base.specs.DeviceKinds.{asks_questions, forges, is_block_device}
 use Rattle.iom_base.specs.declared.refusal.Refusal.{Refusal}
 use Rattle.iom_base.specs.declared.refusal.Refusal.TheVariants.{NoSuchDevice, WrongKind}
-use Rattle.iom_device.specs.Caches.{IsAble, cache_of, epoch_in}
-use Rattle.iom_device.specs.Calls.{Obeys}
+use Rattle.iom_device.specs.declared.device.Device.{Device}
+use Rattle.iom_device.specs.Caches.{IsAble, cache_of, device_with, epoch_in}
 use Rattle.iom_fabric.specs.declared.fabric.OnLink.{OnLink}
 use Rattle.iom_fabric.specs.declared.fabric.Repeat.{Repeat}
 use Rattle.iom_fabric.specs.declared.message.Message.{Message}
 use Rattle.iom_fabric.specs.declared.message.Message.TheVariants as sent
-use Rattle.iom_fabric.specs.declared.message.Range.{Range}
 use Rattle.iom_fabric.specs.declared.message.Translation.{Translation}
 use Rattle.iom_hardware.specs.ByDevice.{ByDevice}
 use Rattle.iom_hardware.specs.Commits as hardware
@@ -26,17 +25,21 @@ use Rattle.iom_hardware.specs.Deliveries.{TakesReply, MessageArrives, MessageArr
 use Rattle.iom_hardware.specs.HardwareParts.{HardwareParts}
 use Rattle.iom_hardware.specs.Messages.{AsksTranslation, ClaimsCompletion, LosesMessage, CopiesMessage}
 use Rattle.iom_hardware.specs.OwnIommu.{Iommu}
+use Rattle.iom_hardware.specs.Plugging.{InsertsDisk}
 use Rattle.iom_hardware.specs.Requests.{Replies, RequestsAccess, RequestsTranslated}
-use Rattle.iom_hardware.specs.ThroughCache.{LooksUp, GoesByCache, RequestsThroughCache, frame_in_cache}
+use Rattle.iom_hardware.specs.ThroughCache.{LooksUp, GoesByCache, RequestsThroughCache}
 use Rattle.iom_inflight.specs.declared.made.MadeAt.{MadeAt}
 use Rattle.iom_iommu.specs.declared.fetched.Fetched.{Fetched}
 use Rattle.iom_iommu.specs.declared.reply.Reply.{Reply}
 use Rattle.iom_iommu.specs.Requests.{AnswersRequest}
 use Rattle.iom_iommu.specs.Translated.{AnswersTranslated}
+use Rattle.iom_machine.specs.declared.event.Event.TheVariants as events
 use Rattle.iom_machine.specs.declared.outcome.Outcome.{Outcome}
 use Rattle.iom_machine.specs.declared.outcome.Outcome.TheVariants as outcome
-use Rattle.iom_world_effects.specs.Deliveries.{TakesInto, Arrives, ArrivesIfAny, DeliversMessage, taken_told}
-use Rattle.iom_world_effects.specs.Does.{FetchesNext, fetch_named}
+use Rattle.iom_world_effects.specs.Answers.{told_of}
+use Rattle.iom_world_effects.specs.BlockDevices.{IsBlockDevice, InsertsMedium}
+use Rattle.iom_world_effects.specs.Deliveries.{TakesInto, Arrives, ArrivesIfAny, DeliversMessage}
+use Rattle.iom_world_effects.specs.Does.{FetchesNext, disks_after, fetch_named}
 use Rattle.iom_world_effects.specs.Messages.{Sends, AsksQuestion, ForgesCompletion, DropsMessage, RepeatsMessage, repeat_told}
 use Rattle.iom_world_effects.specs.Parts.{Parts}
 use Rattle.iom_world_effects.specs.Places.{IsPresent}
@@ -58,6 +61,22 @@ parts_with : (old new : Parts) (parts : HardwareParts) → hardware_of new ≡ p
     → new ≡ record { memory = parts.memory; iommu = parts.iommu; driver = old.driver; devices = parts.devices; fabric = parts.fabric }
 parts_with old new parts hardware driver =
     same_parts (record { memory = parts.memory; iommu = parts.iommu; driver = old.driver; devices = parts.devices; fabric = parts.fabric }) new hardware driver
+
+-- a block device that is there
+block_device : (devices : List Device) (id : ℕ) → IsAble is_block_device devices id → (device : Device) × IsBlockDevice devices id device
+block_device devices id able = by (device_with devices id) refl able.1
+  where
+    by : (found : Option Device) → device_with devices id ≡ found → option_map (λ (device : Device). device.kind) found ≡ Some able.0 → (device : Device) × IsBlockDevice devices id device
+    by None at is = cc
+    by (Some device) at is = let same : device.kind ≡ able.0 = cc in (device, record { there = at; able = ap is_block_device same ∙ able.2 })
+
+-- the disks at hand, once one is put in
+pub disks_left : (disks left : List ℕ) (old new : HardwareParts) (id disk : ℕ) (answer : Result (Unit {0}) Refusal) → InsertsDisk disks old id disk answer new left
+    → left ≡ disks_after (events.Medium id disk) (told_of answer) disks
+disks_left disks left old new id disk answer (inl (none, kept)) = kept ∙ sym (ap (λ a. disks_after (events.Medium id disk) (told_of a) disks) none.answered)
+disks_left disks left old new id disk answer (inr (inl (wrong, kept))) = kept ∙ sym (ap (λ a. disks_after (events.Medium id disk) (told_of a) disks) wrong.answered)
+disks_left disks left old new id disk answer (inr (inr (inl refuses))) = refuses.kept ∙ sym (ap (λ a. disks_after (events.Medium id disk) (told_of a) disks) refuses.answered)
+disks_left disks left old new id disk answer (inr (inr (inr takes))) = takes.taken ∙ sym (ap (λ a. disks_after (events.Medium id disk) (told_of a) disks) takes.answered)
 
 module _ (old new : Parts) (driver : new.driver ≡ old.driver) where
   -- a call of a device
@@ -191,6 +210,22 @@ module _ (old new : Parts) (driver : new.driver ≡ old.driver) where
       never : ◌≡◌ {A = Bool} true false → ⊥
       never same = cc
   reset_in_parts id answer (inr (inr does)) = inr (does.able, ap (told_unless (λ done. outcome.Done)) does.answered, parts_with old new _ does.call.cleared driver)
+
+  -- a disk is put in
+  pub inserted_in_parts : (disks left : List ℕ) (id disk : ℕ) (answer : Result (Unit {0}) Refusal) → InsertsDisk disks (hardware_of old) id disk answer (hardware_of new) left
+      → InsertsMedium disks old id disk (told_of answer) new
+  inserted_in_parts disks left id disk answer (inl (none, kept)) =
+      inl (record { absent = kind_absent old.devices id none.absent; told_so = ap told_of none.answered; same = same_parts old new none.same driver })
+  inserted_in_parts disks left id disk answer (inr (inl (wrong, kept))) =
+      inr (inl (record { kind = wrong.kind; there = wrong.there; cannot = wrong.cannot; told_so = ap told_of wrong.answered; same = same_parts old new wrong.same driver }))
+  inserted_in_parts disks left id disk answer (inr (inr (inl refuses))) =
+      let found = block_device old.devices id refuses.able in
+      let has = ap (λ (o : Option Device). option_map_or (λ (device : Device). device.has_disk) o false) found.1.there in
+      inr (inr (found.0, found.1, inr ((λ may. refuses.cannot (has ∙ may.0, may.1)), ap told_of refuses.answered, same_parts old new refuses.same driver)))
+  inserted_in_parts disks left id disk answer (inr (inr (inr takes))) =
+      let found = block_device old.devices id takes.able in
+      let has = ap (λ (o : Option Device). option_map_or (λ (device : Device). device.has_disk) o false) found.1.there in
+      inr (inr (found.0, found.1, inl ((sym has ∙ takes.can.0, takes.can.1), ap told_of takes.answered, parts_with old new _ takes.put driver)))
 
   pub fetched_in_parts : (fetched : Fetched) → hardware.TakesCommand (hardware_of old) fetched (hardware_of new)
       → FetchesNext old (outcome.Fetched (fetch_named fetched)) new

@@ -4,7 +4,6 @@ use Rattle.iom_base.specs.declared.access.AccessKind.TheVariants.{Read}
 use Rattle.iom_base.specs.declared.refusal.Refusal.{Refusal}
 use Rattle.iom_device.specs.Caches.{epoch_in}
 use Rattle.iom_driver.specs.State.{DriverState}
-use Rattle.iom_driver.specs.Seen.{state_of}
 use Rattle.iom_fabric.specs.declared.fabric.OnLink.{OnLink}
 use Rattle.iom_fabric.specs.declared.message.Message.{Message}
 use Rattle.iom_fabric.specs.declared.message.Message.TheVariants as sent

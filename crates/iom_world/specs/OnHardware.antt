@@ -1,15 +1,15 @@
 -- The hardware of a world, by its parts, and what its answers are told as.
 -- For the calls inside this crate alone; no public contract cites these.
-use Rattle.std.specs.Prelude.{Bool, Option, None, Some, Result, Ok, Err, if◌then◌else◌}
-use Rattle.iom_ats_cache.specs.declared.taken.Taken.{Taken}
+use Rattle.std.specs.Prelude.{Bool, Result, Ok, Err, if◌then◌else◌}
 use Rattle.iom_base.specs.declared.refusal.Refusal.{Refusal}
-use Rattle.iom_fabric.specs.declared.fabric.Repeat.{Repeat}
+use Rattle.iom_base.specs.declared.refusal.Refusal.TheVariants.{FrameOutOfRange}
 use Rattle.iom_hardware.specs.declared.answers.CacheReply.{CacheReply}
 use Rattle.iom_hardware.specs.declared.answers.CacheReply.TheVariants.{Miss, Replied}
+use Rattle.iom_hardware.specs.declared.answers.NoPlace.{NoPlace}
+use Rattle.iom_hardware.specs.declared.answers.NoPlace.TheVariants.{BadSpan, OutsideMemory}
 use Rattle.iom_hardware.specs.declared.answers.Delivered.{Delivered}
 use Rattle.iom_hardware.specs.declared.answers.Delivered.TheVariants as delivered
 use Rattle.iom_hardware.specs.HardwareParts.{HardwareParts}
-use Rattle.iom_iommu.specs.declared.reply.Reply.{Reply}
 use Rattle.iom_machine.specs.declared.outcome.Outcome.{Outcome}
 use Rattle.iom_machine.specs.declared.outcome.Outcome.TheVariants as outcome
 use Rattle.iom_world_effects.specs.Deliveries.{taken_told}
@@ -31,6 +31,11 @@ cache_reply_told (Replied reply) = reply_told_of reply
 
 abbrev pub sending_told : Bool → Outcome
 sending_told is_sent = if is_sent then outcome.Sent else outcome.Lost
+
+-- what bytes without a place in memory are told as
+abbrev pub no_place_told : NoPlace → Outcome
+no_place_told BadSpan = outcome.BadSpan
+no_place_told OutsideMemory = outcome.Refused FrameOutOfRange
 
 abbrev pub delivered_told : Delivered → Outcome
 delivered_told delivered.NoMessage = outcome.NoMessage

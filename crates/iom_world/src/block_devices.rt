@@ -83,16 +83,6 @@ pub(crate) fn let_go(devices: &mut Vec<Device>, id: DeviceId, answer: &Result<Ti
     }
 }
 
-/// Whether the disk may be put into the device.
-fn may_take(disks: &[u64], device: &Device, disk: u64) -> bool
-    ensures { IsTrue result ↔ MayTake disks.now device.now disk }
-{
-    if device.has_disk {
-        return false;
-    }
-    is_among(disks, disk)
-}
-
 /// Whether a device is there, and of a kind that has a cache.
 fn caches(known: Option<DeviceKind>) -> bool
     ensures { result ≡ caches_translations known }
@@ -122,19 +112,7 @@ impl World {
         ensures disks { disks_of self.new ≡ disks_after (events.Medium id disk) (outcome_of result) (disks_of self.old) }
         ensures events { self.new.hardware.events ≡ self.old.hardware.events + 1 }
     {
-        self.hardware.events += 1;
-        let Some(device) = self.device_with(id) else {
-            return Told::Refused(Refusal::NoSuchDevice);
-        };
-        if !device.kind.is_block_device() {
-            return Told::Refused(Refusal::WrongKind);
-        }
-        if !may_take(&self.hardware.disks, device, disk) {
-            return Told::Refused(Refusal::BadMedium);
-        }
-        take_out(&mut self.hardware.disks, Some(disk));
-        set_has_disk(&mut self.hardware.devices, id, true);
-        Told::Done
+        Told::of(self.hardware.medium(id, disk))
     }
 
     /// The queue of the block device is set, and what its own cache has is forgotten: `BadQueue` where the queue

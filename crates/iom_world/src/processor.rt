@@ -3,12 +3,14 @@ ghost use Rattle.std.specs.Prelude.{◌≡◌, ◌+◌, ◌<◌, ◌≤◌, ◌^
 ghost use Rattle.iom_base.specs.Bytes.{with_bytes};
 ghost use Rattle.iom_world.specs.Seen.{parts_of, disks_of};
 ghost use Rattle.iom_world_effects.specs.Processor.{PokesBytes, PeeksBytes, AsksFree};
+ghost use Rattle.iom_world.specs.OnHardware.{no_place_told};
 ghost use Rattle.iom_world.specs.Told.{outcome_of};
 
 use crate::kept_outcomes::KeptOutcomes;
 use crate::told::{Told, tell_shown};
 use crate::world::World;
 use iom_base::{PAGE_SIZE, Refusal, Span};
+use iom_hardware::NoPlace;
 use iom_machine::Outcome;
 use iom_phys_mem::Bytes;
 use iom_world_effects::laws_below;
@@ -19,6 +21,18 @@ fn store(frame: &mut [u8], offset: usize, bytes: &[u8])
     ensures { frame.new ≡ with_bytes frame.old offset bytes.now }
 {
     frame[offset..offset + bytes.len()].copy_from_slice(bytes);
+}
+
+impl Told {
+    /// What bytes without a place in memory are told as.
+    fn of_no_place(why: NoPlace) -> Told
+        ensures { outcome_of result ≡ no_place_told why }
+    {
+        match why {
+            NoPlace::BadSpan => Told::BadSpan,
+            NoPlace::OutsideMemory => Told::Refused(Refusal::FrameOutOfRange),
+        }
+    }
 }
 
 impl World {
@@ -63,17 +77,13 @@ impl World {
         ensures events { self.new.hardware.events ≡ self.old.hardware.events + 1 }
     {
         self.hardware.events += 1;
-        if Span::new(address, len).is_none() {
-            return kept.tell(Told::BadSpan);
+        match self.hardware.load(address, len) {
+            Ok(bytes) => {
+                tell_shown(bytes, &mut kept.shown);
+                &mut kept.shown
+            }
+            Err(why) => kept.tell(Told::of_no_place(why)),
         }
-        let number = address / PAGE_SIZE;
-        if number >= u64::from(self.hardware.memory.frames()) {
-            return kept.tell(Told::Refused(Refusal::FrameOutOfRange));
-        }
-        let frame = self.hardware.memory.frame(number as u32).unwrap();
-        let offset = (address % PAGE_SIZE) as usize;
-        tell_shown(&frame[offset..offset + len as usize], &mut kept.shown);
-        &mut kept.shown
     }
 
     /// Whether the frame is free: no device holds it or may still reach it, and it isn't reserved.
