@@ -1,0 +1,63 @@
+-- What this crate proves.
+use Rattle.std.specs.Prelude.{◌≡◌, ℕ, Bool, true, false, List}
+use Rattle.iom_base.specs.declared.access.AccessKind.{AccessKind}
+use Rattle.iom_reach.specs.Scene.{AccessInFlight, Scene}
+use Rattle.iom_reach.specs.Ways.{Way}
+use Rattle.iom_reach.specs.Safe.{IsRead, HasWord, IsSafe, AreTimely}
+use Rattle.iom_reach.specs.Occurrences.{Occurrence, Make, Occurs, OccurInTurn}
+
+-- each way of the one scene is a way of the other
+abbrev pub AddsNoWay : Scene → Scene → Type 0
+AddsNoWay old new = (device frame : ℕ) (kind : AccessKind) → Way new device frame kind → Way old device frame kind
+
+-- hardware reads no frame, and stores into none, that it didn't before
+abbrev pub UsesNoMore : Scene → Scene → Type 0
+UsesNoMore old new = (frame : ℕ) → (IsRead new frame → IsRead old frame) × (HasWord new frame → HasWord old frame) × (new.fault_frames ≡ old.fault_frames)
+
+-- Whatever hardware and devices do adds no way, and leaves what hardware reads out of reach of hardware and devices.
+abbrev pub OccurrencesAddNoWay : Type 0
+OccurrencesAddNoWay = (occurrence : Occurrence) (old new : Scene) → IsSafe old → AreTimely old → Occurs occurrence old new
+    → AddsNoWay old new × UsesNoMore old new × IsSafe new × AreTimely new
+
+-- So do any of these in turn.
+abbrev pub TurnsAddNoWay : Type 0
+TurnsAddNoWay = (occurrences : List Occurrence) (old new : Scene) → IsSafe old → AreTimely old → OccurInTurn old occurrences new
+    → AddsNoWay old new × UsesNoMore old new × IsSafe new × AreTimely new
+
+-- Each access that is made had a way before, whatever hardware and devices did in between.
+abbrev pub AccessesHadWays : Type 0
+AccessesHadWays = (occurrences : List Occurrence) (device : ℕ) (access : AccessInFlight) (old between new : Scene)
+    → IsSafe old → AreTimely old → OccurInTurn old occurrences between → Occurs (Make device access) between new
+    → Way old device access.frame access.kind
+
+-- by which kinds of access a device may reach a frame
+abbrev pub Permission : Type 0
+Permission = ℕ → ℕ → AccessKind → Bool
+
+-- there is no way of the device to the frame but those that it may take
+abbrev pub IsQuiet : Permission → Scene → ℕ → ℕ → Type 0
+IsQuiet may scene device frame = (kind : AccessKind) → Way scene device frame kind → may device frame kind ≡ true
+
+-- Where a device has no way to a frame but those that it may take, each access of that device to that frame is one that it may make, whatever hardware and
+-- devices do from then on.
+abbrev pub QuietIsTrue : Type 0
+QuietIsTrue = (may : Permission) (occurrences : List Occurrence) (device : ℕ) (access : AccessInFlight) (old between new : Scene)
+    → IsSafe old → AreTimely old → IsQuiet may old device access.frame
+    → OccurInTurn old occurrences between → Occurs (Make device access) between new
+    → may device access.frame access.kind ≡ true
+
+-- no device has any way to the frame
+abbrev pub IsFree : Scene → ℕ → Type 0
+IsFree scene frame = (device : ℕ) (kind : AccessKind) → ¬ Way scene device frame kind
+
+-- Where no device has any way to a frame, none reaches it, whatever hardware and devices do from then on.
+abbrev pub FreeIsTrue : Type 0
+FreeIsTrue = (occurrences : List Occurrence) (device : ℕ) (access : AccessInFlight) (old between new : Scene)
+    → IsSafe old → AreTimely old → IsFree old access.frame
+    → OccurInTurn old occurrences between → ¬ Occurs (Make device access) between new
+
+-- Each way of a device that isn't trusted can be taken: hardware and devices come to an access of that kind.
+abbrev pub WaysCanBeTaken : Type 0
+WaysCanBeTaken = (scene : Scene) (device frame : ℕ) (kind : AccessKind) → scene.is_trusted device ≡ false → Way scene device frame kind
+    → (occurrences : List Occurrence) × (between : Scene) × (new : Scene) × OccurInTurn scene occurrences between
+    × Occurs (Make device (record { frame = frame; kind = kind })) between new
