@@ -1,0 +1,94 @@
+-- The laws over lists of calls.
+use Rattle.std.proofs.Common.{◌≡◌, ◌∙◌, ◌+◌, inl, inr, ℕ, Bool, List, [], ◌∷◌, map, Contains, Some, Ok, sym, ap, subst}
+use Rattle.iom_fabric.specs.declared.fabric.OnLink.{OnLink}
+use Rattle.iom_hardware.specs.Commits.{MakesAccess}
+use Rattle.iom_hardware.specs.HardwareParts.{HardwareParts, hardware_parts}
+use Rattle.iom_hardware.specs.PowerOn.{IsHardwareAtPowerOn}
+use Rattle.iom_hardware.specs.declared.hardware.Hardware.{Hardware}
+use Rattle.iom_inflight.specs.declared.made.MadeAt.{MadeAt}
+use Rattle.iom_registers.specs.Queues.{directory_mode, directory_root}
+use Rattle.iom_registers.specs.declared.registers.Registers.{Registers}
+use Rattle.iom_reach.specs.Memory.{Tables, Step}
+use Rattle.iom_reach.specs.Occurrences.{Make, Occurs}
+use Rattle.iom_reach.specs.Safe.{IsRead, IsSafe, AreTimely}
+use Rattle.iom_reach.specs.Scene.{AddressSpace, Off, At, Message, Question, Answer, PartialWalk, Place}
+use Rattle.iom_reach.specs.Ways.{Begins, AtRoot, PartWay}
+use Rattle.iom_reach.proofs.LawLemmas.{turns_add_no_way, accesses_had_ways}
+use Rattle.iom_hardware_ways.specs.Calls.{HardwareCall, DoInTurn}
+use Rattle.iom_hardware_ways.specs.Laws.{CallsAddNoWay, MakesIn, AccessesHadWays, QuietStaysQuiet, FreeStaysFree, BeginsSafe}
+use Rattle.iom_hardware_ways.specs.Scenes.{directory_by, waiting_in, message_of, scene_of}
+use Rattle.iom_hardware_ways.proofs.CallLemmas.{calls_are_occurrences}
+use Rattle.iom_hardware_ways.proofs.FlightLemmas.{makes}
+use Rattle.iom_hardware_ways.proofs.ListLemmas.{in_none}
+use Rattle.iom_hardware_ways.proofs.Turns.{Comes, nothing, in_succession}
+
+-- a list of calls is a list of occurrences
+pub all_occur : (trusted : ℕ → Bool) (calls : List HardwareCall) (events : ℕ) (old new : HardwareParts) → DoInTurn trusted events old calls new
+    → Comes (scene_of trusted old) (scene_of trusted new)
+all_occur trusted [] events old new same = nothing (scene_of trusted old) (scene_of trusted new) (ap (scene_of trusted) same)
+all_occur trusted (first ∷ others) events old new (sound, harmless, (between, does, later)) =
+    in_succession (scene_of trusted old) (scene_of trusted between) (scene_of trusted new)
+    (calls_are_occurrences trusted first events old between sound does harmless) (all_occur trusted others (events + 1) between new later)
+
+pub calls_add_no_way : CallsAddNoWay
+calls_add_no_way trusted calls events old new safe timely turns =
+    let (occurrences, all) = all_occur trusted calls events old new turns in
+    turns_add_no_way occurrences (scene_of trusted old) (scene_of trusted new) safe timely all
+
+-- a commit that makes an access is one
+pub made_so : (trusted : ℕ → Bool) (old : HardwareParts) (id : ℕ) (made : MadeAt) (new : HardwareParts) → MakesIn trusted old id made new
+    → Occurs (Make id (record { frame = made.frame; kind = made.kind })) (scene_of trusted old) (scene_of trusted new)
+made_so trusted old id made new (inl absent, harmless) = absurd (let never = absent.answered in cc)
+made_so trusted old id made new (inr (inl other), harmless) = absurd (let never = other.answered in cc)
+made_so trusted old id made new (inr (inr so), harmless) =
+    let told : Ok (Some made) ≡ Ok so.given = so.answered in
+    let same : so.given ≡ Some made = cc in
+    makes trusted old id made new (subst (λ given. MakesAccess id old given new) same so.call) harmless
+
+pub accesses_had_ways_in : AccessesHadWays
+accesses_had_ways_in trusted calls events id made old between new safe timely turns makes =
+    let (occurrences, all) = all_occur trusted calls events old between turns in
+    accesses_had_ways occurrences id (record { frame = made.frame; kind = made.kind }) (scene_of trusted old) (scene_of trusted between) (scene_of trusted new) safe timely all
+    (made_so trusted between id made new makes)
+
+pub quiet_stays_quiet : QuietStaysQuiet
+quiet_stays_quiet trusted may calls events id made old between new safe timely quiet turns makes =
+    quiet made.kind (accesses_had_ways_in trusted calls events id made old between new safe timely turns makes)
+
+pub free_stays_free : FreeStaysFree
+free_stays_free trusted calls events id made old between new safe timely free turns makes =
+    free id made.kind (accesses_had_ways_in trusted calls events id made old between new safe timely turns makes)
+
+-- POWER-ON
+
+off_at : (tables : Tables) → Off ≡ At tables → ⊥
+off_at tables same = cc
+
+module _ (trusted : ℕ → Bool) (frames : ℕ) (disks : List ℕ) (hardware : Hardware) (on : IsHardwareAtPowerOn frames disks hardware) where
+  no_directory : (tables : Tables) → (scene_of trusted (hardware_parts hardware)).directory ≡ At tables → ⊥
+  no_directory tables at = off_at tables (sym (ap (λ (r : Registers). directory_by (directory_mode r) (directory_root r)) on.iommu.registers) ∙ at)
+
+  none_begins : (space : AddressSpace) (table : ℕ) (steps_to : ℕ → List Step) → Begins (scene_of trusted (hardware_parts hardware)) space table steps_to → ⊥
+  none_begins space table steps_to (AtRoot device context tables (plugged, (tree, at), stands) is decide root all) = no_directory tree at
+  none_begins space table steps_to (PartWay device there) = in_none {X = PartialWalk} (record { device = device; space = space; table = table; steps_to = steps_to }) there
+
+  none_read : (frame : ℕ) → IsRead (scene_of trusted (hardware_parts hardware)) frame → ⊥
+  none_read frame (inl (space, table, steps_to, page, begins, reads)) = none_begins space table steps_to begins
+  none_read frame (inr (inl (device, tables, plugged, at, reads))) = no_directory tables at
+  none_read frame (inr (inr (offset, there))) =
+      in_none {X = Place} (record { frame = frame; offset = offset }) (subst (λ (r : Registers). Contains (waiting_in r) (record { frame = frame; offset = offset })) on.iommu.registers there)
+
+  no_message : (message : Message) → Contains (map message_of hardware.fabric) message → ⊥
+  no_message message there = in_none message (subst (λ (f : List OnLink). Contains (map message_of f) message) on.fabric there)
+
+  pub begins_safe_at : IsSafe (scene_of trusted (hardware_parts hardware)) × AreTimely (scene_of trusted (hardware_parts hardware))
+  begins_safe_at = (
+    (λ frame read written. none_read frame read),
+    record {
+      asked = λ device epoch page caches there. absurd (no_message (Question device epoch page) there);
+      answered = λ device epoch page mapping caches there. absurd (no_message (Answer device epoch page mapping) there);
+    },
+  )
+
+pub begins_safe : BeginsSafe
+begins_safe trusted frames disks hardware on = begins_safe_at trusted frames disks hardware on

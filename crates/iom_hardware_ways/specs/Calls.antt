@@ -1,0 +1,67 @@
+-- The calls of hardware, with what each answers, and one after another.
+use Rattle.std.specs.Prelude.{◌≡◌, ℕ, ◌+◌, Bool, List, [], ◌∷◌, Option, None, Some, Result, Ok, Err, ⊤}
+use Rattle.iom_base.specs.declared.access.Access.{Access}
+use Rattle.iom_base.specs.declared.refusal.Refusal.{Refusal}
+use Rattle.iom_fabric.specs.declared.fabric.Repeat.{Repeat as Repeated}
+use Rattle.iom_hardware.specs.Commits.{Commits, Resets, TakesCommand, GivesUpFence}
+use Rattle.iom_hardware.specs.Deliveries.{Delivers}
+use Rattle.iom_hardware.specs.HardwareParts.{HardwareParts}
+use Rattle.iom_hardware.specs.Messages.{AsksTranslation, ClaimsCompletion, LosesMessage, CopiesMessage}
+use Rattle.iom_hardware.specs.Requests.{RequestsAccess, RequestsTranslated}
+use Rattle.iom_hardware.specs.Senders.{untranslated_by, cached_by}
+use Rattle.iom_hardware.specs.Sound.{IsSoundHardware}
+use Rattle.iom_hardware.specs.ThroughCache.{RequestsThroughCache}
+use Rattle.iom_hardware.specs.declared.answers.CacheReply.{CacheReply}
+use Rattle.iom_hardware.specs.declared.answers.Delivered.{Delivered}
+use Rattle.iom_hardware.specs.declared.sender.Sender.{Sender}
+use Rattle.iom_inflight.specs.declared.made.MadeAt.{MadeAt}
+use Rattle.iom_iommu.specs.declared.fetched.Fetched.{Fetched}
+use Rattle.iom_iommu.specs.declared.reply.Reply.{Reply}
+use Rattle.iom_reach.specs.Occurrences.{IsHarmless}
+use Rattle.iom_hardware_ways.specs.Scenes.{scene_of}
+
+pub data HardwareCall : Type 0 where
+  Request : (sender : Sender) (id : ℕ) (access : Access) (answer : Result Reply Refusal) → HardwareCall
+  Translated : (id : ℕ) (access : Access) (answer : Result Reply Refusal) → HardwareCall
+  ThroughCache : (sender : Sender) (id : ℕ) (access : Access) (answer : Result CacheReply Refusal) → HardwareCall
+  Ask : (id page : ℕ) (answer : Result Bool Refusal) → HardwareCall
+  Forge : (id serial : ℕ) (answer : Result Bool Refusal) → HardwareCall
+  Fetch : (fetched : Fetched) → HardwareCall
+  Timeout : (has_effect : Bool) → HardwareCall
+  Deliver : (place : ℕ) (delivered : Delivered) → HardwareCall
+  Drop : (place : ℕ) (found : Bool) → HardwareCall
+  Repeat : (place : ℕ) (repeated : Repeated) → HardwareCall
+  Commit : (id : ℕ) (answer : Result (Option MadeAt) Refusal) → HardwareCall
+  Reset : (id : ℕ) (answer : Result (Unit {0}) Refusal) → HardwareCall
+
+-- what each does is said of hardware itself
+abbrev pub Does : HardwareCall → HardwareParts → HardwareParts → Type 0
+Does (Request sender id access answer) old new = RequestsAccess (untranslated_by sender) old id access answer new
+Does (Translated id access answer) old new = RequestsTranslated old id access answer new
+Does (ThroughCache sender id access answer) old new = RequestsThroughCache (cached_by sender) old id access answer new
+Does (Ask id page answer) old new = AsksTranslation old id page answer new
+Does (Forge id serial answer) old new = ClaimsCompletion old id serial answer new
+Does (Fetch fetched) old new = TakesCommand old fetched new
+Does (Timeout has_effect) old new = GivesUpFence old has_effect new
+Does (Deliver place delivered) old new = Delivers old place delivered new
+Does (Drop place found) old new = LosesMessage old place found new
+Does (Repeat place repeated) old new = CopiesMessage old place repeated new
+Does (Commit id answer) old new = Commits old id answer new
+Does (Reset id answer) old new = Resets old id answer new
+
+-- a device that software trusts writes nothing of what hardware reads
+abbrev pub IsMadeHarmlessly : (ℕ → Bool) → HardwareParts → ℕ → Result (Option MadeAt) Refusal → Type 0
+IsMadeHarmlessly trusted old id (Ok (Some made)) = IsHarmless (scene_of trusted old) id (record { frame = made.frame; kind = made.kind })
+IsMadeHarmlessly trusted old id (Ok None) = ⊤
+IsMadeHarmlessly trusted old id (Err why) = ⊤
+
+abbrev pub DoesHarmlessly : (ℕ → Bool) → HardwareCall → HardwareParts → Type 0
+DoesHarmlessly trusted (Commit id answer) old = IsMadeHarmlessly trusted old id answer
+DoesHarmlessly trusted _ old = ⊤
+
+-- These calls one after another, after so many events. Hardware is sound before each, as each call asks for it and leaves it
+abbrev pub DoInTurn : (ℕ → Bool) → ℕ → HardwareParts → List HardwareCall → HardwareParts → Type 0
+DoInTurn trusted events old [] new = new ≡ old
+DoInTurn trusted events old (first ∷ others) new =
+    IsSoundHardware old events × DoesHarmlessly trusted first old
+    × ((between : HardwareParts) × Does first old between × DoInTurn trusted (events + 1) between others new)

@@ -1,0 +1,99 @@
+-- What this crate proves.
+use Rattle.std.specs.Prelude.{◌≡◌, ℕ, Bool, true, List, slice_get, Some, Ok}
+use Rattle.iom_base.specs.Rights.{allows}
+use Rattle.iom_base.specs.declared.access.AccessKind.{AccessKind}
+use Rattle.iom_base.specs.declared.rights.Rights.{Rights}
+use Rattle.iom_device_dir.specs.declared.context.Context.{Context as DeviceContext}
+use Rattle.iom_device_dir.specs.Paths.{FindsContext}
+use Rattle.iom_registers.specs.declared.directory.DirectoryPointer.{DirectoryPointer}
+use Rattle.iom_stage_walk.specs.declared.walked.Walked.{Walked}
+use Rattle.iom_stage_walk.specs.Paths.{ReachesFirst, first_widths}
+use Rattle.iom_stage_walk.specs.Second.{ReachesSecond, second_widths}
+use Rattle.iom_stage_walk.specs.Both.{ReachesBoth}
+use Rattle.iom_hardware.specs.Commits.{Commits}
+use Rattle.iom_hardware.specs.HardwareParts.{HardwareParts, hardware_parts}
+use Rattle.iom_hardware.specs.PowerOn.{IsHardwareAtPowerOn}
+use Rattle.iom_hardware.specs.Sound.{IsSoundHardware}
+use Rattle.iom_hardware.specs.declared.hardware.Hardware.{Hardware}
+use Rattle.iom_inflight.specs.declared.made.MadeAt.{MadeAt}
+use Rattle.iom_reach.specs.Laws.{AddsNoWay, UsesNoMore, Permission, IsQuiet, IsFree}
+use Rattle.iom_reach.specs.Memory.{Tables, Ends}
+use Rattle.iom_reach.specs.Occurrences.{Occurrence, OccurInTurn}
+use Rattle.iom_reach.specs.Safe.{IsSafe, AreTimely}
+use Rattle.iom_reach.specs.Scene.{At}
+use Rattle.iom_reach.specs.Ways.{Leads, Way}
+use Rattle.iom_hardware_ways.specs.Formats.{steps_along, steps_of, context_of, formats}
+use Rattle.iom_hardware_ways.specs.Scenes.{directory_by, mapping_from, scene_of}
+use Rattle.iom_hardware_ways.specs.Calls.{HardwareCall, Does, DoesHarmlessly, IsMadeHarmlessly, DoInTurn}
+
+-- THE FORMATS
+
+-- where the path of an address in a first stage reaches, a walk by the formats leads
+abbrev pub FirstStagesLead : Type 0
+FirstStagesLead = (levels : ℕ) (memory : List (List ℕ)) (root address : ℕ) (kind : AccessKind) (walked : Walked)
+    → ReachesFirst levels memory root address kind walked
+    → Leads formats (slice_get memory) root (λ page. steps_along (first_widths levels) page) (mapping_from walked.frame walked.rights)
+
+-- the same of a second stage
+abbrev pub SecondStagesLead : Type 0
+SecondStagesLead = (levels : ℕ) (memory : List (List ℕ)) (root address : ℕ) (kind : AccessKind) (walked : Walked)
+    → ReachesSecond levels memory root address kind walked
+    → Leads formats (slice_get memory) root (λ page. steps_along (second_widths levels) page) (mapping_from walked.frame walked.rights)
+
+-- of both a walk of the second leads to the frame, and allows at least as much
+abbrev pub BothStagesLead : Type 0
+BothStagesLead = (levels levels' : ℕ) (memory : List (List ℕ)) (guest root address : ℕ) (kind : AccessKind) (walked : Walked)
+    → ReachesBoth levels levels' memory guest root address kind walked
+    → (rights : Rights) × Leads formats (slice_get memory) root (λ page. steps_along (second_widths levels') page) (mapping_from walked.frame rights)
+    × ((k : AccessKind) → allows walked.rights k ≡ true → allows rights k ≡ true)
+
+-- where the path of a device's id finds a context, a walk of the directory by the formats ends at it
+abbrev pub DirectoriesLead : Type 0
+DirectoriesLead = (memory : List (List ℕ)) (ddtp : DirectoryPointer) (id : ℕ) (context : DeviceContext) → FindsContext memory ddtp id context
+    → (tables : Tables) × (directory_by ddtp.mode ddtp.ppn ≡ At tables)
+    × Ends formats.context (slice_get memory) tables.root (steps_of tables.levels id) (context_of context)
+
+-- THE CALLS
+
+-- the scene of the one comes of that of the other by a list of occurrences
+abbrev pub AreOccurrences : (ℕ → Bool) → HardwareParts → HardwareParts → Type 0
+AreOccurrences trusted old new = (occurrences : List Occurrence) × OccurInTurn (scene_of trusted old) occurrences (scene_of trusted new)
+
+-- each call of sound hardware is a list of occurrences
+abbrev pub CallsAreOccurrences : Type 0
+CallsAreOccurrences = (trusted : ℕ → Bool) (call : HardwareCall) (events : ℕ) (old new : HardwareParts) → IsSoundHardware old events
+    → Does call old new → DoesHarmlessly trusted call old → AreOccurrences trusted old new
+
+-- NO CALL ADDS A WAY: where hardware and devices can't write what hardware reads, no list of calls does
+abbrev pub CallsAddNoWay : Type 0
+CallsAddNoWay = (trusted : ℕ → Bool) (calls : List HardwareCall) (events : ℕ) (old new : HardwareParts)
+    → IsSafe (scene_of trusted old) → AreTimely (scene_of trusted old) → DoInTurn trusted events old calls new
+    → AddsNoWay (scene_of trusted old) (scene_of trusted new) × UsesNoMore (scene_of trusted old) (scene_of trusted new)
+    × IsSafe (scene_of trusted new) × AreTimely (scene_of trusted new)
+
+-- a commit makes this access, and a device that is trusted makes it harmlessly
+abbrev pub MakesIn : (ℕ → Bool) → HardwareParts → ℕ → MadeAt → HardwareParts → Type 0
+MakesIn trusted old id made new = Commits old id (Ok (Some made)) new × IsMadeHarmlessly trusted old id (Ok (Some made))
+
+-- each access that is made after any list of calls had its way at the beginning
+abbrev pub AccessesHadWays : Type 0
+AccessesHadWays = (trusted : ℕ → Bool) (calls : List HardwareCall) (events : ℕ) (id : ℕ) (made : MadeAt) (old between new : HardwareParts)
+    → IsSafe (scene_of trusted old) → AreTimely (scene_of trusted old) → DoInTurn trusted events old calls between → MakesIn trusted between id made new
+    → Way (scene_of trusted old) id made.frame made.kind
+
+-- WHAT WAS WITHDRAWN IS OUT OF REACH: a device without a way to a frame, but those that it may take, makes no other access there
+abbrev pub QuietStaysQuiet : Type 0
+QuietStaysQuiet = (trusted : ℕ → Bool) (may : Permission) (calls : List HardwareCall) (events : ℕ) (id : ℕ) (made : MadeAt) (old between new : HardwareParts)
+    → IsSafe (scene_of trusted old) → AreTimely (scene_of trusted old) → IsQuiet may (scene_of trusted old) id made.frame
+    → DoInTurn trusted events old calls between → MakesIn trusted between id made new → may id made.frame made.kind ≡ true
+
+-- NOBODY USES THE FRAME: where no device has a way to it, no access is made there
+abbrev pub FreeStaysFree : Type 0
+FreeStaysFree = (trusted : ℕ → Bool) (calls : List HardwareCall) (events : ℕ) (id : ℕ) (made : MadeAt) (old between new : HardwareParts)
+    → IsSafe (scene_of trusted old) → AreTimely (scene_of trusted old) → IsFree (scene_of trusted old) made.frame
+    → DoInTurn trusted events old calls between → ¬ MakesIn trusted between id made new
+
+-- at power-on all that the theorem asks for holds
+abbrev pub BeginsSafe : Type 0
+BeginsSafe = (trusted : ℕ → Bool) (frames : ℕ) (disks : List ℕ) (hardware : Hardware) → IsHardwareAtPowerOn frames disks hardware
+    → IsSafe (scene_of trusted (hardware_parts hardware)) × AreTimely (scene_of trusted (hardware_parts hardware))

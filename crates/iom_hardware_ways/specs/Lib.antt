@@ -1,0 +1,4 @@
+pub mod Formats
+pub mod Scenes
+pub mod Calls
+pub mod Laws

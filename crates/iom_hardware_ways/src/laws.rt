@@ -1,0 +1,27 @@
+//! What is proved of hardware and the ways that devices have in it.
+ghost use Rattle.iom_hardware_ways.specs.Laws.{FirstStagesLead, SecondStagesLead, BothStagesLead, DirectoriesLead, CallsAreOccurrences, CallsAddNoWay, AccessesHadWays, QuietStaysQuiet, FreeStaysFree, BeginsSafe};
+
+/// What the hardware's walks of tables (RISC-V Privileged Architecture, "Sv39", "Sv48", "Two-Stage Address Translation") and
+/// of the device directory (IOMMU specification, section 2.3.1) reach is what walks by its formats lead to.
+pub fn walk_law()
+    ensures first { FirstStagesLead }
+    ensures second { SecondStagesLead }
+    ensures both { BothStagesLead }
+    ensures directory { DirectoriesLead }
+{}
+
+/// Each call of hardware is a list of the occurrences of which the facts on ways speak.
+pub fn call_law()
+    ensures each { CallsAreOccurrences }
+{}
+
+/// So no list of calls adds a way, where hardware and devices can't write what hardware reads; each access that is made
+/// had its way at the beginning; what was withdrawn is out of reach, and a frame that nobody has a way to is touched by
+/// nobody. All that is asked for holds at power-on.
+pub fn ways_law()
+    ensures in_turn { CallsAddNoWay }
+    ensures made { AccessesHadWays }
+    ensures quiet { QuietStaysQuiet }
+    ensures free { FreeStaysFree }
+    ensures begins { BeginsSafe }
+{}
