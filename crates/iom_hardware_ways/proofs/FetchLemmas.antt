@@ -8,7 +8,6 @@ use Rattle.iom_command_queue.specs.declared.command.Command.{Command}
 use Rattle.iom_command_queue.specs.declared.command.Command.TheVariants.{IotinvalVma, IotinvalGvma, IofenceC, IodirInvalDdt, AtsInval}
 use Rattle.iom_command_queue.specs.declared.entry.QueueEntry.{QueueEntry}
 use Rattle.iom_command_queue.specs.declared.entry.QueueEntry.TheVariants as stands
-use Rattle.iom_command_queue.specs.declared.slot.Slot.{Slot}
 use Rattle.iom_command_queue.specs.Waiting.{entry_by_words, entry_at, place_of, how_many, commands_in, first_entry}
 use Rattle.iom_command_queue.proofs.Waits.{head_below, next_below, count, drops as list_drops, first_is, none_is}
 use Rattle.iom_device_dir.specs.declared.context.Context.{Context as DeviceContext}
@@ -22,8 +21,10 @@ use Rattle.iom_hardware.specs.HardwareParts.{HardwareParts}
 use Rattle.iom_hardware.specs.Messages.{dropped_range, with_message, with_opened}
 use Rattle.iom_hardware.specs.OwnIommu.{Iommu}
 use Rattle.iom_inflight.specs.Flights.{Flights}
-use Rattle.iom_iommu.specs.Fetches.{store_of, with_store, with_done, asks_for_interrupt, head_entry, covers_device, DropsContexts, IsLeft, StopsAtEntry, StopsFetching}
-use Rattle.iom_iommu.specs.Parts.{registers_of, contexts_of, translations_of, flights_of, opened_of}
+use Rattle.iom_iommu.specs.Fetches.{with_store, head_entry, covers_device}
+use Rattle.iom_iommu.specs.Effects.{FetchesByAnswer, store_of, with_done, asks_for_interrupt, DropsContexts, IsLeft, StopsAtEntry, StopsFetching}
+use Rattle.iom_iommu.proofs.ByAnswer.{by_answer}
+use Rattle.iom_iommu.specs.Parts.{registers_of, contexts_of, translations_of, flights_of, slots_of}
 use Rattle.iom_iommu.specs.declared.fetched.Fetched.{Fetched}
 use Rattle.iom_iommu.specs.declared.fetched.Fetched.TheVariants.{Did, Waiting, Empty, Stopped}
 use Rattle.iom_phys_mem.specs.Words.{word_at, with_word}
@@ -157,14 +158,13 @@ sent_among fabric device says other message there = elim (sent_cases fabric devi
   | inr before ↦ inr before
 ]
 
-opened_among : (command : Command) (opened : Option Slot) (fabric : List OnLink) → AreAmongWith (map message_of (with_opened (Did command) opened fabric)) Other (map message_of fabric)
-opened_among command None fabric message there = inr there
-opened_among (IotinvalVma gscid pscid page) (Some slot) fabric message there = inr there
-opened_among (IotinvalGvma gscid page) (Some slot) fabric message there = inr there
-opened_among (IofenceC store wsi pr pw) (Some slot) fabric message there = inr there
-opened_among (IodirInvalDdt device) (Some slot) fabric message there = inr there
-opened_among (AtsInval device range) (Some slot) fabric message there =
-    sent_among fabric slot.device (sent.InvReq slot.serial (dropped_range range)) refl message there
+opened_among : (command : Command) (last : ℕ) (fabric : List OnLink) → AreAmongWith (map message_of (with_opened (Did command) last fabric)) Other (map message_of fabric)
+opened_among (IotinvalVma gscid pscid page) last fabric message there = inr there
+opened_among (IotinvalGvma gscid page) last fabric message there = inr there
+opened_among (IofenceC store wsi pr pw) last fabric message there = inr there
+opened_among (IodirInvalDdt device) last fabric message there = inr there
+opened_among (AtsInval device range) last fabric message there =
+    sent_among fabric device (sent.InvReq last (dropped_range range)) refl message there
 
 -- A COMMAND IS DONE
 
@@ -247,12 +247,13 @@ stops trusted old new true is memory devices fabric = stops_at trusted old new (
 
 pub fetches : (trusted : ℕ → Bool) (old : HardwareParts) (fetched : Fetched) (new : HardwareParts) → TakesCommand old fetched new
     → Comes (scene_of trusted old) (scene_of trusted new)
-fetches trusted old (Did command) new takes =
-    does trusted old new command (with_opened (Did command) (opened_of new.iommu) old.fabric) takes.call.0 takes.call.1 takes.call.4 takes.call.5 takes.devices takes.fabric
-    (opened_among command (opened_of new.iommu) old.fabric)
-fetches trusted old Waiting new takes =
-    is_so trusted old new _ takes.call.3 (shows_itself (registers_of old.iommu)) refl refl refl takes.call.2 takes.devices takes.fabric
-fetches trusted old Empty new takes =
-    is_so trusted old new _ takes.call.3 (shows_itself (registers_of old.iommu)) refl refl refl takes.call.2 takes.devices takes.fabric
-fetches trusted old Stopped new takes =
-    stops trusted old new (is_processing_commands (registers_of old.iommu)) takes.call.0 takes.call.1 takes.devices takes.fabric
+fetches trusted old fetched new takes = by fetched takes.fabric (by_answer old.memory new.memory old.iommu new.iommu fetched takes.call)
+  where
+    by : (answer : Fetched) → new.fabric ≡ with_opened answer (slots_of new.iommu).last old.fabric → FetchesByAnswer old.memory old.iommu answer new.memory new.iommu
+        → Comes (scene_of trusted old) (scene_of trusted new)
+    by (Did command) fabric call =
+        does trusted old new command (with_opened (Did command) (slots_of new.iommu).last old.fabric) call.0 call.1 call.4 call.5 takes.devices fabric
+        (opened_among command (slots_of new.iommu).last old.fabric)
+    by Waiting fabric call = is_so trusted old new _ call.3 (shows_itself (registers_of old.iommu)) refl refl refl call.2 takes.devices fabric
+    by Empty fabric call = is_so trusted old new _ call.3 (shows_itself (registers_of old.iommu)) refl refl refl call.2 takes.devices fabric
+    by Stopped fabric call = stops trusted old new (is_processing_commands (registers_of old.iommu)) call.0 call.1 takes.devices fabric
