@@ -15,7 +15,7 @@ use Rattle.iom_reach.specs.Scene.{AddressSpace, Off, At, Message, Question, Answ
 use Rattle.iom_reach.specs.Ways.{Begins, AtRoot, PartWay}
 use Rattle.iom_reach.proofs.LawLemmas.{turns_add_no_way, accesses_had_ways}
 use Rattle.iom_hardware_ways.specs.Calls.{HardwareCall, DoInTurn}
-use Rattle.iom_hardware_ways.specs.Laws.{CallsAddNoWay, MakesIn, AccessesHadWays, QuietStaysQuiet, FreeStaysFree, BeginsSafe}
+use Rattle.iom_hardware_ways.specs.Laws.{CallsAddNoWay, MakesIn, MadeAccessesHadWays, QuietStaysQuiet, GoodClaimsHold, FreeStaysFree, BeginsSafe}
 use Rattle.iom_hardware_ways.specs.Scenes.{directory_by, waiting_in, message_of, scene_of}
 use Rattle.iom_hardware_ways.proofs.CallLemmas.{calls_are_occurrences}
 use Rattle.iom_hardware_ways.proofs.FlightLemmas.{makes}
@@ -45,7 +45,7 @@ made_so trusted old id made new (inr (inr so), harmless) =
     let same : so.given ≡ Some made = cc in
     makes trusted old id made new (subst (λ given. MakesAccess id old given new) same so.call) harmless
 
-pub accesses_had_ways_in : AccessesHadWays
+pub accesses_had_ways_in : MadeAccessesHadWays
 accesses_had_ways_in trusted calls events id made old between new safe timely turns makes =
     let (occurrences, all) = all_occur trusted calls events old between turns in
     accesses_had_ways occurrences id (record { frame = made.frame; kind = made.kind }) (scene_of trusted old) (scene_of trusted between) (scene_of trusted new) safe timely all
@@ -54,6 +54,10 @@ accesses_had_ways_in trusted calls events id made old between new safe timely tu
 pub quiet_stays_quiet : QuietStaysQuiet
 quiet_stays_quiet trusted may calls events id made old between new safe timely quiet turns makes =
     quiet made.kind (accesses_had_ways_in trusted calls events id made old between new safe timely turns makes)
+
+pub good_claims_hold : GoodClaimsHold
+good_claims_hold trusted claimed calls events id made old between new safe timely good turns makes =
+    good made.kind (accesses_had_ways_in trusted calls events id made old between new safe timely turns makes)
 
 pub free_stays_free : FreeStaysFree
 free_stays_free trusted calls events id made old between new safe timely free turns makes =

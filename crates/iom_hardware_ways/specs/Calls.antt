@@ -35,19 +35,19 @@ pub data HardwareCall : Type 0 where
   Reset : (id : ℕ) (answer : Result (Unit {0}) Refusal) → HardwareCall
 
 -- what each does is said of hardware itself
-abbrev pub Does : HardwareCall → HardwareParts → HardwareParts → Type 0
-Does (Request sender id access answer) old new = RequestsAccess (untranslated_by sender) old id access answer new
-Does (Translated id access answer) old new = RequestsTranslated old id access answer new
-Does (ThroughCache sender id access answer) old new = RequestsThroughCache (cached_by sender) old id access answer new
-Does (Ask id page answer) old new = AsksTranslation old id page answer new
-Does (Forge id serial answer) old new = ClaimsCompletion old id serial answer new
-Does (Fetch fetched) old new = TakesCommand old fetched new
-Does (Timeout has_effect) old new = GivesUpFence old has_effect new
-Does (Deliver place delivered) old new = Delivers old place delivered new
-Does (Drop place found) old new = LosesMessage old place found new
-Does (Repeat place repeated) old new = CopiesMessage old place repeated new
-Does (Commit id answer) old new = Commits old id answer new
-Does (Reset id answer) old new = Resets old id answer new
+abbrev pub CallDoes : HardwareCall → HardwareParts → HardwareParts → Type 0
+CallDoes (Request sender id access answer) old new = RequestsAccess (untranslated_by sender) old id access answer new
+CallDoes (Translated id access answer) old new = RequestsTranslated old id access answer new
+CallDoes (ThroughCache sender id access answer) old new = RequestsThroughCache (cached_by sender) old id access answer new
+CallDoes (Ask id page answer) old new = AsksTranslation old id page answer new
+CallDoes (Forge id serial answer) old new = ClaimsCompletion old id serial answer new
+CallDoes (Fetch fetched) old new = TakesCommand old fetched new
+CallDoes (Timeout has_effect) old new = GivesUpFence old has_effect new
+CallDoes (Deliver place delivered) old new = Delivers old place delivered new
+CallDoes (Drop place found) old new = LosesMessage old place found new
+CallDoes (Repeat place repeated) old new = CopiesMessage old place repeated new
+CallDoes (Commit id answer) old new = Commits old id answer new
+CallDoes (Reset id answer) old new = Resets old id answer new
 
 -- a device that software trusts writes nothing of what hardware reads
 abbrev pub IsMadeHarmlessly : (ℕ → Bool) → HardwareParts → ℕ → Result (Option MadeAt) Refusal → Type 0
@@ -64,4 +64,4 @@ abbrev pub DoInTurn : (ℕ → Bool) → ℕ → HardwareParts → List Hardware
 DoInTurn trusted events old [] new = new ≡ old
 DoInTurn trusted events old (first ∷ others) new =
     IsSoundHardware old events × DoesHarmlessly trusted first old
-    × ((between : HardwareParts) × Does first old between × DoInTurn trusted (events + 1) between others new)
+    × ((between : HardwareParts) × CallDoes first old between × DoInTurn trusted (events + 1) between others new)

@@ -16,6 +16,7 @@ use Rattle.iom_hardware.specs.PowerOn.{IsHardwareAtPowerOn}
 use Rattle.iom_hardware.specs.Sound.{IsSoundHardware}
 use Rattle.iom_hardware.specs.declared.hardware.Hardware.{Hardware}
 use Rattle.iom_inflight.specs.declared.made.MadeAt.{MadeAt}
+use Rattle.iom_ledger.specs.History.{History, May}
 use Rattle.iom_reach.specs.Laws.{AddsNoWay, UsesNoMore, Permission, IsQuiet, IsFree}
 use Rattle.iom_reach.specs.Memory.{Tables, Ends}
 use Rattle.iom_reach.specs.Occurrences.{Occurrence, OccurInTurn}
@@ -24,7 +25,7 @@ use Rattle.iom_reach.specs.Scene.{At}
 use Rattle.iom_reach.specs.Ways.{Leads, Way}
 use Rattle.iom_hardware_ways.specs.Formats.{steps_along, steps_of, context_of, formats}
 use Rattle.iom_hardware_ways.specs.Scenes.{directory_by, mapping_from, scene_of}
-use Rattle.iom_hardware_ways.specs.Calls.{HardwareCall, Does, DoesHarmlessly, IsMadeHarmlessly, DoInTurn}
+use Rattle.iom_hardware_ways.specs.Calls.{HardwareCall, CallDoes, DoesHarmlessly, IsMadeHarmlessly, DoInTurn}
 
 -- THE FORMATS
 
@@ -62,7 +63,7 @@ AreOccurrences trusted old new = (occurrences : List Occurrence) × OccurInTurn 
 -- each call of sound hardware is a list of occurrences
 abbrev pub CallsAreOccurrences : Type 0
 CallsAreOccurrences = (trusted : ℕ → Bool) (call : HardwareCall) (events : ℕ) (old new : HardwareParts) → IsSoundHardware old events
-    → Does call old new → DoesHarmlessly trusted call old → AreOccurrences trusted old new
+    → CallDoes call old new → DoesHarmlessly trusted call old → AreOccurrences trusted old new
 
 -- NO CALL ADDS A WAY: where hardware and devices can't write what hardware reads, no list of calls does
 abbrev pub CallsAddNoWay : Type 0
@@ -76,8 +77,8 @@ abbrev pub MakesIn : (ℕ → Bool) → HardwareParts → ℕ → MadeAt → Har
 MakesIn trusted old id made new = Commits old id (Ok (Some made)) new × IsMadeHarmlessly trusted old id (Ok (Some made))
 
 -- each access that is made after any list of calls had its way at the beginning
-abbrev pub AccessesHadWays : Type 0
-AccessesHadWays = (trusted : ℕ → Bool) (calls : List HardwareCall) (events : ℕ) (id : ℕ) (made : MadeAt) (old between new : HardwareParts)
+abbrev pub MadeAccessesHadWays : Type 0
+MadeAccessesHadWays = (trusted : ℕ → Bool) (calls : List HardwareCall) (events : ℕ) (id : ℕ) (made : MadeAt) (old between new : HardwareParts)
     → IsSafe (scene_of trusted old) → AreTimely (scene_of trusted old) → DoInTurn trusted events old calls between → MakesIn trusted between id made new
     → Way (scene_of trusted old) id made.frame made.kind
 
@@ -86,6 +87,13 @@ abbrev pub QuietStaysQuiet : Type 0
 QuietStaysQuiet = (trusted : ℕ → Bool) (may : Permission) (calls : List HardwareCall) (events : ℕ) (id : ℕ) (made : MadeAt) (old between new : HardwareParts)
     → IsSafe (scene_of trusted old) → AreTimely (scene_of trusted old) → IsQuiet may (scene_of trusted old) id made.frame
     → DoInTurn trusted events old calls between → MakesIn trusted between id made new → may id made.frame made.kind ≡ true
+
+-- A CLAIM THAT IS GOOD STAYS TRUE: where each way of a device to a frame is one that what was claimed allows, the device makes no other access there
+abbrev pub GoodClaimsHold : Type 0
+GoodClaimsHold = (trusted : ℕ → Bool) (claimed : History) (calls : List HardwareCall) (events : ℕ) (id : ℕ) (made : MadeAt) (old between new : HardwareParts)
+    → IsSafe (scene_of trusted old) → AreTimely (scene_of trusted old)
+    → ((kind : AccessKind) → Way (scene_of trusted old) id made.frame kind → May claimed id made.frame kind)
+    → DoInTurn trusted events old calls between → MakesIn trusted between id made new → May claimed id made.frame made.kind
 
 -- NOBODY USES THE FRAME: where no device has a way to it, no access is made there
 abbrev pub FreeStaysFree : Type 0

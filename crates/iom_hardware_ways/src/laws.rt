@@ -1,5 +1,5 @@
 //! What is proved of hardware and the ways that devices have in it.
-ghost use Rattle.iom_hardware_ways.specs.Laws.{FirstStagesLead, SecondStagesLead, BothStagesLead, DirectoriesLead, CallsAreOccurrences, CallsAddNoWay, AccessesHadWays, QuietStaysQuiet, FreeStaysFree, BeginsSafe};
+ghost use Rattle.iom_hardware_ways.specs.Laws.{FirstStagesLead, SecondStagesLead, BothStagesLead, DirectoriesLead, CallsAreOccurrences, CallsAddNoWay, MadeAccessesHadWays, QuietStaysQuiet, GoodClaimsHold, FreeStaysFree, BeginsSafe};
 
 /// What the hardware's walks of tables (RISC-V Privileged Architecture, "Sv39", "Sv48", "Two-Stage Address Translation") and
 /// of the device directory (IOMMU specification, section 2.3.1) reach is what walks by its formats lead to.
@@ -16,12 +16,13 @@ pub fn call_law()
 {}
 
 /// So no list of calls adds a way, where hardware and devices can't write what hardware reads; each access that is made
-/// had its way at the beginning; what was withdrawn is out of reach, and a frame that nobody has a way to is touched by
-/// nobody. All that is asked for holds at power-on.
+/// had its way at the beginning; what was withdrawn is out of reach, so that a claim that is good stays true; and a
+/// frame that nobody has a way to is touched by nobody. All that is asked for holds at power-on.
 pub fn ways_law()
     ensures in_turn { CallsAddNoWay }
-    ensures made { AccessesHadWays }
+    ensures made { MadeAccessesHadWays }
     ensures quiet { QuietStaysQuiet }
+    ensures claims { GoodClaimsHold }
     ensures free { FreeStaysFree }
     ensures begins { BeginsSafe }
 {}
