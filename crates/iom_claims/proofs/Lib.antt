@@ -1,0 +1,4 @@
+pub mod ListLemmas
+pub mod HistoryLemmas
+pub mod RowLemmas
+pub mod ShowLemmas

@@ -1,0 +1,3 @@
+pub mod Claimed
+pub mod Rows
+pub mod Shown
