@@ -27,7 +27,7 @@ IsOpen history claim = Contains (lingering_at history claim.grant.device claim.g
 abbrev pub with_mark : ℕ → Bool → (ℕ → Bool) → ℕ → Bool
 with_mark frame mark before other = if nat_eq frame other then mark else before other
 
--- the device may reach the frame from now on, which nobody else has
+-- the device may reach the frame from now on, and the frame is handed on no more
 abbrev pub after_grant : Grant → Claimed → Claimed
 after_grant grant before = record {
   history = Granted grant.device grant.page grant.frame grant.rights ∷ before.history;
