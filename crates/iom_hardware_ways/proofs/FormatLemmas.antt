@@ -37,7 +37,7 @@ word_there memory address frame offset is low even =
 
 -- PAGE TABLES
 
-entry_there : (memory : List (List ℕ)) (table index : ℕ)
+pub entry_there : (memory : List (List ℕ)) (table index : ℕ)
     → entries memory (slot table index) ≡ entry_read (word_in (slice_get memory (table + index / 512)) (8 * (index % 512)))
 unfolding entries
 entry_there memory table index = ap entry_read (word_there memory (8 * (512 * table + index)) (table + index / 512) (8 * (index % 512)) (omega arith) (omega arith) (omega arith))
@@ -45,7 +45,7 @@ entry_there memory table index = ap entry_read (word_there memory (8 * (512 * ta
 index_back : (index : ℕ) → index_of (step_at index) ≡ index
 index_back index = omega arith
 
-indices_back : (is : List ℕ) → map index_of (map step_at is) ≡ is
+pub indices_back : (is : List ℕ) → map index_of (map step_at is) ≡ is
 indices_back [] = refl
 indices_back (i ∷ is) = ap (λ n. n ∷ map index_of (map step_at is)) (index_back i) ∙ ap (λ ns. i ∷ ns) (indices_back is)
 
@@ -81,17 +81,17 @@ reaches_allowed e kind table (i ∷ below) frame given (inr (base, rights, at, l
 
 -- THE DIRECTORY
 
-ddi_low : (level id : ℕ) → ddi (suc level) id < 512
+pub ddi_low : (level id : ℕ) → ddi (suc level) id < 512
 ddi_low zero id = omega (arith, mod-lt (id / 2 ^ 7) (lit< {m = 0} {n = 2 ^ 9} tt))
 ddi_low (suc level) id = omega (arith, mod-lt (id / 2 ^ 16) (lit< {m = 0} {n = 2 ^ 8} tt))
 
-ddi_lowest : (id : ℕ) → ddi 0 id < 128
+pub ddi_lowest : (id : ℕ) → ddi 0 id < 128
 ddi_lowest id = omega (arith, mod-lt (id / 2 ^ 0) (lit< {m = 0} {n = 2 ^ 7} tt))
 
 four_words : (a b c d e f g h : Option ℕ) → a ≡ e → b ≡ f → c ≡ g → d ≡ h → four_context_words a b c d ≡ four_context_words e f g h
 four_words a b c d e f g h i j k l = rw (i, j, k, l) refl
 
-context_there : (memory : List (List ℕ)) (page index : ℕ) → index < 128
+pub context_there : (memory : List (List ℕ)) (page index : ℕ) → index < 128
     → loaded_context (context_words_at memory (context_place page index)) ≡ context_in (slice_get memory (page + 0)) (32 * index)
 unfolding context_words_at
 context_there memory page index low =
@@ -104,7 +104,7 @@ context_there memory page index low =
     (word_there memory (a + 16) (page + 0) (32 * index + 16) (omega arith) (omega (arith, low)) (omega arith))
     (word_there memory (a + 24) (page + 0) (32 * index + 24) (omega arith) (omega (arith, low)) (omega arith)))
 
-non_leaf_there : (memory : List (List ℕ)) (page index : ℕ) → index < 512
+pub non_leaf_there : (memory : List (List ℕ)) (page index : ℕ) → index < 512
     → word_at 8 memory (entry_place page index) ≡ word_in (slice_get memory (page + 0)) (8 * index)
 non_leaf_there memory page index low = word_there memory (4096 * page + 8 * index) (page + 0) (8 * index) (omega arith) (omega (arith, low)) (omega arith)
 
@@ -128,7 +128,7 @@ ends_below memory level page id rest context first others is goes =
     (subst (λ steps. Goes (found_non_leaf (loaded_entry (word_in (slice_get memory (page + 0)) (8 * ddi (suc level) id)))) (λ next. Ends context_format (slice_get memory) next steps (context_of context)) (λ said. said ≡ context_of context)) is goes)
 
 -- the indices are some
-some_indices : (level id : ℕ) → (first : Step) × (others : List Step) × (indices_from level id ≡ first ∷ others)
+pub some_indices : (level id : ℕ) → (first : Step) × (others : List Step) × (indices_from level id ≡ first ∷ others)
 some_indices zero id = (record { frame = 0; place = ddi 0 id }, [], refl)
 some_indices (suc level) id = (record { frame = 0; place = ddi (suc level) id }, indices_from level id, refl)
 

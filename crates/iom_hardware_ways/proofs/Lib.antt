@@ -1,5 +1,7 @@
 pub mod FormatLemmas
 pub mod WalkLaws
+pub mod BackLemmas
+pub mod DirectoryBack
 pub mod ListLemmas
 pub mod Turns
 pub mod Changes

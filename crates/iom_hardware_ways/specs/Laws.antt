@@ -1,13 +1,15 @@
 -- What this crate proves.
-use Rattle.std.specs.Prelude.{◌≡◌, ℕ, Bool, true, List, slice_get, Some, Ok}
+use Rattle.std.specs.Prelude.{◌≡◌, ℕ, Bool, true, List, replicate, slice_get, None, Some, Ok}
 use Rattle.iom_base.specs.Rights.{allows}
+use Rattle.iom_base.specs.Sizes.{levels_of}
 use Rattle.iom_base.specs.declared.access.AccessKind.{AccessKind}
 use Rattle.iom_base.specs.declared.rights.Rights.{Rights}
+use Rattle.iom_base.specs.declared.size.Size.{Size}
 use Rattle.iom_device_dir.specs.declared.context.Context.{Context as DeviceContext}
 use Rattle.iom_device_dir.specs.Paths.{FindsContext}
 use Rattle.iom_registers.specs.declared.directory.DirectoryPointer.{DirectoryPointer}
 use Rattle.iom_stage_walk.specs.declared.walked.Walked.{Walked}
-use Rattle.iom_stage_walk.specs.Paths.{ReachesFirst, first_widths}
+use Rattle.iom_stage_walk.specs.Paths.{ReachesFirst, IsInMemory, first_widths}
 use Rattle.iom_stage_walk.specs.Second.{ReachesSecond, second_widths}
 use Rattle.iom_stage_walk.specs.Both.{ReachesBoth}
 use Rattle.iom_hardware.specs.Commits.{Commits}
@@ -21,13 +23,17 @@ use Rattle.iom_reach.specs.Laws.{AddsNoWay, UsesNoMore, Permission, IsQuiet, IsF
 use Rattle.iom_reach.specs.Memory.{Tables, Ends}
 use Rattle.iom_reach.specs.Occurrences.{Occurrence, OccurInTurn}
 use Rattle.iom_reach.specs.Safe.{IsSafe, AreTimely}
-use Rattle.iom_reach.specs.Scene.{At}
+use Rattle.iom_reach.specs.Scene.{Mapping, Context, At}
 use Rattle.iom_reach.specs.Ways.{Leads, Way}
 use Rattle.iom_hardware_ways.specs.Formats.{steps_along, steps_of, context_of, formats}
 use Rattle.iom_hardware_ways.specs.Scenes.{directory_by, mapping_from, scene_of}
 use Rattle.iom_hardware_ways.specs.Calls.{HardwareCall, CallDoes, DoesHarmlessly, IsMadeHarmlessly, DoInTurn}
 
 -- THE FORMATS
+
+-- what is walked without a guest's tables
+abbrev pub without_guest : Mapping → Walked
+without_guest mapping = record { frame = mapping.frame; rights = mapping.rights; guest_frames = replicate 4 None }
 
 -- where the path of an address in a first stage reaches, a walk by the formats leads
 abbrev pub FirstStagesLead : Type 0
@@ -48,11 +54,31 @@ BothStagesLead = (levels levels' : ℕ) (memory : List (List ℕ)) (guest root a
     → (rights : Rights) × Leads formats (slice_get memory) root (λ page. steps_along (second_widths levels') page) (mapping_from walked.frame rights)
     × ((k : AccessKind) → allows walked.rights k ≡ true → allows rights k ≡ true)
 
+-- And the other way round: to each mapping within memory to which a walk by the formats leads the path of some address reaches, for each kind of access that
+-- it allows. So no leaf is one too many
+abbrev pub FirstStagesAreReached : Type 0
+FirstStagesAreReached = (size : Size) (memory : List (List ℕ)) (root : ℕ) (kind : AccessKind) (mapping : Mapping)
+    → Leads formats (slice_get memory) root (λ page. steps_along (first_widths (levels_of size)) page) mapping
+    → IsInMemory memory mapping.frame → allows mapping.rights kind ≡ true
+    → (address : ℕ) × ReachesFirst (levels_of size) memory root address kind (without_guest mapping)
+
+abbrev pub SecondStagesAreReached : Type 0
+SecondStagesAreReached = (size : Size) (memory : List (List ℕ)) (root : ℕ) (kind : AccessKind) (mapping : Mapping)
+    → Leads formats (slice_get memory) root (λ page. steps_along (second_widths (levels_of size)) page) mapping
+    → IsInMemory memory mapping.frame → allows mapping.rights kind ≡ true
+    → (address : ℕ) × ReachesSecond (levels_of size) memory root address kind (without_guest mapping)
+
 -- where the path of a device's id finds a context, a walk of the directory by the formats ends at it
 abbrev pub DirectoriesLead : Type 0
 DirectoriesLead = (memory : List (List ℕ)) (ddtp : DirectoryPointer) (id : ℕ) (context : DeviceContext) → FindsContext memory ddtp id context
     → (tables : Tables) × (directory_by ddtp.mode ddtp.ppn ≡ At tables)
     × Ends formats.context (slice_get memory) tables.root (steps_of tables.levels id) (context_of context)
+
+-- and the other way round: what a walk of the directory by the formats ends at, the path of the id finds
+abbrev pub DirectoriesAreFound : Type 0
+DirectoriesAreFound = (memory : List (List ℕ)) (ddtp : DirectoryPointer) (id : ℕ) (tables : Tables) (context : Context) → directory_by ddtp.mode ddtp.ppn ≡ At tables
+    → Ends formats.context (slice_get memory) tables.root (steps_of tables.levels id) context
+    → (found : DeviceContext) × FindsContext memory ddtp id found × (context_of found ≡ context)
 
 -- THE CALLS
 

@@ -1,13 +1,17 @@
 //! What is proved of hardware and the ways that devices have in it.
-ghost use Rattle.iom_hardware_ways.specs.Laws.{FirstStagesLead, SecondStagesLead, BothStagesLead, DirectoriesLead, CallsAreOccurrences, CallsAddNoWay, MadeAccessesHadWays, QuietStaysQuiet, GoodClaimsHold, FreeStaysFree, BeginsSafe};
+ghost use Rattle.iom_hardware_ways.specs.Laws.{FirstStagesLead, SecondStagesLead, BothStagesLead, FirstStagesAreReached, SecondStagesAreReached, DirectoriesLead, DirectoriesAreFound, CallsAreOccurrences, CallsAddNoWay, MadeAccessesHadWays, QuietStaysQuiet, GoodClaimsHold, FreeStaysFree, BeginsSafe};
 
 /// What the hardware's walks of tables (RISC-V Privileged Architecture, "Sv39", "Sv48", "Two-Stage Address Translation") and
-/// of the device directory (IOMMU specification, section 2.3.1) reach is what walks by its formats lead to.
+/// of the device directory (IOMMU specification, section 2.3.1) reach is what walks by its formats lead to; and but for
+/// both stages, where a guest's own tables count too, the other way round.
 pub fn walk_law()
     ensures first { FirstStagesLead }
     ensures second { SecondStagesLead }
     ensures both { BothStagesLead }
+    ensures first_back { FirstStagesAreReached }
+    ensures second_back { SecondStagesAreReached }
     ensures directory { DirectoriesLead }
+    ensures directory_back { DirectoriesAreFound }
 {}
 
 /// Each call of hardware is a list of the occurrences of which the facts on ways speak.
