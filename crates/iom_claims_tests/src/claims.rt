@@ -1,5 +1,6 @@
 use crate::expect::{
-    both_of, expect, expect_done, expect_grant, expect_may, expect_on, expect_release,
+    both_of, expect, expect_done, expect_grant, expect_hand_on, expect_may, expect_on,
+    expect_release,
 };
 use iom_base::{Refusal, Rights};
 use iom_claims::{Claims, Grant, NoSuchClaim, OpenClaim};
@@ -77,8 +78,8 @@ fn what_is_refused_changes_nothing(rt: HostRuntime) -> Result<(), Fail> {
 fn a_frame_is_handed_on_until_it_is_taken_or_granted(rt: HostRuntime) -> Result<(), Fail> {
     let mut claims = Claims::new(rt.alloc());
     expect(&rt, !claims.is_handed_on(5));
-    expect(&rt, claims.hand_on(5).is_ok());
-    expect(&rt, claims.hand_on(7).is_ok());
+    expect_hand_on(&rt, &mut claims, 5);
+    expect_hand_on(&rt, &mut claims, 7);
     expect(&rt, claims.is_handed_on(5));
     claims.take(5);
     expect(&rt, !claims.is_handed_on(5));
