@@ -1,12 +1,13 @@
 //! A hundred drawn runs keep the rules, and meet all that there is to meet.
 
-use crate::expect::expect;
-use crate::knows::Wrong;
-use crate::met::Met;
+use crate::chooser::Chooser;
+use crate::choosing::seen_of;
+use crate::judge::Rule;
+use crate::met::Row;
+use crate::parts::Burst;
 use crate::run::Run;
-use crate::wanted::{missing_note, missing_outcome};
+use crate::wanted::first_missing;
 use std::alloc::Global;
-use std::mem;
 use std::test::Fail;
 
 /// The last seed; the first is 1.
@@ -15,14 +16,40 @@ const LAST_SEED: u64 = 100;
 /// How many events each run has, beside those by which the test looks.
 const EVENTS: u64 = 2000;
 
-/// The first seed whose run breaks a rule, and the rule. What the runs meet is noted.
-fn first_wrong(alloc: Global, met: &mut Met) -> Result<Option<(u64, Wrong)>, Fail> {
+/// What the run of the seed begins with, when the devices are there.
+fn beginning(seed: u64) -> Burst {
+    match seed % 8 {
+        0 => Burst::Crowded,
+        1 => Burst::Tickets,
+        2 => Burst::Commands,
+        _ => Burst::Nothing,
+    }
+}
+
+/// The rule that the run of the seed breaks first, if it breaks one. What it meets is noted.
+fn broken_by(alloc: Global, seed: u64, met: &mut Vec<Row>) -> Result<Option<Rule>, Fail> {
+    let (levels, wide) = match seed % 3 {
+        0 => (1, 0x80),
+        1 => (2, 0x1_0000),
+        _ => (3, 0x100_0000),
+    };
+    let burst = beginning(seed);
+    let mut run = Run::new(alloc, levels, wide, burst == Burst::Crowded)?;
+    let mut chooser = Chooser::new(seed, burst, seed % 8 == 3, seen_of(&run.knows));
+    for number in 0..EVENTS {
+        let call = chooser.next(&run.knows);
+        let told = run.happen(call, met)?;
+        chooser.hear(told);
+    }
+    run.end(chooser.last())?;
+    Ok(run.broken)
+}
+
+/// The first seed whose run breaks a rule, and the rule.
+fn first_broken(alloc: Global, met: &mut Vec<Row>) -> Result<Option<(u64, Rule)>, Fail> {
     for seed in 1..LAST_SEED + 1 {
-        let so_far = mem::replace(met, Met::new(alloc));
-        let mut run = Run::drawn(alloc, seed, EVENTS, so_far)?;
-        *met = mem::replace(&mut run.knows.met, Met::new(alloc));
-        if let Some(wrong) = run.knows.wrong {
-            return Ok(Some((seed, wrong)));
+        if let Some(rule) = broken_by(alloc, seed, met)? {
+            return Ok(Some((seed, rule)));
         }
     }
     Ok(None)
@@ -30,10 +57,8 @@ fn first_wrong(alloc: Global, met: &mut Met) -> Result<Option<(u64, Wrong)>, Fai
 
 #[test]
 fn each_run_keeps_the_rules_and_all_is_met(rt: HostRuntime) -> Result<(), Fail> {
-    let alloc = rt.alloc();
-    let mut met = Met::new(alloc);
-    assert_eq!(rt; first_wrong(alloc, &mut met)?, None);
-    expect(&rt, missing_outcome(&met).is_none());
-    expect(&rt, missing_note(&met).is_none());
+    let mut met = Vec::new(rt.alloc());
+    assert_eq!(rt; first_broken(rt.alloc(), &mut met)?, None);
+    assert_eq!(rt; first_missing(&met), None, "the row of what has to be met");
     Ok(())
 }

@@ -6,15 +6,19 @@
 //! two events; messages are delivered in any order, lost, repeated and forged (PCI Express Base Specification, chapter
 //! 10); fences are given up, devices cut off, revived, detached and reset.
 //!
-//! The test is no run of the ledger machine, and doesn't use its judge. It keeps the history of the grants as a list of
-//! entries that it reads off the outcomes (`history`), and from it alone decides which frames a device may reach. Each
-//! access that a commit makes has to be on such a frame, and on one on which it may have been accepted; the bytes of all
-//! frames that are granted are read before the commit and after it. Each reply to a request and each answer to a question
-//! has to be one that `rules` allows. What was met is counted (`met`), and `wanted` says what has to be.
+//! The test is no run of the ledger machine, and doesn't use its judge. It keeps what was done about devices and grants as
+//! a list of entries that it reads off the outcomes (`history`), and from it alone decides which frames a device may reach.
+//! Each access that a commit makes has to be on such a frame, and on one on which it may have been accepted; the bytes of
+//! all frames that are granted are read after it, and are as they have to be. Each reply to a request and each answer to a
+//! question has to be one that `rules` allows. What was met is noted (`met`), and `wanted` says what has to be.
 #![tactic(auto)]
 
 #[cfg(test)]
 mod bursts;
+#[cfg(test)]
+mod call;
+#[cfg(test)]
+mod chooser;
 #[cfg(test)]
 mod choosing;
 #[cfg(test)]
@@ -24,11 +28,13 @@ mod draw;
 #[cfg(test)]
 mod drawn;
 #[cfg(test)]
-mod expect;
+mod flights;
 #[cfg(test)]
 mod frames;
 #[cfg(test)]
 mod history;
+#[cfg(test)]
+mod judge;
 #[cfg(test)]
 mod knows;
 #[cfg(test)]
@@ -36,7 +42,7 @@ mod messages;
 #[cfg(test)]
 mod met;
 #[cfg(test)]
-mod request;
+mod parts;
 #[cfg(test)]
 mod rules;
 #[cfg(test)]

@@ -1,67 +1,86 @@
 // What the runs met.
 
-use crate::told::{Act, Told};
-use iom_base::{DeviceKind, Mode};
-use std::alloc::{AllocError, Global};
+use crate::call::{Act, Call};
+use crate::history::{Tie, kind_of, standing_of};
+use crate::judge::MOST_TICKETS;
+use crate::knows::{Knows, MOST_RECORDS};
+use crate::messages::{MOST_MESSAGES, Message};
+use crate::told::{Heard, Told};
+use iom_machine::CommandName;
+use std::alloc::AllocError;
 
-/// What no single outcome shows.
-#[derive(Clone, Copy, PartialEq)]
-pub(crate) enum Note {
-    /// An invalidation was lost, since 64 messages were under way.
-    InvalidationLost,
-    /// More requests to invalidate were open at once than there are devices of these kinds.
-    ManyOpen,
-    /// A fault came when the fault queue was full.
-    FaultQueueFull,
-    /// 256 tickets were unconfirmed.
-    AllTickets,
-    /// A device that wasn't asked said that an open request is done.
-    ForgedTrue,
-    /// A fence was given up while a question, an answer, a request, the word that one is done was under way.
-    TimeoutUnderQuestion,
-    TimeoutUnderAnswer,
-    TimeoutUnderRequest,
-    TimeoutUnderWord,
-    /// An access of a device of this kind was made that is attached in this mode.
-    Made(DeviceKind, Mode),
+/// How many requests to invalidate a run has to have open at once, of devices that take up frames.
+const MANY_OPEN: usize = 8;
+
+/// What came of such an event.
+pub(crate) type Row = (Act, Told);
+
+pub(crate) fn has_met(met: &[Row], act: Act, told: Told) -> bool {
+    for (other, what) in met {
+        if *other == act && *what == told {
+            return true;
+        }
+    }
+    false
 }
 
-/// What was met, each once.
-#[derive(Drop)]
-pub(crate) struct Met {
-    pub(crate) outcomes: Vec<(Act, Told)>,
-    pub(crate) notes: Vec<Note>,
+/// It was met, and is noted once.
+fn meet(met: &mut Vec<Row>, act: Act, told: Told) -> Result<(), AllocError> {
+    if !has_met(met.as_slice(), act, told) {
+        met.push((act, told))?;
+    }
+    Ok(())
 }
 
-impl Met {
-    pub(crate) fn new(alloc: Global) -> Met {
-        Met {
-            outcomes: Vec::new(alloc),
-            notes: Vec::new(alloc),
+/// A fence was given up under these messages.
+fn meet_under_way(met: &mut Vec<Row>, messages: &[Message]) -> Result<(), AllocError> {
+    for message in messages {
+        meet(met, Act::Timeout, Told::Under(message.what))?;
+    }
+    Ok(())
+}
+
+/// This came of the call, with what stood beside it.
+pub(crate) fn meet_all(
+    met: &mut Vec<Row>,
+    knows: &Knows,
+    call: Call,
+    heard: Heard,
+) -> Result<(), AllocError> {
+    if let Some(told) = beside(knows, call, heard) {
+        meet(met, call.act, told)?;
+    }
+    if heard.told == Told::TimedOut {
+        meet_under_way(met, knows.messages.as_slice())?;
+    }
+    meet(met, call.act, heard.told)
+}
+
+/// What the outcome doesn't show by itself, if there is something; before it is known.
+fn beside(knows: &Knows, call: Call, heard: Heard) -> Option<Told> {
+    let is_full = knows.messages.len() >= MOST_MESSAGES;
+    match (call.act, heard.told) {
+        (_, Told::Did(CommandName::AtsInval)) if is_full => Some(Told::InvalidationLost),
+        (_, Told::Waits) if knows.open.len() >= MANY_OPEN => Some(Told::ManyOpen),
+        (_, Told::Fault(_)) if knows.records == MOST_RECORDS && !knows.has_lost => {
+            Some(Told::RecordLost)
         }
-    }
-
-    pub(crate) fn has(&self, act: Act, told: Told) -> bool {
-        self.outcomes
-            .iter()
-            .any(|(other, what)| *other == act && *what == told)
-    }
-
-    pub(crate) fn has_noted(&self, note: Note) -> bool {
-        self.notes.iter().any(|other| *other == note)
-    }
-
-    pub(crate) fn meet(&mut self, act: Act, told: Told) -> Result<(), AllocError> {
-        if !self.has(act, told) {
-            self.outcomes.push((act, told))?;
+        (_, Told::Ticket) if heard.number == knows.confirmed.wrapping_add(MOST_TICKETS) => {
+            Some(Told::LastTicket)
         }
-        Ok(())
+        (_, Told::NotClosed) if knows.open.contains(&heard.number) => Some(Told::ForgedTrue),
+        (Act::Commit, Told::Read | Told::Wrote) => made(knows, call),
+        _ => None,
     }
+}
 
-    pub(crate) fn note(&mut self, note: Note) -> Result<(), AllocError> {
-        if !self.has_noted(note) {
-            self.notes.push(note)?;
-        }
-        Ok(())
+/// What is said of an access of the device that was made.
+fn made(knows: &Knows, call: Call) -> Option<Told> {
+    let kind = kind_of(&knows.entries, call.device)?;
+    let standing = standing_of(&knows.entries, knows.confirmed, call.device);
+    if standing.tie == Tie::Attached {
+        Some(Told::Made(kind, standing.mode))
+    } else {
+        None
     }
 }

@@ -1,38 +1,10 @@
 // What may come of a request and of a question, by how the device is attached and by what the history gives it.
 
-use crate::history::{History, Pair, set_of};
+use crate::call::{Act, Call};
+use crate::history::{Right, Standing, Tie, has, standing_of};
+use crate::knows::Knows;
+use crate::told::{Heard, Told};
 use iom_base::{AccessKind, Cause, DeviceId, Mode};
-use iom_fabric::Translation;
-use iom_machine::Attachment;
-
-/// What decides of a device's requests, beside the history.
-#[derive(Clone, Copy)]
-pub(crate) enum Standing {
-    /// The directory can't name it.
-    TooWide,
-    /// It has no tables, or it was cut off and its ticket is confirmed.
-    Nothing,
-    /// It is attached.
-    Now { mode: Mode, ats: bool },
-    /// It is leaving, or was cut off, and its ticket isn't confirmed.
-    Formerly { mode: Mode, ats: bool },
-}
-
-pub(crate) fn standing_of(history: &History, attachment: Attachment, is_wide: bool) -> Standing {
-    match attachment {
-        _ if is_wide => Standing::TooWide,
-        Attachment::Detached => Standing::Nothing,
-        Attachment::Attached { mode, ats } => Standing::Now { mode, ats },
-        Attachment::Quarantined { ticket, mode, ats } => {
-            if history.is_confirmed(ticket) {
-                Standing::Nothing
-            } else {
-                Standing::Formerly { mode, ats }
-            }
-        }
-        Attachment::Leaving { mode, ats, .. } => Standing::Formerly { mode, ats },
-    }
-}
 
 /// Whether this is a fault of the mode's stages at such an access.
 fn is_stage_fault(mode: Mode, kind: AccessKind, cause: Cause) -> bool {
@@ -43,162 +15,125 @@ fn is_stage_fault(mode: Mode, kind: AccessKind, cause: Cause) -> bool {
     }
 }
 
-/// The frames on which an access at the page may be accepted, untranslated or through a cache. In both stages the page is
-/// the guest's to map.
+/// The right that lets a device make such an access.
+pub(crate) fn right_for(kind: AccessKind) -> Right {
+    match kind {
+        AccessKind::Read => Right::Read,
+        AccessKind::Write => Right::Write,
+    }
+}
+
+/// The frames on which such an access at the page, or at any page, may be accepted. In both stages the page is the guest's to
+/// map.
 pub(crate) fn accepting(
-    history: &History,
-    id: DeviceId,
-    standing: Standing,
-    page: u64,
+    knows: &Knows,
+    device: DeviceId,
+    page: Option<u64>,
     kind: AccessKind,
 ) -> u64 {
-    let mode = match standing {
-        Standing::TooWide | Standing::Nothing => return 0,
-        Standing::Now { mode, .. } | Standing::Formerly { mode, .. } => mode,
-    };
-    if mode.is_both() {
-        return history.reached(id, kind);
+    let standing = standing_of(&knows.entries, knows.confirmed, device);
+    if !standing.has_tables() {
+        return 0;
     }
-    match history.reached_at(id, page) {
-        Some(pair) => pair.frames_for(kind),
-        None => 0,
-    }
+    let page = if standing.mode.is_both() { None } else { page };
+    knows.reached(device, page, right_for(kind))
 }
 
-/// The frames on which an access at any page may be.
-pub(crate) fn accepting_anywhere(
-    history: &History,
-    id: DeviceId,
-    standing: Standing,
-    kind: AccessKind,
-) -> u64 {
-    match standing {
-        Standing::TooWide | Standing::Nothing => 0,
-        Standing::Now { .. } | Standing::Formerly { .. } => history.reached(id, kind),
+/// Whether a request may be answered with the fault because of what the directory has for the device.
+fn is_directory_fault(knows: &Knows, device: DeviceId, standing: Standing, cause: Cause) -> bool {
+    if device == knows.wide {
+        cause == Cause::TransactionTypeDisallowed
+    } else {
+        standing.tie != Tie::Attached && cause == Cause::DirectoryEntryNotValid
     }
 }
 
-/// Whether such an untranslated access is one that has to be accepted.
-fn is_sure(history: &History, id: DeviceId, mode: Mode, page: u64, kind: AccessKind) -> bool {
-    !mode.is_both() && history.held(id, page).is_some_and(|pair| pair.allows(kind))
+/// Whether an untranslated request, a read or a write, may be answered with the fault, if it needn't be accepted.
+fn is_fault(knows: &Knows, device: DeviceId, kind: AccessKind, cause: Cause) -> bool {
+    let standing = standing_of(&knows.entries, knows.confirmed, device);
+    is_directory_fault(knows, device, standing, cause)
+        || standing.has_tables() && is_stage_fault(standing.mode, kind, cause)
 }
 
-/// Whether an untranslated request at the page may be answered with the fault.
-pub(crate) fn may_fault(
-    history: &History,
-    id: DeviceId,
-    standing: Standing,
-    page: u64,
-    kind: AccessKind,
-    cause: Cause,
-) -> bool {
-    match standing {
-        Standing::TooWide => cause == Cause::TransactionTypeDisallowed,
-        Standing::Nothing => cause == Cause::DirectoryEntryNotValid,
-        Standing::Now { mode, .. } => {
-            is_stage_fault(mode, kind, cause) && !is_sure(history, id, mode, page, kind)
+/// Whether an untranslated request at the page has to be accepted: the page is held in one stage, with a right that allows it.
+fn is_sure(knows: &Knows, call: Call) -> bool {
+    let standing = standing_of(&knows.entries, knows.confirmed, call.device);
+    standing.tie == Tie::Attached
+        && !standing.mode.is_both()
+        && knows.held(call.device, call.page, right_for(call.kind())) != 0
+}
+
+/// Whether a request may be answered with the fault that goes through a cache, or says that it is translated.
+pub(crate) fn is_fault_of_translated(knows: &Knows, call: Call, cause: Cause) -> bool {
+    let standing = standing_of(&knows.entries, knows.confirmed, call.device);
+    let is_cached = matches!(
+        call.act,
+        Act::Step | Act::ReadThroughCache | Act::WriteThroughCache
+    );
+    if is_cached {
+        return call.device != knows.wide && is_directory_fault(knows, call.device, standing, cause);
+    }
+    is_directory_fault(knows, call.device, standing, cause)
+        || standing.has_tables() && cause == Cause::TransactionTypeDisallowed
+}
+
+/// Whether the request may be answered with the fault.
+pub(crate) fn may_fault(knows: &Knows, call: Call, cause: Cause) -> bool {
+    match call.act {
+        Act::Read | Act::Write => {
+            is_fault(knows, call.device, call.kind(), cause) && !is_sure(knows, call)
         }
-        Standing::Formerly { mode, .. } => {
-            cause == Cause::DirectoryEntryNotValid || is_stage_fault(mode, kind, cause)
-        }
+        _ => is_fault_of_translated(knows, call, cause),
     }
 }
 
-/// Whether some access may be answered so, at a page that isn't known.
-pub(crate) fn may_fault_somewhere(standing: Standing, cause: Cause) -> bool {
-    match standing {
-        Standing::TooWide => cause == Cause::TransactionTypeDisallowed,
-        Standing::Nothing => cause == Cause::DirectoryEntryNotValid,
-        Standing::Now { mode, .. } => {
-            is_stage_fault(mode, AccessKind::Read, cause)
-                || is_stage_fault(mode, AccessKind::Write, cause)
-        }
-        Standing::Formerly { mode, .. } => {
-            cause == Cause::DirectoryEntryNotValid
-                || is_stage_fault(mode, AccessKind::Read, cause)
-                || is_stage_fault(mode, AccessKind::Write, cause)
-        }
-    }
+/// Whether an access of a block device without a cache may be, whichever it wants.
+pub(crate) fn may_fault_somewhere(knows: &Knows, device: DeviceId, cause: Cause) -> bool {
+    is_fault(knows, device, AccessKind::Read, cause)
+        || is_fault(knows, device, AccessKind::Write, cause)
 }
 
-/// Whether a raw device's request that says it is translated may be.
-pub(crate) fn may_fault_translated(standing: Standing, cause: Cause) -> bool {
-    match standing {
-        Standing::TooWide | Standing::Now { .. } => cause == Cause::TransactionTypeDisallowed,
-        Standing::Nothing => cause == Cause::DirectoryEntryNotValid,
-        Standing::Formerly { .. } => {
-            cause == Cause::TransactionTypeDisallowed || cause == Cause::DirectoryEntryNotValid
-        }
-    }
-}
-
-/// Whether an access through a cache may be.
-pub(crate) fn may_fault_cached(standing: Standing, cause: Cause) -> bool {
-    let has_gone = matches!(standing, Standing::Nothing | Standing::Formerly { .. });
-    has_gone && cause == Cause::DirectoryEntryNotValid
-}
-
-/// Whether the pair may be told of the page, where that is known.
-fn may_tell(history: &History, id: DeviceId, mode: Mode, page: Option<u64>, pair: Pair) -> bool {
-    if mode.is_both() {
-        return history.may(id, pair.frame, AccessKind::Read)
-            && (!pair.can_write || history.may(id, pair.frame, AccessKind::Write));
-    }
-    match page {
-        Some(page) => history.reached_at(id, page) == Some(pair),
-        None => history.has_pair(id, pair),
-    }
-}
-
-/// Whether the question may be refused so by the mode's stages: not where the page is held.
-fn may_refuse(
-    history: &History,
-    id: DeviceId,
-    mode: Mode,
-    page: Option<u64>,
-    cause: Cause,
-) -> bool {
-    let is_held = page.is_some_and(|page| history.held(id, page).is_some());
-    is_stage_fault(mode, AccessKind::Read, cause) && (mode.is_both() || !is_held)
-}
-
-/// Whether a device with ATS in the mode may be answered so.
-fn may_answer_in(
-    history: &History,
-    id: DeviceId,
-    mode: Mode,
-    page: Option<u64>,
-    translation: Translation,
-) -> bool {
-    match translation {
-        Translation::Page { frame, rights } => {
-            let pair = Pair {
-                frame: u64::from(frame),
-                can_write: rights.allows(AccessKind::Write),
+/// Whether a device with ATS in the mode may be told so of the page, or of any page, by its tables.
+fn may_tell(knows: &Knows, device: DeviceId, mode: Mode, page: Option<u64>, heard: Heard) -> bool {
+    let is_both = mode.is_both();
+    match heard.told {
+        Told::Answered {
+            can_read,
+            can_write,
+        } => {
+            let right = if can_write {
+                Right::Write
+            } else if is_both {
+                Right::Read
+            } else {
+                Right::ReadOnly
             };
-            rights.allows(AccessKind::Read) && may_tell(history, id, mode, page, pair)
+            let page = if is_both { None } else { page };
+            can_read && has(knows.reached(device, page, right), heard.number)
         }
-        Translation::Refused(cause) => may_refuse(history, id, mode, page, cause),
+        Told::AnsweredFault(cause) => {
+            let is_held = match page {
+                Some(page) => knows.held(device, page, Right::Read) != 0,
+                None => false,
+            };
+            is_stage_fault(mode, AccessKind::Read, cause) && (is_both || !is_held)
+        }
+        _ => false,
     }
 }
 
 /// Whether the device's question may be answered so. Of a block device's the page isn't known.
-pub(crate) fn may_answer(
-    history: &History,
-    id: DeviceId,
-    standing: Standing,
-    page: Option<u64>,
-    translation: Translation,
-) -> bool {
-    let too_wide = translation == Translation::Refused(Cause::TransactionTypeDisallowed);
-    let not_valid = translation == Translation::Refused(Cause::DirectoryEntryNotValid);
-    match standing {
-        Standing::TooWide | Standing::Now { ats: false, .. } => too_wide,
-        Standing::Nothing => not_valid,
-        Standing::Now { mode, .. } => may_answer_in(history, id, mode, page, translation),
-        Standing::Formerly { ats: false, .. } => too_wide || not_valid,
-        Standing::Formerly { mode, .. } => {
-            not_valid || may_answer_in(history, id, mode, page, translation)
+pub(crate) fn may_answer(knows: &Knows, device: DeviceId, page: Option<u64>, heard: Heard) -> bool {
+    let standing = standing_of(&knows.entries, knows.confirmed, device);
+    let has_tables = standing.has_tables();
+    if has_tables && standing.ats && may_tell(knows, device, standing.mode, page, heard) {
+        return true;
+    }
+    match heard.told {
+        Told::AnsweredFault(cause) => {
+            is_directory_fault(knows, device, standing, cause)
+                || has_tables && !standing.ats && cause == Cause::TransactionTypeDisallowed
         }
+        _ => false,
     }
 }

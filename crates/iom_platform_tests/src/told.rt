@@ -1,48 +1,12 @@
-// Events and outcomes by their kinds, as they are counted.
+// What comes of an event, as it is counted.
 
-use iom_base::{AccessKind, Cause, DeviceId, Refusal};
+use crate::messages::What;
+use iom_base::{AccessKind, Cause, DeviceKind, Mode, Refusal};
 use iom_fabric::Translation;
-use iom_machine::{BlockStep, CommandName, Event, Fetched, Outcome};
+use iom_machine::{BlockStep, CommandName, Fetched, Outcome};
 use iom_virtqueue::ChainFault;
 
-/// What happens, by its kind.
-#[derive(Clone, Copy, PartialEq)]
-pub(crate) enum Act {
-    Plug,
-    Medium,
-    Attach,
-    Detach,
-    Grant,
-    Release,
-    Quarantine,
-    Revive,
-    Restart,
-    Fetch,
-    Timeout,
-    Poll,
-    Faults,
-    Read,
-    Write,
-    ReadTranslated,
-    WriteTranslated,
-    ReadThroughCache,
-    WriteThroughCache,
-    Ask,
-    Forge,
-    Deliver,
-    Drop,
-    Repeat,
-    Reset,
-    Queue,
-    Step,
-    Status,
-    Commit,
-    Poke,
-    Peek,
-    Free,
-}
-
-/// What comes of it, by its kind.
+/// What comes of an event, by its kind; and what no outcome shows by itself.
 #[derive(Clone, Copy, PartialEq)]
 pub(crate) enum Told {
     Done,
@@ -65,7 +29,7 @@ pub(crate) enum Told {
     Miss,
     Sent,
     Lost,
-    Answered { can_write: bool },
+    Answered { can_read: bool, can_write: bool },
     AnsweredFault(Cause),
     Kept,
     Stale,
@@ -89,73 +53,103 @@ pub(crate) enum Told {
     Finished,
     Down,
     Status(u8),
+    /// A command was done whose request to invalidate was lost, since 64 messages were under way.
+    InvalidationLost,
+    /// A command waits, and more requests to invalidate are open than there are devices of these kinds.
+    ManyOpen,
+    /// The access was refused when the fault queue was full.
+    RecordLost,
+    /// It was the 256th ticket that isn't confirmed.
+    LastTicket,
+    /// A device that wasn't asked said that an open request is done.
+    ForgedTrue,
+    /// The fence was given up while such a message was under way.
+    Under(What),
+    /// The access that was made is one of a device of this kind that is attached in this mode.
+    Made(DeviceKind, Mode),
 }
 
-/// The event's kind, of those of the driver and the processor.
-fn act_of_driver(event: &Event) -> Option<Act> {
-    Some(match event {
-        Event::Plug { .. } => Act::Plug,
-        Event::Medium { .. } => Act::Medium,
-        Event::Attach { .. } => Act::Attach,
-        Event::Detach { .. } => Act::Detach,
-        Event::Grant { .. } => Act::Grant,
-        Event::Release { .. } => Act::Release,
-        Event::Quarantine { .. } => Act::Quarantine,
-        Event::Revive { .. } => Act::Revive,
-        Event::Restart => Act::Restart,
-        Event::Poll => Act::Poll,
-        Event::Faults => Act::Faults,
-        Event::Poke { .. } => Act::Poke,
-        Event::Peek { .. } => Act::Peek,
-        Event::Free { .. } => Act::Free,
-        _ => return None,
-    })
+/// What comes of an event, and the numbers that it names.
+#[derive(Clone, Copy)]
+pub(crate) struct Heard {
+    pub(crate) told: Told,
+    /// The number of the access, the ticket or the request, how many bytes were written, or the frame that is told.
+    pub(crate) number: u64,
+    /// The last of the tickets, where several are confirmed.
+    pub(crate) last: u64,
 }
 
-/// The event's kind, of those of devices that ask for accesses.
-fn act_of_request(event: &Event) -> Option<Act> {
-    Some(match event {
-        Event::Read { .. } => Act::Read,
-        Event::Write { .. } => Act::Write,
-        Event::ReadTranslated { .. } => Act::ReadTranslated,
-        Event::WriteTranslated { .. } => Act::WriteTranslated,
-        Event::ReadThroughCache { .. } => Act::ReadThroughCache,
-        Event::WriteThroughCache { .. } => Act::WriteThroughCache,
-        _ => return None,
-    })
-}
-
-/// The event's kind, of the others.
-fn act_of_rest(event: &Event) -> Act {
-    match event {
-        Event::Fetch => Act::Fetch,
-        Event::Timeout => Act::Timeout,
-        Event::Ask { .. } => Act::Ask,
-        Event::Forge { .. } => Act::Forge,
-        Event::Deliver { .. } => Act::Deliver,
-        Event::Drop { .. } => Act::Drop,
-        Event::Repeat { .. } => Act::Repeat,
-        Event::Reset { .. } => Act::Reset,
-        Event::Queue { .. } => Act::Queue,
-        Event::Step { .. } => Act::Step,
-        Event::Status { .. } => Act::Status,
-        _ => Act::Commit,
+fn of_fetch(fetched: Fetched) -> Told {
+    match fetched {
+        Fetched::Did(name) => Told::Did(name),
+        Fetched::Waiting => Told::Waits,
+        Fetched::Empty => Told::Empty,
+        Fetched::Stopped => Told::Stopped,
     }
 }
 
-pub(crate) fn act_of(event: &Event) -> Act {
-    if let Some(act) = act_of_driver(event) {
-        return act;
-    }
-    match act_of_request(event) {
-        Some(act) => act,
-        None => act_of_rest(event),
+fn of_step(step: BlockStep) -> Told {
+    match step {
+        BlockStep::Idle => Told::Idle,
+        BlockStep::Waiting => Told::Waiting,
+        BlockStep::Asked => Told::Asked,
+        BlockStep::Chain(fault) => Told::Chain(fault),
+        BlockStep::Finished { .. } => Told::Finished,
+        BlockStep::Down => Told::Down,
     }
 }
 
-/// Whether the driver did something, and what it then says.
-fn told_by_driver(outcome: &Outcome) -> Option<Told> {
-    Some(match outcome {
+fn of_answer(translation: Translation) -> Told {
+    match translation {
+        Translation::Page { rights, .. } => Told::Answered {
+            can_read: rights.allows(AccessKind::Read),
+            can_write: rights.allows(AccessKind::Write),
+        },
+        Translation::Refused(cause) => Told::AnsweredFault(cause),
+    }
+}
+
+/// What comes of messages.
+fn of_message(outcome: &Outcome) -> Told {
+    match outcome {
+        Outcome::Sent => Told::Sent,
+        Outcome::Lost => Told::Lost,
+        Outcome::Answered(translation) => of_answer(*translation),
+        Outcome::Kept => Told::Kept,
+        Outcome::Stale => Told::Stale,
+        Outcome::AnswerRefused => Told::AnswerRefused,
+        Outcome::Ignored => Told::Ignored,
+        Outcome::Invalidated(_) => Told::Invalidated,
+        Outcome::Closed(_) => Told::Closed,
+        Outcome::NotClosed(_) => Told::NotClosed,
+        Outcome::Dropped => Told::Dropped,
+        Outcome::Repeated => Told::Repeated,
+        _ => Told::NoMessage,
+    }
+}
+
+/// What an access and the IOMMU say.
+fn of_access(outcome: &Outcome) -> Told {
+    match outcome {
+        Outcome::Accepted(_) => Told::Accepted,
+        Outcome::Busy => Told::Busy,
+        Outcome::BadSpan => Told::BadSpan,
+        Outcome::Fault(cause) => Told::Fault(*cause),
+        Outcome::Miss => Told::Miss,
+        Outcome::Read(_) => Told::Read,
+        Outcome::Wrote(_) => Told::Wrote,
+        Outcome::NothingInFlight => Told::NothingInFlight,
+        Outcome::Fetched(fetched) => of_fetch(*fetched),
+        Outcome::TimedOut => Told::TimedOut,
+        Outcome::NoEffect => Told::NoEffect,
+        Outcome::Stepped(step) => of_step(*step),
+        _ => of_message(outcome),
+    }
+}
+
+/// What comes of an event, by its kind.
+fn told_of(outcome: &Outcome) -> Told {
+    match outcome {
         Outcome::Done => Told::Done,
         Outcome::Refused(why) => Told::Refused(*why),
         Outcome::Ticket(_) => Told::Ticket,
@@ -170,98 +164,32 @@ fn told_by_driver(outcome: &Outcome) -> Option<Told> {
         Outcome::Bytes(_) => Told::Bytes,
         Outcome::Free(is_free) => Told::Free(*is_free),
         Outcome::Status(status) => Told::Status(*status),
-        _ => return None,
-    })
-}
-
-fn told_of_fetch(fetched: Fetched) -> Told {
-    match fetched {
-        Fetched::Did(name) => Told::Did(name),
-        Fetched::Waiting => Told::Waits,
-        Fetched::Empty => Told::Empty,
-        Fetched::Stopped => Told::Stopped,
+        _ => of_access(outcome),
     }
 }
 
-fn told_of_step(step: BlockStep) -> Told {
-    match step {
-        BlockStep::Idle => Told::Idle,
-        BlockStep::Waiting => Told::Waiting,
-        BlockStep::Asked => Told::Asked,
-        BlockStep::Chain(fault) => Told::Chain(fault),
-        BlockStep::Finished { .. } => Told::Finished,
-        BlockStep::Down => Told::Down,
-    }
-}
-
-fn told_of_answer(translation: Translation) -> Told {
-    match translation {
-        Translation::Page { rights, .. } => Told::Answered {
-            can_write: rights.allows(AccessKind::Write),
-        },
-        Translation::Refused(cause) => Told::AnsweredFault(cause),
-    }
-}
-
-/// What an access and the IOMMU say.
-fn told_of_access(outcome: &Outcome) -> Option<Told> {
-    Some(match outcome {
-        Outcome::Accepted(_) => Told::Accepted,
-        Outcome::Busy => Told::Busy,
-        Outcome::BadSpan => Told::BadSpan,
-        Outcome::Fault(cause) => Told::Fault(*cause),
-        Outcome::Miss => Told::Miss,
-        Outcome::Read(_) => Told::Read,
-        Outcome::Wrote(_) => Told::Wrote,
-        Outcome::NothingInFlight => Told::NothingInFlight,
-        Outcome::Fetched(fetched) => told_of_fetch(*fetched),
-        Outcome::TimedOut => Told::TimedOut,
-        Outcome::NoEffect => Told::NoEffect,
-        Outcome::Stepped(step) => told_of_step(*step),
-        _ => return None,
-    })
-}
-
-/// What comes of messages.
-fn told_of_message(outcome: &Outcome) -> Told {
+fn number_of(outcome: &Outcome) -> u64 {
     match outcome {
-        Outcome::Sent => Told::Sent,
-        Outcome::Lost => Told::Lost,
-        Outcome::Answered(translation) => told_of_answer(*translation),
-        Outcome::Kept => Told::Kept,
-        Outcome::Stale => Told::Stale,
-        Outcome::AnswerRefused => Told::AnswerRefused,
-        Outcome::Ignored => Told::Ignored,
-        Outcome::Invalidated(_) => Told::Invalidated,
-        Outcome::Closed(_) => Told::Closed,
-        Outcome::NotClosed(_) => Told::NotClosed,
-        Outcome::Dropped => Told::Dropped,
-        Outcome::Repeated => Told::Repeated,
-        _ => Told::NoMessage,
+        Outcome::Ticket(ticket) => u64::from(*ticket),
+        Outcome::Confirmed { first, .. } => u64::from(*first),
+        Outcome::Answered(Translation::Page { frame, .. }) => u64::from(*frame),
+        Outcome::Accepted(number)
+        | Outcome::Invalidated(number)
+        | Outcome::Closed(number)
+        | Outcome::NotClosed(number)
+        | Outcome::Wrote(number) => *number,
+        _ => 0,
     }
 }
 
-pub(crate) fn told_of(outcome: &Outcome) -> Told {
-    if let Some(told) = told_by_driver(outcome) {
-        return told;
-    }
-    match told_of_access(outcome) {
-        Some(told) => told,
-        None => told_of_message(outcome),
-    }
-}
-
-/// The device whose event it is, if it is one's.
-pub(crate) fn device_of(event: &Event) -> Option<DeviceId> {
-    match event {
-        Event::Read { device, .. }
-        | Event::Write { device, .. }
-        | Event::ReadThroughCache { device, .. }
-        | Event::WriteThroughCache { device, .. }
-        | Event::Ask { device, .. }
-        | Event::Step { device }
-        | Event::Queue { device, .. }
-        | Event::Commit { device } => Some(*device),
-        _ => None,
+pub(crate) fn heard_of(outcome: &Outcome) -> Heard {
+    let last = match outcome {
+        Outcome::Confirmed { last, .. } => u64::from(*last),
+        _ => 0,
+    };
+    Heard {
+        told: told_of(outcome),
+        number: number_of(outcome),
+        last,
     }
 }

@@ -1,13 +1,14 @@
 // What the runs together have to meet: each outcome of each event, and what no single outcome shows.
 
-use crate::met::{Met, Note};
-use crate::told::{Act, Told};
+use crate::call::Act;
+use crate::messages::What;
+use crate::met::{Row, has_met};
+use crate::told::Told;
 use iom_base::{Cause, DeviceKind, Mode, Refusal, Size};
 use iom_machine::CommandName;
 use iom_virtqueue::ChainFault;
 
-/// What comes of the driver's calls.
-static OF_THE_DRIVER: [(Act, Told); 48] = [
+static WANTED: [(Act, Told); 215] = [
     (Act::Plug, Told::Done),
     (Act::Plug, Told::Refused(Refusal::AlreadyPlugged)),
     (Act::Plug, Told::Refused(Refusal::TooManyDevices)),
@@ -56,10 +57,6 @@ static OF_THE_DRIVER: [(Act, Told); 48] = [
     (Act::Faults, Told::Record),
     (Act::Faults, Told::NoRecord),
     (Act::Reset, Told::Done),
-];
-
-/// What comes of the steps of the IOMMU, and of the driver's looking at it.
-static OF_THE_IOMMU: [(Act, Told); 14] = [
     (Act::Fetch, Told::Did(CommandName::IotinvalVma)),
     (Act::Fetch, Told::Did(CommandName::IotinvalGvma)),
     (Act::Fetch, Told::Did(CommandName::IofenceC)),
@@ -74,10 +71,6 @@ static OF_THE_IOMMU: [(Act, Told); 14] = [
     (Act::Poll, Told::Confirmed { timed_out: true }),
     (Act::Poll, Told::NoneConfirmed { timed_out: false }),
     (Act::Poll, Told::NoneConfirmed { timed_out: true }),
-];
-
-/// What comes of untranslated requests, and of those that say they are translated.
-static OF_REQUESTS: [(Act, Told); 30] = [
     (Act::Read, Told::Accepted),
     (Act::Read, Told::Busy),
     (Act::Read, Told::BadSpan),
@@ -120,10 +113,6 @@ static OF_REQUESTS: [(Act, Told); 30] = [
     ),
     (Act::WriteTranslated, Told::Refused(Refusal::NoSuchDevice)),
     (Act::WriteTranslated, Told::Refused(Refusal::WrongKind)),
-];
-
-/// What comes of accesses through a cache, and of commits.
-static OF_ACCESSES: [(Act, Told); 18] = [
     (Act::ReadThroughCache, Told::Accepted),
     (Act::ReadThroughCache, Told::Busy),
     (Act::ReadThroughCache, Told::BadSpan),
@@ -148,10 +137,6 @@ static OF_ACCESSES: [(Act, Told); 18] = [
     (Act::Commit, Told::Wrote),
     (Act::Commit, Told::NothingInFlight),
     (Act::Commit, Told::Refused(Refusal::NoSuchDevice)),
-];
-
-/// What comes of messages.
-static OF_MESSAGES: [(Act, Told); 27] = [
     (Act::Ask, Told::Sent),
     (Act::Ask, Told::Lost),
     (Act::Ask, Told::Refused(Refusal::NoSuchDevice)),
@@ -160,8 +145,20 @@ static OF_MESSAGES: [(Act, Told); 27] = [
     (Act::Forge, Told::Lost),
     (Act::Forge, Told::Refused(Refusal::NoSuchDevice)),
     (Act::Forge, Told::Refused(Refusal::WrongKind)),
-    (Act::Deliver, Told::Answered { can_write: false }),
-    (Act::Deliver, Told::Answered { can_write: true }),
+    (
+        Act::Deliver,
+        Told::Answered {
+            can_read: true,
+            can_write: false,
+        },
+    ),
+    (
+        Act::Deliver,
+        Told::Answered {
+            can_read: true,
+            can_write: true,
+        },
+    ),
     (Act::Deliver, Told::AnsweredFault(Cause::ReadPageFault)),
     (Act::Deliver, Told::AnsweredFault(Cause::ReadGuestPageFault)),
     (
@@ -185,10 +182,6 @@ static OF_MESSAGES: [(Act, Told); 27] = [
     (Act::Repeat, Told::Repeated),
     (Act::Repeat, Told::Lost),
     (Act::Repeat, Told::NoMessage),
-];
-
-/// What comes of block devices.
-static OF_BLOCK_DEVICES: [(Act, Told); 35] = [
     (Act::Medium, Told::Done),
     (Act::Medium, Told::Refused(Refusal::NoSuchDevice)),
     (Act::Medium, Told::Refused(Refusal::WrongKind)),
@@ -224,10 +217,6 @@ static OF_BLOCK_DEVICES: [(Act, Told); 35] = [
     (Act::Status, Told::Refused(Refusal::WrongKind)),
     (Act::Reset, Told::Done),
     (Act::Reset, Told::Refused(Refusal::NoSuchDevice)),
-];
-
-/// What the processor is told.
-static OF_THE_PROCESSOR: [(Act, Told); 10] = [
     (Act::Poke, Told::Done),
     (Act::Poke, Told::BadSpan),
     (Act::Poke, Told::Refused(Refusal::FrameOutOfRange)),
@@ -238,89 +227,119 @@ static OF_THE_PROCESSOR: [(Act, Told); 10] = [
     (Act::Free, Told::Free(true)),
     (Act::Free, Told::Free(false)),
     (Act::Free, Told::Refused(Refusal::FrameOutOfRange)),
+    (Act::Fetch, Told::InvalidationLost),
+    (Act::Fetch, Told::ManyOpen),
+    (Act::Release, Told::LastTicket),
+    (Act::Deliver, Told::ForgedTrue),
+    (Act::Timeout, Told::Under(What::Question)),
+    (Act::Timeout, Told::Under(What::Answer)),
+    (Act::Timeout, Told::Under(What::Request)),
+    (Act::Timeout, Told::Under(What::Word)),
+    (Act::Read, Told::RecordLost),
+    (
+        Act::Commit,
+        Told::Made(DeviceKind::Raw, Mode::First(Size::Sv39)),
+    ),
+    (
+        Act::Commit,
+        Told::Made(DeviceKind::Raw, Mode::First(Size::Sv48)),
+    ),
+    (
+        Act::Commit,
+        Told::Made(DeviceKind::Raw, Mode::Second(Size::Sv39)),
+    ),
+    (
+        Act::Commit,
+        Told::Made(DeviceKind::Raw, Mode::Second(Size::Sv48)),
+    ),
+    (
+        Act::Commit,
+        Told::Made(DeviceKind::Raw, Mode::Both(Size::Sv39)),
+    ),
+    (
+        Act::Commit,
+        Told::Made(DeviceKind::Raw, Mode::Both(Size::Sv48)),
+    ),
+    (
+        Act::Commit,
+        Told::Made(DeviceKind::Ats, Mode::First(Size::Sv39)),
+    ),
+    (
+        Act::Commit,
+        Told::Made(DeviceKind::Ats, Mode::First(Size::Sv48)),
+    ),
+    (
+        Act::Commit,
+        Told::Made(DeviceKind::Ats, Mode::Second(Size::Sv39)),
+    ),
+    (
+        Act::Commit,
+        Told::Made(DeviceKind::Ats, Mode::Second(Size::Sv48)),
+    ),
+    (
+        Act::Commit,
+        Told::Made(DeviceKind::Ats, Mode::Both(Size::Sv39)),
+    ),
+    (
+        Act::Commit,
+        Told::Made(DeviceKind::Ats, Mode::Both(Size::Sv48)),
+    ),
+    (
+        Act::Commit,
+        Told::Made(DeviceKind::Block, Mode::First(Size::Sv39)),
+    ),
+    (
+        Act::Commit,
+        Told::Made(DeviceKind::Block, Mode::First(Size::Sv48)),
+    ),
+    (
+        Act::Commit,
+        Told::Made(DeviceKind::Block, Mode::Second(Size::Sv39)),
+    ),
+    (
+        Act::Commit,
+        Told::Made(DeviceKind::Block, Mode::Second(Size::Sv48)),
+    ),
+    (
+        Act::Commit,
+        Told::Made(DeviceKind::Block, Mode::Both(Size::Sv39)),
+    ),
+    (
+        Act::Commit,
+        Told::Made(DeviceKind::Block, Mode::Both(Size::Sv48)),
+    ),
+    (
+        Act::Commit,
+        Told::Made(DeviceKind::CachedBlock, Mode::First(Size::Sv39)),
+    ),
+    (
+        Act::Commit,
+        Told::Made(DeviceKind::CachedBlock, Mode::First(Size::Sv48)),
+    ),
+    (
+        Act::Commit,
+        Told::Made(DeviceKind::CachedBlock, Mode::Second(Size::Sv39)),
+    ),
+    (
+        Act::Commit,
+        Told::Made(DeviceKind::CachedBlock, Mode::Second(Size::Sv48)),
+    ),
+    (
+        Act::Commit,
+        Told::Made(DeviceKind::CachedBlock, Mode::Both(Size::Sv39)),
+    ),
+    (
+        Act::Commit,
+        Told::Made(DeviceKind::CachedBlock, Mode::Both(Size::Sv48)),
+    ),
 ];
 
-/// What no single outcome shows.
-static NOTED: [Note; 9] = [
-    Note::InvalidationLost,
-    Note::ManyOpen,
-    Note::FaultQueueFull,
-    Note::AllTickets,
-    Note::ForgedTrue,
-    Note::TimeoutUnderQuestion,
-    Note::TimeoutUnderAnswer,
-    Note::TimeoutUnderRequest,
-    Note::TimeoutUnderWord,
-];
-
-static KINDS: [DeviceKind; 4] = [
-    DeviceKind::Raw,
-    DeviceKind::Ats,
-    DeviceKind::Block,
-    DeviceKind::CachedBlock,
-];
-
-/// In each of these modes an access of each kind of device is made.
-static MODES: [Mode; 6] = [
-    Mode::First(Size::Sv39),
-    Mode::First(Size::Sv48),
-    Mode::Second(Size::Sv39),
-    Mode::Second(Size::Sv48),
-    Mode::Both(Size::Sv39),
-    Mode::Both(Size::Sv48),
-];
-
-/// The first of the list that wasn't met.
-fn missing_of(met: &Met, wanted: &[(Act, Told)]) -> Option<(Act, Told)> {
-    for (act, told) in wanted {
-        if !met.has(*act, *told) {
-            return Some((*act, *told));
-        }
-    }
-    None
-}
-
-/// The first outcome that wasn't met of its event.
-pub(crate) fn missing_outcome(met: &Met) -> Option<(Act, Told)> {
-    for wanted in [
-        OF_THE_DRIVER.as_slice(),
-        OF_THE_IOMMU.as_slice(),
-        OF_REQUESTS.as_slice(),
-        OF_ACCESSES.as_slice(),
-        OF_MESSAGES.as_slice(),
-        OF_BLOCK_DEVICES.as_slice(),
-        OF_THE_PROCESSOR.as_slice(),
-    ] {
-        let missing = missing_of(met, wanted);
-        if missing.is_some() {
-            return missing;
-        }
-    }
-    None
-}
-
-/// Which of the modes has no access made of a device of this kind.
-fn missing_mode(met: &Met, kind: DeviceKind) -> Option<Note> {
-    for mode in MODES.iter() {
-        let made = Note::Made(kind, *mode);
-        if !met.has_noted(made) {
-            return Some(made);
-        }
-    }
-    None
-}
-
-/// The first of what no single outcome shows that wasn't met.
-pub(crate) fn missing_note(met: &Met) -> Option<Note> {
-    for note in NOTED.iter() {
-        if !met.has_noted(*note) {
-            return Some(*note);
-        }
-    }
-    for kind in KINDS.iter() {
-        let missing = missing_mode(met, *kind);
-        if missing.is_some() {
-            return missing;
+/// The first row, counted from 0, that wasn't met.
+pub(crate) fn first_missing(met: &[Row]) -> Option<usize> {
+    for row in 0..WANTED.len() {
+        let (act, told) = WANTED[row];
+        if !has_met(met, act, told) {
+            return Some(row);
         }
     }
     None
