@@ -1,5 +1,5 @@
 -- Each way leads to an access.
-use Rattle.std.proofs.Common.{◌≡◌, ◌⊎◌, inl, inr, ℕ, ◌==◌, Bool, true, false, ◌&&◌, ◌∙◌, List, [], ◌∷◌, Contains, Option, None, Some, if◌then◌else◌, refl, sym, ap, subst, arith}
+use Rattle.std.proofs.Common.{◌≡◌, ◌⊎◌, inl, inr, ℕ, ◌==◌, Bool, true, false, ◌≤◌, ◌&&◌, ◌∙◌, length, List, [], ◌∷◌, Contains, Option, None, Some, if◌then◌else◌, refl, sym, ap, subst, arith}
 use Rattle.std.proofs.lemmas.List.Elements.{Contains-push_cases}
 use Rattle.iom_base.specs.declared.access.AccessKind.{AccessKind}
 use Rattle.iom_base.specs.declared.access.AccessKind.TheVariants.{Read, Write}
@@ -12,9 +12,14 @@ use Rattle.iom_reach.specs.Occurrences.{IsMemoryAfter, IsPartWith, ToItself, ByC
 use Rattle.iom_reach.specs.Scene.{Mapping, AddressSpace, First, Second, Both, SpacePage, AtsEntry, AccessInFlight, Scene}
 use Rattle.iom_reach.specs.Ways.{ByAts, Untranslated, Translated, Accepted, AnyFrame, ByContext, OnTheWalk}
 
--- hardware and devices come to the access
-abbrev IsTaken : Scene → ℕ → AccessInFlight → Type 0
-IsTaken scene device access = (occurrences : List Occurrence) × (between : Scene) × (new : Scene) × OccurInTurn scene occurrences between × Occurs (Make device access) between new
+-- hardware and devices come to the access, after so many occurrences at most
+abbrev IsTaken : ℕ → Scene → ℕ → AccessInFlight → Type 0
+IsTaken most scene device access = (occurrences : List Occurrence) × (length occurrences ≤ most) × (between : Scene) × (new : Scene)
+    × OccurInTurn scene occurrences between × Occurs (Make device access) between new
+
+-- or after one more
+later : (scene : Scene) (device : ℕ) (access : AccessInFlight) → IsTaken 1 scene device access → IsTaken 2 scene device access
+later scene device access (occurrences, few, between, new, turns, made) = (occurrences, omega (arith, few), between, new, turns, made)
 
 none_among : {X : Type 0} (xs : List X) (x : X) → Contains [] x → Contains xs x
 none_among xs x (k, below, at) = absurd (omega arith)
@@ -110,9 +115,10 @@ taken_made : (s : Scene) (device : ℕ) (access : AccessInFlight) → s.is_trust
 taken_made s device access untrusted there = ((λ d. []), s.memory, there, (λ d. none_among (s.in_flight d)), (λ trusted. absurd (false≢true (sym untrusted ∙ trusted))), same_memory access.kind access.frame s.memory, refl)
 
 -- an access that is served is accepted, and made
-taken_served : (s : Scene) (device : ℕ) (access : AccessInFlight) → s.is_trusted device ≡ false → IsServed s device access.frame access.kind → IsTaken s device access
+taken_served : (s : Scene) (device : ℕ) (access : AccessInFlight) → s.is_trusted device ≡ false → IsServed s device access.frame access.kind → IsTaken 1 s device access
 taken_served s device access untrusted served = (
   Accept device access ∷ [],
+  omega arith,
   record s { in_flight = only_of device access },
   record s { in_flight = λ d. [] },
   (record s { in_flight = only_of device access }, (only_of device access, served, only device access s.in_flight, refl), refl),
@@ -120,8 +126,8 @@ taken_served s device access untrusted served = (
 )
 
 -- after one other occurrence
-taken_after : (s t : Scene) (first : Occurrence) (device : ℕ) (access : AccessInFlight) → Occurs first s t → IsTaken t device access → IsTaken s device access
-taken_after s t first device access now (others, between, new, turns, made) = (first ∷ others, between, new, (t, now, turns), made)
+taken_after : (s t : Scene) (first : Occurrence) (device : ℕ) (access : AccessInFlight) → Occurs first s t → IsTaken 1 t device access → IsTaken 2 s device access
+taken_after s t first device access now (others, few, between, new, turns, made) = (first ∷ others, omega (arith, few), between, new, (t, now, turns), made)
 
 all_allowed : (kind : AccessKind) → allows rw kind ≡ true
 all_allowed Read = refl
@@ -129,18 +135,19 @@ all_allowed Write = refl
 
 pub ways_can_be_taken : WaysCanBeTaken
 ways_can_be_taken s device frame kind untrusted (Accepted there) =
-    ([], s, record s { in_flight = λ d. [] }, refl, taken_made s device (record { frame = frame; kind = kind }) untrusted there)
-ways_can_be_taken s device frame kind untrusted (AnyFrame plugged bare) = taken_served s device (record { frame = frame; kind = kind }) untrusted (InModeBare plugged bare)
+    ([], omega arith, s, record s { in_flight = λ d. [] }, refl, taken_made s device (record { frame = frame; kind = kind }) untrusted there)
+ways_can_be_taken s device frame kind untrusted (AnyFrame plugged bare) =
+    later s device (record { frame = frame; kind = kind }) (taken_served s device (record { frame = frame; kind = kind }) untrusted (InModeBare plugged bare))
 ways_can_be_taken s device frame kind untrusted (OnTheWalk space table steps_to mapping there leads serves) =
-    taken_served s device (record { frame = frame; kind = kind }) untrusted
-    (Walked space table steps_to mapping there (mapping, leads, refl, (λ k allowed. allowed)) serves)
+    later s device (record { frame = frame; kind = kind }) (taken_served s device (record { frame = frame; kind = kind }) untrusted
+    (Walked space table steps_to mapping there (mapping, leads, refl, (λ k allowed. allowed)) serves))
 ways_can_be_taken s device frame kind untrusted (ByContext context find (Untranslated none)) =
-    taken_served s device (record { frame = frame; kind = kind }) untrusted
-    (Requested context 0 (record { frame = frame; rights = rw }) find (ToItself none) (refl, all_allowed kind))
+    later s device (record { frame = frame; kind = kind }) (taken_served s device (record { frame = frame; kind = kind }) untrusted
+    (Requested context 0 (record { frame = frame; rights = rw }) find (ToItself none) (refl, all_allowed kind)))
 ways_can_be_taken s device frame kind untrusted (ByContext context find (ByAts lets (inl forges))) =
-    taken_served s device (record { frame = frame; kind = kind }) untrusted (Forged context find lets forges)
+    later s device (record { frame = frame; kind = kind }) (taken_served s device (record { frame = frame; kind = kind }) untrusted (Forged context find lets forges))
 ways_can_be_taken s device frame kind untrusted (ByContext context find (ByAts lets (inr (caches, (page, mapping, inl there, serves))))) =
-    taken_served s device (record { frame = frame; kind = kind }) untrusted (FromEntry context page mapping find lets caches there serves)
+    later s device (record { frame = frame; kind = kind }) (taken_served s device (record { frame = frame; kind = kind }) untrusted (FromEntry context page mapping find lets caches there serves))
 ways_can_be_taken s device frame kind untrusted (ByContext context find (ByAts lets (inr (caches, (page, mapping, inr (epoch, there, now), serves))))) =
     let entry : AtsEntry = record { page = page; mapping = mapping } in
     let t : Scene = record s { ats_entries = only_of device entry } in
@@ -148,7 +155,7 @@ ways_can_be_taken s device frame kind untrusted (ByContext context find (ByAts l
     (device, epoch, page, mapping, only_of device entry, there, now, only device entry s.ats_entries, refl)
     (taken_served t device (record { frame = frame; kind = kind }) untrusted (FromEntry context page mapping find lets caches (has_only device entry) serves))
 ways_can_be_taken s device frame kind untrusted (ByContext context find (Translated space is (inl (page, mapping, there, serves)))) =
-    taken_served s device (record { frame = frame; kind = kind }) untrusted (Requested context page mapping find (ByCache space is there) serves)
+    later s device (record { frame = frame; kind = kind }) (taken_served s device (record { frame = frame; kind = kind }) untrusted (Requested context page mapping find (ByCache space is there) serves))
 ways_can_be_taken s device frame kind untrusted (ByContext context find (Translated space is (inr (table, steps_to, mapping, begins, leads, serves)))) =
     let at : SpacePage = record { space = space; page = 0 } in
     let t : Scene = record s { translations = only_at at mapping } in

@@ -1,5 +1,5 @@
 -- What this crate proves.
-use Rattle.std.specs.Prelude.{◌≡◌, ℕ, Bool, true, false, List}
+use Rattle.std.specs.Prelude.{◌≡◌, ◌≤◌, ℕ, Bool, true, false, List, length}
 use Rattle.iom_base.specs.declared.access.AccessKind.{AccessKind}
 use Rattle.iom_reach.specs.Scene.{AccessInFlight, Scene}
 use Rattle.iom_reach.specs.Ways.{Way}
@@ -56,8 +56,8 @@ FreeIsTrue = (occurrences : List Occurrence) (device : ℕ) (access : AccessInFl
     → IsSafe old → AreTimely old → IsFree old access.frame
     → OccurInTurn old occurrences between → ¬ Occurs (Make device access) between new
 
--- Each way of a device that isn't trusted can be taken: hardware and devices come to an access of that kind.
+-- Each way of a device that isn't trusted can be taken: hardware and devices come to an access of that kind, after two other occurrences at most.
 abbrev pub WaysCanBeTaken : Type 0
 WaysCanBeTaken = (scene : Scene) (device frame : ℕ) (kind : AccessKind) → scene.is_trusted device ≡ false → Way scene device frame kind
-    → (occurrences : List Occurrence) × (between : Scene) × (new : Scene) × OccurInTurn scene occurrences between
+    → (occurrences : List Occurrence) × (length occurrences ≤ 2) × (between : Scene) × (new : Scene) × OccurInTurn scene occurrences between
     × Occurs (Make device (record { frame = frame; kind = kind })) between new
