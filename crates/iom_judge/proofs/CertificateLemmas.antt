@@ -13,9 +13,7 @@ use Rattle.iom_script.specs.Words.{IsWithout}
 use Rattle.iom_known.specs.Allowed.{Past, IsTrueOf, state_of}
 use Rattle.iom_known.specs.Starts.{IsPowerOn, SomeAreAllowed}
 use Rattle.iom_trace_lines.specs.Taken.{AreLines, Holds, HasTaken}
-use Rattle.iom_trace_lines.specs.TraceLines.{SaysLine}
-use Rattle.iom_trace_lines.specs.declared.trace.TraceLine.{TraceLine}
-use Rattle.iom_trace_lines.specs.declared.trace.TraceLine.TheVariants as says
+use Rattle.iom_trace_lines.specs.TraceLines.{Said, SaysLine, Nothing, World, Step}
 use Rattle.iom_judge.specs.Certificates.{is_lawful, four_disks, opening_of, SaysStep, SaySteps, AreOfRun, AreLawful, IsLawfulTrace}
 use Rattle.iom_judge.specs.Certified.{IsCertifiedBy, Certify, CertifyBehind, CertifyIf, Follows, GoesOn, HasJudged}
 use Rattle.iom_judge.specs.declared.belief.Belief.{Belief}
@@ -67,7 +65,7 @@ nothing_said certain belief lines line says before told =
 
 -- after one that says how large the world is
 pub world_said : (was is : Bool) (old new : Option Belief) (lines : List (List ℕ)) (line tables : List ℕ) (size : WorldSize) → is_spoken line ≡ true
-    → SaysLine line (says.World size) tables → old ≡ None → is ≡ was → IsSomeAnd new (λ belief. IsPowerOn belief.known size.frames size.levels four_disks × (belief.doubts.all.items ≡ []))
+    → SaysLine line (World size) tables → old ≡ None → is ≡ was → IsSomeAnd new (λ belief. IsPowerOn belief.known size.frames size.levels four_disks × (belief.doubts.all.items ≡ []))
     → CertifyIf was old lines → CertifyIf is new (lines ++ line ∷ [])
 world_said was is (Some belief) new lines line tables size spoken_line says never same starts before told = absurd cc
 world_said was is None None lines line tables size spoken_line says none same starts before told = absurd starts
@@ -90,7 +88,7 @@ world_said was is None (Some belief) lines line tables size spoken_line says non
 
 -- after one that says a step
 pub step_said : (was is : Bool) (old new : Option Belief) (lines : List (List ℕ)) (line tables : List ℕ) (event : Event) (outcome : Outcome) (has_tables : Bool) (on : Option ℕ) (began : Option Access)
-    → is_spoken line ≡ true → SaysLine line (says.Step event outcome has_tables on began) tables → GoesOn was old event outcome is new
+    → is_spoken line ≡ true → SaysLine line (Step event outcome has_tables on began) tables → GoesOn was old event outcome is new
     → CertifyIf was old lines → CertifyIf is new (lines ++ line ∷ [])
 step_said was is None None lines line tables event outcome has_tables on began spoken_line says goes before told = absurd goes
 step_said was is None (Some new) lines line tables event outcome has_tables on began spoken_line says goes before told = absurd goes
@@ -136,7 +134,7 @@ if_it_goes_on (Ok (Some verdict)) P Q so found = found
 if_it_goes_on (Err error) P Q so found = tt
 
 -- a line that says something is spoken
-pub not_nothing : (line : List ℕ) (read : TraceLine) → (read ≢ says.Nothing → is_spoken line ≡ true) → (other : TraceLine) → read ≡ other → other ≢ says.Nothing → is_spoken line ≡ true
+pub not_nothing : (line : List ℕ) (read : Said) → (read ≢ Nothing → is_spoken line ≡ true) → (other : Said) → read ≡ other → other ≢ Nothing → is_spoken line ≡ true
 not_nothing line read spoken_line other same something = spoken_line (λ e. something (sym same ∙ e))
 
 -- A line is judged: the judges have taken it too, or what they find is no certificate.
@@ -155,16 +153,25 @@ pub one_kept : (certain : Bool) (belief : Option Belief) (window lines : List (L
 one_kept certain belief window lines line (judged, are, certified) =
     (judged, ap (λ (l : List (List ℕ)). l ++ line ∷ []) are ∙ append_assoc judged window (line ∷ []), certified)
 
+-- where none is kept
+pub none_kept : (certain : Bool) (belief : Option Belief) (window lines : List (List ℕ)) → window ≡ [] → CertifyBehind certain belief window lines → CertifyIf certain belief lines
+none_kept certain belief window lines none (judged, are, certified) =
+    subst (λ (l : List (List ℕ)). CertifyIf certain belief l) (sym (are ∙ ap (λ (w : List (List ℕ)). judged ++ w) none ∙ append-nil judged)) certified
+
+-- where none is kept, one line more is taken at once
+pub one_taken : (was is : Bool) (old new : Option Belief) (window lines : List (List ℕ)) (line : List ℕ) → window ≡ [] → CertifyBehind was old window lines
+    → ((judged : List (List ℕ)) → CertifyIf was old judged → CertifyIf is new (judged ++ line ∷ [])) → CertifyBehind is new window (lines ++ line ∷ [])
+one_taken was is old new window lines line none before goes = (
+  lines ++ line ∷ [],
+  sym (append-nil (lines ++ line ∷ [])) ∙ ap (λ (w : List (List ℕ)). (lines ++ line ∷ []) ++ w) (sym none),
+  goes lines (none_kept was old window lines none before),
+)
+
 -- the first of those that were kept is taken
 pub one_followed : (was is : Bool) (old new : Option Belief) (line : List ℕ) (window lines : List (List ℕ)) → CertifyBehind was old (line ∷ window) lines
     → ((judged : List (List ℕ)) → CertifyIf was old judged → CertifyIf is new (judged ++ line ∷ [])) → CertifyBehind is new window lines
 one_followed was is old new line window lines (judged, are, certified) goes =
     (judged ++ line ∷ [], are ∙ sym (append_assoc judged (line ∷ []) window), goes judged certified)
-
--- where none is kept
-pub none_kept : (certain : Bool) (belief : Option Belief) (window lines : List (List ℕ)) → window ≡ [] → CertifyBehind certain belief window lines → CertifyIf certain belief lines
-none_kept certain belief window lines none (judged, are, certified) =
-    subst (λ (l : List (List ℕ)). CertifyIf certain belief l) (sym (are ∙ ap (λ (w : List (List ℕ)). judged ++ w) none ∙ append-nil judged)) certified
 
 -- what holds of the text that the lines make holds of what the reader had
 pub of_reader : (first : Option (List ℕ)) (lines : List (List ℕ)) → IfSome first (AreLines lines) → ((text : List ℕ) → AreLines lines text → IsLawfulTrace text) → IfSome first IsLawfulTrace

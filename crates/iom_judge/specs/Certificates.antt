@@ -10,8 +10,7 @@ use Rattle.iom_machine.specs.Reclaim.{Reclaims}
 use Rattle.iom_script.specs.declared.script.WorldSize.{WorldSize}
 use Rattle.iom_script.specs.Grammar.{spoken, bytes_of_lines}
 use Rattle.iom_script.specs.Words.{IsWithout}
-use Rattle.iom_trace_lines.specs.TraceLines.{SaysLine}
-use Rattle.iom_trace_lines.specs.declared.trace.TraceLine.TheVariants.{World, Step}
+use Rattle.iom_trace_lines.specs.TraceLines.{SaysLine, World, Step}
 use Rattle.iom_judge.specs.declared.verdict.Verdict.{Verdict}
 use Rattle.iom_judge.specs.declared.verdict.Verdict.TheVariants.{Lawful, Uncertified, Unlawful, Undecided, Bad}
 

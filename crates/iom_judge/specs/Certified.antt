@@ -1,18 +1,17 @@
 -- What is certified of a trace before its end, line after line.
 -- For the judge's own functions alone; no public contract cites these.
-use Rattle.std.specs.Prelude.{◌≡◌, ℕ, Bool, List, [], ◌∷◌, ◌++◌, Option, None, Some, IsTrue, ⊤}
+use Rattle.std.specs.Prelude.{◌≡◌, ◌≢◌, ℕ, Bool, true, List, [], ◌∷◌, ◌++◌, Option, None, Some, IsTrue, ⊤}
 use Rattle.iom_base.specs.declared.access.AcceptedAccess.{AcceptedAccess}
 use Rattle.iom_machine.specs.declared.event.Event.{Event}
 use Rattle.iom_machine.specs.declared.outcome.Outcome.{Outcome}
 use Rattle.iom_machine.specs.declared.state.Frame.{Frame}
 use Rattle.iom_machine.specs.Machine.{Run}
 use Rattle.iom_script.specs.declared.script.WorldSize.{WorldSize}
-use Rattle.iom_script.specs.Grammar.{spoken}
+use Rattle.iom_script.specs.Grammar.{is_spoken, spoken}
 use Rattle.iom_known.specs.Allowed.{Past, IsTrueOf, AreAllowed, state_of}
 use Rattle.iom_known.specs.declared.known.Known.{Known}
 use Rattle.iom_trace_lines.specs.Taken.{HasTaken}
-use Rattle.iom_trace_lines.specs.TraceLines.{SaysLine}
-use Rattle.iom_trace_lines.specs.declared.trace.TraceLine.TheVariants.{World}
+use Rattle.iom_trace_lines.specs.TraceLines.{Said, SaysLine, Nothing, World}
 use Rattle.iom_judge.specs.Certificates.{opening_of, SaySteps}
 use Rattle.iom_doubts.specs.Doubted.{MayFly, flown}
 use Rattle.iom_doubts.specs.Followed.{IsFollowed, StepsBy}
@@ -71,3 +70,7 @@ GoesOn was _ event outcome is _ = ⊥
 abbrev pub HasJudged : Bool → Option Belief → List (List ℕ) → List ℕ → ℕ → ℕ → Option (List ℕ) → Option (List ℕ) → Type 0
 HasJudged is_certified belief window buffer start end first now =
     (lines : List (List ℕ)) × HasTaken lines buffer start end first now × CertifyBehind is_certified belief window lines
+
+-- This is what the line says, with the frames of its tables beside; and where it says something, it is one of those that do.
+abbrev pub IsReadOf : List ℕ → Said → List ℕ → Type 0
+IsReadOf line said tables = SaysLine line said tables × (said ≢ Nothing → is_spoken line ≡ true)

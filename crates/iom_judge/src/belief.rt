@@ -11,6 +11,7 @@ ghost use Rattle.iom_doubts.specs.Doubted.{AreAmong, IsAllReached, IsNotAbout};
 ghost use Rattle.iom_doubts.specs.Followed.{IsReadyFor};
 ghost use Rattle.iom_judge.specs.Certified.{Follows};
 
+use crate::asking::write_by;
 use crate::in_doubt::act_in_doubt;
 use iom_base::{Access, DeviceId, PAGE_SIZE};
 use iom_doubts::doubts::{Doubts, Flight, flight_of};
@@ -18,7 +19,7 @@ use iom_doubts::outcomes::leaves_flights;
 use iom_doubts::unseen::SeenWrite;
 use iom_doubts::{Memory, is_ready_for};
 use iom_known::Known;
-use iom_known::asked::{Asked, read_by, request, write_by};
+use iom_known::asked::{Asked, read_by, request};
 use iom_known::devices::device_with;
 use iom_known::owners::may_be_nobodys;
 use iom_known::reach::frame_at;
@@ -30,14 +31,14 @@ use iom_trace_lines::CAUSES;
 use std::alloc::{AllocError, Global};
 
 /// What a line shows of what its answer doesn't.
-#[derive(Drop)]
+#[derive(Clone, Copy)]
 pub(crate) struct Shown<'a> {
     /// The frames that were taken for tables.
     pub(crate) tables: Option<&'a [u32]>,
     /// The frame on which an access was accepted.
     pub(crate) on: Option<u32>,
     /// The access that a step began.
-    pub(crate) began: Option<Access>,
+    pub(crate) began: Option<&'a Access>,
 }
 
 /// What is believed of the machine's state after the lines so far.
@@ -72,6 +73,16 @@ fn shows_somebodys(known: &Known, event: &Event, outcome: &Outcome) -> bool {
         Event::Peek { address, .. } => !may_be_nobodys(known, *address / PAGE_SIZE),
         _ => false,
     }
+}
+
+/// Whether one of the doubts is about an access that a step began.
+fn has_begun(doubts: &Doubts) -> bool {
+    for place in 0..doubts.all.len() {
+        if doubts.begun_at(place).is_some() {
+            return true;
+        }
+    }
+    false
 }
 
 /// The first of the frames on which the access may be that is asked for: by the grants, where none is kept.
@@ -111,6 +122,11 @@ impl Belief {
             return false;
         }
         self.memory.is_whole_in_bytes || !subject.is_about_bytes()
+    }
+
+    /// Whether it is in doubt what a step of a block device began, or what a write of one wrote.
+    pub(crate) fn has_steps_in_doubt(&self) -> bool {
+        !self.memory.unseen.is_empty() || has_begun(&self.doubts)
     }
 
     /// Whether the oldest access of the device is one that a step began, and isn't shown.
@@ -230,24 +246,24 @@ impl Belief {
     pub(crate) fn step(
         &mut self,
         alloc: Global,
-        event: Event,
+        event: &Event,
         outcome: &Outcome,
         shown: Shown<'_>,
     ) -> Result<bool, AllocError>
         ensures explained { self.old.doubts.all.items ≡ [] → self.old.memory.unseen.all.items ≡ [] → self.old.memory.versions.all.items ≡ []
             → IfOk result (λ may. IsTrue may → (past : Past) → IsTrueOf self.old.known past
-            → IsExplained self.old.known self.new.known event outcome.now past) }
-        ensures followed { IfOk result (λ may. IsTrue may → IsTrue self.new.is_followed → Follows self.old self.new event outcome.now) }
+            → IsExplained self.old.known self.new.known event.now outcome.now past) }
+        ensures followed { IfOk result (λ may. IsTrue may → IsTrue self.new.is_followed → Follows self.old self.new event.now outcome.now) }
     {
-        if let Event::Step { device } = &event {
+        if let Event::Step { device } = event {
             return self.step_block(alloc, *device, outcome, shown.on, shown.began);
         }
-        if let Some(asked) = read_by(alloc, &event) {
+        if let Some(asked) = read_by(alloc, event) {
             return self.ask_for(alloc, asked, outcome, shown.on);
         }
-        match write_by(event) {
-            Ok(asked) => self.ask_for(alloc, asked, outcome, shown.on),
-            Err(other) => self.step_other(alloc, &other, outcome, shown.tables),
+        match write_by(alloc, event)? {
+            Some(asked) => self.ask_for(alloc, asked, outcome, shown.on),
+            None => self.step_other(alloc, event, outcome, shown.tables),
         }
     }
 
@@ -258,7 +274,7 @@ impl Belief {
         id: DeviceId,
         outcome: &Outcome,
         on: Option<u32>,
-        began: Option<Access>,
+        began: Option<&Access>,
     ) -> Result<bool, AllocError>
         ensures explained { IfOk result (λ may. IsTrue may → (past : Past) → IsTrueOf self.old.known past
             → IsExplained self.old.known self.new.known (events.Step id) outcome.now past) }
@@ -266,7 +282,7 @@ impl Belief {
     {
         if let Outcome::Accepted(number) = outcome {
             let is_followed = self.follows_new(id, *number);
-            let may_come = self.begin(alloc, id, *number, on, began)?;
+            let may_come = self.begin(alloc, id, *number, outcome, on, began)?;
             self.is_followed = is_followed;
             return Ok(may_come);
         }

@@ -3,12 +3,14 @@
 // What a write of a block device's step put into memory its own lines don't show, but a later one may. So the judge ahead
 // says whether a line is lawful, and tells the one behind what later lines show of such writes; the one behind takes them to
 // be so, and certifies. No certificate rests on what it is told.
-ghost use Rattle.std.specs.Prelude.{◌≡◌, IfOk, IfSome, false};
+ghost use Rattle.std.specs.Prelude.{◌≡◌, IfOk, IfSome, IsTrue, false};
 ghost use Rattle.iom_judge.specs.Certificates.{is_lawful};
 
-use crate::judging::Judge;
+use crate::judging::{Judge, Reading, follow_line};
 use crate::verdict::Verdict;
 use iom_base::Sequence;
+use iom_script::LineBuffer;
+use iom_trace_lines::{KeptOutcomes, read_line};
 use std::alloc::Global;
 use std::io::{self, ErrorKind};
 
@@ -27,6 +29,9 @@ pub(crate) struct Judges {
     window: Sequence<Sequence<u8>>,
     /// How many bytes these lines have.
     bytes: usize,
+    /// Whether a line left in doubt what a step of a block device began. Before the first of these both take a line at
+    /// once, since nothing that is told later could be of use.
+    is_apart: bool,
 }
 
 /// What is found, if that isn't that the lines are lawful.
@@ -38,6 +43,16 @@ fn unless_lawful(found: Option<Verdict>) -> Option<Verdict>
         Some(Verdict::Lawful) => None,
         Some(verdict) => Some(verdict),
     }
+}
+
+/// Whether the judge behind takes a line at once: none is kept, and the two are together still.
+fn is_at_once(is_empty: bool, is_apart: bool, is_doubtful: bool) -> bool
+    ensures { IsTrue result → IsTrue is_empty }
+{
+    if is_apart || is_doubtful {
+        return false;
+    }
+    is_empty
 }
 
 /// The bytes of the line.
@@ -53,16 +68,17 @@ impl Judges {
     ghost use Rattle.iom_judge.specs.Certificates.{is_lawful, IsLawfulTrace};
     ghost use Rattle.iom_judge.specs.Certified.{CertifyBehind};
 
-    pub(crate) fn new(alloc: Global) -> io::Result<Judges>
-        ensures { IfOk result (λ judges. CertifyBehind judges.behind.is_certified judges.behind.belief judges.window []) }
+    pub(crate) fn new(alloc: Global) -> Judges
+        ensures { CertifyBehind result.behind.is_certified result.behind.belief result.window [] }
     {
-        Ok(Judges {
+        Judges {
             alloc,
-            ahead: Judge::new(alloc)?,
-            behind: Judge::new(alloc)?,
+            ahead: Judge::new(alloc),
+            behind: Judge::new(alloc),
             window: Sequence::new(alloc),
             bytes: 0,
-        })
+            is_apart: false,
+        }
     }
 
     /// The number of the last line that was taken ahead.
@@ -71,22 +87,66 @@ impl Judges {
     }
 
     /// What the next line is found, if it ends the trace.
-    pub(crate) fn take(&mut self, line: &[u8]) -> io::Result<Option<Verdict>>
+    pub(crate) fn take(&mut self, reading: &mut Reading, line: &[u8]) -> io::Result<Option<Verdict>>
         ensures { (lines : List (List ℕ)) → CertifyBehind self.old.behind.is_certified self.old.behind.belief self.old.window lines
             → IfOk result (λ found. MatchOption found
             (CertifyBehind self.new.behind.is_certified self.new.behind.belief self.new.window (lines ++ line.now ∷ []))
             (λ verdict. is_lawful verdict ≡ false)) }
     {
-        let found = self.ahead.take(line)?;
+        let found = self.take_line(
+            &mut reading.printed,
+            &mut reading.kept,
+            &mut reading.tables,
+            line,
+        )?;
+        match found {
+            Some(verdict) => Ok(Some(verdict)),
+            None => {
+                self.catch_up(reading)?;
+                Ok(None)
+            }
+        }
+    }
+
+    /// The same. The judge behind may be a line further behind than it should be.
+    fn take_line(
+        &mut self,
+        printed: &mut LineBuffer,
+        kept: &mut KeptOutcomes,
+        tables: &mut Vec<u32>,
+        line: &[u8],
+    ) -> io::Result<Option<Verdict>>
+        ensures { (lines : List (List ℕ)) → CertifyBehind self.old.behind.is_certified self.old.behind.belief self.old.window lines
+            → IfOk result (λ found. MatchOption found
+            (CertifyBehind self.new.behind.is_certified self.new.behind.belief self.new.window (lines ++ line.now ∷ []))
+            (λ verdict. is_lawful verdict ≡ false)) }
+    {
+        let is_empty = self.is_drained();
+        let has_world = self.ahead.belief.is_some();
+        let said = read_line(self.alloc, printed, kept, tables, has_world, line)?;
+        let found = self.ahead.take(&said, tables.as_slice())?;
         if let Some(verdict) = unless_lawful(found) {
             return Ok(Some(verdict));
         }
-        self.keep(line)?;
-        if !self.is_full() {
+        let is_doubtful = self.ahead.doubts_step(&said);
+        if is_at_once(is_empty, self.is_apart, is_doubtful) {
+            self.behind.follow(&said, tables.as_slice())?;
             return Ok(None);
         }
-        self.follow()?;
+        self.is_apart = true;
+        self.keep(line)?;
         Ok(None)
+    }
+
+    /// The judge behind takes a line, where more are kept than may be.
+    fn catch_up(&mut self, reading: &mut Reading) -> io::Result<()>
+        ensures { (lines : List (List ℕ)) → CertifyBehind self.old.behind.is_certified self.old.behind.belief self.old.window lines
+            → OnOk result (CertifyBehind self.new.behind.is_certified self.new.behind.belief self.new.window lines) }
+    {
+        if !self.is_full() {
+            return Ok(());
+        }
+        self.follow(reading)
     }
 
     /// Whether no line is kept.
@@ -130,7 +190,7 @@ impl Judges {
     }
 
     /// The judge behind takes a line, if one is left.
-    fn follow(&mut self) -> io::Result<()>
+    fn follow(&mut self, reading: &mut Reading) -> io::Result<()>
         ensures { (lines : List (List ℕ)) → CertifyBehind self.old.behind.is_certified self.old.behind.belief self.old.window lines
             → OnOk result (CertifyBehind self.new.behind.is_certified self.new.behind.belief self.new.window lines) }
     {
@@ -140,12 +200,19 @@ impl Judges {
         }
         let line = self.window.pop_front();
         self.bytes = self.bytes.saturating_sub(line.as_slice().len());
-        self.behind.follow(line.as_slice())?;
+        follow_line(
+            self.alloc,
+            &mut self.behind,
+            &mut reading.printed,
+            &mut reading.kept,
+            &mut reading.tables,
+            line.as_slice(),
+        )?;
         Ok(())
     }
 
     /// What is found of the lines, where there are no others.
-    pub(crate) fn end(&mut self) -> io::Result<Verdict>
+    pub(crate) fn end(&mut self, reading: &mut Reading) -> io::Result<Verdict>
         ensures { (text : List ℕ) (lines : List (List ℕ))
             → CertifyBehind self.old.behind.is_certified self.old.behind.belief self.old.window lines
             → AreLines lines text → IfOk result (λ verdict. IsTrue (is_lawful verdict) → IsLawfulTrace text) }
@@ -154,7 +221,7 @@ impl Judges {
             if self.is_drained() {
                 return Ok(self.behind.end());
             }
-            self.follow()?;
+            self.follow(reading)?;
         }
         Err(io::Error::from(ErrorKind::Other))
     }

@@ -1,30 +1,50 @@
 // A trace, judged line by line.
 ghost use Rattle.std.specs.Prelude.{◌≡◌, ◌+◌, ◌-◌, ◌^◌, ◌++◌, ◌∷◌, [], ℕ, List, Option, None, IfOk, IfSome, IsSomeAnd, IsTrue, MatchOption, OnOk, false, true, min, if◌then◌else◌};
-ghost use Rattle.iom_script.specs.Grammar.{is_spoken};
+ghost use Rattle.iom_trace_lines.specs.TraceLines.{said_of};
 ghost use Rattle.iom_known.specs.Allowed.{Past, IsTrueOf};
 ghost use Rattle.iom_known.specs.Starts.{IsPowerOn, SomeAreAllowed};
 ghost use Rattle.iom_trace_lines.specs.Taken.{AreLines};
 ghost use Rattle.iom_judge.specs.Certificates.{four_disks, is_lawful, IsLawfulTrace, SaysStep, uncertified_line};
-ghost use Rattle.iom_judge.specs.Certified.{CertifyIf, GoesOn, HasJudged};
+ghost use Rattle.iom_judge.specs.Certified.{CertifyIf, GoesOn, HasJudged, IsReadOf};
 
 use crate::belief::{Belief, Shown};
 use crate::hindsight::Judges;
 use crate::verdict::Verdict;
-use iom_base::Access;
 use iom_doubts::unseen::SeenWrite;
 use iom_machine::{Event, Outcome};
 use iom_reasons::Subject;
 use iom_script::{LineBuffer, WorldSize};
-use iom_trace_lines::{Lines, NextLine, TraceLine, read_line};
+use iom_trace_lines::{KeptOutcomes, Lines, NextLine, TraceLine, read_line};
 use std::alloc::Global;
 use std::io::{self, ErrorKind, Read};
+
+/// What the reading of lines takes, for line after line.
+#[derive(Drop)]
+pub(crate) struct Reading {
+    pub(crate) printed: LineBuffer,
+    pub(crate) kept: KeptOutcomes,
+    pub(crate) tables: Vec<u32>,
+}
+
+impl Reading {
+    fn new(alloc: Global) -> io::Result<Reading> {
+        Ok(Reading {
+            printed: LineBuffer::new(alloc)?,
+            kept: KeptOutcomes::new(),
+            tables: Vec::new(alloc),
+        })
+    }
+}
+
+/// The tables, where they are shown.
+fn if_shown(has_tables: bool, tables: &[u32]) -> Option<&[u32]> {
+    if has_tables { Some(tables) } else { None }
+}
 
 /// The judge of a trace, after the lines so far.
 #[derive(Drop)]
 pub(crate) struct Judge {
     alloc: Global,
-    printed: LineBuffer,
-    tables: Vec<u32>,
     pub(crate) belief: Option<Belief>,
     pub(crate) line: u64,
     /// Whether each line so far was followed.
@@ -34,18 +54,16 @@ pub(crate) struct Judge {
 }
 
 impl Judge {
-    pub(crate) fn new(alloc: Global) -> io::Result<Judge>
-        ensures { IfOk result (λ judge. CertifyIf judge.is_certified judge.belief []) }
+    pub(crate) fn new(alloc: Global) -> Judge
+        ensures { CertifyIf result.is_certified result.belief [] }
     {
-        Ok(Judge {
+        Judge {
             alloc,
-            printed: LineBuffer::new(alloc)?,
-            tables: Vec::new(alloc),
             belief: None,
             line: 0,
             is_certified: true,
             last_followed: 0,
-        })
+        }
     }
 
     /// The world has this size.
@@ -66,14 +84,12 @@ impl Judge {
     /// What is found where this came of the event, if that ends the trace.
     fn go_on(
         &mut self,
-        event: Event,
+        event: &Event,
         outcome: &Outcome,
-        has_tables: bool,
-        on: Option<u32>,
-        began: Option<Access>,
+        shown: Shown<'_>,
     ) -> io::Result<Option<Verdict>>
         ensures { IfOk result (λ found. MatchOption found
-            (GoesOn self.old.is_certified self.old.belief event outcome.now self.new.is_certified self.new.belief)
+            (GoesOn self.old.is_certified self.old.belief event.now outcome.now self.new.is_certified self.new.belief)
             (λ verdict. is_lawful verdict ≡ false)) }
     {
         let alloc = self.alloc;
@@ -81,18 +97,12 @@ impl Judge {
         let Some(belief) = &mut self.belief else {
             return Ok(Some(Verdict::Bad { line }));
         };
-        let subject = Subject::of(&event);
-        let tables = self.tables.as_slice();
-        let shown = Shown {
-            tables: if has_tables { Some(tables) } else { None },
-            on,
-            began,
-        };
         if belief.step(alloc, event, outcome, shown)? {
             let is_followed = belief.is_followed;
             self.is_certified = self.is_certified && is_followed;
             return Ok(None);
         }
+        let subject = Subject::of(event);
         let reason = belief.reason(alloc, subject)?;
         Ok(Some(if belief.decides(subject) {
             Verdict::Unlawful { line, reason }
@@ -102,32 +112,50 @@ impl Judge {
     }
 
     /// What the next line is found, if it ends the trace.
-    pub(crate) fn take(&mut self, line: &[u8]) -> io::Result<Option<Verdict>>
-        ensures { (lines : List (List ℕ)) → CertifyIf self.old.is_certified self.old.belief lines
+    pub(crate) fn take(
+        &mut self,
+        said: &TraceLine<'_>,
+        tables: &[u32],
+    ) -> io::Result<Option<Verdict>>
+        ensures { (line : List ℕ) (lines : List (List ℕ)) → IsReadOf line (said_of said.now) tables.now
+            → CertifyIf self.old.is_certified self.old.belief lines
             → IfOk result (λ found. MatchOption found
-            (CertifyIf self.new.is_certified self.new.belief (lines ++ line.now ∷ []))
+            (CertifyIf self.new.is_certified self.new.belief (lines ++ line ∷ []))
             (λ verdict. is_lawful verdict ≡ false)) }
     {
         self.line = self.line.saturating_add(1);
-        let has_world = self.belief.is_some();
-        let read = read_line(
-            self.alloc,
-            &mut self.printed,
-            &mut self.tables,
-            has_world,
-            line,
-        )?;
-        match read {
+        match said {
             TraceLine::Nothing => Ok(None),
             TraceLine::Bad => Ok(Some(Verdict::Bad { line: self.line })),
-            TraceLine::World(size) => self.begin(size),
+            TraceLine::World(size) => self.begin(*size),
             TraceLine::Step {
                 event,
                 outcome,
                 has_tables,
                 on,
                 began,
-            } => self.go_on(event, &outcome, has_tables, on, began),
+            } => {
+                let shown = Shown {
+                    tables: if_shown(*has_tables, tables),
+                    on: *on,
+                    began: began.as_ref(),
+                };
+                self.go_on(event, outcome, shown)
+            }
+        }
+    }
+
+    /// Whether it is in doubt what the step of a block device began that was taken last.
+    pub(crate) fn doubts_step(&self, said: &TraceLine<'_>) -> bool {
+        let TraceLine::Step { event, .. } = said else {
+            return false;
+        };
+        let Event::Step { .. } = event else {
+            return false;
+        };
+        match &self.belief {
+            None => false,
+            Some(belief) => belief.has_steps_in_doubt(),
         }
     }
 
@@ -173,19 +201,24 @@ impl Judge {
     }
 
     /// Takes the line, where each before was followed. It isn't, where it isn't found lawful.
-    pub(crate) fn follow(&mut self, line: &[u8]) -> io::Result<()>
-        ensures { (lines : List (List ℕ)) → CertifyIf self.old.is_certified self.old.belief lines
-            → OnOk result (CertifyIf self.new.is_certified self.new.belief (lines ++ line.now ∷ [])) }
+    pub(crate) fn follow(&mut self, said: &TraceLine<'_>, tables: &[u32]) -> io::Result<()>
+        ensures { (line : List ℕ) (lines : List (List ℕ)) → IsReadOf line (said_of said.now) tables.now
+            → CertifyIf self.old.is_certified self.old.belief lines
+            → OnOk result (CertifyIf self.new.is_certified self.new.belief (lines ++ line ∷ [])) }
     {
         if !self.is_certified {
             return Ok(());
         }
-        if self.take(line)?.is_some() {
-            self.is_certified = false;
-            return Ok(());
+        match self.take(said, tables)? {
+            None => {
+                self.note_line();
+                Ok(())
+            }
+            Some(_) => {
+                self.is_certified = false;
+                Ok(())
+            }
         }
-        self.note_line();
-        Ok(())
     }
 
     /// What is found of the lines, where there are no others. Where they aren't certified, the line that it names is the
@@ -206,9 +239,27 @@ impl Judge {
     }
 }
 
+/// The judge takes the line, where each before was followed.
+pub(crate) fn follow_line(
+    alloc: Global,
+    behind: &mut Judge,
+    printed: &mut LineBuffer,
+    kept: &mut KeptOutcomes,
+    tables: &mut Vec<u32>,
+    line: &[u8],
+) -> io::Result<()>
+    ensures { (lines : List (List ℕ)) → CertifyIf behind.old.is_certified behind.old.belief lines
+        → OnOk result (CertifyIf behind.new.is_certified behind.new.belief (lines ++ line.now ∷ [])) }
+{
+    let has_world = behind.belief.is_some();
+    let said = read_line(alloc, printed, kept, tables, has_world, line)?;
+    behind.follow(&said, tables.as_slice())
+}
+
 /// What is found of the next line, if that ends the trace.
 fn judge_next<R: Read>(
     judges: &mut Judges,
+    reading: &mut Reading,
     lines: &mut Lines,
     reader: &mut R,
 ) -> io::Result<Option<Verdict>>
@@ -222,19 +273,20 @@ fn judge_next<R: Read>(
 {
     match lines.next_line(reader)? {
         NextLine::End => {
-            let verdict = judges.end()?;
+            let verdict = judges.end(reading)?;
             Ok(Some(verdict))
         }
         NextLine::Broken => Ok(Some(Verdict::Bad {
             line: judges.line().saturating_add(1),
         })),
-        NextLine::Line(start, end) => judges.take(lines.between(start, end)),
+        NextLine::Line(start, end) => judges.take(reading, lines.between(start, end)),
     }
 }
 
 /// What is found of the lines.
 fn judge_lines<R: Read>(
     judges: &mut Judges,
+    reading: &mut Reading,
     lines: &mut Lines,
     reader: &mut R,
 ) -> io::Result<Verdict>
@@ -244,7 +296,7 @@ fn judge_lines<R: Read>(
         → IfOk result (λ verdict. IsTrue (is_lawful verdict) → IfSome first IsLawfulTrace) }
 {
     for _ in 0..u64::MAX {
-        if let Some(verdict) = judge_next(judges, lines, reader)? {
+        if let Some(verdict) = judge_next(judges, reading, lines, reader)? {
             return Ok(verdict);
         }
     }
@@ -260,6 +312,7 @@ pub fn judge_trace<R: Read>(alloc: Global, reader: &mut R) -> io::Result<Verdict
     ensures { IfOk result (λ verdict. IsTrue (is_lawful verdict) → IfSome (R.remaining reader.old) IsLawfulTrace) }
 {
     let mut lines = Lines::new(alloc)?;
-    let mut judges = Judges::new(alloc)?;
-    judge_lines(&mut judges, &mut lines, reader)
+    let mut judges = Judges::new(alloc);
+    let mut reading = Reading::new(alloc)?;
+    judge_lines(&mut judges, &mut reading, &mut lines, reader)
 }

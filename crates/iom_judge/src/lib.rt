@@ -7,6 +7,7 @@
 //! longer trace.
 #![tactic(auto)]
 
+mod asking;
 mod belief;
 mod hindsight;
 mod in_doubt;
@@ -15,6 +16,6 @@ mod steps;
 mod verdict;
 
 pub use iom_known::{Known, explained_lines_are_a_run};
-pub use iom_trace_lines::{read_outcome, trace_of};
+pub use iom_trace_lines::trace_of;
 pub use judging::judge_trace;
 pub use verdict::Verdict;

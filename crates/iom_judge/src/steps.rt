@@ -4,6 +4,7 @@ ghost use Rattle.iom_machine.specs.declared.event.Event.TheVariants as events;
 ghost use Rattle.iom_known.specs.Allowed.{Past, IsTrueOf};
 ghost use Rattle.iom_known.specs.Steps.{IsExplained};
 
+use crate::asking::copy_of;
 use crate::belief::Belief;
 use iom_base::{Access, AccessKind, Cause, DeviceId, PAGE_SIZE, Size};
 use iom_doubts::begun::{begun_by, read_at};
@@ -66,7 +67,6 @@ fn refused_access(alloc: Global, cause: Cause) -> Result<Access, AllocError> {
 impl Belief {
     ghost use Rattle.std.specs.Prelude.{◌≡◌, IfOk, IsTrue};
     ghost use Rattle.iom_machine.specs.declared.event.Event.TheVariants as events;
-    ghost use Rattle.iom_machine.specs.declared.outcome.Outcome.TheVariants as outcomes;
     ghost use Rattle.iom_known.specs.Allowed.{Past, IsTrueOf};
     ghost use Rattle.iom_known.specs.Steps.{IsExplained};
     ghost use Rattle.iom_doubts.specs.Doubted.{MayAddStep};
@@ -103,23 +103,24 @@ impl Belief {
         alloc: Global,
         id: DeviceId,
         number: u64,
+        outcome: &Outcome,
         on: Option<u32>,
-        began: Option<Access>,
+        began: Option<&Access>,
     ) -> Result<bool, AllocError>
         ensures explained { IfOk result (λ may. IsTrue may → (past : Past) → IsTrueOf self.old.known past
-            → IsExplained self.old.known self.new.known (events.Step id) (outcomes.Accepted number) past) }
+            → IsExplained self.old.known self.new.known (events.Step id) outcome.now past) }
         ensures begun { IfOk result (λ may. IsTrue may
             → MayAddStep self.old.doubts.all.items self.new.doubts.all.items self.old.known id number) }
     {
         let Some(access) = began else {
-            return self.begin_access(alloc, id, number, on);
+            return self.begin_access(alloc, id, number, outcome, on);
         };
         let page = access.address / PAGE_SIZE;
         let Some(frame) = settled_frame(&self.known, id, page) else {
-            return self.begin_access(alloc, id, number, on);
+            return self.begin_access(alloc, id, number, outcome, on);
         };
-        let outcome = Outcome::Accepted(number);
-        step(&mut self.known, id, access, &outcome, frame)
+        let access = copy_of(alloc, access)?;
+        step(&mut self.known, id, access, outcome, frame)
     }
 
     /// A step that began an access, which was accepted. What is known has a read of one byte at the first place.
@@ -128,10 +129,11 @@ impl Belief {
         alloc: Global,
         id: DeviceId,
         number: u64,
+        outcome: &Outcome,
         on: Option<u32>,
     ) -> Result<bool, AllocError>
         ensures explained { IfOk result (λ may. IsTrue may → (past : Past) → IsTrueOf self.old.known past
-            → IsExplained self.old.known self.new.known (events.Step id) (outcomes.Accepted number) past) }
+            → IsExplained self.old.known self.new.known (events.Step id) outcome.now past) }
         ensures begun { IfOk result (λ may. IsTrue may
             → MayAddStep self.old.doubts.all.items self.new.doubts.all.items self.old.known id number) }
     {
@@ -141,9 +143,8 @@ impl Belief {
         let Some(first) = begun.places.first().copied() else {
             return Ok(false);
         };
-        let outcome = Outcome::Accepted(number);
         let access = read_at(alloc, first.page);
-        if !step(&mut self.known, id, access, &outcome, first.frame)? {
+        if !step(&mut self.known, id, access, outcome, first.frame)? {
             return Ok(false);
         }
         self.doubts.begin(begun)?;

@@ -1,5 +1,5 @@
 -- Lines of a trace, put together of what was read of them.
-use Rattle.std.proofs.Common.{◌≡◌, ◌∙◌, ◌^◌, ◌<◌, ℕ, Bool, true, false, List, [], ◌∷◌, ◌++◌, length, get_or, Option, None, Some, MatchOption, IsTrue, inl, inr, refl, sym, ap, append-nil, append_assoc, arith}
+use Rattle.std.proofs.Common.{◌≡◌, ◌∙◌, ◌^◌, ◌<◌, ℕ, Bool, true, false, List, [], ◌∷◌, ◌++◌, length, get_or, Option, None, Some, MatchOption, IfSome, IsTrue, inl, inr, refl, sym, ap, append-nil, append_assoc, arith}
 use Rattle.std.specs.Prelude.{codes, ⊤}
 use Rattle.std.specs.Borrow.{Bor}
 use Rattle.std.specs.Fmt.{decimal}
@@ -13,11 +13,12 @@ use Rattle.iom_machine.specs.declared.event.Event.{Event}
 use Rattle.iom_machine.specs.declared.event.Event.TheVariants as events
 use Rattle.iom_machine.specs.declared.outcome.Outcome.{Outcome}
 use Rattle.iom_machine.specs.declared.outcome.Outcome.TheVariants as outcomes
+use Rattle.iom_script.specs.Cuts.{shown_rest}
 use Rattle.iom_script.specs.Grammar.{IsEventLine}
 use Rattle.iom_script.specs.Lines.{line_of}
+use Rattle.iom_script.specs.Reading.{Reads}
 use Rattle.iom_script.specs.Words.{◌␣◌, IsNumber}
-use Rattle.iom_trace_lines.specs.TraceLines.{AsksFor, frames_text, is_accepted, tables_text, on_text, MayShow, SaysLine}
-use Rattle.iom_trace_lines.specs.declared.trace.TraceLine.TheVariants as lines
+use Rattle.iom_trace_lines.specs.TraceLines.{AsksFor, frames_text, is_accepted, tables_text, on_text, MayShow, SaysLine, Step}
 
 own : IsNumeralModel (AllDigits 10) (digits_value 10)
 own = numerals_by_value (AllDigits 10) tells_digits
@@ -48,7 +49,7 @@ on_behind behind word frames frame is number = ap (λ (l : List ℕ). codes "; "
 
 -- an event with an outcome, and nothing behind
 pub step_alone : (said answered answer : List ℕ) (event : Event) (outcome : Outcome) (tables : List ℕ) → IsEventLine said event → line_of outcome ≡ answer ++ 10 ∷ [] → answered ≡ answer
-    → SaysLine (said ++ codes " => " ++ answered) (lines.Step event outcome false None None) tables
+    → SaysLine (said ++ codes " => " ++ answered) (Step event outcome false None None) tables
 step_alone said answered answer event outcome tables says tells is =
     inl ((λ shown. absurd (false≢true shown), tt), (said, answer, says, tells, ap (λ (l : List ℕ). said ++ codes " => " ++ l) is ∙ sym (append-nil (said ++ codes " => " ++ answer))))
 
@@ -56,7 +57,7 @@ step_alone said answered answer event outcome tables says tells is =
 pub step_behind : (said answered answer behind : List ℕ) (event : Event) (outcome : Outcome) (has_tables : Bool) (on : Option ℕ) (tables : List ℕ) → IsEventLine said event
     → MayShow event outcome has_tables on
     → line_of outcome ≡ answer ++ 10 ∷ [] → answered ≡ answer ++ codes "; " ++ behind → codes "; " ++ behind ≡ tables_text has_tables tables ++ on_text on
-    → SaysLine (said ++ codes " => " ++ answered) (lines.Step event outcome has_tables on None) tables
+    → SaysLine (said ++ codes " => " ++ answered) (Step event outcome has_tables on None) tables
 step_behind said answered answer behind event outcome has_tables on tables says may tells is shown =
     inl (
       may,
@@ -74,7 +75,7 @@ step_behind said answered answer behind event outcome has_tables on tables says 
 pub step_began : (said answered answer behind : List ℕ) (event : Event) (outcome : Outcome) (access : Access) (tables : List ℕ) → IsEventLine said event
     → line_of outcome ≡ answer ++ 10 ∷ [] → answered ≡ answer ++ codes "; " ++ behind
     → (device : ℕ) × (event ≡ events.Step device) × IsTrue (is_accepted outcome) × (asks : Event) × IsEventLine behind asks × AsksFor asks device access
-    → SaysLine (said ++ codes " => " ++ answered) (lines.Step event outcome false None (Some access)) tables
+    → SaysLine (said ++ codes " => " ++ answered) (Step event outcome false None (Some access)) tables
 step_began said answered answer behind event outcome access tables says tells is (device, stepped, accepted, asks, asked, wants) = (
   device,
   stepped,
@@ -97,7 +98,12 @@ step_began said answered answer behind event outcome access tables says tells is
 pub handoff_says : (line said : List ℕ) (answered : Option (Bor (List ℕ))) (frame : ℕ) (tables : List ℕ)
     → MatchOption answered (line ≡ said) (λ behind. line ≡ said ++ codes " => " ++ behind.now)
     → (word : List ℕ) × IsNumber word frame × (said ≡ codes "handoff" ␣ word) → MatchOption answered ⊤ (λ answer. answer.now ≡ codes "ok")
-    → SaysLine line (lines.Step (events.Free frame) (outcomes.Free true) false None None) tables
+    → SaysLine line (Step (events.Free frame) (outcomes.Free true) false None None) tables
 handoff_says line said None frame tables is (word, number, named) granted = inr (word, frame, number, refl, refl, inl (is ∙ named))
 handoff_says line said (Some answer) frame tables is (word, number, named) granted =
     inr (word, frame, number, refl, refl, inr (is ∙ ap (λ (l : List ℕ). l ++ codes " => " ++ answer.now) named ∙ ap (λ (l : List ℕ). (codes "handoff" ␣ word) ++ codes " => " ++ l) granted ∙ append_assoc (codes "handoff" ␣ word) (codes " => ") (codes "ok")))
+
+-- what follows a prefix
+pub follows : (text prefix : List ℕ) (result : Option (Bor (List ℕ))) → Reads (shown_rest result) (λ rest. text ≡ prefix ++ rest) → IfSome result (λ rest. text ≡ prefix ++ rest.now)
+follows text prefix None reads = tt
+follows text prefix (Some rest) reads = (reads rest.now).0 refl

@@ -11,8 +11,16 @@ use Rattle.iom_machine.specs.declared.outcome.Outcome.TheVariants as outcomes
 use Rattle.iom_script.specs.Grammar.{IsEventLine, IsWorldLine, is_spoken}
 use Rattle.iom_script.specs.Lines.{line_of}
 use Rattle.iom_script.specs.Words.{◌␣◌, IsNumber}
+use Rattle.iom_script.specs.declared.script.WorldSize.{WorldSize}
 use Rattle.iom_trace_lines.specs.declared.trace.TraceLine.{TraceLine}
-use Rattle.iom_trace_lines.specs.declared.trace.TraceLine.TheVariants.{Nothing, World, Step, Bad}
+use Rattle.iom_trace_lines.specs.declared.trace.TraceLine.TheVariants as lines
+
+-- What a line says: nothing, how large the world is, that this came of an event, with what is shown behind that, or what isn't in the grammar.
+pub data Said : Type 0 where
+  Nothing : Said
+  World : WorldSize → Said
+  Step : Event → Outcome → Bool → Option ℕ → Option Access → Said
+  Bad : Said
 
 -- frames, with a space before each
 abbrev pub frames_text : List ℕ → List ℕ
@@ -75,8 +83,15 @@ SaysWhat line event outcome has_tables on None tables =
 SaysWhat line event outcome has_tables on (Some access) tables = ShowsAccess line event outcome access
 
 -- The line, without its line feed, says this. The frames of its tables stand beside.
-abbrev pub SaysLine : List ℕ → TraceLine → List ℕ → Type 0
+abbrev pub SaysLine : List ℕ → Said → List ℕ → Type 0
 SaysLine line Nothing tables = is_spoken line ≡ false
 SaysLine line (World size) tables = (said : List ℕ) × IsWorldLine said size × (line ≡ said ++ codes " => ok")
 SaysLine line (Step event outcome has_tables on began) tables = SaysWhat line event outcome has_tables on began tables
 SaysLine line Bad tables = ⊤
+
+-- what was read of a line, with the outcome in the place that is lent
+abbrev pub said_of : TraceLine → Said
+said_of lines.Nothing = Nothing
+said_of (lines.World size) = World size
+said_of (lines.Step event outcome has_tables on began) = Step event outcome.now has_tables on began
+said_of lines.Bad = Bad

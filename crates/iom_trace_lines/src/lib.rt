@@ -6,14 +6,17 @@
 //! read isn't in the grammar is tested only.
 #![tactic(auto)]
 
+mod kept;
 mod line;
 mod outcomes;
 mod reading;
 mod trace;
+mod words;
 mod zipping;
 
+pub use kept::{CAUSES, KeptOutcomes};
 pub use line::read_line;
-pub use outcomes::{CAUSES, read_outcome};
+pub use outcomes::read_outcome;
 pub use reading::Lines;
 pub use trace::{NextLine, TraceLine};
 pub use zipping::trace_of;

@@ -5,26 +5,30 @@ ghost use Rattle.iom_machine.specs.declared.event.Event.TheVariants as events;
 ghost use Rattle.iom_machine.specs.declared.outcome.Outcome.TheVariants as outcomes;
 ghost use Rattle.iom_script.specs.Grammar.{IsEventLine, is_spoken};
 ghost use Rattle.iom_script.specs.Words.{◌␣◌, IsNumber};
-ghost use Rattle.iom_trace_lines.specs.declared.trace.TraceLine.TheVariants as lines;
-ghost use Rattle.iom_trace_lines.specs.TraceLines.{AsksFor, frames_text, is_accepted, takes_frames, tables_text, on_text, MayShow, SaysLine};
+ghost use Rattle.iom_trace_lines.specs.TraceLines.{AsksFor, frames_text, is_accepted, takes_frames, tables_text, on_text, MayShow, said_of, SaysLine, Nothing, Step, Bad};
 
-use crate::outcomes::{read_outcome, without_prefix};
+use crate::kept::KeptOutcomes;
+use crate::outcomes::read_outcome;
 use crate::trace::{Behind, TraceLine};
+use crate::words::{is_word, without_prefix};
 use iom_base::{Access, AccessKind, DeviceId, Sequence};
 use iom_machine::{Event, Outcome};
 use iom_script::{LineBuffer, event_of, is_spoken, world_of};
 use memchr::{memchr, memchr_iter};
 use std::alloc::{AllocError, Global};
 
-/// What stands before the first separator and behind it; all, and nothing, where there is none.
-fn cut<'a>(text: &'a [u8], separator: &[u8]) -> (&'a [u8], Option<&'a [u8]>)
+/// What stands before the first separator and behind it; all, and nothing, where there is none. It is found by one of its
+/// bytes, which comes seldom: the one at the place.
+// Written into its caller, where the separator is known.
+#[inline(always)]
+fn cut<'a>(text: &'a [u8], separator: &[u8], by: usize) -> (&'a [u8], Option<&'a [u8]>)
     ensures { MatchOption result.1 (text.now ≡ result.0.now) (λ behind. text.now ≡ result.0.now ++ separator.now ++ behind.now) }
 {
-    let Some(first) = separator.first() else {
+    let Some(byte) = separator.get(by) else {
         return (text, None);
     };
-    for place in memchr_iter(*first, text) {
-        let (before, rest) = text.split_at(place.min(text.len()));
+    for place in memchr_iter(*byte, text) {
+        let (before, rest) = text.split_at(place.saturating_sub(by).min(text.len()));
         if let Some(behind) = without_prefix(rest, separator) {
             return (before, Some(behind));
         }
@@ -207,21 +211,22 @@ fn read_began(
 }
 
 /// The event and the answer of a line, with what is shown behind that.
-fn read_step(
+fn read_step<'a>(
     alloc: Global,
     printed: &mut LineBuffer,
+    kept: &'a mut KeptOutcomes,
     tables: &mut Vec<u32>,
     said: &[u8],
     answered: &[u8],
-) -> Result<TraceLine, AllocError>
+) -> Result<TraceLine<'a>, AllocError>
     requires { tables.old.items ≡ [] }
-    ensures { IfOk result (λ read. SaysLine (said.now ++ codes " => " ++ answered.now) read tables.new.items) }
+    ensures { IfOk result (λ read. SaysLine (said.now ++ codes " => " ++ answered.now) (said_of read) tables.new.items) }
 {
     let Some(event) = event_of(alloc, said)? else {
         return Ok(TraceLine::Bad);
     };
-    let (answer, behind) = cut(answered, b"; ");
-    let Some(outcome) = read_outcome(printed, &event, answer) else {
+    let (answer, behind) = cut(answered, b"; ", 0);
+    let Some(outcome) = read_outcome(printed, kept, &event, answer) else {
         return Ok(TraceLine::Bad);
     };
     let Some(behind) = behind else {
@@ -233,7 +238,7 @@ fn read_step(
             began: None,
         });
     };
-    if let Some(access) = read_began(alloc, &event, &outcome, behind)? {
+    if let Some(access) = read_began(alloc, &event, outcome, behind)? {
         return Ok(TraceLine::Step {
             event,
             outcome,
@@ -242,7 +247,7 @@ fn read_step(
             began: Some(access),
         });
     }
-    match read_behind(&event, &outcome, behind, tables)? {
+    match read_behind(&event, outcome, behind, tables)? {
         None => Ok(TraceLine::Bad),
         Some(shown) => Ok(TraceLine::Step {
             event,
@@ -252,12 +257,6 @@ fn read_step(
             began: None,
         }),
     }
-}
-
-fn is_word(text: &[u8], word: &[u8]) -> bool
-    ensures { IsTrue result ↔ (text.now ≡ word.now) }
-{
-    text == word
 }
 
 /// Whether `ok` is answered, or nothing.
@@ -279,23 +278,26 @@ fn handed_off(said: &[u8]) -> Option<u32>
 }
 
 /// The claim that a frame is now given to somebody else: that it is free.
-fn handoff(frame: u32) -> TraceLine
-    ensures { result ≡ lines.Step (events.Free frame) (outcomes.Free true) false None None }
+fn handoff(kept: &mut KeptOutcomes, frame: u32) -> TraceLine<'_>
+    ensures { said_of result ≢ Bad → said_of result ≡ Step (events.Free frame) (outcomes.Free true) false None None }
 {
-    TraceLine::Step {
-        event: Event::Free {
-            frame: u64::from(frame),
+    match kept.is_free() {
+        None => TraceLine::Bad,
+        Some(outcome) => TraceLine::Step {
+            event: Event::Free {
+                frame: u64::from(frame),
+            },
+            outcome,
+            has_tables: false,
+            on: None,
+            began: None,
         },
-        outcome: Outcome::Free(true),
-        has_tables: false,
-        on: None,
-        began: None,
     }
 }
 
 /// What a line says that should be that of the world.
-fn read_world(said: &[u8], answer: &[u8]) -> TraceLine
-    ensures { (tables : List ℕ) → SaysLine (said.now ++ codes " => " ++ answer.now) result tables }
+fn read_world(said: &[u8], answer: &[u8]) -> TraceLine<'static>
+    ensures { (tables : List ℕ) → SaysLine (said.now ++ codes " => " ++ answer.now) (said_of result) tables }
 {
     if !is_word(answer, b"ok") {
         return TraceLine::Bad;
@@ -307,21 +309,22 @@ fn read_world(said: &[u8], answer: &[u8]) -> TraceLine
 }
 
 /// What the line says, of which the line feed is left out. The first that says something is that of the world.
-pub fn read_line(
+pub fn read_line<'a>(
     alloc: Global,
     printed: &mut LineBuffer,
+    kept: &'a mut KeptOutcomes,
     tables: &mut Vec<u32>,
     has_world: bool,
     line: &[u8],
-) -> Result<TraceLine, AllocError>
-    ensures says { IfOk result (λ read. SaysLine line.now read tables.new.items) }
-    ensures spoken { IfOk result (λ read. read ≢ lines.Nothing → is_spoken line.now ≡ true) }
+) -> Result<TraceLine<'a>, AllocError>
+    ensures says { IfOk result (λ read. SaysLine line.now (said_of read) tables.new.items) }
+    ensures spoken { IfOk result (λ read. said_of read ≢ Nothing → is_spoken line.now ≡ true) }
 {
     if !is_spoken(line) {
         return Ok(TraceLine::Nothing);
     }
     tables.clear();
-    let (said, answered) = cut(line, b" => ");
+    let (said, answered) = cut(line, b" => ", 1);
     if !has_world {
         let Some(answer) = answered else {
             return Ok(TraceLine::Bad);
@@ -332,10 +335,10 @@ pub fn read_line(
         if !is_granted(answered) {
             return Ok(TraceLine::Bad);
         }
-        return Ok(handoff(frame));
+        return Ok(handoff(kept, frame));
     }
     match answered {
         None => Ok(TraceLine::Bad),
-        Some(answered) => read_step(alloc, printed, tables, said, answered),
+        Some(answered) => read_step(alloc, printed, kept, tables, said, answered),
     }
 }

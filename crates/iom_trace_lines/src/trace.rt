@@ -5,7 +5,7 @@ use iom_script::WorldSize;
 
 /// What a line of a trace says.
 #[derive(Drop)]
-pub enum TraceLine {
+pub enum TraceLine<'a> {
     /// It is empty, or begins with `#`.
     Nothing,
     /// The world has this size.
@@ -14,7 +14,7 @@ pub enum TraceLine {
     /// shown. The frames that were taken for tables, where they are shown, stand in the list that was lent.
     Step {
         event: Event,
-        outcome: Outcome,
+        outcome: &'a Outcome,
         has_tables: bool,
         on: Option<u32>,
         began: Option<Access>,

@@ -8,16 +8,13 @@ use Rattle.iom_doubts.proofs.FollowBegun.{begun_follows}
 use Rattle.iom_doubts.proofs.FollowSteps.{explained_leaves}
 use Rattle.iom_judge.proofs.belief.Belief.step_block.Goals as goal
 
-pub returns-in-Accepted-clause-explained : goal.returns-in-Accepted-clause-explained
-returns-in-Accepted-clause-explained c told past is =
-    subst (λ (o : Outcome). IsExplained c.args.self.now.known c.begin.new.self.known (events.Step c.args.id) o past) (sym c.in-Accepted.is) (c.in_ok-may_come.ensures.explained told past is)
-
 pub returns-in-Accepted-clause-followed : goal.returns-in-Accepted-clause-followed
 returns-in-Accepted-clause-followed c told followed past is =
     let old = c.args.self.now in
     let new = c.begin.new.self in
     begun_follows old.known new.known old.doubts.all.items new.doubts.all.items c.args.id c.in-Accepted.number c.args.outcome.now c.in-Accepted.is (c.follows_new-is_followed.ensures followed)
-    (c.in_ok-may_come.ensures.begun told) past is (c.in_ok-may_come.ensures.explained told past is)
+    (c.in_ok-may_come.ensures.begun told) past is
+    (subst (λ (o : Outcome). IsExplained old.known new.known (events.Step c.args.id) o past) c.in-Accepted.is (c.in_ok-may_come.ensures.explained told past is))
 
 pub returns-clause-followed : goal.returns-clause-followed
 returns-clause-followed c told followed past is =
