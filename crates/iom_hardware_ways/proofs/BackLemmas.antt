@@ -17,6 +17,7 @@ use Rattle.iom_reach.specs.Memory.{Nothing, Leaf, Goes, Ends}
 use Rattle.iom_reach.specs.Scene.{Mapping}
 use Rattle.iom_hardware_ways.specs.Formats.{index_of, step_at, found_leaf, found_entry, entry_format}
 use Rattle.iom_hardware_ways.specs.Laws.{FirstStagesAreReached, SecondStagesAreReached}
+use Rattle.iom_hardware_ways.proofs.PageIndices.{three, four}
 use Rattle.iom_hardware_ways.proofs.FormatLemmas.{entry_there, indices_back}
 
 -- a leaf that is found is lawful
@@ -57,12 +58,6 @@ ends_reaches memory kind table (i ∷ below) mapping allowed ends =
         inr (base, rights, at, leaf_back kind base rights below (λ next. Ends entry_format (slice_get memory) next (map step_at below) mapping) mapping allowed goes)
 
 -- ADDRESSES
-
-three : (a b c d e f : ℕ) → a ≡ d → b ≡ e → c ≡ f → a ∷ b ∷ c ∷ [] ≡ d ∷ e ∷ f ∷ []
-three a b c d e f i j k = rw (i, j, k) refl
-
-four : (a b c d e f g h : ℕ) → a ≡ e → b ≡ f → c ≡ g → d ≡ h → a ∷ b ∷ c ∷ d ∷ [] ≡ e ∷ f ∷ g ∷ h ∷ []
-four a b c d e f g h i j k l = rw (i, j, k, l) refl
 
 -- an address that is lawful and has the page's path
 abbrev IsOfPage : Size → ℕ → ℕ → Type 0

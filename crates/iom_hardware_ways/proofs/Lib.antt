@@ -1,6 +1,7 @@
 pub mod FormatLemmas
 pub mod WalkLaws
 pub mod BackLemmas
+pub mod PageIndices
 pub mod DirectoryBack
 pub mod ListLemmas
 pub mod Turns

@@ -1,5 +1,5 @@
 -- What this crate proves.
-use Rattle.std.specs.Prelude.{◌≡◌, ℕ, Bool, true, List, replicate, slice_get, None, Some, Ok}
+use Rattle.std.specs.Prelude.{◌≡◌, ◌<◌, ℕ, Bool, true, List, [], ◌∷◌, replicate, slice_get, None, Some, Ok, ⊤}
 use Rattle.iom_base.specs.Rights.{allows}
 use Rattle.iom_base.specs.Sizes.{levels_of}
 use Rattle.iom_base.specs.declared.access.AccessKind.{AccessKind}
@@ -9,7 +9,7 @@ use Rattle.iom_device_dir.specs.declared.context.Context.{Context as DeviceConte
 use Rattle.iom_device_dir.specs.Paths.{FindsContext}
 use Rattle.iom_registers.specs.declared.directory.DirectoryPointer.{DirectoryPointer}
 use Rattle.iom_stage_walk.specs.declared.walked.Walked.{Walked}
-use Rattle.iom_stage_walk.specs.Paths.{ReachesFirst, IsInMemory, first_widths}
+use Rattle.iom_stage_walk.specs.Paths.{ReachesFirst, IsInMemory, path_of, first_widths}
 use Rattle.iom_stage_walk.specs.Second.{ReachesSecond, second_widths}
 use Rattle.iom_stage_walk.specs.Both.{ReachesBoth}
 use Rattle.iom_hardware.specs.Commits.{Commits}
@@ -67,6 +67,22 @@ SecondStagesAreReached = (size : Size) (memory : List (List ℕ)) (root : ℕ) (
     → Leads formats (slice_get memory) root (λ page. steps_along (second_widths (levels_of size)) page) mapping
     → IsInMemory memory mapping.frame → allows mapping.rights kind ≡ true
     → (address : ℕ) × ReachesSecond (levels_of size) memory root address kind (without_guest mapping)
+
+-- each is below the width of its level, and there is one for each
+abbrev pub AreIndices : List ℕ → List ℕ → Type 0
+AreIndices [] [] = ⊤
+AreIndices (width ∷ widths) (i ∷ is) = (i < width) × AreIndices widths is
+AreIndices widths is = ⊥
+
+-- The pages of a stage are its indices, one a level: whatever is said of the steps to some page is said of the steps along some indices. So what walks lead to
+-- and read can be found entry by entry
+abbrev pub PagesAreIndices : List ℕ → Type 0
+PagesAreIndices widths =
+    ((page : ℕ) → AreIndices widths (path_of widths page))
+    × ((is : List ℕ) → AreIndices widths is → (page : ℕ) × (path_of widths page ≡ is))
+
+abbrev pub SizesHaveIndices : Type 0
+SizesHaveIndices = (size : Size) → PagesAreIndices (first_widths (levels_of size)) × PagesAreIndices (second_widths (levels_of size))
 
 -- where the path of a device's id finds a context, a walk of the directory by the formats ends at it
 abbrev pub DirectoriesLead : Type 0

@@ -1,5 +1,5 @@
 //! What is proved of hardware and the ways that devices have in it.
-ghost use Rattle.iom_hardware_ways.specs.Laws.{FirstStagesLead, SecondStagesLead, BothStagesLead, FirstStagesAreReached, SecondStagesAreReached, DirectoriesLead, DirectoriesAreFound, CallsAreOccurrences, CallsAddNoWay, MadeAccessesHadWays, QuietStaysQuiet, GoodClaimsHold, FreeStaysFree, BeginsSafe};
+ghost use Rattle.iom_hardware_ways.specs.Laws.{FirstStagesLead, SecondStagesLead, BothStagesLead, FirstStagesAreReached, SecondStagesAreReached, SizesHaveIndices, DirectoriesLead, DirectoriesAreFound, CallsAreOccurrences, CallsAddNoWay, MadeAccessesHadWays, QuietStaysQuiet, GoodClaimsHold, FreeStaysFree, BeginsSafe};
 
 /// What the hardware's walks of tables (RISC-V Privileged Architecture, "Sv39", "Sv48", "Two-Stage Address Translation") and
 /// of the device directory (IOMMU specification, section 2.3.1) reach is what walks by its formats lead to; and but for
@@ -10,6 +10,7 @@ pub fn walk_law()
     ensures both { BothStagesLead }
     ensures first_back { FirstStagesAreReached }
     ensures second_back { SecondStagesAreReached }
+    ensures indices { SizesHaveIndices }
     ensures directory { DirectoriesLead }
     ensures directory_back { DirectoriesAreFound }
 {}
