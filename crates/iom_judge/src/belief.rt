@@ -23,8 +23,8 @@ use iom_known::asked::{Asked, read_by, request};
 use iom_known::devices::device_with;
 use iom_known::owners::may_be_nobodys;
 use iom_known::reach::frame_at;
-use iom_known_acts::act;
 use iom_known_acts::polls::{begin_poll, end_poll, poll};
+use iom_known_acts::{Untaken, act};
 use iom_machine::{Event, Outcome};
 use iom_reasons::{Facts, Notes, Subject};
 use iom_trace_lines::CAUSES;
@@ -48,6 +48,7 @@ pub(crate) struct Belief {
     pub(crate) doubts: Doubts,
     pub(crate) memory: Memory,
     pub(crate) notes: Notes,
+    untaken: Untaken,
     /// Whether each line so far was followed: each state that was allowed after it, whatever frames the accesses in doubt
     /// are on, is one to which the machine came by it.
     pub(crate) is_followed: bool,
@@ -107,6 +108,7 @@ impl Belief {
             doubts: Doubts::new(alloc),
             memory: Memory::new(alloc),
             notes: Notes::new(alloc),
+            untaken: Untaken::new(alloc),
             is_followed: true,
         })
     }
@@ -308,13 +310,29 @@ impl Belief {
     {
         let question = self.question_of(event, outcome);
         if self.is_settled() {
-            return act(&mut self.known, alloc, event, outcome, tables, question);
+            return act(
+                &mut self.known,
+                alloc,
+                event,
+                outcome,
+                tables,
+                &mut self.untaken,
+                question,
+            );
         }
         if let Event::Poll = event {
             return self.poll(alloc, outcome);
         }
         if self.is_ready(alloc, event, outcome)? {
-            return act(&mut self.known, alloc, event, outcome, tables, question);
+            return act(
+                &mut self.known,
+                alloc,
+                event,
+                outcome,
+                tables,
+                &mut self.untaken,
+                question,
+            );
         }
         let may_come = act_in_doubt(
             alloc,
@@ -324,6 +342,7 @@ impl Belief {
             event,
             outcome,
             tables,
+            &mut self.untaken,
             question,
         )?;
         self.is_followed = false;
@@ -383,6 +402,7 @@ impl Belief {
         ensures doubts { self.new.doubts ≡ self.old.doubts }
     {
         self.note_frames(event, outcome);
+        self.untaken.note(&self.known, event, outcome)?;
         self.notes.note(event, outcome)
     }
 

@@ -13,7 +13,7 @@ use iom_known::in_flight::drop_oldest;
 use iom_known::owners::may_be_somebodys;
 use iom_known::requests::answers_absent;
 use iom_known_acts::processor::{peek, poke};
-use iom_known_acts::{Question, act};
+use iom_known_acts::{Question, Untaken, act};
 use iom_machine::{Event, Outcome};
 use std::alloc::{AllocError, Global};
 
@@ -544,6 +544,7 @@ pub(crate) fn act_in_doubt(
     event: &Event,
     outcome: &Outcome,
     tables: Option<&[u32]>,
+    untaken: &mut Untaken,
     question: Option<Question>,
 ) -> Result<bool, AllocError> {
     match event {
@@ -554,6 +555,6 @@ pub(crate) fn act_in_doubt(
         Event::Peek { address, len } => {
             peek_in_doubt(alloc, known, memory, *address, *len, outcome)
         }
-        _ => act(known, alloc, event, outcome, tables, question),
+        _ => act(known, alloc, event, outcome, tables, untaken, question),
     }
 }

@@ -15,6 +15,7 @@ use crate::grants::grant;
 use crate::polls::poll;
 use crate::processor::{free, peek, poke};
 use crate::questions::{Question, answer};
+use crate::untaken::Untaken;
 use iom_known::Known;
 use iom_machine::{Event, Outcome};
 use std::alloc::{AllocError, Global};
@@ -28,6 +29,7 @@ pub fn act(
     event: &Event,
     outcome: &Outcome,
     tables: Option<&[u32]>,
+    untaken: &mut Untaken,
     question: Option<Question>,
 ) -> Result<bool, AllocError>
     ensures { IfOk result (λ may. IsTrue may → (past : Past) → IsTrueOf known.old past
@@ -40,7 +42,9 @@ pub fn act(
             page,
             frame,
             rights,
-        } => grant(known, *device, *page, *frame, *rights, outcome, tables),
+        } => grant(
+            alloc, known, *device, *page, *frame, *rights, outcome, tables, untaken,
+        ),
         Event::Attach { device, mode, ats } => {
             Ok(attach(known, *device, *mode, *ats, outcome, tables))
         }

@@ -8,7 +8,8 @@ ghost use Rattle.iom_known.specs.Allowed.{Past, IsTrueOf};
 ghost use Rattle.iom_known.specs.Steps.{IsExplained};
 
 use crate::scarce::may_lack_frames;
-use crate::taking::take;
+use crate::taking::take_for_grant;
+use crate::untaken::Untaken;
 use iom_base::{DeviceId, GrantRights, MAX_DEVICES, Refusal};
 use iom_known::Known;
 use iom_known::bits::without_bit;
@@ -19,16 +20,18 @@ use iom_known::reasons::{
     early_grant_refusal, is_memory, late_grant_refusal, may_grant, most_tables, refuses,
 };
 use iom_machine::Outcome;
-use std::alloc::AllocError;
+use std::alloc::{AllocError, Global};
 
 /// A grant that is done. The tables are those that are shown, where any are.
 fn grant_done(
+    alloc: Global,
     known: &mut Known,
     id: DeviceId,
     page: u64,
     frame: u64,
     rights: GrantRights,
     tables: Option<&[u32]>,
+    untaken: &mut Untaken,
 ) -> Result<bool, AllocError>
     ensures { IfOk result (λ done. IsTrue done → (past : Past) → IsTrueOf known.old past
         → IsExplained known.old known.new (Grant id page frame rights) Done past) }
@@ -45,14 +48,10 @@ fn grant_done(
     if !known.ledger.is_vacant(id, page) || !may_be_nobodys(known, frame) {
         return Ok(false);
     }
-    if !take(
-        &mut known.frames,
-        &known.ledger,
-        Some(frame),
-        false,
-        place,
-        tables,
-    ) {
+    let Some(set) = untaken.of(alloc, place)? else {
+        return Ok(false);
+    };
+    if !take_for_grant(&mut known.frames, &known.ledger, frame, place, tables, set)? {
         return Ok(false);
     }
     let granted = frame as usize;
@@ -149,6 +148,7 @@ fn grant_refused(known: &mut Known, id: DeviceId, page: u64, frame: u64, why: Re
 
 /// A grant. The tables are those that are shown, where any are.
 pub(crate) fn grant(
+    alloc: Global,
     known: &mut Known,
     id: DeviceId,
     page: u64,
@@ -156,12 +156,13 @@ pub(crate) fn grant(
     rights: GrantRights,
     outcome: &Outcome,
     tables: Option<&[u32]>,
+    untaken: &mut Untaken,
 ) -> Result<bool, AllocError>
     ensures { IfOk result (λ may. IsTrue may → (past : Past) → IsTrueOf known.old past
         → IsExplained known.old known.new (Grant id page frame rights) outcome.now past) }
 {
     match outcome {
-        Outcome::Done => grant_done(known, id, page, frame, rights, tables),
+        Outcome::Done => grant_done(alloc, known, id, page, frame, rights, tables, untaken),
         Outcome::Refused(why) => Ok(grant_refused(known, id, page, frame, *why)),
         _ => Ok(false),
     }

@@ -19,6 +19,8 @@ pub mod processor;
 mod questions;
 mod scarce;
 mod taking;
+mod untaken;
 
 pub use explained::act;
 pub use questions::{Question, answer};
+pub use untaken::Untaken;
