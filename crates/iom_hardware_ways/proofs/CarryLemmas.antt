@@ -16,7 +16,7 @@ use Rattle.iom_hardware.specs.HardwareParts.{HardwareParts}
 use Rattle.iom_hardware.specs.Messages.{with_message, SendsMessage, AsksTranslation, ClaimsCompletion, LosesMessage, CopiesMessage}
 use Rattle.iom_iommu.specs.Parts.{registers_of, contexts_of, translations_of, flights_of}
 use Rattle.iom_registers.specs.Queues.{with_cmd_to}
-use Rattle.iom_reach.specs.Occurrences.{CarryMessages, MayBeSent}
+use Rattle.iom_reach.specs.Occurrences.{CarryMessages, IsSendable}
 use Rattle.iom_reach.specs.Scene.{Message}
 use Rattle.iom_hardware_ways.specs.Scenes.{said_on, message_of, scene_of}
 use Rattle.iom_hardware_ways.proofs.ListLemmas.{remove_among, map_among, map_cases, contains_map, get_contains}
@@ -34,7 +34,7 @@ by_device trusted can Call old id answer new (inr (inr so)) does = does so.given
 
 -- other messages are under way
 pub carried : (trusted : ℕ → Bool) (old new : HardwareParts) (fabric : List OnLink) → new ≡ record old { fabric = fabric }
-    → ((message : Message) → Contains (map message_of fabric) message → MayBeSent (scene_of trusted old) message ⊎ Contains (map message_of old.fabric) message)
+    → ((message : Message) → Contains (map message_of fabric) message → IsSendable (scene_of trusted old) message ⊎ Contains (map message_of old.fabric) message)
     → Comes (scene_of trusted old) (scene_of trusted new)
 carried trusted old new fabric is from =
     one CarryMessages (scene_of trusted old) (scene_of trusted new) (map message_of fabric, from, ap (scene_of trusted) is)
@@ -79,10 +79,10 @@ sent_cases fabric device says message c = by (nat_lt (length fabric) 64) c
         ]
 
 sends : (trusted : ℕ → Bool) (id : ℕ) (says : Sent) (old : HardwareParts) (is_sent : Bool) (new : HardwareParts) → SendsMessage id says old is_sent new
-    → MayBeSent (scene_of trusted old) (said_on id says) → Comes (scene_of trusted old) (scene_of trusted new)
+    → IsSendable (scene_of trusted old) (said_on id says) → Comes (scene_of trusted old) (scene_of trusted new)
 sends trusted id says old is_sent new call may = carried trusted old new (with_message old.fabric id says) call.sent
     (λ message there. elim (sent_cases old.fabric id says message there) [
-      | inl same ↦ inl (subst (MayBeSent (scene_of trusted old)) same may)
+      | inl same ↦ inl (subst (IsSendable (scene_of trusted old)) same may)
       | inr before ↦ inr before
     ])
 

@@ -1,23 +1,23 @@
 -- What a request of any kind changes beside its own outcome: what is cached, and the fault queue.
 use Rattle.std.proofs.Common.{◌≡◌, ◌⊎◌, inl, inr, ℕ, List, Contains, Option, refl, ap}
-use Rattle.iom_reach.specs.Memory.{Memory, Step, DiffersAt}
-use Rattle.iom_reach.specs.Occurrences.{IsPartOf, IsPartWith, IsWalked, Forget, KeepContext, KeepTranslation, RecordFault}
-use Rattle.iom_reach.specs.Scene.{Mapping, AddressSpace, SpacePage, Context, Scene, IsPlugged}
-use Rattle.iom_reach.specs.Ways.{IsStored, Begins}
+use Rattle.iom_reach.specs.Memory.{Memory, WalkStep, DiffersAt}
+use Rattle.iom_reach.specs.Occurrences.{IsPartOf, IsPartWith, WalkGives, Forget, KeepContext, KeepTranslation, RecordFault}
+use Rattle.iom_reach.specs.Scene.{Mapping, AddressSpace, SpacePage, Context, Scene, HasDevice}
+use Rattle.iom_reach.specs.Ways.{IsStored, WalkBegins}
 use Rattle.iom_hardware_ways.proofs.Turns.{Comes, nothing, one, in_succession}
 
 -- contexts are forgotten, or the directory's context of the device is kept
 abbrev pub ContextsChange : Scene → ℕ → (ℕ → Option Context) → Type 0
 ContextsChange scene device kept =
     IsPartOf kept scene.contexts
-    ⊎ ((context : Context) × IsPlugged scene device × IsStored scene device context × IsPartWith kept device context scene.contexts)
+    ⊎ ((context : Context) × HasDevice scene device × IsStored scene device context × IsPartWith kept device context scene.contexts)
 
 -- translations are forgotten, or what a walk gives is kept
 abbrev pub TranslationsChange : Scene → (SpacePage → Option Mapping) → Type 0
 TranslationsChange scene kept =
     IsPartOf kept scene.translations
-    ⊎ ((space : AddressSpace) × (table : ℕ) × (steps_to : ℕ → List Step) × (page : ℕ) × (mapping : Mapping)
-    × Begins scene space table steps_to × IsWalked scene table steps_to mapping
+    ⊎ ((space : AddressSpace) × (table : ℕ) × (steps_to : ℕ → List WalkStep) × (page : ℕ) × (mapping : Mapping)
+    × WalkBegins scene space table steps_to × WalkGives scene table steps_to mapping
     × IsPartWith kept (record { space = space; page = page }) mapping scene.translations)
 
 -- memory stays, or a fault is recorded

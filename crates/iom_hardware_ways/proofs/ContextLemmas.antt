@@ -15,7 +15,7 @@ use Rattle.iom_registers.specs.declared.directory.DirectoryMode.TheVariants as m
 use Rattle.iom_registers.specs.Queues.{directory_mode, directory_root}
 use Rattle.iom_reach.specs.Memory.{Tables}
 use Rattle.iom_reach.specs.Occurrences.{IsPartOf, IsPartWith}
-use Rattle.iom_reach.specs.Scene.{Context, At, IsPlugged}
+use Rattle.iom_reach.specs.Scene.{Context, At, HasDevice}
 use Rattle.iom_reach.specs.Ways.{MayFind}
 use Rattle.iom_hardware_ways.specs.Formats.{context_of}
 use Rattle.iom_hardware_ways.specs.Scenes.{directory_by, contexts_in, scene_of}
@@ -56,7 +56,7 @@ sets_shown m id context old new (here, lost, others) key value is = elim (eqb_te
 
 -- what the context cache keeps is what the directory has
 kept_located : (trusted : ℕ → Bool) (parts : HardwareParts) (id : ℕ) (new : Content ℕ DeviceContext) (m : DirectoryMode) → m ≡ directory_mode (registers_of parts.iommu)
-    → IsPlugged (scene_of trusted parts) id → (cached : Option DeviceContext) (located : Result DeviceContext Cause)
+    → HasDevice (scene_of trusted parts) id → (cached : Option DeviceContext) (located : Result DeviceContext Cause)
     → located ≡ located_context parts.memory (registers_of parts.iommu).ddtp id
     → KeepsLocated cached located (contexts_of parts.iommu) id new
     → ContextsChange (scene_of trusted parts) id (contexts_in (directory_mode (registers_of parts.iommu)) new)
@@ -71,7 +71,7 @@ kept_located trusted parts id new m is plugged None (Ok context) found (inl sets
       sets_shown (directory_mode (registers_of parts.iommu)) id context (contexts_of parts.iommu) new sets,
     )
 
-pub context_kept : (trusted : ℕ → Bool) (parts : HardwareParts) (id : ℕ) (new : Content ℕ DeviceContext) → IsPlugged (scene_of trusted parts) id
+pub context_kept : (trusted : ℕ → Bool) (parts : HardwareParts) (id : ℕ) (new : Content ℕ DeviceContext) → HasDevice (scene_of trusted parts) id
     → KeepsContext parts.memory (registers_of parts.iommu) (contexts_of parts.iommu) id new
     → ContextsChange (scene_of trusted parts) id (contexts_in (directory_mode (registers_of parts.iommu)) new)
 context_kept trusted parts id new plugged keeps = by (directory_mode (registers_of parts.iommu)) refl keeps
@@ -91,7 +91,7 @@ context_kept trusted parts id new plugged keeps = by (directory_mode (registers_
 abbrev pub HasDirectory : (ℕ → Bool) → HardwareParts → Type 0
 HasDirectory trusted parts = (tables : Tables) × ((scene_of trusted parts).directory ≡ At tables)
 
-pub may_find : (trusted : ℕ → Bool) (parts : HardwareParts) (id : ℕ) (context : DeviceContext) → IsPlugged (scene_of trusted parts) id → HasDirectory trusted parts
+pub may_find : (trusted : ℕ → Bool) (parts : HardwareParts) (id : ℕ) (context : DeviceContext) → HasDevice (scene_of trusted parts) id → HasDirectory trusted parts
     → context_for parts.memory (registers_of parts.iommu) (contexts_of parts.iommu) id ≡ Ok context → MayFind (scene_of trusted parts) id (context_of context)
 may_find trusted parts id context plugged directory found =
     by (fits_directory (directory_mode (registers_of parts.iommu)) id) refl (contexts_of parts.iommu id) refl found
@@ -118,7 +118,7 @@ lets (Ok own) context is = by own.en_ats refl is
     by false e told = absurd (cc)
     by true e told = let same : own ≡ context = cc in (told, ap (λ (c : DeviceContext). c.en_ats) (sym same) ∙ e)
 
-pub may_find_ats : (trusted : ℕ → Bool) (parts : HardwareParts) (id : ℕ) (context : DeviceContext) → IsPlugged (scene_of trusted parts) id
+pub may_find_ats : (trusted : ℕ → Bool) (parts : HardwareParts) (id : ℕ) (context : DeviceContext) → HasDevice (scene_of trusted parts) id
     → ats_context_for parts.memory (registers_of parts.iommu) (contexts_of parts.iommu) id ≡ Ok context
     → MayFind (scene_of trusted parts) id (context_of context) × (context.en_ats ≡ true)
 may_find_ats trusted parts id context plugged found = by (directory_mode (registers_of parts.iommu)) refl found

@@ -40,8 +40,8 @@ use Rattle.iom_registers.specs.Queues.{directory_mode}
 use Rattle.iom_tlb.specs.Content.{Content as Translations}
 use Rattle.iom_tlb.specs.declared.trans_cache.Translation.{Translation}
 use Rattle.iom_reach.specs.Memory.{DiffersAt}
-use Rattle.iom_reach.specs.Occurrences.{AreAmongWithOf, MayBeSent, Translates, CarryMessages, DeliverAnswer}
-use Rattle.iom_reach.specs.Scene.{Mapping, AtsKind, AtsEntry, Message, Question, Answer, IsPlugged}
+use Rattle.iom_reach.specs.Occurrences.{AreAmongWithOf, IsSendable, TranslatesTo, CarryMessages, DeliverAnswer}
+use Rattle.iom_reach.specs.Scene.{Mapping, AtsKind, AtsEntry, Message, Question, Answer, HasDevice}
 use Rattle.iom_hardware_ways.specs.Formats.{context_of}
 use Rattle.iom_hardware_ways.specs.Scenes.{ats_kind, contexts_in, mappings_in, mapping_of, fault_frames_of, kept_entry, kept_entries, said_on, message_of, scene_of}
 use Rattle.iom_hardware_ways.proofs.CarryLemmas.{carried, sent_cases}
@@ -68,7 +68,7 @@ left_cases fabric place device says message there = elim (sent_cases (remove fab
 
 -- the device of a question is plugged in
 asker : (trusted : ℕ → Bool) (old : HardwareParts) (device epoch page : ℕ) → All (IsMessageOf old.devices) old.fabric
-    → Contains old.fabric (record { device = device; message = sent.Ask epoch page }) → IsPlugged (scene_of trusted old) device
+    → Contains old.fabric (record { device = device; message = sent.Ask epoch page }) → HasDevice (scene_of trusted old) device
 asker trusted old device epoch page askers there =
     by (device_with old.devices device) (All-contains (IsMessageOf old.devices) old.fabric (record { device = device; message = sent.Ask epoch page }) askers there).0
   where
@@ -77,12 +77,12 @@ asker trusted old device epoch page askers there =
     by (Some own) is = (ats_kind own.kind, refl)
 
 -- what is sent, what is cached and what is recorded
-module _ (trusted : ℕ → Bool) (old new : HardwareParts) (place device epoch page : ℕ) (says : Told) (there : IsPlugged (scene_of trusted old) device)
+module _ (trusted : ℕ → Bool) (old new : HardwareParts) (place device epoch page : ℕ) (says : Told) (there : HasDevice (scene_of trusted old) device)
     (fabric : new.fabric ≡ with_message (remove old.fabric place) device (sent.Answer epoch page says)) (devices : new.devices ≡ old.devices)
     (flights : flights_of new.iommu ≡ flights_of old.iommu)
     (contexts : KeepsContext old.memory (registers_of old.iommu) (contexts_of old.iommu) device (contexts_of new.iommu))
     (alike_registers : ShowAlike (registers_of new.iommu) (registers_of old.iommu))
-    (may : MayBeSent (scene_of trusted old) (said_on device (sent.Answer epoch page says)))
+    (may : IsSendable (scene_of trusted old) (said_on device (sent.Answer epoch page says)))
     (change : TranslationsChange (scene_of trusted old) (mappings_in (translations_of new.iommu)))
     (memory : MemoryChanges (scene_of trusted old) (slice_get new.memory)) where
   question_answered : Comes (scene_of trusted old) (scene_of trusted new)
@@ -102,7 +102,7 @@ module _ (trusted : ℕ → Bool) (old new : HardwareParts) (place device epoch 
       (one CarryMessages s t (
         messages,
         (λ message is. elim (left_cases old.fabric place device (sent.Answer epoch page says) message is) [
-          | inl same ↦ inl (subst (MayBeSent s) same may)
+          | inl same ↦ inl (subst (IsSendable s) same may)
           | inr before ↦ inr before
         ]),
         refl,
@@ -116,10 +116,10 @@ page_back page = omega arith
 
 -- by the context that lets it through
 told_by : (trusted : ℕ → Bool) (old : HardwareParts) (device epoch page : ℕ) (sure : Bool) (found : Result DeviceContext Cause) (answer : Translation) (kept : Translations)
-    → IsPlugged (scene_of trusted old) device → Contains (map message_of old.fabric) (Question device epoch page)
+    → HasDevice (scene_of trusted old) device → Contains (map message_of old.fabric) (Question device epoch page)
     → found ≡ ats_context_for old.memory (registers_of old.iommu) (contexts_of old.iommu) device
     → ServesBy sure found old.memory (page * 4096) Read (translations_of old.iommu) (Ok answer) kept
-    → MayBeSent (scene_of trusted old) (Answer device epoch page (mapping_of answer)) × TranslationsChange (scene_of trusted old) (mappings_in kept)
+    → IsSendable (scene_of trusted old) (Answer device epoch page (mapping_of answer)) × TranslationsChange (scene_of trusted old) (mappings_in kept)
 told_by trusted old device epoch page sure (Err cause) answer kept there asked is (says, stays) = absurd (cc)
 told_by trusted old device epoch page sure (Ok context) answer kept there asked is serves =
     let (find, set) = may_find_ats trusted old device context there (sym is) in
@@ -130,7 +130,7 @@ told_by trusted old device epoch page sure (Ok context) answer kept there asked 
           context_of context,
           find,
           set,
-          subst (λ n. Translates (scene_of trusted old) (context_of context) n (mapping_of answer)) (page_back page) so.translates,
+          subst (λ n. TranslatesTo (scene_of trusted old) (context_of context) n (mapping_of answer)) (page_back page) so.translates,
         ),
       ),
       so.change,
@@ -146,7 +146,7 @@ unless_there : (b : Bool) (memory : List (List ℕ)) (r : Registers) (f : Fields
 unless_there true memory r f new s (kept, same) = inl (ap slice_get kept)
 unless_there false memory r f new s (answer, puts) = recorded_there memory r f answer new s puts
 
-question_arrives : (trusted : ℕ → Bool) (old : HardwareParts) (place device epoch page : ℕ) (answer : Told) (new : HardwareParts) → IsPlugged (scene_of trusted old) device
+question_arrives : (trusted : ℕ → Bool) (old : HardwareParts) (place device epoch page : ℕ) (answer : Told) (new : HardwareParts) → HasDevice (scene_of trusted old) device
     → Contains (map message_of old.fabric) (Question device epoch page)
     → AnswersAsk old device epoch page (remove old.fabric place) answer new → Comes (scene_of trusted old) (scene_of trusted new)
 question_arrives trusted old place device epoch page (told.Page frame rights) new there asked answers =
@@ -292,7 +292,7 @@ obeys trusted old place device serial range (Some done) fabric new after (Some c
     (carried trusted between new (with_message (remove old.fabric place) device done)
     (is ∙ ap (λ (c : Option Cache). with_delivery old device c fabric) same ∙ ap (λ (f : List OnLink). with_delivery old device (Some left) f) (sends done refl))
     (λ message there. elim (left_cases old.fabric place device done message there) [
-      | inl own ↦ inl (subst (MayBeSent (scene_of trusted between)) (ap (said_on device) (sym does.done) ∙ own) tt)
+      | inl own ↦ inl (subst (IsSendable (scene_of trusted between)) (ap (said_on device) (sym does.done) ∙ own) tt)
       | inr before ↦ inr before
     ]))
 

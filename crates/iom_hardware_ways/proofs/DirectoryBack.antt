@@ -9,7 +9,7 @@ use Rattle.iom_device_dir.specs.Located.{loaded_entry, follow_entry, path_end_fr
 use Rattle.iom_device_dir.specs.Paths.{ddi, ids_below}
 use Rattle.iom_registers.specs.declared.directory.DirectoryMode.{DirectoryMode}
 use Rattle.iom_registers.specs.declared.directory.DirectoryMode.TheVariants as mode
-use Rattle.iom_reach.specs.Memory.{Tables, Goes, Ends, Step}
+use Rattle.iom_reach.specs.Memory.{Tables, Goes, Ends, WalkStep}
 use Rattle.iom_reach.specs.Scene.{Context, Directory, Off, Bare, At}
 use Rattle.iom_hardware_ways.specs.Formats.{word_in, found_context, found_non_leaf, context_of, context_in, context_format, indices_from, steps_of}
 use Rattle.iom_hardware_ways.specs.Laws.{DirectoriesAreFound}
@@ -30,7 +30,7 @@ entry_back (Ok entry) On context follow later goes = later entry.next.number goe
 entry_back (Err cause) On context follow later never = absurd never
 
 -- before the last step a non-leaf entry is read
-below : (memory : List (List ℕ)) (level page id : ℕ) (rest : List Step) (context : Context) (first : Step) (others : List Step) → rest ≡ first ∷ others
+below : (memory : List (List ℕ)) (level page id : ℕ) (rest : List WalkStep) (context : Context) (first : WalkStep) (others : List WalkStep) → rest ≡ first ∷ others
     → Ends context_format (slice_get memory) page (record { frame = 0; place = ddi (suc level) id } ∷ rest) context
     → Goes (found_non_leaf (loaded_entry (word_in (slice_get memory (page + 0)) (8 * ddi (suc level) id)))) (λ next. Ends context_format (slice_get memory) next rest context) (λ said. said ≡ context)
 below memory level page id rest context first others is ends =

@@ -9,7 +9,7 @@ use Rattle.iom_device.specs.Caches.{kind_in, cache_of, epoch_of, epoch_in, with_
 use Rattle.iom_device.specs.Calls.{reset_of}
 use Rattle.iom_hardware.specs.Commits.{Resets, ClearsCache}
 use Rattle.iom_hardware.specs.HardwareParts.{HardwareParts}
-use Rattle.iom_reach.specs.Occurrences.{AreAmong, raised, DropEntries}
+use Rattle.iom_reach.specs.Occurrences.{AreSomeOf, raised, DropEntries}
 use Rattle.iom_reach.specs.Scene.{AtsKind, AtsEntry}
 use Rattle.iom_hardware_ways.specs.Scenes.{ats_kind, kept_entry, kept_entries, scene_of}
 use Rattle.iom_hardware_ways.proofs.CarryLemmas.{by_device}
@@ -33,7 +33,7 @@ with_devices trusted old id cache =
 -- where a device's cache has less, so have all
 pub entries_among : (devices : List Device) (id : ℕ) (cache left : Cache) → cache_of devices id ≡ Some cache
     → ((x : AtsEntry) → Contains (map kept_entry left.entries) x → Contains (map kept_entry cache.entries) x)
-    → AreAmong (entries_in (with_cache devices id (Some left))) (entries_in devices)
+    → AreSomeOf (entries_in (with_cache devices id (Some left))) (entries_in devices)
 entries_among devices id cache left at among d x there = elim (eqb_tells d id) [
   | inl e ↦
       let (device, found, own) = cache_there devices id cache at in

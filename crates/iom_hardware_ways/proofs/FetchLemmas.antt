@@ -35,7 +35,7 @@ use Rattle.iom_tlb.specs.Covers.{are_covering}
 use Rattle.iom_tlb.specs.Invalidations.{covers_of}
 use Rattle.iom_tlb.specs.Content.{Content as Translations, Key, Drops}
 use Rattle.iom_reach.specs.Memory.{DiffersAt}
-use Rattle.iom_reach.specs.Occurrences.{AreAmongWith, IsPartOf, IsMemoryBy, DoCommand}
+use Rattle.iom_reach.specs.Occurrences.{AreSomeOfOr, IsPartOf, IsMemoryBy, DoCommand}
 use Rattle.iom_reach.specs.Scene.{Other}
 use Rattle.iom_hardware_ways.specs.Formats.{word_in, command_in, word_frame, stored_by, context_of}
 use Rattle.iom_hardware_ways.specs.Scenes.{place_at, places_from, waiting_in, contexts_in, mapping_of, mappings_in, cached_key, said_on, message_of, scene_of}
@@ -152,13 +152,13 @@ translations_part out old new drops at value is = by (out (cached_key at)) (drop
 -- MESSAGES
 
 sent_among : (fabric : List OnLink) (device : ℕ) (says : Sent) → said_on device says ≡ Other
-    → AreAmongWith (map message_of (with_message fabric device says)) Other (map message_of fabric)
+    → AreSomeOfOr (map message_of (with_message fabric device says)) Other (map message_of fabric)
 sent_among fabric device says other message there = elim (sent_cases fabric device says message there) [
   | inl same ↦ inl (sym same ∙ other)
   | inr before ↦ inr before
 ]
 
-opened_among : (command : Command) (last : ℕ) (fabric : List OnLink) → AreAmongWith (map message_of (with_opened (Did command) last fabric)) Other (map message_of fabric)
+opened_among : (command : Command) (last : ℕ) (fabric : List OnLink) → AreSomeOfOr (map message_of (with_opened (Did command) last fabric)) Other (map message_of fabric)
 opened_among (IotinvalVma gscid pscid page) last fabric message there = inr there
 opened_among (IotinvalGvma gscid page) last fabric message there = inr there
 opened_among (IofenceC store wsi pr pw) last fabric message there = inr there
@@ -179,7 +179,7 @@ module _ (trusted : ℕ → Bool) (old new : HardwareParts) (command : Command) 
     (processing : is_processing_commands (registers_of old.iommu) ≡ true)
     (head : slice_get (commands_in old.memory (registers_of old.iommu)) 0 ≡ Some (stands.Command command))
     (memory : new.memory ≡ with_store old.memory (store_of command)) (left : IsLeft command old.iommu new.iommu)
-    (devices : new.devices ≡ old.devices) (fabric_is : new.fabric ≡ fabric) (among : AreAmongWith (map message_of fabric) Other (map message_of old.fabric)) where
+    (devices : new.devices ≡ old.devices) (fabric_is : new.fabric ≡ fabric) (among : AreSomeOfOr (map message_of fabric) Other (map message_of old.fabric)) where
   does : Comes (scene_of trusted old) (scene_of trusted new)
   does =
       let r = registers_of old.iommu in

@@ -19,8 +19,8 @@ use Rattle.iom_inflight.specs.declared.made.MadeAt.{MadeAt}
 use Rattle.iom_inflight.proofs.Rows.{row_is_own, row_of_own, row_of_other}
 use Rattle.iom_iommu.specs.Parts.{registers_of, contexts_of, translations_of, flights_of}
 use Rattle.iom_reach.specs.Memory.{DiffersAt}
-use Rattle.iom_reach.specs.Occurrences.{AreAmong, AreAmongWithOf, IsMemoryAfter, IsHarmless, Make, Occurs}
-use Rattle.iom_reach.specs.Scene.{AccessInFlight}
+use Rattle.iom_reach.specs.Occurrences.{AreSomeOf, AreAmongWithOf, IsMemoryAfter, IsHarmless, Make, ComesAbout}
+use Rattle.iom_reach.specs.Scene.{PendingAccess}
 use Rattle.iom_reach.proofs.OccurrenceLemmas.{contains_head, contains_tail}
 use Rattle.iom_hardware_ways.specs.Calls.{IsMadeHarmlessly}
 use Rattle.iom_hardware_ways.specs.Scenes.{flight_of, flights_in, scene_of}
@@ -44,7 +44,7 @@ row_cases rows id row own at same d =
 
 -- the oldest is made: each other was there
 pub made_among : (rows : List FlightRow) (id : ℕ) (row : FlightRow) (oldest : NumberedAccess) (later : List NumberedAccess) → row_of rows id ≡ Some row → row.waiting ≡ oldest ∷ later
-    → AreAmong (λ d. flights_in (row_of (with_row rows (record row { waiting = later })) d)) (λ d. flights_in (row_of rows d))
+    → AreSomeOf (λ d. flights_in (row_of (with_row rows (record row { waiting = later })) d)) (λ d. flights_in (row_of rows d))
 made_among rows id row oldest later at waiting d x there = elim (row_cases rows id row (record row { waiting = later }) at refl d) [
   | inl (own, is) ↦
       let mine : Contains (map flight_of later) x = subst (λ o. Contains (flights_in o) x) is there in
@@ -77,7 +77,7 @@ accepted_among rows id row accepted number at d x there = elim (row_cases rows i
   | inr is ↦ inr (subst (λ o. Contains (flights_in o) x) is there)
 ]
   where
-    last : AccessInFlight
+    last : PendingAccess
     last = flight_of (record { accepted = accepted; number = number })
 
 -- a frame that is written: the others stay
@@ -97,25 +97,25 @@ performed Write memory made new (bytes, there, is) =
 -- the oldest access of the device is made
 pub makes : (trusted : ℕ → Bool) (old : HardwareParts) (id : ℕ) (made : MadeAt) (new : HardwareParts) → MakesAccess id old (Some made) new
     → IsHarmless (scene_of trusted old) id (record { frame = made.frame; kind = made.kind })
-    → Occurs (Make id (record { frame = made.frame; kind = made.kind })) (scene_of trusted old) (scene_of trusted new)
+    → ComesAbout (Make id (record { frame = made.frame; kind = made.kind })) (scene_of trusted old) (scene_of trusted new)
 makes trusted old id made new does harmless =
     let is = does.call.makes in
     let rows = (flights_of old.iommu).rows in
     let own : record { frame = made.frame; kind = made.kind } ≡ flight_of is.oldest = ap (λ (m : MadeAt). as_flight m) is.told in
-    let left : ℕ → List AccessInFlight = λ d. flights_in (row_of (with_row rows (record is.row { waiting = is.later })) d) in (
+    let left : ℕ → List PendingAccess = λ d. flights_in (row_of (with_row rows (record is.row { waiting = is.later })) d) in (
       left,
       slice_get new.memory,
       subst (Contains (flights_in (row_of rows id))) (sym own) (made_there rows id is.row is.oldest is.later is.stands is.waiting),
       made_among rows id is.row is.oldest is.later is.stands is.waiting,
       harmless,
-      subst (λ (x : AccessInFlight). IsMemoryAfter x.kind x.frame (slice_get old.memory) (slice_get new.memory)) (sym own)
+      subst (λ (x : PendingAccess). IsMemoryAfter x.kind x.frame (slice_get old.memory) (slice_get new.memory)) (sym own)
           (performed is.oldest.accepted.access.kind old.memory is.oldest.accepted new.memory is.performed),
       scene_is trusted new new.memory (registers_of old.iommu) (contexts_of old.iommu) (translations_of old.iommu)
           (with_row rows (record is.row { waiting = is.later })) old.devices old.fabric
           refl does.call.registers (ap cached_contexts does.call.contexts) (ap ioatc.content does.call.translations) (ap (λ (f : Flights). f.rows) is.after) does.devices does.fabric,
     )
   where
-    as_flight : MadeAt → AccessInFlight
+    as_flight : MadeAt → PendingAccess
     as_flight m = record { frame = m.frame; kind = m.kind }
 
 pub commits : (trusted : ℕ → Bool) (old : HardwareParts) (id : ℕ) (answer : Result (Option MadeAt) Refusal) (new : HardwareParts) → Commits old id answer new

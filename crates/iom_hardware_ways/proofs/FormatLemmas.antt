@@ -19,7 +19,7 @@ use Rattle.iom_device_dir.specs.Located.{loaded_entry, loaded_context, follow_en
 use Rattle.iom_device_dir.specs.Paths.{ddi, entry_place, context_place, context_words_at, four_context_words, ids_below}
 use Rattle.iom_stage_walk.specs.Entries.{Entries, entries, entry_read, slot}
 use Rattle.iom_stage_walk.specs.Paths.{Reaches, IsLawfulLeaf, pages_spanned, page_in}
-use Rattle.iom_reach.specs.Memory.{Tables, Found, Nothing, Leaf, Step, Goes, Ends}
+use Rattle.iom_reach.specs.Memory.{Tables, Found, Nothing, Leaf, WalkStep, Goes, Ends}
 use Rattle.iom_reach.specs.Scene.{Mapping, At}
 use Rattle.iom_hardware_ways.specs.Formats.{word_in, step_at, index_of, found_leaf, found_entry, entry_format, found_context, found_non_leaf, context_of, context_in, context_format, indices_from, steps_of}
 use Rattle.iom_hardware_ways.specs.Scenes.{directory_by}
@@ -108,7 +108,7 @@ pub non_leaf_there : (memory : List (List ℕ)) (page index : ℕ) → index < 5
     → word_at 8 memory (entry_place page index) ≡ word_in (slice_get memory (page + 0)) (8 * index)
 non_leaf_there memory page index low = word_there memory (4096 * page + 8 * index) (page + 0) (8 * index) (omega arith) (omega (arith, low)) (omega arith)
 
-follows : (memory : List (List ℕ)) (loaded : Result NonLeafEntry Cause) (follow : ℕ → Result DeviceContext Cause) (steps : List Step) (context : DeviceContext)
+follows : (memory : List (List ℕ)) (loaded : Result NonLeafEntry Cause) (follow : ℕ → Result DeviceContext Cause) (steps : List WalkStep) (context : DeviceContext)
     → ((next : ℕ) → follow next ≡ Ok context → Ends context_format (slice_get memory) next steps (context_of context))
     → follow_entry loaded follow ≡ Ok context
     → Goes (found_non_leaf loaded) (λ next. Ends context_format (slice_get memory) next steps (context_of context)) (λ said. said ≡ context_of context)
@@ -119,7 +119,7 @@ loaded_leaf : (loaded : Result DeviceContext Cause) (On : ℕ → Type 0) (conte
     → Goes (found_context loaded) On (λ said. said ≡ context_of context)
 loaded_leaf loaded On context is = subst (λ l. Goes (found_context l) On (λ said. said ≡ context_of context)) (sym is) refl
 
-ends_below : (memory : List (List ℕ)) (level page id : ℕ) (rest : List Step) (context : DeviceContext) (first : Step) (others : List Step) → rest ≡ first ∷ others
+ends_below : (memory : List (List ℕ)) (level page id : ℕ) (rest : List WalkStep) (context : DeviceContext) (first : WalkStep) (others : List WalkStep) → rest ≡ first ∷ others
     → Goes (found_non_leaf (loaded_entry (word_in (slice_get memory (page + 0)) (8 * ddi (suc level) id)))) (λ next. Ends context_format (slice_get memory) next rest (context_of context)) (λ said. said ≡ context_of context)
     → Ends context_format (slice_get memory) page (record { frame = 0; place = ddi (suc level) id } ∷ rest) (context_of context)
 ends_below memory level page id rest context first others is goes =
@@ -128,7 +128,7 @@ ends_below memory level page id rest context first others is goes =
     (subst (λ steps. Goes (found_non_leaf (loaded_entry (word_in (slice_get memory (page + 0)) (8 * ddi (suc level) id)))) (λ next. Ends context_format (slice_get memory) next steps (context_of context)) (λ said. said ≡ context_of context)) is goes)
 
 -- the indices are some
-pub some_indices : (level id : ℕ) → (first : Step) × (others : List Step) × (indices_from level id ≡ first ∷ others)
+pub some_indices : (level id : ℕ) → (first : WalkStep) × (others : List WalkStep) × (indices_from level id ≡ first ∷ others)
 some_indices zero id = (record { frame = 0; place = ddi 0 id }, [], refl)
 some_indices (suc level) id = (record { frame = 0; place = ddi (suc level) id }, indices_from level id, refl)
 

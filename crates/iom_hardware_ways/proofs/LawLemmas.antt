@@ -8,11 +8,11 @@ use Rattle.iom_hardware.specs.declared.hardware.Hardware.{Hardware}
 use Rattle.iom_inflight.specs.declared.made.MadeAt.{MadeAt}
 use Rattle.iom_registers.specs.Queues.{directory_mode, directory_root}
 use Rattle.iom_registers.specs.declared.registers.Registers.{Registers}
-use Rattle.iom_reach.specs.Memory.{Tables, Step}
-use Rattle.iom_reach.specs.Occurrences.{Make, Occurs}
+use Rattle.iom_reach.specs.Memory.{Tables, WalkStep}
+use Rattle.iom_reach.specs.Occurrences.{Make, ComesAbout}
 use Rattle.iom_reach.specs.Safe.{IsRead, IsSafe, AreTimely}
 use Rattle.iom_reach.specs.Scene.{AddressSpace, Off, At, Message, Question, Answer, PartialWalk, Place}
-use Rattle.iom_reach.specs.Ways.{Begins, AtRoot, PartWay}
+use Rattle.iom_reach.specs.Ways.{WalkBegins, AtRoot, PartWay}
 use Rattle.iom_reach.proofs.LawLemmas.{turns_add_no_way, accesses_had_ways}
 use Rattle.iom_hardware_ways.specs.Calls.{HardwareCall, DoInTurn}
 use Rattle.iom_hardware_ways.specs.Laws.{CallsAddNoWay, MakesIn, MadeAccessesHadWays, QuietStaysQuiet, GoodClaimsHold, FreeStaysFree, BeginsSafe}
@@ -37,7 +37,7 @@ calls_add_no_way trusted calls events old new safe timely turns =
 
 -- a commit that makes an access is one
 pub made_so : (trusted : ℕ → Bool) (old : HardwareParts) (id : ℕ) (made : MadeAt) (new : HardwareParts) → MakesIn trusted old id made new
-    → Occurs (Make id (record { frame = made.frame; kind = made.kind })) (scene_of trusted old) (scene_of trusted new)
+    → ComesAbout (Make id (record { frame = made.frame; kind = made.kind })) (scene_of trusted old) (scene_of trusted new)
 made_so trusted old id made new (inl absent, harmless) = absurd (let never = absent.answered in cc)
 made_so trusted old id made new (inr (inl other), harmless) = absurd (let never = other.answered in cc)
 made_so trusted old id made new (inr (inr so), harmless) =
@@ -72,7 +72,7 @@ module _ (trusted : ℕ → Bool) (frames : ℕ) (disks : List ℕ) (hardware : 
   no_directory : (tables : Tables) → (scene_of trusted (hardware_parts hardware)).directory ≡ At tables → ⊥
   no_directory tables at = off_at tables (sym (ap (λ (r : Registers). directory_by (directory_mode r) (directory_root r)) on.iommu.registers) ∙ at)
 
-  none_begins : (space : AddressSpace) (table : ℕ) (steps_to : ℕ → List Step) → Begins (scene_of trusted (hardware_parts hardware)) space table steps_to → ⊥
+  none_begins : (space : AddressSpace) (table : ℕ) (steps_to : ℕ → List WalkStep) → WalkBegins (scene_of trusted (hardware_parts hardware)) space table steps_to → ⊥
   none_begins space table steps_to (AtRoot device context tables (plugged, (tree, at), stands) is decide root all) = no_directory tree at
   none_begins space table steps_to (PartWay device there) = in_none {X = PartialWalk} (record { device = device; space = space; table = table; steps_to = steps_to }) there
 

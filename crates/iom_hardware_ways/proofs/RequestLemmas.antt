@@ -40,10 +40,10 @@ use Rattle.iom_registers.specs.Queues.{directory_mode, directory_root}
 use Rattle.iom_stage_walk.specs.declared.walked.WalkFault.{WalkFault}
 use Rattle.iom_tlb.specs.Content.{Content as Translations, Stays}
 use Rattle.iom_tlb.specs.declared.trans_cache.Translation.{Translation}
-use Rattle.iom_reach.specs.Memory.{Step}
-use Rattle.iom_reach.specs.Occurrences.{IsServed, InModeBare, Requested, FromEntry, Forged, Accept}
-use Rattle.iom_reach.specs.Scene.{Mapping, AddressSpace, SpacePage, AccessInFlight, Forges, Caches, Message, Scene, IsPlugged}
-use Rattle.iom_reach.specs.Ways.{Begins, AtRoot, PartWay}
+use Rattle.iom_reach.specs.Memory.{WalkStep}
+use Rattle.iom_reach.specs.Occurrences.{IsAdmitted, InModeBare, Requested, FromEntry, Forged, Accept}
+use Rattle.iom_reach.specs.Scene.{Mapping, AddressSpace, SpacePage, PendingAccess, Forges, Caches, Message, Scene, HasDevice}
+use Rattle.iom_reach.specs.Ways.{WalkBegins, AtRoot, PartWay}
 use Rattle.iom_hardware_ways.specs.Formats.{context_of}
 use Rattle.iom_hardware_ways.specs.Scenes.{ats_kind, directory_by, contexts_in, mappings_in, mapping_of, kept_entry, kept_entries, flights_in, scene_of}
 use Rattle.iom_hardware_ways.proofs.CarryLemmas.{by_device}
@@ -57,16 +57,16 @@ use Rattle.iom_hardware_ways.proofs.TranslationLemmas.{answered_by, faulted_by, 
 use Rattle.iom_hardware_ways.proofs.Turns.{Comes, nothing, one, in_succession, ends_as}
 
 -- a device that does something is plugged in
-pub plugged : (trusted : ℕ → Bool) (old : HardwareParts) (can : DeviceKind → Bool) (id : ℕ) → IsAble can old.devices id → IsPlugged (scene_of trusted old) id
+pub plugged : (trusted : ℕ → Bool) (old : HardwareParts) (can : DeviceKind → Bool) (id : ℕ) → IsAble can old.devices id → HasDevice (scene_of trusted old) id
 plugged trusted old can id (kind, there, able) = (ats_kind kind, ap (option_map ats_kind) there)
 
 -- what is kept of a walk is so too where other accesses and messages are under way
-begins_so : (s : Scene) (f : ℕ → List AccessInFlight) (m : List Message) (space : AddressSpace) (table : ℕ) (steps_to : ℕ → List Step) → Begins s space table steps_to
-    → Begins (record s { in_flight = f; messages = m }) space table steps_to
+begins_so : (s : Scene) (f : ℕ → List PendingAccess) (m : List Message) (space : AddressSpace) (table : ℕ) (steps_to : ℕ → List WalkStep) → WalkBegins s space table steps_to
+    → WalkBegins (record s { in_flight = f; messages = m }) space table steps_to
 begins_so s f m space table steps_to (AtRoot device context tables find is decide root all) = AtRoot device context tables find is decide root all
 begins_so s f m space table steps_to (PartWay device there) = PartWay device there
 
-pub change_so : (s : Scene) (f : ℕ → List AccessInFlight) (m : List Message) (kept : SpacePage → Option Mapping) → TranslationsChange s kept
+pub change_so : (s : Scene) (f : ℕ → List PendingAccess) (m : List Message) (kept : SpacePage → Option Mapping) → TranslationsChange s kept
     → TranslationsChange (record s { in_flight = f; messages = m }) kept
 change_so s f m kept (inl part) = inl part
 change_so s f m kept (inr (space, table, steps_to, page, mapping, begins, walked, part)) =
@@ -74,17 +74,17 @@ change_so s f m kept (inr (space, table, steps_to, page, mapping, begins, walked
 
 -- AN ACCESS IS ACCEPTED
 accepted : (trusted : ℕ → Bool) (old new : HardwareParts) (id : ℕ) (access : Access) (number : ℕ) (Served : Result Translation WalkFault → Translations → Type 0)
-    → IsPlugged (scene_of trusted old) id → Accepts Served old.memory old.iommu id access number new.iommu → new.memory ≡ old.memory → new.devices ≡ old.devices → new.fabric ≡ old.fabric
+    → HasDevice (scene_of trusted old) id → Accepts Served old.memory old.iommu id access number new.iommu → new.memory ≡ old.memory → new.devices ≡ old.devices → new.fabric ≡ old.fabric
     → ((answer : Translation) (kept : Translations) → Served (Ok answer) kept
-    → IsServed (scene_of trusted old) id answer.frame access.kind × TranslationsChange (scene_of trusted old) (mappings_in kept))
+    → IsAdmitted (scene_of trusted old) id answer.frame access.kind × TranslationsChange (scene_of trusted old) (mappings_in kept))
     → Comes (scene_of trusted old) (scene_of trusted new)
 accepted trusted old new id access number Served there accepts memory devices fabric why =
     let s = scene_of trusted old in
     let rows = (flights_of old.iommu).rows in
     let is = accepts.accepted in
     let after = with_row rows (with_access is.row (record { access = access; frame = accepts.frame }) ((flights_of old.iommu).so_far + 1)) in
-    let flights : ℕ → List AccessInFlight = λ d. flights_in (row_of after d) in
-    let own : AccessInFlight = record { frame = accepts.frame; kind = access.kind } in
+    let flights : ℕ → List PendingAccess = λ d. flights_in (row_of after d) in
+    let own : PendingAccess = record { frame = accepts.frame; kind = access.kind } in
     let t = record s { in_flight = flights } in
     let (served, change) = why (record { frame = accepts.frame; rights = accepts.rights }) (translations_of new.iommu) accepts.served in
     let mode = directory_mode (registers_of old.iommu) in
@@ -101,7 +101,7 @@ accepted trusted old new id access number Served there accepts memory devices fa
 
 -- IT IS REFUSED
 refused : (trusted : ℕ → Bool) (old new : HardwareParts) (id : ℕ) (access : Access) (cause : Cause) (Served : Result Translation WalkFault → Translations → Type 0) (transaction : Transaction)
-    → IsPlugged (scene_of trusted old) id → Refuses Served transaction old.memory old.iommu id access cause new.memory new.iommu → new.devices ≡ old.devices → new.fabric ≡ old.fabric
+    → HasDevice (scene_of trusted old) id → Refuses Served transaction old.memory old.iommu id access cause new.memory new.iommu → new.devices ≡ old.devices → new.fabric ≡ old.fabric
     → ((fault : WalkFault) (kept : Translations) → Served (Err fault) kept → Stays (translations_of old.iommu) kept)
     → Comes (scene_of trusted old) (scene_of trusted new)
 refused trusted old new id access cause Served transaction there refuses devices fabric why =
@@ -129,9 +129,9 @@ unchanged trusted old new same memory devices fabric =
 
 -- WHATEVER THE ANSWER
 answered : (trusted : ℕ → Bool) (old new : HardwareParts) (id : ℕ) (access : Access) (Served : Result Translation WalkFault → Translations → Type 0) (transaction : Transaction) (reply : Reply)
-    → IsPlugged (scene_of trusted old) id → Replies (Answers Served transaction old.memory old.iommu id access) old reply new
+    → HasDevice (scene_of trusted old) id → Replies (Answers Served transaction old.memory old.iommu id access) old reply new
     → ((answer : Translation) (kept : Translations) → Served (Ok answer) kept
-    → IsServed (scene_of trusted old) id answer.frame access.kind × TranslationsChange (scene_of trusted old) (mappings_in kept))
+    → IsAdmitted (scene_of trusted old) id answer.frame access.kind × TranslationsChange (scene_of trusted old) (mappings_in kept))
     → ((fault : WalkFault) (kept : Translations) → Served (Err fault) kept → Stays (translations_of old.iommu) kept)
     → Comes (scene_of trusted old) (scene_of trusted new)
 answered trusted old new id access Served transaction BadSpan there replies served faults = unchanged trusted old new replies.call.1 replies.call.2 replies.devices replies.fabric
@@ -145,9 +145,9 @@ answered trusted old new id access Served transaction (Fault cause) there replie
 
 -- by the context that was found
 served_by : (trusted : ℕ → Bool) (old : HardwareParts) (id address : ℕ) (kind : AccessKind) (sure : Bool) (found : Result DeviceContext Cause) (answer : Translation) (kept : Translations)
-    → IsPlugged (scene_of trusted old) id → HasDirectory trusted old → found ≡ context_for old.memory (registers_of old.iommu) (contexts_of old.iommu) id
+    → HasDevice (scene_of trusted old) id → HasDirectory trusted old → found ≡ context_for old.memory (registers_of old.iommu) (contexts_of old.iommu) id
     → ServesBy sure found old.memory address kind (translations_of old.iommu) (Ok answer) kept
-    → IsServed (scene_of trusted old) id answer.frame kind × TranslationsChange (scene_of trusted old) (mappings_in kept)
+    → IsAdmitted (scene_of trusted old) id answer.frame kind × TranslationsChange (scene_of trusted old) (mappings_in kept)
 served_by trusted old id address kind sure (Err cause) answer kept there directory is (told, stays) = absurd (cc)
 served_by trusted old id address kind sure (Ok context) answer kept there directory is serves =
     let find = may_find trusted old id context there directory (sym is) in
@@ -155,9 +155,9 @@ served_by trusted old id address kind sure (Ok context) answer kept there direct
     (Requested (context_of context) (address / 4096) (mapping_of answer) find so.translates (refl, so.allowed), so.change)
 
 served_in : (trusted : ℕ → Bool) (old : HardwareParts) (id address : ℕ) (kind : AccessKind) (sure : Bool) (answer : Translation) (kept : Translations)
-    → IsPlugged (scene_of trusted old) id → (m : DirectoryMode) → m ≡ directory_mode (registers_of old.iommu)
+    → HasDevice (scene_of trusted old) id → (m : DirectoryMode) → m ≡ directory_mode (registers_of old.iommu)
     → ServesIn sure m (context_for old.memory (registers_of old.iommu) (contexts_of old.iommu) id) old.memory address kind (translations_of old.iommu) (Ok answer) kept
-    → IsServed (scene_of trusted old) id answer.frame kind × TranslationsChange (scene_of trusted old) (mappings_in kept)
+    → IsAdmitted (scene_of trusted old) id answer.frame kind × TranslationsChange (scene_of trusted old) (mappings_in kept)
 served_in trusted old id address kind sure answer kept there mode.Off is (told, stays) = absurd (cc)
 served_in trusted old id address kind sure answer kept there mode.Bare is (told, stays) =
     (InModeBare there (ap (λ k. directory_by k (directory_root (registers_of old.iommu))) (sym is)), inl (stays_shown (translations_of old.iommu) kept stays))
@@ -196,11 +196,11 @@ requests trusted can old id access answer new call =
 -- TRANSLATED REQUESTS
 
 -- at the address itself, by a context that lets it through
-module _ (trusted : ℕ → Bool) (old : HardwareParts) (id : ℕ) (access : Access) (there : IsPlugged (scene_of trusted old) id)
+module _ (trusted : ℕ → Bool) (old : HardwareParts) (id : ℕ) (access : Access) (there : HasDevice (scene_of trusted old) id)
     (why : (context : DeviceContext) (answer : Translation) → ats_context_for old.memory (registers_of old.iommu) (contexts_of old.iommu) id ≡ Ok context
-    → answer.frame ≡ access.address / 4096 → IsServed (scene_of trusted old) id answer.frame access.kind) where
+    → answer.frame ≡ access.address / 4096 → IsAdmitted (scene_of trusted old) id answer.frame access.kind) where
   let_through : (found : Result DeviceContext Cause) → found ≡ ats_context_for old.memory (registers_of old.iommu) (contexts_of old.iommu) id
-      → (answer : Translation) → Ok answer ≡ physical_page found old.memory access.address access.kind → IsServed (scene_of trusted old) id answer.frame access.kind
+      → (answer : Translation) → Ok answer ≡ physical_page found old.memory access.address access.kind → IsAdmitted (scene_of trusted old) id answer.frame access.kind
   let_through (Err cause) is answer told = absurd (cc)
   let_through (Ok context) is answer told = why context answer (sym is) (own_frame old.memory access.address access.kind answer told).0
 
@@ -273,7 +273,7 @@ cache_gives devices id page kind frame is = by (cache_of devices id) refl is
 back_at : (frame offset : ℕ) → (frame * 4096 + offset % 4096) / 4096 ≡ frame
 back_at frame offset = omega arith
 
-goes_by_cache : (trusted : ℕ → Bool) (old : HardwareParts) (id : ℕ) (access : Access) (there : IsPlugged (scene_of trusted old) id) → HaveTheirCaches old.devices
+goes_by_cache : (trusted : ℕ → Bool) (old : HardwareParts) (id : ℕ) (access : Access) (there : HasDevice (scene_of trusted old) id) → HaveTheirCaches old.devices
     → (found : Option ℕ) → found ≡ frame_in_cache old id access → (reply : CacheReply) (new : HardwareParts) → LooksUp found id access old reply new
     → Comes (scene_of trusted old) (scene_of trusted new)
 goes_by_cache trusted old id access there caches None is Miss new same = nothing (scene_of trusted old) (scene_of trusted new) (ap (scene_of trusted) same)
@@ -296,7 +296,7 @@ pub requests_through_cache : (trusted : ℕ → Bool) (can : DeviceKind → Bool
 requests_through_cache trusted can old id access answer new caches call =
     by_device trusted can (GoesByCache id access) old id answer new call (λ reply able told goes. by reply (plugged trusted old can id able) goes)
   where
-    by : (reply : CacheReply) → IsPlugged (scene_of trusted old) id → GoesByCache id access old reply new → Comes (scene_of trusted old) (scene_of trusted new)
+    by : (reply : CacheReply) → HasDevice (scene_of trusted old) id → GoesByCache id access old reply new → Comes (scene_of trusted old) (scene_of trusted new)
     by reply there (inl (outside, told, same)) = nothing (scene_of trusted old) (scene_of trusted new) (ap (scene_of trusted) same)
     by reply there (inr (inl (within, full, told, same))) = nothing (scene_of trusted old) (scene_of trusted new) (ap (scene_of trusted) same)
     by reply there (inr (inr (within, room, looks))) = goes_by_cache trusted old id access there caches (frame_in_cache old id access) refl reply new looks

@@ -26,10 +26,10 @@ use Rattle.iom_tlb.specs.declared.space.Space.{Space}
 use Rattle.iom_tlb.specs.declared.space.Space.TheVariants as space
 use Rattle.iom_tlb.specs.declared.trans_cache.Translation.{Translation}
 use Rattle.iom_tlb.proofs.KeyLemmas.{one_or_other}
-use Rattle.iom_reach.specs.Memory.{Step}
-use Rattle.iom_reach.specs.Occurrences.{IsPartOf, IsPartWith, IsWalked, Translates, ToItself, ByCache, ByWalk}
+use Rattle.iom_reach.specs.Memory.{WalkStep}
+use Rattle.iom_reach.specs.Occurrences.{IsPartOf, IsPartWith, WalkGives, TranslatesTo, ToItself, ByCache, ByWalk}
 use Rattle.iom_reach.specs.Scene.{Mapping, AddressSpace, First as InFirst, Second as InSecond, Both as InBoth, SpacePage, Context, Scene}
-use Rattle.iom_reach.specs.Ways.{space_of, tables_of, MayFind, Begins, AtRoot}
+use Rattle.iom_reach.specs.Ways.{space_of, tables_of, MayFind, WalkBegins, AtRoot}
 use Rattle.iom_hardware_ways.specs.Formats.{steps_along, steps_in, stages_in, context_of}
 use Rattle.iom_hardware_ways.specs.Scenes.{cached_space, cached_key, mapping_from, mapping_of, mappings_in, scene_of}
 use Rattle.iom_hardware_ways.proofs.Changes.{TranslationsChange}
@@ -94,8 +94,8 @@ used (Some found) kind own is = by (allows found.rights kind) refl is
 -- WALKS
 
 -- what a walk of the context's stages reaches is what a walk of a scene gives, and allows the access
-abbrev IsWalkOf : Scene → ℕ → (ℕ → List Step) → AccessKind → Walked → Type 0
-IsWalkOf scene table steps_to kind walked = IsWalked scene table steps_to (mapping_of (translation_of walked)) × (allows walked.rights kind ≡ true)
+abbrev IsWalkOf : Scene → ℕ → (ℕ → List WalkStep) → AccessKind → Walked → Type 0
+IsWalkOf scene table steps_to kind walked = WalkGives scene table steps_to (mapping_of (translation_of walked)) × (allows walked.rights kind ≡ true)
 
 first_walked : (trusted : ℕ → Bool) (parts : HardwareParts) (levels root address : ℕ) (kind : AccessKind) (walked : Walked)
     → ReachesFirst levels parts.memory root address kind walked → IsWalkOf (scene_of trusted parts) root (λ page. steps_along (first_widths levels) page) kind walked
@@ -133,13 +133,13 @@ both_walked trusted parts levels levels' guest root address kind walked reaches 
 
 -- the page is translated so, for an access that the right allows, and these are cached then
 pub record IsAnswered (scene : Scene) (context : Context) (page : ℕ) (kind : AccessKind) (answer : Translation) (kept : SpacePage → Option Mapping) : Type 0 where
-  pub translates : Translates scene context page (mapping_of answer)
+  pub translates : TranslatesTo scene context page (mapping_of answer)
   pub allowed : allows answer.rights kind ≡ true
   pub change : TranslationsChange scene kept
 
 -- by the cache, or by a walk
-module _ (trusted : ℕ → Bool) (parts : HardwareParts) (context : Context) (s : AddressSpace) (page : ℕ) (kind : AccessKind) (table : ℕ) (steps_to : ℕ → List Step)
-    (within : space_of context.stages ≡ Some s) (begins : Begins (scene_of trusted parts) s table steps_to) where
+module _ (trusted : ℕ → Bool) (parts : HardwareParts) (context : Context) (s : AddressSpace) (page : ℕ) (kind : AccessKind) (table : ℕ) (steps_to : ℕ → List WalkStep)
+    (within : space_of context.stages ≡ Some s) (begins : WalkBegins (scene_of trusted parts) s table steps_to) where
   looked_or_walked : (Reaches : Walked → Type 0) (Stops : WalkFault → Type 0) (sure : Bool) (answer : Translation) (new : Translations)
       → ((walked : Walked) → Reaches walked → IsWalkOf (scene_of trusted parts) table steps_to kind walked)
       → (cached : Option Translation) → cached ≡ cached_for (translations_of parts.iommu (cached_space s, page)) kind
@@ -156,7 +156,7 @@ module _ (trusted : ℕ → Bool) (parts : HardwareParts) (context : Context) (s
   looked_or_walked Reaches Stops sure answer new walks None is (walked, reaches, same, inl sets) =
       let (gives, allowed) = walks walked reaches in
       record {
-        translates = ByWalk s table steps_to within begins (subst (λ t. IsWalked (scene_of trusted parts) table steps_to (mapping_of t)) (sym same) gives);
+        translates = ByWalk s table steps_to within begins (subst (λ t. WalkGives (scene_of trusted parts) table steps_to (mapping_of t)) (sym same) gives);
         allowed = ap (λ (t : Translation). allows t.rights kind) same ∙ allowed;
         change = inr (
           s,
@@ -172,7 +172,7 @@ module _ (trusted : ℕ → Bool) (parts : HardwareParts) (context : Context) (s
   looked_or_walked Reaches Stops sure answer new walks None is (walked, reaches, same, inr (unsure, none, stays)) =
       let (gives, allowed) = walks walked reaches in
       record {
-        translates = ByWalk s table steps_to within begins (subst (λ t. IsWalked (scene_of trusted parts) table steps_to (mapping_of t)) (sym same) gives);
+        translates = ByWalk s table steps_to within begins (subst (λ t. WalkGives (scene_of trusted parts) table steps_to (mapping_of t)) (sym same) gives);
         allowed = ap (λ (t : Translation). allows t.rights kind) same ∙ allowed;
         change = inl (stays_shown (translations_of parts.iommu) new stays);
       }

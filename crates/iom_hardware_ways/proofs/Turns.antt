@@ -1,20 +1,20 @@
 -- Occurrences one after another.
 use Rattle.std.proofs.Common.{◌≡◌, ◌++◌, List, [], ◌∷◌, refl, sym, subst}
-use Rattle.iom_reach.specs.Occurrences.{Occurrence, Occurs, OccurInTurn}
+use Rattle.iom_reach.specs.Occurrences.{Occurrence, ComesAbout, ComeInTurn}
 use Rattle.iom_reach.specs.Scene.{Scene}
 
 -- the one scene comes of the other by some occurrences
 abbrev pub Comes : Scene → Scene → Type 0
-Comes old new = (occurrences : List Occurrence) × OccurInTurn old occurrences new
+Comes old new = (occurrences : List Occurrence) × ComeInTurn old occurrences new
 
 pub nothing : (old new : Scene) → new ≡ old → Comes old new
 nothing old new same = ([], same)
 
-pub one : (occurrence : Occurrence) (old new : Scene) → Occurs occurrence old new → Comes old new
+pub one : (occurrence : Occurrence) (old new : Scene) → ComesAbout occurrence old new → Comes old new
 one occurrence old new occurs = (occurrence ∷ [], (new, occurs, refl))
 
-in_turn : (some others : List Occurrence) (old between new : Scene) → OccurInTurn old some between → OccurInTurn between others new → OccurInTurn old (some ++ others) new
-in_turn [] others old between new same later = subst (λ s. OccurInTurn s others new) same later
+in_turn : (some others : List Occurrence) (old between new : Scene) → ComeInTurn old some between → ComeInTurn between others new → ComeInTurn old (some ++ others) new
+in_turn [] others old between new same later = subst (λ s. ComeInTurn s others new) same later
 in_turn (first ∷ some) others old between new (next, now, rest) later = (next, now, in_turn some others next between new rest later)
 
 pub in_succession : (old between new : Scene) → Comes old between → Comes between new → Comes old new

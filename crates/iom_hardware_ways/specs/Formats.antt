@@ -25,7 +25,7 @@ use Rattle.iom_stage_walk.specs.declared.entry.Entry.TheVariants as entry
 use Rattle.iom_stage_walk.specs.Entries.{entry_read}
 use Rattle.iom_stage_walk.specs.Paths.{pages_spanned, page_in, path_of, first_widths}
 use Rattle.iom_stage_walk.specs.Second.{second_widths}
-use Rattle.iom_reach.specs.Memory.{Frame, Found, Nothing, Pointer, Leaf, Format, Step}
+use Rattle.iom_reach.specs.Memory.{Frame, Found, Nothing, Pointer, Leaf, Format, WalkStep}
 use Rattle.iom_reach.specs.Scene.{Mapping, Stages, NoStage, FirstStage, SecondStage, BothStages, Context, Formats}
 
 -- the word of eight bytes at an offset of a frame, the least byte first; none, where memory has no such frame
@@ -35,10 +35,10 @@ word_in frame offset = option_map (λ bytes. little_number 8 (drop offset bytes)
 -- PAGE TABLES
 
 -- the step at an index of a table, of which each frame has 512 entries, and the index of a step
-abbrev pub step_at : ℕ → Step
+abbrev pub step_at : ℕ → WalkStep
 step_at index = record { frame = index / table_entries; place = index % table_entries }
 
-abbrev pub index_of : Step → ℕ
+abbrev pub index_of : WalkStep → ℕ
 index_of step = table_entries * step.frame + step.place
 
 -- a leaf gives the page that the indices below it name its frame, where it is aligned to what it spans; else it faults
@@ -47,7 +47,7 @@ found_leaf base rights below =
     if base % pages_spanned below == 0 then Leaf (record { frame = base + page_in below; rights = rights }) else Nothing
 
 -- what an entry is to a walk, with these steps left
-abbrev pub found_entry : Entry → List Step → Found Mapping
+abbrev pub found_entry : Entry → List WalkStep → Found Mapping
 found_entry entry.Outside left = Nothing
 found_entry entry.Invalid left = Nothing
 found_entry (entry.Pointer next) left = Pointer next
@@ -57,11 +57,11 @@ abbrev pub entry_format : Format Mapping
 entry_format frame place left = found_entry (entry_read (word_in frame (entry_size * place))) left
 
 -- the steps of a walk to a page, in tables of these widths
-abbrev pub steps_along : List ℕ → ℕ → List Step
+abbrev pub steps_along : List ℕ → ℕ → List WalkStep
 steps_along widths page = map step_at (path_of widths page)
 
 -- in both stages it is a page of the second's that counts: a guest physical page
-abbrev pub steps_in : Stages → ℕ → List Step
+abbrev pub steps_in : Stages → ℕ → List WalkStep
 steps_in NoStage page = []
 steps_in (FirstStage pscid tables) page = steps_along (first_widths tables.levels) page
 steps_in (SecondStage gscid tables) page = steps_along (second_widths tables.levels) page
@@ -102,12 +102,12 @@ context_format frame place [] = found_context (context_in frame (context_size * 
 context_format frame place (step ∷ left) = found_non_leaf (loaded_entry (word_in frame (entry_size * place)))
 
 -- the steps along the indices of a device's id, one a level
-abbrev pub indices_from : ℕ → ℕ → List Step
+abbrev pub indices_from : ℕ → ℕ → List WalkStep
 indices_from zero device = record { frame = 0; place = ddi 0 device } ∷ []
 indices_from (suc level) device = record { frame = 0; place = ddi (suc level) device } ∷ indices_from level device
 
 -- an id that is too wide for so many levels has none
-abbrev pub steps_of : ℕ → ℕ → List Step
+abbrev pub steps_of : ℕ → ℕ → List WalkStep
 steps_of zero device = []
 steps_of (suc level) device = if nat_lt device (ids_below level) then indices_from level device else []
 

@@ -19,12 +19,12 @@ use Rattle.iom_hardware.specs.Sound.{IsSoundHardware}
 use Rattle.iom_hardware.specs.declared.hardware.Hardware.{Hardware}
 use Rattle.iom_inflight.specs.declared.made.MadeAt.{MadeAt}
 use Rattle.iom_ledger.specs.History.{History, May}
-use Rattle.iom_reach.specs.Laws.{AddsNoWay, UsesNoMore, Permission, IsQuiet, IsFree}
+use Rattle.iom_reach.specs.Laws.{AddsNoWay, UsesNoMore, Permission, HasAllowedWaysAlone, IsOutOfReach}
 use Rattle.iom_reach.specs.Memory.{Tables, Ends}
-use Rattle.iom_reach.specs.Occurrences.{Occurrence, OccurInTurn}
+use Rattle.iom_reach.specs.Occurrences.{Occurrence, ComeInTurn}
 use Rattle.iom_reach.specs.Safe.{IsSafe, AreTimely}
 use Rattle.iom_reach.specs.Scene.{Mapping, Context, At}
-use Rattle.iom_reach.specs.Ways.{Leads, Way}
+use Rattle.iom_reach.specs.Ways.{LeadsTo, Way}
 use Rattle.iom_hardware_ways.specs.Formats.{steps_along, steps_of, context_of, formats}
 use Rattle.iom_hardware_ways.specs.Scenes.{directory_by, mapping_from, scene_of}
 use Rattle.iom_hardware_ways.specs.Calls.{HardwareCall, CallDoes, DoesHarmlessly, IsMadeHarmlessly, DoInTurn}
@@ -39,32 +39,32 @@ without_guest mapping = record { frame = mapping.frame; rights = mapping.rights;
 abbrev pub FirstStagesLead : Type 0
 FirstStagesLead = (levels : ℕ) (memory : List (List ℕ)) (root address : ℕ) (kind : AccessKind) (walked : Walked)
     → ReachesFirst levels memory root address kind walked
-    → Leads formats (slice_get memory) root (λ page. steps_along (first_widths levels) page) (mapping_from walked.frame walked.rights)
+    → LeadsTo formats (slice_get memory) root (λ page. steps_along (first_widths levels) page) (mapping_from walked.frame walked.rights)
 
 -- the same of a second stage
 abbrev pub SecondStagesLead : Type 0
 SecondStagesLead = (levels : ℕ) (memory : List (List ℕ)) (root address : ℕ) (kind : AccessKind) (walked : Walked)
     → ReachesSecond levels memory root address kind walked
-    → Leads formats (slice_get memory) root (λ page. steps_along (second_widths levels) page) (mapping_from walked.frame walked.rights)
+    → LeadsTo formats (slice_get memory) root (λ page. steps_along (second_widths levels) page) (mapping_from walked.frame walked.rights)
 
 -- of both a walk of the second leads to the frame, and allows at least as much
 abbrev pub BothStagesLead : Type 0
 BothStagesLead = (levels levels' : ℕ) (memory : List (List ℕ)) (guest root address : ℕ) (kind : AccessKind) (walked : Walked)
     → ReachesBoth levels levels' memory guest root address kind walked
-    → (rights : Rights) × Leads formats (slice_get memory) root (λ page. steps_along (second_widths levels') page) (mapping_from walked.frame rights)
+    → (rights : Rights) × LeadsTo formats (slice_get memory) root (λ page. steps_along (second_widths levels') page) (mapping_from walked.frame rights)
     × ((k : AccessKind) → allows walked.rights k ≡ true → allows rights k ≡ true)
 
 -- And the other way round: to each mapping within memory to which a walk by the formats leads the path of some address reaches, for each kind of access that
 -- it allows. So no leaf is one too many
 abbrev pub FirstStagesAreReached : Type 0
 FirstStagesAreReached = (size : Size) (memory : List (List ℕ)) (root : ℕ) (kind : AccessKind) (mapping : Mapping)
-    → Leads formats (slice_get memory) root (λ page. steps_along (first_widths (levels_of size)) page) mapping
+    → LeadsTo formats (slice_get memory) root (λ page. steps_along (first_widths (levels_of size)) page) mapping
     → IsInMemory memory mapping.frame → allows mapping.rights kind ≡ true
     → (address : ℕ) × ReachesFirst (levels_of size) memory root address kind (without_guest mapping)
 
 abbrev pub SecondStagesAreReached : Type 0
 SecondStagesAreReached = (size : Size) (memory : List (List ℕ)) (root : ℕ) (kind : AccessKind) (mapping : Mapping)
-    → Leads formats (slice_get memory) root (λ page. steps_along (second_widths (levels_of size)) page) mapping
+    → LeadsTo formats (slice_get memory) root (λ page. steps_along (second_widths (levels_of size)) page) mapping
     → IsInMemory memory mapping.frame → allows mapping.rights kind ≡ true
     → (address : ℕ) × ReachesSecond (levels_of size) memory root address kind (without_guest mapping)
 
@@ -100,7 +100,7 @@ DirectoriesAreFound = (memory : List (List ℕ)) (ddtp : DirectoryPointer) (id :
 
 -- the scene of the one comes of that of the other by a list of occurrences
 abbrev pub AreOccurrences : (ℕ → Bool) → HardwareParts → HardwareParts → Type 0
-AreOccurrences trusted old new = (occurrences : List Occurrence) × OccurInTurn (scene_of trusted old) occurrences (scene_of trusted new)
+AreOccurrences trusted old new = (occurrences : List Occurrence) × ComeInTurn (scene_of trusted old) occurrences (scene_of trusted new)
 
 -- each call of sound hardware is a list of occurrences
 abbrev pub CallsAreOccurrences : Type 0
@@ -127,7 +127,7 @@ MadeAccessesHadWays = (trusted : ℕ → Bool) (calls : List HardwareCall) (even
 -- WHAT WAS WITHDRAWN IS OUT OF REACH: a device without a way to a frame, but those that it may take, makes no other access there
 abbrev pub QuietStaysQuiet : Type 0
 QuietStaysQuiet = (trusted : ℕ → Bool) (may : Permission) (calls : List HardwareCall) (events : ℕ) (id : ℕ) (made : MadeAt) (old between new : HardwareParts)
-    → IsSafe (scene_of trusted old) → AreTimely (scene_of trusted old) → IsQuiet may (scene_of trusted old) id made.frame
+    → IsSafe (scene_of trusted old) → AreTimely (scene_of trusted old) → HasAllowedWaysAlone may (scene_of trusted old) id made.frame
     → DoInTurn trusted events old calls between → MakesIn trusted between id made new → may id made.frame made.kind ≡ true
 
 -- A CLAIM THAT IS GOOD STAYS TRUE: where each way of a device to a frame is one that what was claimed allows, the device makes no other access there
@@ -140,7 +140,7 @@ GoodClaimsHold = (trusted : ℕ → Bool) (claimed : History) (calls : List Hard
 -- NOBODY USES THE FRAME: where no device has a way to it, no access is made there
 abbrev pub FreeStaysFree : Type 0
 FreeStaysFree = (trusted : ℕ → Bool) (calls : List HardwareCall) (events : ℕ) (id : ℕ) (made : MadeAt) (old between new : HardwareParts)
-    → IsSafe (scene_of trusted old) → AreTimely (scene_of trusted old) → IsFree (scene_of trusted old) made.frame
+    → IsSafe (scene_of trusted old) → AreTimely (scene_of trusted old) → IsOutOfReach (scene_of trusted old) made.frame
     → DoInTurn trusted events old calls between → ¬ MakesIn trusted between id made new
 
 -- at power-on all that the theorem asks for holds

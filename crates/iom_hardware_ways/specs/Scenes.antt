@@ -28,7 +28,7 @@ use Rattle.iom_tlb.specs.declared.space.Space.{Space}
 use Rattle.iom_tlb.specs.declared.space.Space.TheVariants as space
 use Rattle.iom_tlb.specs.declared.trans_cache.Translation.{Translation}
 use Rattle.iom_tlb.specs.Content.{Key, Content as Translations}
-use Rattle.iom_reach.specs.Scene.{Mapping, AddressSpace, First, Second, Both, Context, Directory, Off, Bare, At, AtsKind, Forges, Caches, Plain, SpacePage, AtsEntry, AccessInFlight, Message, Question, Answer, Other, Place, Scene}
+use Rattle.iom_reach.specs.Scene.{Mapping, AddressSpace, First, Second, Both, Context, Directory, Off, Bare, At, AtsKind, Forges, Caches, Plain, SpacePage, AtsEntry, PendingAccess, Message, Question, Answer, Other, Place, Scene}
 use Rattle.iom_hardware_ways.specs.Formats.{context_of, formats}
 
 -- ddtp
@@ -98,10 +98,10 @@ abbrev pub message_of : OnLink → Message
 message_of on = said_on on.device on.message
 
 -- the accesses in flight of a device's row
-abbrev pub flight_of : NumberedAccess → AccessInFlight
+abbrev pub flight_of : NumberedAccess → PendingAccess
 flight_of numbered = record { frame = numbered.accepted.frame; kind = numbered.accepted.access.kind }
 
-abbrev pub flights_in : Option FlightRow → List AccessInFlight
+abbrev pub flights_in : Option FlightRow → List PendingAccess
 flights_in None = []
 flights_in (Some row) = map flight_of row.waiting
 

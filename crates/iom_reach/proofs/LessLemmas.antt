@@ -5,10 +5,10 @@ use Rattle.iom_base.specs.declared.access.AccessKind.TheVariants.{Write}
 use Rattle.iom_reach.proofs.WalkLemmas.{alike_ends, alike_reads, passes_here, passes_ends, passes_reads}
 use Rattle.iom_reach.specs.Laws.{AddsNoWay}
 use Rattle.iom_reach.specs.Safe.{IsRead, IsOfTables, IsWritable, HasWord, IsSafe}
-use Rattle.iom_reach.specs.Scene.{Mapping, AddressSpace, Context, Caches, AccessInFlight, PartialWalk, Place, Scene, IsPlugged}
-use Rattle.iom_reach.specs.Ways.{Serves, Leads, IsStored, MayFind, IsKept, Begins, AtRoot, PartWay, IsInSpace, Through, ByAts, Untranslated, Translated, Way, Accepted, AnyFrame, ByContext, OnTheWalk}
+use Rattle.iom_reach.specs.Scene.{Mapping, AddressSpace, Context, Caches, PendingAccess, PartialWalk, Place, Scene, HasDevice}
+use Rattle.iom_reach.specs.Ways.{ServesKind, LeadsTo, IsStored, MayFind, IsKept, WalkBegins, AtRoot, PartWay, IsInSpace, Through, ByAts, Untranslated, Translated, Way, Accepted, AnyFrame, ByContext, OnTheWalk}
 use Rattle.iom_reach.specs.Occurrences.{IsContinued}
-use Rattle.iom_reach.specs.Memory.{Step, Reads, Passes}
+use Rattle.iom_reach.specs.Memory.{WalkStep, ReadsFrame, Passes}
 
 -- the one scene, with all of the other that hardware changes
 abbrev pub with : Scene → Scene → Scene
@@ -29,13 +29,13 @@ pub record Less (s n : Scene) : Type 0 where
   pub waiting : (place : Place) → Contains n.waiting place → Contains s.waiting place
   pub contexts : (device : ℕ) (context : Context) → n.contexts device ≡ Some context → (s.contexts device ≡ Some context) ⊎ IsStored s device context
   pub translations : (space : AddressSpace) (page : ℕ) (mapping : Mapping) (frame : ℕ) (kind : AccessKind)
-      → n.translations (record { space = space; page = page }) ≡ Some mapping → Serves mapping frame kind → IsInSpace s space frame kind
+      → n.translations (record { space = space; page = page }) ≡ Some mapping → ServesKind mapping frame kind → IsInSpace s space frame kind
   pub kept : (device page : ℕ) (mapping : Mapping) (frame : ℕ) (kind : AccessKind) → s.kind_of device ≡ Some Caches → IsKept (with s n) device page mapping
-      → Serves mapping frame kind → IsKept s device page mapping ⊎ Way s device frame kind
+      → ServesKind mapping frame kind → IsKept s device page mapping ⊎ Way s device frame kind
   pub partial_walks : (walk : PartialWalk) → Contains n.partial_walks walk → IsContinued s walk
-  pub in_flight : (device : ℕ) (access : AccessInFlight) → Contains (n.in_flight device) access → Way s device access.frame access.kind
+  pub in_flight : (device : ℕ) (access : PendingAccess) → Contains (n.in_flight device) access → Way s device access.frame access.kind
 
-pub stored : (s n : Scene) (device : ℕ) (context : Context) → Less s n → IsPlugged s device → IsStored (with s n) device context → IsStored s device context
+pub stored : (s n : Scene) (device : ℕ) (context : Context) → Less s n → HasDevice s device → IsStored (with s n) device context → IsStored s device context
 stored s n device context less plugged (tables, at, ends) = (
   tables,
   at,
@@ -48,16 +48,16 @@ found s n device context less (plugged, at, inl there) = (plugged, at, less.cont
 found s n device context less (plugged, at, inr is) = (plugged, at, inr (stored s n device context less plugged is))
 
 -- where a walk may begin that has as much to read, and to come to
-record Began (s : Scene) (space : AddressSpace) (table : ℕ) (steps_to : ℕ → List Step) : Type 0 where
+record Began (s : Scene) (space : AddressSpace) (table : ℕ) (steps_to : ℕ → List WalkStep) : Type 0 where
   from : ℕ
-  steps : ℕ → List Step
-  begins : Begins s space from steps
+  steps : ℕ → List WalkStep
+  begins : WalkBegins s space from steps
   passes : (page : ℕ) → (to : ℕ) × Passes s.formats.entry s.memory from (steps to) table (steps_to page)
 
 continued : (s : Scene) (walk : PartialWalk) → IsContinued s walk → Began s walk.space walk.table walk.steps_to
 continued s walk (table, steps, begins, owned, passes) = record { from = table; steps = steps; begins = begins; passes = passes }
 
-began : (s n : Scene) (space : AddressSpace) (table : ℕ) (steps_to : ℕ → List Step) → Less s n → Begins (with s n) space table steps_to → Began s space table steps_to
+began : (s n : Scene) (space : AddressSpace) (table : ℕ) (steps_to : ℕ → List WalkStep) → Less s n → WalkBegins (with s n) space table steps_to → Began s space table steps_to
 began s n space table steps_to less (AtRoot device context tables find is decide root all) = record {
   from = table;
   steps = steps_to;
@@ -69,14 +69,14 @@ began s n space table steps_to less (PartWay device there) =
     (less.partial_walks (record { device = device; space = space; table = table; steps_to = steps_to }) there)
 
 -- the frames that it reads are the same
-same_tables : (s n : Scene) (space : AddressSpace) (table : ℕ) (steps_to : ℕ → List Step) (page frame : ℕ) → Less s n → (old : Began s space table steps_to)
-    → Reads s.formats.entry s.memory table (steps_to page) frame → IsOfTables s frame
+same_tables : (s n : Scene) (space : AddressSpace) (table : ℕ) (steps_to : ℕ → List WalkStep) (page frame : ℕ) → Less s n → (old : Began s space table steps_to)
+    → ReadsFrame s.formats.entry s.memory table (steps_to page) frame → IsOfTables s frame
 same_tables s n space table steps_to page frame less old reads =
     let (to, passes) = old.passes page in
     (space, old.from, old.steps, to, old.begins, passes_reads s.formats.entry s.memory old.from (old.steps to) table (steps_to page) frame passes reads)
 
-leads : (s n : Scene) (space : AddressSpace) (table : ℕ) (steps_to : ℕ → List Step) (mapping : Mapping) → Less s n → (old : Began s space table steps_to)
-    → Leads s.formats n.memory table steps_to mapping → Leads s.formats s.memory old.from old.steps mapping
+leads : (s n : Scene) (space : AddressSpace) (table : ℕ) (steps_to : ℕ → List WalkStep) (mapping : Mapping) → Less s n → (old : Began s space table steps_to)
+    → LeadsTo s.formats n.memory table steps_to mapping → LeadsTo s.formats s.memory old.from old.steps mapping
 leads s n space table steps_to mapping less old (page, ends) =
     let (to, passes) = old.passes page in (
       to,
@@ -92,9 +92,9 @@ in_space s n space frame kind less (inr (table, steps_to, mapping, begins, lead,
     inr (old.from, old.steps, mapping, old.begins, leads s n space table steps_to mapping less old lead, serves)
 
 -- a walk under way
-on_the_walk : (s n : Scene) (device frame : ℕ) (kind : AccessKind) (space : AddressSpace) (table : ℕ) (steps_to : ℕ → List Step) (mapping : Mapping) → Less s n
+on_the_walk : (s n : Scene) (device frame : ℕ) (kind : AccessKind) (space : AddressSpace) (table : ℕ) (steps_to : ℕ → List WalkStep) (mapping : Mapping) → Less s n
     → IsContinued s (record { device = Some device; space = space; table = table; steps_to = steps_to })
-    → Leads s.formats n.memory table steps_to mapping → Serves mapping frame kind → Way s device frame kind
+    → LeadsTo s.formats n.memory table steps_to mapping → ServesKind mapping frame kind → Way s device frame kind
 on_the_walk s n device frame kind space table steps_to mapping less (from, steps, begins, owned, passes) lead serves =
     let old = leads s n space table steps_to mapping less (record { from = from; steps = steps; begins = begins; passes = passes }) lead in
     elim (owned device refl) [

@@ -6,11 +6,11 @@ use Rattle.iom_base.specs.declared.access.AccessKind.{AccessKind}
 use Rattle.iom_base.specs.declared.access.AccessKind.TheVariants.{Read, Write}
 use Rattle.iom_reach.proofs.LessLemmas.{Less, with, no_way_more, no_more_read, no_more_words, still_safe}
 use Rattle.iom_reach.specs.Laws.{AddsNoWay, UsesNoMore}
-use Rattle.iom_reach.specs.Memory.{Memory, Step, DiffersAt}
-use Rattle.iom_reach.specs.Occurrences.{AreAmongWith, AreAmong, AreAmongWithOf, IsPartOf, IsPartWith, IsContinued, IsWalked, Translates, ToItself, ByCache, ByWalk, IsServed, InModeBare, Requested, FromEntry, Forged, Walked, IsHarmless, IsMemoryAfter, IsMemoryBy, MayBeSent, raised, Occurrence, Forget, KeepContext, GoOn, KeepTranslation, Accept, Make, RecordFault, DoCommand, CarryMessages, DeliverAnswer, DropEntries, Occurs}
+use Rattle.iom_reach.specs.Memory.{Memory, WalkStep, DiffersAt}
+use Rattle.iom_reach.specs.Occurrences.{AreSomeOfOr, AreSomeOf, AreAmongWithOf, IsPartOf, IsPartWith, IsContinued, WalkGives, TranslatesTo, ToItself, ByCache, ByWalk, IsAdmitted, InModeBare, Requested, FromEntry, Forged, Walked, IsHarmless, IsMemoryAfter, IsMemoryBy, IsSendable, raised, Occurrence, Forget, KeepContext, GoOn, KeepTranslation, Accept, Make, RecordFault, DoCommand, CarryMessages, DeliverAnswer, DropEntries, ComesAbout}
 use Rattle.iom_reach.specs.Safe.{IsRead, IsWritable, IsSafe, AreTimely}
-use Rattle.iom_reach.specs.Scene.{Mapping, AddressSpace, SpacePage, Context, Caches, AtsEntry, AccessInFlight, Message, Question, Answer, Other, PartialWalk, Place, Scene}
-use Rattle.iom_reach.specs.Ways.{Serves, IsStored, MayFind, Begins, PartWay, IsKept, IsInSpace, ByAts, Untranslated, Translated, Way, Accepted, AnyFrame, ByContext, OnTheWalk}
+use Rattle.iom_reach.specs.Scene.{Mapping, AddressSpace, SpacePage, Context, Caches, AtsEntry, PendingAccess, Message, Question, Answer, Other, PartialWalk, Place, Scene}
+use Rattle.iom_reach.specs.Ways.{ServesKind, IsStored, MayFind, WalkBegins, PartWay, IsKept, IsInSpace, ByAts, Untranslated, Translated, Way, Accepted, AnyFrame, ByContext, OnTheWalk}
 use Rattle.iom_reach.proofs.WalkLemmas.{passes_here}
 
 pub contains_tail : {X : Type 0} (x : X) (xs : List X) (y : X) → Contains xs y → Contains (x ∷ xs) y
@@ -22,7 +22,7 @@ contains_head x xs = Contains-append_left (x ∷ []) xs x (Contains-push [] x)
 -- what is cached of the space, if it is among these
 in_cache : (s : Scene) (translations : SpacePage → Option Mapping) → IsPartOf translations s.translations
     → (space : AddressSpace) (page : ℕ) (mapping : Mapping) (frame : ℕ) (kind : AccessKind)
-    → translations (record { space = space; page = page }) ≡ Some mapping → Serves mapping frame kind → IsInSpace s space frame kind
+    → translations (record { space = space; page = page }) ≡ Some mapping → ServesKind mapping frame kind → IsInSpace s space frame kind
 in_cache s translations part space page mapping frame kind there serves =
     inl (page, mapping, part (record { space = space; page = page }) mapping there, serves)
 
@@ -54,14 +54,14 @@ unread : (s : Scene) (written : ℕ) (memory : Memory) → IsSafe s → IsWritab
 unread s written memory safe writable differs frame read = differs frame (λ same. safe frame read (subst (IsWritable s) (sym same) writable))
 
 -- what a walk gives is no more than its leaf
-by_leaf : (s : Scene) (space : AddressSpace) (table : ℕ) (steps_to : ℕ → List Step) (mapping : Mapping) (frame : ℕ) (kind : AccessKind) → Begins s space table steps_to
-    → IsWalked s table steps_to mapping → Serves mapping frame kind → IsInSpace s space frame kind
+by_leaf : (s : Scene) (space : AddressSpace) (table : ℕ) (steps_to : ℕ → List WalkStep) (mapping : Mapping) (frame : ℕ) (kind : AccessKind) → WalkBegins s space table steps_to
+    → WalkGives s table steps_to mapping → ServesKind mapping frame kind → IsInSpace s space frame kind
 by_leaf s space table steps_to mapping frame kind begins (leaf, leads, same, rights) (here, allowed) =
     inr (table, steps_to, leaf, begins, leads, (sym same ∙ here, rights kind allowed))
 
 -- what a context of the device translates a page to is in its reach
 by_translation : (s : Scene) (device frame : ℕ) (kind : AccessKind) (context : Context) (page : ℕ) (mapping : Mapping) → MayFind s device context
-    → Translates s context page mapping → Serves mapping frame kind → Way s device frame kind
+    → TranslatesTo s context page mapping → ServesKind mapping frame kind → Way s device frame kind
 by_translation s device frame kind context page mapping find (ToItself none) serves = ByContext context find (Untranslated none)
 by_translation s device frame kind context page mapping find (ByCache space is there) serves =
     ByContext context find (Translated space is (inl (page, mapping, there, serves)))
@@ -69,7 +69,7 @@ by_translation s device frame kind context page mapping find (ByWalk space table
     ByContext context find (Translated space is (by_leaf s space table steps_to mapping frame kind begins walked serves))
 
 -- what is accepted was in reach
-served : (s : Scene) (device frame : ℕ) (kind : AccessKind) → IsServed s device frame kind → Way s device frame kind
+served : (s : Scene) (device frame : ℕ) (kind : AccessKind) → IsAdmitted s device frame kind → Way s device frame kind
 served s device frame kind (InModeBare plugged bare) = AnyFrame plugged bare
 served s device frame kind (Requested context page mapping find translates serves) = by_translation s device frame kind context page mapping find translates serves
 served s device frame kind (FromEntry context page mapping find lets caches there serves) =
@@ -125,8 +125,8 @@ goes_on s kept from = record {
   in_flight = λ device access there. Accepted there;
 }
 
-keeps_translation : (s : Scene) (space : AddressSpace) (table : ℕ) (steps_to : ℕ → List Step) (page : ℕ) (mapping : Mapping) (kept : SpacePage → Option Mapping)
-    → Begins s space table steps_to → IsWalked s table steps_to mapping
+keeps_translation : (s : Scene) (space : AddressSpace) (table : ℕ) (steps_to : ℕ → List WalkStep) (page : ℕ) (mapping : Mapping) (kept : SpacePage → Option Mapping)
+    → WalkBegins s space table steps_to → WalkGives s table steps_to mapping
     → IsPartWith kept (record { space = space; page = page }) mapping s.translations → Less s (record s { translations = kept })
 keeps_translation s space table steps_to page mapping kept begins walked part = record {
   memory = λ frame read. refl;
@@ -138,16 +138,16 @@ keeps_translation s space table steps_to page mapping kept begins walked part = 
   in_flight = λ device access there. Accepted there;
 }
   where
-    by : (sp : AddressSpace) (pg : ℕ) (m : Mapping) (frame : ℕ) (kind : AccessKind) → Serves m frame kind
+    by : (sp : AddressSpace) (pg : ℕ) (m : Mapping) (frame : ℕ) (kind : AccessKind) → ServesKind m frame kind
         → ((◌≡◌ {A = SpacePage} (record { space = sp; page = pg }) (record { space = space; page = page })) × (m ≡ mapping))
         ⊎ (s.translations (record { space = sp; page = pg }) ≡ Some m)
         → IsInSpace s sp frame kind
     by sp pg m frame kind serves (inr old) = inl (pg, m, old, serves)
     by sp pg m frame kind serves (inl (at, same)) =
         subst (λ x. IsInSpace s x frame kind) (sym (ap (λ (p : SpacePage). p.space) at))
-        (by_leaf s space table steps_to mapping frame kind begins walked (subst (λ x. Serves x frame kind) same serves))
+        (by_leaf s space table steps_to mapping frame kind begins walked (subst (λ x. ServesKind x frame kind) same serves))
 
-accepts : (s : Scene) (device : ℕ) (access : AccessInFlight) (in_flight : ℕ → List AccessInFlight) → IsServed s device access.frame access.kind
+accepts : (s : Scene) (device : ℕ) (access : PendingAccess) (in_flight : ℕ → List PendingAccess) → IsAdmitted s device access.frame access.kind
     → AreAmongWithOf in_flight device access s.in_flight → Less s (record s { in_flight = in_flight })
 accepts s device access in_flight is among = record {
   memory = λ frame read. refl;
@@ -158,13 +158,13 @@ accepts s device access in_flight is among = record {
   partial_walks = λ walk there. continued_by_itself s walk there;
   in_flight = λ d one there. elim (among d one there) [
     | inl (own, same) ↦ subst (λ x. Way s x one.frame one.kind) (sym own)
-        (subst (λ (x : AccessInFlight). Way s device x.frame x.kind) (sym same) (served s device access.frame access.kind is))
+        (subst (λ (x : PendingAccess). Way s device x.frame x.kind) (sym same) (served s device access.frame access.kind is))
     | inr old ↦ Accepted old
   ];
 }
 
-makes : (s : Scene) (device : ℕ) (access : AccessInFlight) (left : ℕ → List AccessInFlight) (memory : Memory) → IsSafe s → Contains (s.in_flight device) access
-    → AreAmong left s.in_flight → IsHarmless s device access → IsMemoryAfter access.kind access.frame s.memory memory → Less s (record s { in_flight = left; memory = memory })
+makes : (s : Scene) (device : ℕ) (access : PendingAccess) (left : ℕ → List PendingAccess) (memory : Memory) → IsSafe s → Contains (s.in_flight device) access
+    → AreSomeOf left s.in_flight → IsHarmless s device access → IsMemoryAfter access.kind access.frame s.memory memory → Less s (record s { in_flight = left; memory = memory })
 makes s device access left memory safe there among harmless after = record {
   memory = by access.kind (s.is_trusted device) refl harmless after there;
   waiting = λ place there. there;
@@ -201,7 +201,7 @@ is_other (Answer device epoch page mapping) = false
 is_other Other = true
 
 -- the same messages, but for such as no way leads through
-other_messages : (s : Scene) (messages : List Message) → AreAmongWith messages Other s.messages
+other_messages : (s : Scene) (messages : List Message) → AreSomeOfOr messages Other s.messages
     → (device epoch page : ℕ) (mapping : Mapping) → Contains messages (Answer device epoch page mapping) → Contains s.messages (Answer device epoch page mapping)
 other_messages s messages among device epoch page mapping there = elim (among (Answer device epoch page mapping) there) [
   | inl never ↦ absurd (false≢true (ap is_other never))
@@ -210,7 +210,7 @@ other_messages s messages among device epoch page mapping there = elim (among (A
 
 does : (s : Scene) (place : Place) (later : List Place) (memory : Memory) (contexts : ℕ → Option Context) (translations : SpacePage → Option Mapping) (messages : List Message)
     → IsSafe s → s.waiting ≡ place ∷ later → IsMemoryBy (s.formats.word (s.memory place.frame) place.offset) s.memory memory
-    → IsPartOf contexts s.contexts → IsPartOf translations s.translations → AreAmongWith messages Other s.messages
+    → IsPartOf contexts s.contexts → IsPartOf translations s.translations → AreSomeOfOr messages Other s.messages
     → Less s (record s { waiting = later; memory = memory; contexts = contexts; translations = translations; messages = messages })
 does s place later memory contexts translations messages safe head after fewer others among = record {
   memory = by (s.formats.word (s.memory place.frame) place.offset) refl after;
@@ -233,7 +233,7 @@ does s place later memory contexts translations messages safe head after fewer o
     same device page mapping (inl there) = inl there
     same device page mapping (inr (epoch, there, now)) = inr (epoch, other_messages s messages among device epoch page mapping there, now)
 
-carries : (s : Scene) (messages : List Message) → ((message : Message) → Contains messages message → MayBeSent s message ⊎ Contains s.messages message)
+carries : (s : Scene) (messages : List Message) → ((message : Message) → Contains messages message → IsSendable s message ⊎ Contains s.messages message)
     → Less s (record s { messages = messages })
 carries s messages from = record {
   memory = λ frame read. refl;
@@ -245,7 +245,7 @@ carries s messages from = record {
   in_flight = λ device one is. Accepted is;
 }
   where
-    by : (device page : ℕ) (mapping : Mapping) (frame : ℕ) (kind : AccessKind) → Serves mapping frame kind
+    by : (device page : ℕ) (mapping : Mapping) (frame : ℕ) (kind : AccessKind) → ServesKind mapping frame kind
         → Contains (s.ats_entries device) (record { page = page; mapping = mapping })
         ⊎ ((epoch : ℕ) × Contains messages (Answer device epoch page mapping) × (epoch ≡ s.epoch_of device))
         → IsKept s device page mapping ⊎ Way s device frame kind
@@ -292,7 +292,7 @@ raised_other epoch_of device d n within now = by (device == d) now
     by true is = absurd (omega (arith, within, is))
     by false is = is
 
-drops_entries : (s : Scene) (device : ℕ) (left : ℕ → List AtsEntry) → AreTimely s → AreAmong left s.ats_entries
+drops_entries : (s : Scene) (device : ℕ) (left : ℕ → List AtsEntry) → AreTimely s → AreSomeOf left s.ats_entries
     → Less s (record s { ats_entries = left; epoch_of = raised s.epoch_of device })
 drops_entries s device left timely among = record {
   memory = λ frame read. refl;
@@ -319,7 +319,7 @@ still_timely s n messages epochs timely = record {
       (timely.answered device epoch page mapping caches (subst (λ m. Contains m (Answer device epoch page mapping)) messages there));
 }
 
-timely_done : (s n : Scene) → AreAmongWith n.messages Other s.messages → n.epoch_of ≡ s.epoch_of → AreTimely s → AreTimely (with s n)
+timely_done : (s n : Scene) → AreSomeOfOr n.messages Other s.messages → n.epoch_of ≡ s.epoch_of → AreTimely s → AreTimely (with s n)
 timely_done s n among epochs timely = record {
   asked = λ device epoch page caches there. subst (λ e. epoch ≤ e device) (sym epochs)
       (elim (among (Question device epoch page) there) [
@@ -330,7 +330,7 @@ timely_done s n among epochs timely = record {
       (timely.answered device epoch page mapping caches (other_messages s n.messages among device epoch page mapping there));
 }
 
-timely_carried : (s : Scene) (messages : List Message) → ((message : Message) → Contains messages message → MayBeSent s message ⊎ Contains s.messages message)
+timely_carried : (s : Scene) (messages : List Message) → ((message : Message) → Contains messages message → IsSendable s message ⊎ Contains s.messages message)
     → AreTimely s → AreTimely (record s { messages = messages })
 timely_carried s messages from timely = record {
   asked = λ device epoch page caches there. elim (from (Question device epoch page) there) [
@@ -349,7 +349,7 @@ timely_raised s device left timely = record {
   answered = λ d epoch page mapping caches there. raised_le s.epoch_of device d epoch (timely.answered d epoch page mapping caches there);
 }
 
-pub occurrences_add_no_way : (occurrence : Occurrence) (old new : Scene) → IsSafe old → AreTimely old → Occurs occurrence old new → Follows old new
+pub occurrences_add_no_way : (occurrence : Occurrence) (old new : Scene) → IsSafe old → AreTimely old → ComesAbout occurrence old new → Follows old new
 occurrences_add_no_way Forget old new safe timely (contexts, translations, fewer, others, is) =
     let n = record old { contexts = contexts; translations = translations } in
     follows old n new is safe (forgets old contexts translations fewer others) (still_timely old n refl refl timely)

@@ -24,13 +24,13 @@ pub data Found (X : Type 0) : Type 0 where
   Leaf : (what : X) → Found X
 
 -- one step of a walk: which frame of a table, for a table may have several, and which place of that frame
-pub record Step : Type 0 where
+pub record WalkStep : Type 0 where
   pub frame : ℕ
   pub place : ℕ
 
 -- how a place of a frame is read. The steps that are left then say which level that is, and which page of a large leaf is asked for
 abbrev pub Format : Type 0 → Type 0
-Format X = Frame → ℕ → List Step → Found X
+Format X = Frame → ℕ → List WalkStep → Found X
 
 -- the walk goes on at the next table, or is at its end
 abbrev pub Goes : {X : Type 0} → Found X → (ℕ → Type 0) → (X → Type 0) → Type 0
@@ -39,20 +39,20 @@ Goes (Pointer table) On Over = On table
 Goes (Leaf what) On Over = Over what
 
 -- the walk from the table along these steps ends at a leaf that says this
-abbrev pub Ends : {X : Type 0} → Format X → Memory → ℕ → List Step → X → Type 0
+abbrev pub Ends : {X : Type 0} → Format X → Memory → ℕ → List WalkStep → X → Type 0
 Ends format memory table [] what = ⊥
 Ends format memory table (step ∷ steps) what =
     Goes (format (memory (table + step.frame)) step.place steps) (λ next. Ends format memory next steps what) (λ said. said ≡ what)
 
 -- the walk reads the frame on its way
-abbrev pub Reads : {X : Type 0} → Format X → Memory → ℕ → List Step → ℕ → Type 0
-Reads format memory table [] frame = ⊥
-Reads format memory table (step ∷ steps) frame =
+abbrev pub ReadsFrame : {X : Type 0} → Format X → Memory → ℕ → List WalkStep → ℕ → Type 0
+ReadsFrame format memory table [] frame = ⊥
+ReadsFrame format memory table (step ∷ steps) frame =
     (table + step.frame ≡ frame)
-    ⊎ Goes (format (memory (table + step.frame)) step.place steps) (λ next. Reads format memory next steps frame) (λ said. ⊥)
+    ⊎ Goes (format (memory (table + step.frame)) step.place steps) (λ next. ReadsFrame format memory next steps frame) (λ said. ⊥)
 
 -- the walk from the table along these steps comes to the next table, with these steps left; it is there at once, or after some steps
-abbrev pub Passes : {X : Type 0} → Format X → Memory → ℕ → List Step → ℕ → List Step → Type 0
+abbrev pub Passes : {X : Type 0} → Format X → Memory → ℕ → List WalkStep → ℕ → List WalkStep → Type 0
 Passes format memory table [] next rest = (table ≡ next) × ([] ≡ rest)
 Passes format memory table (step ∷ steps) next rest =
     ((table ≡ next) × (step ∷ steps ≡ rest))

@@ -1,21 +1,21 @@
 -- What must hold beside the ways: hardware and devices can't write what hardware reads.
 use Rattle.std.specs.Prelude.{◌≡◌, ◌⊎◌, ℕ, false, ◌≤◌, Contains, List, Some}
 use Rattle.iom_base.specs.declared.access.AccessKind.TheVariants.{Write}
-use Rattle.iom_reach.specs.Memory.{Tables, Step, Reads}
-use Rattle.iom_reach.specs.Scene.{AddressSpace, Mapping, Place, At, Caches, Question, Answer, Scene, IsPlugged}
-use Rattle.iom_reach.specs.Ways.{Begins, Way}
+use Rattle.iom_reach.specs.Memory.{Tables, WalkStep, ReadsFrame}
+use Rattle.iom_reach.specs.Scene.{AddressSpace, Mapping, Place, At, Caches, Question, Answer, Scene, HasDevice}
+use Rattle.iom_reach.specs.Ways.{WalkBegins, Way}
 
 -- a walk that may begin somewhere reads the frame: of both stages that of the second, and not of the guest's own tables
 abbrev pub IsOfTables : Scene → ℕ → Type 0
 IsOfTables scene frame =
-    (space : AddressSpace) × (table : ℕ) × (steps_to : ℕ → List Step) × (page : ℕ) × Begins scene space table steps_to
-    × Reads scene.formats.entry scene.memory table (steps_to page) frame
+    (space : AddressSpace) × (table : ℕ) × (steps_to : ℕ → List WalkStep) × (page : ℕ) × WalkBegins scene space table steps_to
+    × ReadsFrame scene.formats.entry scene.memory table (steps_to page) frame
 
 -- the walk to the context of a device that is plugged in reads the frame
 abbrev pub IsOfDirectory : Scene → ℕ → Type 0
 IsOfDirectory scene frame =
-    (device : ℕ) × (tables : Tables) × IsPlugged scene device × (scene.directory ≡ At tables)
-    × Reads scene.formats.context scene.memory tables.root (scene.formats.steps_of tables.levels device) frame
+    (device : ℕ) × (tables : Tables) × HasDevice scene device × (scene.directory ≡ At tables)
+    × ReadsFrame scene.formats.context scene.memory tables.root (scene.formats.steps_of tables.levels device) frame
 
 -- a command that waits stands in the frame
 abbrev pub IsOfQueue : Scene → ℕ → Type 0

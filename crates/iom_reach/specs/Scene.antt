@@ -2,7 +2,7 @@
 use Rattle.std.specs.Prelude.{◌≡◌, ℕ, Bool, List, Option, Some}
 use Rattle.iom_base.specs.declared.access.AccessKind.{AccessKind}
 use Rattle.iom_base.specs.declared.rights.Rights.{Rights}
-use Rattle.iom_reach.specs.Memory.{Memory, Tables, Frame, Format, Step}
+use Rattle.iom_reach.specs.Memory.{Memory, Tables, Frame, Format, WalkStep}
 
 -- where a page is mapped: a frame, and the right to it
 pub record Mapping : Type 0 where
@@ -38,9 +38,9 @@ pub record Formats : Type 0 where
   -- the frame into which the command at an offset of a frame stores its word, if it is a fence that stores one
   pub word : Frame → ℕ → Option ℕ
   -- the steps of a walk to a page, by the stages that are walked
-  pub steps_to : Stages → ℕ → List Step
+  pub steps_to : Stages → ℕ → List WalkStep
   -- the steps to the context of a device, in a directory of so many levels
-  pub steps_of : ℕ → ℕ → List Step
+  pub steps_of : ℕ → ℕ → List WalkStep
 
 -- ddtp
 pub data Directory : Type 0 where
@@ -71,7 +71,7 @@ pub record AtsEntry : Type 0 where
   pub mapping : Mapping
 
 -- an access that was accepted and isn't made yet
-pub record AccessInFlight : Type 0 where
+pub record PendingAccess : Type 0 where
   pub frame : ℕ
   pub kind : AccessKind
 
@@ -93,7 +93,7 @@ pub record PartialWalk : Type 0 where
   -- the table in hand
   pub table : ℕ
   -- the steps that are left, by the page
-  pub steps_to : ℕ → List Step
+  pub steps_to : ℕ → List WalkStep
 
 -- where a command stands: the frame, and the offset there
 pub record Place : Type 0 where
@@ -125,8 +125,8 @@ pub record Scene : Type 0 where
   pub epoch_of : ℕ → ℕ
   pub messages : List Message
   -- the accesses in flight, by device
-  pub in_flight : ℕ → List AccessInFlight
+  pub in_flight : ℕ → List PendingAccess
 
 -- something is plugged in with this id
-abbrev pub IsPlugged : Scene → ℕ → Type 0
-IsPlugged scene device = (kind : AtsKind) × (scene.kind_of device ≡ Some kind)
+abbrev pub HasDevice : Scene → ℕ → Type 0
+HasDevice scene device = (kind : AtsKind) × (scene.kind_of device ≡ Some kind)

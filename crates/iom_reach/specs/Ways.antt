@@ -2,12 +2,12 @@
 use Rattle.std.specs.Prelude.{◌≡◌, ◌⊎◌, ℕ, true, List, Contains, Option, None, Some}
 use Rattle.iom_base.specs.declared.access.AccessKind.{AccessKind}
 use Rattle.iom_base.specs.Rights.{allows}
-use Rattle.iom_reach.specs.Memory.{Memory, Tables, Step, Ends}
-use Rattle.iom_reach.specs.Scene.{Mapping, AddressSpace, First, Second, Both, Stages, NoStage, FirstStage, SecondStage, BothStages, Context, Formats, Bare, At, Forges, Caches, Answer, Scene, IsPlugged}
+use Rattle.iom_reach.specs.Memory.{Memory, Tables, WalkStep, Ends}
+use Rattle.iom_reach.specs.Scene.{Mapping, AddressSpace, First, Second, Both, Stages, NoStage, FirstStage, SecondStage, BothStages, Context, Formats, Bare, At, Forges, Caches, Answer, Scene, HasDevice}
 
 -- the frame is this, and the right allows the kind
-abbrev pub Serves : Mapping → ℕ → AccessKind → Type 0
-Serves mapping frame kind = (mapping.frame ≡ frame) × (allows mapping.rights kind ≡ true)
+abbrev pub ServesKind : Mapping → ℕ → AccessKind → Type 0
+ServesKind mapping frame kind = (mapping.frame ≡ frame) × (allows mapping.rights kind ≡ true)
 
 -- the address space in which what these stages translate is cached
 abbrev pub space_of : Stages → Option AddressSpace
@@ -25,8 +25,8 @@ tables_of (SecondStage gscid tables) = Some tables
 tables_of (BothStages gscid pscid guest tables) = Some tables
 
 -- a walk from the table ends at a leaf that maps some page so
-abbrev pub Leads : Formats → Memory → ℕ → (ℕ → List Step) → Mapping → Type 0
-Leads formats memory table steps_to mapping = (page : ℕ) × Ends formats.entry memory table (steps_to page) mapping
+abbrev pub LeadsTo : Formats → Memory → ℕ → (ℕ → List WalkStep) → Mapping → Type 0
+LeadsTo formats memory table steps_to mapping = (page : ℕ) × Ends formats.entry memory table (steps_to page) mapping
 
 -- the directory has this context for the device
 abbrev pub IsStored : Scene → ℕ → Context → Type 0
@@ -38,7 +38,7 @@ IsStored scene device context =
 -- the modes Off and Bare.
 abbrev pub MayFind : Scene → ℕ → Context → Type 0
 MayFind scene device context =
-    IsPlugged scene device
+    HasDevice scene device
     × ((tables : Tables) × (scene.directory ≡ At tables))
     × ((scene.contexts device ≡ Some context) ⊎ IsStored scene device context)
 
@@ -53,23 +53,23 @@ abbrev pub LetsThrough : Scene → ℕ → ℕ → AccessKind → Type 0
 LetsThrough scene device frame kind =
     (scene.kind_of device ≡ Some Forges)
     ⊎ ((scene.kind_of device ≡ Some Caches)
-    × ((page : ℕ) × (mapping : Mapping) × IsKept scene device page mapping × Serves mapping frame kind))
+    × ((page : ℕ) × (mapping : Mapping) × IsKept scene device page mapping × ServesKind mapping frame kind))
 
 -- A walk of which what is found is kept in this address space may begin or go on here: at the root of the tables that decide, by any device's context in
 -- that space; or where a part of it is done.
-pub data Begins (scene : Scene) (space : AddressSpace) (table : ℕ) (steps_to : ℕ → List Step) : Type 0 where
+pub data WalkBegins (scene : Scene) (space : AddressSpace) (table : ℕ) (steps_to : ℕ → List WalkStep) : Type 0 where
   AtRoot : (device : ℕ) (context : Context) (tables : Tables) → MayFind scene device context → space_of context.stages ≡ Some space
       → tables_of context.stages ≡ Some tables → tables.root ≡ table
-      → steps_to ≡ scene.formats.steps_to context.stages → Begins scene space table steps_to
+      → steps_to ≡ scene.formats.steps_to context.stages → WalkBegins scene space table steps_to
   PartWay : (device : Option ℕ) → Contains scene.partial_walks (record { device = device; space = space; table = table; steps_to = steps_to })
-      → Begins scene space table steps_to
+      → WalkBegins scene space table steps_to
 
 -- A cached translation in the space; or a leaf to which a walk leads that may begin in it, whoever's: what it finds is cached for all devices of the space.
 abbrev pub IsInSpace : Scene → AddressSpace → ℕ → AccessKind → Type 0
 IsInSpace scene space frame kind =
-    ((page : ℕ) × (mapping : Mapping) × (scene.translations (record { space = space; page = page }) ≡ Some mapping) × Serves mapping frame kind)
-    ⊎ ((table : ℕ) × (steps_to : ℕ → List Step) × (mapping : Mapping) × Begins scene space table steps_to
-    × Leads scene.formats scene.memory table steps_to mapping × Serves mapping frame kind)
+    ((page : ℕ) × (mapping : Mapping) × (scene.translations (record { space = space; page = page }) ≡ Some mapping) × ServesKind mapping frame kind)
+    ⊎ ((table : ℕ) × (steps_to : ℕ → List WalkStep) × (mapping : Mapping) × WalkBegins scene space table steps_to
+    × LeadsTo scene.formats scene.memory table steps_to mapping × ServesKind mapping frame kind)
 
 -- the ways through a context
 pub data Through (scene : Scene) (device : ℕ) (context : Context) (frame : ℕ) (kind : AccessKind) : Type 0 where
@@ -85,10 +85,10 @@ pub data Way (scene : Scene) (device frame : ℕ) (kind : AccessKind) : Type 0 w
   -- an access in flight
   Accepted : Contains (scene.in_flight device) (record { frame = frame; kind = kind }) → Way scene device frame kind
   -- ddtp in mode Bare
-  AnyFrame : IsPlugged scene device → scene.directory ≡ Bare → Way scene device frame kind
+  AnyFrame : HasDevice scene device → scene.directory ≡ Bare → Way scene device frame kind
   -- through a context that a request may find
   ByContext : (context : Context) → MayFind scene device context → Through scene device context frame kind → Way scene device frame kind
   -- a walk of the device that is under way
-  OnTheWalk : (space : AddressSpace) (table : ℕ) (steps_to : ℕ → List Step) (mapping : Mapping)
+  OnTheWalk : (space : AddressSpace) (table : ℕ) (steps_to : ℕ → List WalkStep) (mapping : Mapping)
       → Contains scene.partial_walks (record { device = Some device; space = space; table = table; steps_to = steps_to })
-      → Leads scene.formats scene.memory table steps_to mapping → Serves mapping frame kind → Way scene device frame kind
+      → LeadsTo scene.formats scene.memory table steps_to mapping → ServesKind mapping frame kind → Way scene device frame kind

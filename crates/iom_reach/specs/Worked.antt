@@ -4,9 +4,9 @@ use Rattle.iom_base.specs.declared.access.AccessKind.TheVariants.{Read}
 use Rattle.iom_base.specs.Rights.{r}
 use Rattle.iom_reach.specs.Memory.{Frame, Tables, Nothing, Leaf}
 use Rattle.iom_reach.specs.Scene.{Mapping, FirstStage, Context, At, Forges, Scene}
-use Rattle.iom_reach.specs.Ways.{tables_of, Leads, MayFind}
+use Rattle.iom_reach.specs.Ways.{tables_of, LeadsTo, MayFind}
 use Rattle.iom_reach.specs.Safe.{IsSafe, AreTimely}
-use Rattle.iom_reach.specs.Occurrences.{Occurrence, Make, Occurs, OccurInTurn}
+use Rattle.iom_reach.specs.Occurrences.{Occurrence, Make, ComesAbout, ComeInTurn}
 
 -- the context of device 1, and that of device 2: one number, two roots
 abbrev pub own_context : Context
@@ -53,10 +53,10 @@ scene_of_two = record {
 -- a walk from any context of the device leads to this frame alone
 abbrev pub LeadsOnlyTo : Scene → ℕ → ℕ → Type 0
 LeadsOnlyTo scene device frame = (context : Context) (tables : Tables) (mapping : Mapping) → MayFind scene device context → tables_of context.stages ≡ Some tables
-    → Leads scene.formats scene.memory tables.root (scene.formats.steps_to context.stages) mapping → mapping.frame ≡ frame
+    → LeadsTo scene.formats scene.memory tables.root (scene.formats.steps_to context.stages) mapping → mapping.frame ≡ frame
 
 -- The scene is safe, device 1's own tables lead to frame 3 alone, and it comes to read frame 7.
 abbrev pub SpacesAreShared : Type 0
 SpacesAreShared = IsSafe scene_of_two × AreTimely scene_of_two × LeadsOnlyTo scene_of_two 1 3
-    × ((occurrences : List Occurrence) × (between : Scene) × (new : Scene) × OccurInTurn scene_of_two occurrences between
-    × Occurs (Make 1 (record { frame = 7; kind = Read })) between new)
+    × ((occurrences : List Occurrence) × (between : Scene) × (new : Scene) × ComeInTurn scene_of_two occurrences between
+    × ComesAbout (Make 1 (record { frame = 7; kind = Read })) between new)
