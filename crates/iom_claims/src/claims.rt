@@ -29,7 +29,7 @@ pub struct Claims {
     /// What is held, in the order in which it was granted.
     held: Vec<Grant>,
     /// What was withdrawn and isn't done, in the order of the numbers.
-    open: Vec<OpenClaim>,
+    claims: Vec<OpenClaim>,
     handed_on: HashSet<u32>,
     /// The number of the last claim, 0 before the first.
     last: u32,
@@ -40,7 +40,7 @@ impl Model for Claims {
 
     ghost Value = { Rows };
 
-    ghost view = { λ c. record { held = c.held.items; claims = c.open.items; handed_on = c.handed_on.keys; last = c.last } };
+    ghost view = { λ c. record { held = c.held.items; claims = c.claims.items; handed_on = c.handed_on.keys; last = c.last } };
 }
 
 impl Claims {
@@ -50,7 +50,7 @@ impl Claims {
     {
         Claims {
             held: Vec::new(alloc),
-            open: Vec::new(alloc),
+            claims: Vec::new(alloc),
             handed_on: HashSet::new(alloc),
             last: 0,
         }
@@ -68,7 +68,7 @@ impl Claims {
         ensures { (c : Claimed) → Shows self.now c → (grant : Grant)
             → (result ≡ Some grant) ↔ IsOpen c.history (record { number = number; grant = grant }) }
     {
-        withdrawn_by(&self.open, number)
+        withdrawn_by(&self.claims, number)
     }
 
     /// Whether the device may reach the frame by an access of this kind.
@@ -78,7 +78,7 @@ impl Claims {
         if some_grant_lets(&self.held, device, frame, kind) {
             return true;
         }
-        some_claim_lets(&self.open, device, frame, kind)
+        some_claim_lets(&self.claims, device, frame, kind)
     }
 
     /// Who holds the frame: of several the one to whom it was granted first.
@@ -98,7 +98,7 @@ impl Claims {
         ensures none { (c : Claimed) → Shows self.now c
             → IsNone result ↔ ((claim : OpenClaim) → claim.grant.frame ≡ frame → ¬ IsOpen c.history claim) }
     {
-        claim_on(&self.open, frame).copied()
+        claim_on(&self.claims, frame).copied()
     }
 
     /// Whether the frame is handed on.
@@ -162,7 +162,7 @@ impl Claims {
             return Err(Refusal::TooManyPending);
         }
         let number = self.last + 1;
-        match self.open.push(OpenClaim { number, grant }) {
+        match self.claims.push(OpenClaim { number, grant }) {
             Err(_) => Err(Refusal::Memory),
             Ok(()) => {
                 drop_at(&mut self.held, grant.device, grant.page);
@@ -181,10 +181,10 @@ impl Claims {
             → IsOk result ↔ ((grant : Grant) × IsOpen c.history (record { number = number; grant = grant })) }
         ensures unchanged { OnErr result (self.new ≡ self.old) }
     {
-        match withdrawn_by(&self.open, number) {
+        match withdrawn_by(&self.claims, number) {
             None => Err(NoSuchClaim),
             Some(_) => {
-                drop_claim(&mut self.open, number);
+                drop_claim(&mut self.claims, number);
                 Ok(())
             }
         }

@@ -30,19 +30,19 @@ pub(crate) fn grant_on(held: &[Grant], frame: u32) -> Option<&Grant>
 }
 
 /// What the first claim with this number withdrew.
-pub(crate) fn withdrawn_by(open: &[OpenClaim], number: u32) -> Option<Grant>
-    ensures { result ≡ option_map grant_of (find (is_numbered number) open.now) }
+pub(crate) fn withdrawn_by(claims: &[OpenClaim], number: u32) -> Option<Grant>
+    ensures { result ≡ option_map grant_of (find (is_numbered number) claims.now) }
 {
-    open.iter()
+    claims.iter()
         .find(|claim| number == claim.number)
         .map(|claim| claim.grant)
 }
 
 /// The first claim that withdrew a grant of the frame.
-pub(crate) fn claim_on(open: &[OpenClaim], frame: u32) -> Option<&OpenClaim>
-    ensures { option_map (λ claim. claim.now) result ≡ find (claim_is_on frame) open.now }
+pub(crate) fn claim_on(claims: &[OpenClaim], frame: u32) -> Option<&OpenClaim>
+    ensures { option_map (λ claim. claim.now) result ≡ find (claim_is_on frame) claims.now }
 {
-    open.iter().find(|claim| frame == claim.grant.frame)
+    claims.iter().find(|claim| frame == claim.grant.frame)
 }
 
 /// Whether one of the grants lets the device reach the frame by an access of this kind.
@@ -59,14 +59,14 @@ pub(crate) fn some_grant_lets(
 
 /// Whether one of the grants that were withdrawn does.
 pub(crate) fn some_claim_lets(
-    open: &[OpenClaim],
+    claims: &[OpenClaim],
     device: DeviceId,
     frame: u32,
     kind: AccessKind,
 ) -> bool
-    ensures { result ≡ list_any (claim_lets device frame kind) open.now }
+    ensures { result ≡ list_any (claim_lets device frame kind) claims.now }
 {
-    open.iter()
+    claims.iter()
         .any(|claim| claim.grant.lets(device, frame, kind))
 }
 
@@ -78,8 +78,8 @@ pub(crate) fn drop_at(held: &mut Vec<Grant>, device: DeviceId, page: u64)
 }
 
 /// The claims with this number drop out.
-pub(crate) fn drop_claim(open: &mut Vec<OpenClaim>, number: u32)
-    ensures { open.new.items ≡ without_number number open.old.items }
+pub(crate) fn drop_claim(claims: &mut Vec<OpenClaim>, number: u32)
+    ensures { claims.new.items ≡ without_number number claims.old.items }
 {
-    open.retain(|claim| number != claim.number);
+    claims.retain(|claim| number != claim.number);
 }

@@ -19,8 +19,8 @@ returns c claimed shows =
     let inside = subst (λ rows. Shows rows claimed) (sym c.self.view_is) shows in
     let by_rows = c.some_grant_lets.ensures ∙ ap (list_any (lets c.args.device c.args.frame c.args.kind)) c.deref.ensures.value in
     let by_claims = c.some_claim_lets.ensures ∙ ap (list_any (claim_lets c.args.device c.args.frame c.args.kind)) c.deref-2.ensures.value in (
-      (λ yes. may_by_claim c.self.inside.open.items claimed.history claimed.last inside.lingers c.args.device c.args.frame c.args.kind (sym by_claims ∙ yes)),
-      (λ reaches. elim (row_from_may c.self.inside.held.items c.self.inside.open.items claimed.history claimed.last inside.holds inside.lingers c.args.device c.args.frame c.args.kind reaches) [
+      (λ yes. may_by_claim c.self.inside.claims.items claimed.history claimed.last inside.lingers c.args.device c.args.frame c.args.kind (sym by_claims ∙ yes)),
+      (λ reaches. elim (row_from_may c.self.inside.held.items c.self.inside.claims.items claimed.history claimed.last inside.holds inside.lingers c.args.device c.args.frame c.args.kind reaches) [
         | inl any ↦ absurd (false≢true (sym c.if-some_grant_lets.false ∙ by_rows ∙ any))
         | inr any ↦ by_claims ∙ any
       ]),

@@ -9,5 +9,5 @@ pub returns : goal.returns
 returns c claimed shows grant =
     let inside = subst (λ rows. Shows rows claimed) (sym c.self.view_is) shows in
     let found = c.withdrawn_by.ensures ∙ ap (λ rows. option_map grant_of (find (is_numbered c.args.number) rows)) c.deref.ensures.value in
-    let is = open_is c.self.inside.open.items claimed.history claimed.last inside.lingers c.args.number grant in
+    let is = open_is c.self.inside.claims.items claimed.history claimed.last inside.lingers c.args.number grant in
     ((λ some. is.0 (sym found ∙ some)), (λ lingers. found ∙ is.1 lingers))
