@@ -1,5 +1,5 @@
 -- A run grows with each line, and what is certified with it.
-use Rattle.std.proofs.Common.{◌≡◌, ◌≢◌, ◌∙◌, ℕ, Bool, true, false, List, [], ◌∷◌, ◌++◌, Option, None, Some, Result, Ok, Err, IfOk, IfSome, IsSomeAnd, IsTrue, MatchOption, refl, sym, ap, subst, append-nil, append_assoc}
+use Rattle.std.proofs.Common.{◌≡◌, ◌≢◌, ◌∙◌, ℕ, Bool, true, false, List, [], ◌∷◌, ◌++◌, Option, None, Some, Result, Ok, Err, IfOk, IfSome, IsSomeAnd, IsTrue, MatchOption, refl, sym, ap, subst, append-nil, append_assoc, slice_get, drop}
 use Rattle.std.proofs.lemmas.Bool.{false≢true}
 use Rattle.std.proofs.lemmas.List.Elements.{All-nil, filter-append}
 use Rattle.std.proofs.KnownBytes.{Consumes-nil}
@@ -183,3 +183,9 @@ pub nothing_taken : (certain : Bool) (belief : Option Belief) (window : List (Li
     → CertifyBehind certain belief window [] → HasJudged certain belief window buffer start end first first
 nothing_taken certain belief window buffer start end first holds certified =
     ([], record { whole = All-nil (IsWithout 10); read = []; consumed = Consumes-nil first; waiting = []; holds = holds; is_read = refl }, certified)
+
+-- the first of a list is taken, if there is one
+pub popped : {X : Type 0} (items new : List X) (result : Option X) → result ≡ slice_get items 0 → new ≡ drop 1 items
+    → MatchOption result (new ≡ items) (λ line. items ≡ line ∷ new)
+popped [] new result is dropped = rw (is, dropped) refl
+popped (x ∷ xs) new result is dropped = rw (is, dropped) refl

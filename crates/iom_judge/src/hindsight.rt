@@ -3,11 +3,12 @@
 // What a write of a block device's step put into memory its own lines don't show, but a later one may. So the judge ahead
 // says whether a line is lawful, and tells the one behind what later lines show of such writes; the one behind takes them to
 // be so, and certifies. No certificate rests on what it is told.
-ghost use Rattle.std.specs.Prelude.{◌≡◌, IfOk, IfSome, IsTrue, false};
+ghost use Rattle.std.specs.Prelude.{◌≡◌, ◌∷◌, IfOk, IfSome, IsTrue, MatchOption, false};
 ghost use Rattle.iom_judge.specs.Certificates.{is_lawful};
 
 use crate::judging::{Judge, Reading, follow_line};
 use crate::verdict::Verdict;
+use circular_buffer::HeapCircularBuffer;
 use iom_base::Sequence;
 use iom_script::LineBuffer;
 use iom_trace_lines::{KeptOutcomes, read_line};
@@ -26,7 +27,7 @@ pub(crate) struct Judges {
     alloc: Global,
     ahead: Judge,
     behind: Judge,
-    window: Sequence<Sequence<u8>>,
+    window: HeapCircularBuffer<Sequence<u8>>,
     /// How many bytes these lines have.
     bytes: usize,
     /// Whether a line left in doubt what a step of a block device began. Before the first of these both take a line at
@@ -55,6 +56,13 @@ fn is_at_once(is_empty: bool, is_apart: bool, is_doubtful: bool) -> bool
     is_empty
 }
 
+/// Takes the first of the lines, if there is one.
+fn first_of(window: &mut HeapCircularBuffer<Sequence<u8>>) -> Option<Sequence<u8>>
+    ensures { MatchOption result (window.new.items ≡ window.old.items) (λ line. window.old.items ≡ line ∷ window.new.items) }
+{
+    window.pop_front()
+}
+
 /// The bytes of the line.
 fn copy_of(alloc: Global, line: &[u8]) -> io::Result<Sequence<u8>>
     ensures { IfOk result (λ copy. copy ≡ line.now) }
@@ -68,17 +76,18 @@ impl Judges {
     ghost use Rattle.iom_judge.specs.Certificates.{is_lawful, IsLawfulTrace};
     ghost use Rattle.iom_judge.specs.Certified.{CertifyBehind};
 
-    pub(crate) fn new(alloc: Global) -> Judges
-        ensures { CertifyBehind result.behind.is_certified result.behind.belief result.window [] }
+    pub(crate) fn new(alloc: Global) -> io::Result<Judges>
+        ensures { IfOk result (λ judges. CertifyBehind judges.behind.is_certified judges.behind.belief judges.window.items []) }
     {
-        Judges {
+        let window = HeapCircularBuffer::with_capacity(alloc, MOST_LINES + 1)?;
+        Ok(Judges {
             alloc,
             ahead: Judge::new(alloc),
             behind: Judge::new(alloc),
-            window: Sequence::new(alloc),
+            window,
             bytes: 0,
             is_apart: false,
-        }
+        })
     }
 
     /// The number of the last line that was taken ahead.
@@ -88,9 +97,9 @@ impl Judges {
 
     /// What the next line is found, if it ends the trace.
     pub(crate) fn take(&mut self, reading: &mut Reading, line: &[u8]) -> io::Result<Option<Verdict>>
-        ensures { (lines : List (List ℕ)) → CertifyBehind self.old.behind.is_certified self.old.behind.belief self.old.window lines
+        ensures { (lines : List (List ℕ)) → CertifyBehind self.old.behind.is_certified self.old.behind.belief self.old.window.items lines
             → IfOk result (λ found. MatchOption found
-            (CertifyBehind self.new.behind.is_certified self.new.behind.belief self.new.window (lines ++ line.now ∷ []))
+            (CertifyBehind self.new.behind.is_certified self.new.behind.belief self.new.window.items (lines ++ line.now ∷ []))
             (λ verdict. is_lawful verdict ≡ false)) }
     {
         let found = self.take_line(
@@ -116,9 +125,9 @@ impl Judges {
         tables: &mut Vec<u32>,
         line: &[u8],
     ) -> io::Result<Option<Verdict>>
-        ensures { (lines : List (List ℕ)) → CertifyBehind self.old.behind.is_certified self.old.behind.belief self.old.window lines
+        ensures { (lines : List (List ℕ)) → CertifyBehind self.old.behind.is_certified self.old.behind.belief self.old.window.items lines
             → IfOk result (λ found. MatchOption found
-            (CertifyBehind self.new.behind.is_certified self.new.behind.belief self.new.window (lines ++ line.now ∷ []))
+            (CertifyBehind self.new.behind.is_certified self.new.behind.belief self.new.window.items (lines ++ line.now ∷ []))
             (λ verdict. is_lawful verdict ≡ false)) }
     {
         let is_empty = self.is_drained();
@@ -140,8 +149,8 @@ impl Judges {
 
     /// The judge behind takes a line, where more are kept than may be.
     fn catch_up(&mut self, reading: &mut Reading) -> io::Result<()>
-        ensures { (lines : List (List ℕ)) → CertifyBehind self.old.behind.is_certified self.old.behind.belief self.old.window lines
-            → OnOk result (CertifyBehind self.new.behind.is_certified self.new.behind.belief self.new.window lines) }
+        ensures { (lines : List (List ℕ)) → CertifyBehind self.old.behind.is_certified self.old.behind.belief self.old.window.items lines
+            → OnOk result (CertifyBehind self.new.behind.is_certified self.new.behind.belief self.new.window.items lines) }
     {
         if !self.is_full() {
             return Ok(());
@@ -151,32 +160,32 @@ impl Judges {
 
     /// Whether no line is kept.
     fn is_drained(&self) -> bool
-        ensures { IsTrue result ↔ (self.now.window ≡ []) }
+        ensures { IsTrue result ↔ (self.now.window.items ≡ []) }
     {
-        match self.window.as_slice() {
-            [] => true,
-            [_, ..] => false,
-        }
+        self.window.is_empty()
     }
 
     /// Whether more lines are kept than may be.
     fn is_full(&self) -> bool {
-        self.window.as_slice().len() > MOST_LINES || self.bytes > MOST_BYTES
+        self.window.len() > MOST_LINES || self.bytes > MOST_BYTES
     }
 
     /// The line is taken ahead, and kept for the judge behind.
     fn keep(&mut self, line: &[u8]) -> io::Result<()>
-        ensures { OnOk result ((self.new.behind ≡ self.old.behind) × (self.new.window ≡ self.old.window ++ line.now ∷ [])) }
+        ensures { OnOk result ((self.new.behind ≡ self.old.behind) × (self.new.window.items ≡ self.old.window.items ++ line.now ∷ [])) }
     {
-        self.window.push(copy_of(self.alloc, line)?)?;
+        let kept = copy_of(self.alloc, line)?;
         self.bytes = self.bytes.saturating_add(line.len());
-        Ok(())
+        match self.window.try_push_back(kept) {
+            Ok(()) => Ok(()),
+            Err(_) => Err(io::Error::from(ErrorKind::Other)),
+        }
     }
 
     /// The judge behind is told what was seen ahead, once the world has a size.
     fn tell(&mut self) -> io::Result<()>
-        ensures { (lines : List (List ℕ)) → CertifyBehind self.old.behind.is_certified self.old.behind.belief self.old.window lines
-            → OnOk result (CertifyBehind self.new.behind.is_certified self.new.behind.belief self.new.window lines) }
+        ensures { (lines : List (List ℕ)) → CertifyBehind self.old.behind.is_certified self.old.behind.belief self.old.window.items lines
+            → OnOk result (CertifyBehind self.new.behind.is_certified self.new.behind.belief self.new.window.items lines) }
     {
         if self.behind.belief.is_none() {
             return Ok(());
@@ -191,14 +200,13 @@ impl Judges {
 
     /// The judge behind takes a line, if one is left.
     fn follow(&mut self, reading: &mut Reading) -> io::Result<()>
-        ensures { (lines : List (List ℕ)) → CertifyBehind self.old.behind.is_certified self.old.behind.belief self.old.window lines
-            → OnOk result (CertifyBehind self.new.behind.is_certified self.new.behind.belief self.new.window lines) }
+        ensures { (lines : List (List ℕ)) → CertifyBehind self.old.behind.is_certified self.old.behind.belief self.old.window.items lines
+            → OnOk result (CertifyBehind self.new.behind.is_certified self.new.behind.belief self.new.window.items lines) }
     {
         self.tell()?;
-        if self.is_drained() {
+        let Some(line) = first_of(&mut self.window) else {
             return Ok(());
-        }
-        let line = self.window.pop_front();
+        };
         self.bytes = self.bytes.saturating_sub(line.as_slice().len());
         follow_line(
             self.alloc,
@@ -214,7 +222,7 @@ impl Judges {
     /// What is found of the lines, where there are no others.
     pub(crate) fn end(&mut self, reading: &mut Reading) -> io::Result<Verdict>
         ensures { (text : List ℕ) (lines : List (List ℕ))
-            → CertifyBehind self.old.behind.is_certified self.old.behind.belief self.old.window lines
+            → CertifyBehind self.old.behind.is_certified self.old.behind.belief self.old.window.items lines
             → AreLines lines text → IfOk result (λ verdict. IsTrue (is_lawful verdict) → IsLawfulTrace text) }
     {
         for _turn in 0..u64::MAX {

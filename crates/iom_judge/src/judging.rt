@@ -264,10 +264,10 @@ fn judge_next<R: Read>(
     reader: &mut R,
 ) -> io::Result<Option<Verdict>>
     ensures { (first : Option (List ℕ))
-        → HasJudged judges.old.behind.is_certified judges.old.behind.belief judges.old.window
+        → HasJudged judges.old.behind.is_certified judges.old.behind.belief judges.old.window.items
         lines.old.buffer.items lines.old.start lines.old.end first (R.remaining reader.old)
         → IfOk result (λ found. MatchOption found
-        (HasJudged judges.new.behind.is_certified judges.new.behind.belief judges.new.window
+        (HasJudged judges.new.behind.is_certified judges.new.behind.belief judges.new.window.items
         lines.new.buffer.items lines.new.start lines.new.end first (R.remaining reader.new))
         (λ verdict. IsTrue (is_lawful verdict) → IfSome first IsLawfulTrace)) }
 {
@@ -291,7 +291,7 @@ fn judge_lines<R: Read>(
     reader: &mut R,
 ) -> io::Result<Verdict>
     ensures { (first : Option (List ℕ))
-        → HasJudged judges.old.behind.is_certified judges.old.behind.belief judges.old.window
+        → HasJudged judges.old.behind.is_certified judges.old.behind.belief judges.old.window.items
         lines.old.buffer.items lines.old.start lines.old.end first (R.remaining reader.old)
         → IfOk result (λ verdict. IsTrue (is_lawful verdict) → IfSome first IsLawfulTrace) }
 {
@@ -312,7 +312,7 @@ pub fn judge_trace<R: Read>(alloc: Global, reader: &mut R) -> io::Result<Verdict
     ensures { IfOk result (λ verdict. IsTrue (is_lawful verdict) → IfSome (R.remaining reader.old) IsLawfulTrace) }
 {
     let mut lines = Lines::new(alloc)?;
-    let mut judges = Judges::new(alloc);
+    let mut judges = Judges::new(alloc)?;
     let mut reading = Reading::new(alloc)?;
     judge_lines(&mut judges, &mut reading, &mut lines, reader)
 }

@@ -9,7 +9,7 @@ returns-in-Some g c first judged =
     let judges = c.judge_next.new.judges in
     let lines = c.judge_next.new.lines in
     subst (λ (found : Option Verdict). MatchOption found
-    (HasJudged judges.behind.is_certified judges.behind.belief judges.window lines.buffer.items lines.start lines.end first (g.R.Read.remaining c.judge_next.new.reader))
+    (HasJudged judges.behind.is_certified judges.behind.belief judges.window.items lines.buffer.items lines.start lines.end first (g.R.Read.remaining c.judge_next.new.reader))
     (λ verdict. IsTrue (is_lawful verdict) → IfSome first IsLawfulTrace)) c.in-Some.is (c.in_ok-verdict.ensures first (c.loop.invariant first judged))
 
 pub loop-preserved : goal.loop-preserved
@@ -17,5 +17,5 @@ loop-preserved g c first judged =
     let judges = c.judge_next.new.judges in
     let lines = c.judge_next.new.lines in
     subst (λ (found : Option Verdict). MatchOption found
-    (HasJudged judges.behind.is_certified judges.behind.belief judges.window lines.buffer.items lines.start lines.end first (g.R.Read.remaining c.judge_next.new.reader))
+    (HasJudged judges.behind.is_certified judges.behind.belief judges.window.items lines.buffer.items lines.start lines.end first (g.R.Read.remaining c.judge_next.new.reader))
     (λ verdict. IsTrue (is_lawful verdict) → IfSome first IsLawfulTrace)) c.in_default.is (c.in_ok-verdict.ensures first (c.loop.invariant first judged))

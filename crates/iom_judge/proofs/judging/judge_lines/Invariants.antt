@@ -6,5 +6,5 @@ use Rattle.iom_judge.proofs.judging.judge_lines.Given as goal
 abbrev pub invariant-loop : goal.invariant-loop
 invariant-loop g l =
     (first : Option (List ℕ))
-    → HasJudged l.fn.judges.behind.is_certified l.fn.judges.behind.belief l.fn.judges.window l.fn.lines.buffer.items l.fn.lines.start l.fn.lines.end first (g.R.Read.remaining l.fn.reader)
-    → HasJudged l.judges.behind.is_certified l.judges.behind.belief l.judges.window l.lines.buffer.items l.lines.start l.lines.end first (g.R.Read.remaining l.reader)
+    → HasJudged l.fn.judges.behind.is_certified l.fn.judges.behind.belief l.fn.judges.window.items l.fn.lines.buffer.items l.fn.lines.start l.fn.lines.end first (g.R.Read.remaining l.fn.reader)
+    → HasJudged l.judges.behind.is_certified l.judges.behind.belief l.judges.window.items l.lines.buffer.items l.lines.start l.lines.end first (g.R.Read.remaining l.reader)

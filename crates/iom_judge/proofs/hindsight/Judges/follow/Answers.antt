@@ -3,10 +3,13 @@ use Rattle.iom_judge.specs.Certified.{CertifyBehind}
 use Rattle.iom_judge.proofs.CertificateLemmas.{one_followed}
 use Rattle.iom_judge.proofs.hindsight.Judges.follow.Goals as goal
 
+pub returns-in_default : goal.returns-in_default
+returns-in_default c lines before = rw c.in_default.ensures (c.in_ok-tell.ensures lines before)
+
 pub returns : goal.returns
 returns c lines before =
     let was = c.tell.new.self.behind in
-    let line = c.pop_front-line.result in
-    one_followed was.is_certified c.follow_line.new.behind.is_certified was.belief c.follow_line.new.behind.belief line c.pop_front-line.new.self lines
-    (subst (λ (w : List (List ℕ)). CertifyBehind was.is_certified was.belief w lines) c.pop_front-line.ensures (c.in_ok-tell.ensures lines before))
+    let line = c.in-Some.line in
+    one_followed was.is_certified c.follow_line.new.behind.is_certified was.belief c.follow_line.new.behind.belief line c.first_of.new.window.items lines
+    (subst (λ (w : List (List ℕ)). CertifyBehind was.is_certified was.belief w lines) c.in-Some.ensures (c.in_ok-tell.ensures lines before))
     (λ judged certified. rw c.as_slice-2.ensures at (c.in_ok-follow_line.ensures judged certified))
