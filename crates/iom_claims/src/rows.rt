@@ -33,7 +33,8 @@ pub(crate) fn grant_on(held: &[Grant], frame: u32) -> Option<&Grant>
 pub(crate) fn withdrawn_by(claims: &[OpenClaim], number: u32) -> Option<Grant>
     ensures { result ≡ option_map grant_of (find (is_numbered number) claims.now) }
 {
-    claims.iter()
+    claims
+        .iter()
         .find(|claim| number == claim.number)
         .map(|claim| claim.grant)
 }
@@ -66,7 +67,8 @@ pub(crate) fn some_claim_lets(
 ) -> bool
     ensures { result ≡ list_any (claim_lets device frame kind) claims.now }
 {
-    claims.iter()
+    claims
+        .iter()
         .any(|claim| claim.grant.lets(device, frame, kind))
 }
 
