@@ -12,13 +12,13 @@ use Rattle.iom_claims.specs.declared.grant.Grant.{Grant}
 use Rattle.iom_claims.specs.declared.grant.OpenClaim.{OpenClaim}
 use Rattle.iom_claims.specs.Claimed.{IsHeld, IsOpen}
 use Rattle.iom_claims.specs.Rows.{is_at, is_on, is_numbered, lets, claim_is_on, claim_lets, pair_of, grant_of, without_page, without_number}
-use Rattle.iom_claims.specs.Shown.{AreGrants, AreClaims, AreUnused}
+use Rattle.iom_claims.specs.Shown.{AreHeldGrants, AreClaims, AreUnused}
 use Rattle.iom_claims.proofs.ListLemmas.{contains_filter, contains_from_filter, found_by, none_by, passing_from_any, any_from_passing}
 use Rattle.iom_claims.proofs.HistoryLemmas.{grant_from, claim_from, same_claim, is_own, moved, held_to_grant, held_from_grant, held_to_release, held_from_release, lingering_after_grant, open_from_release, open_to_release, open_from_done, open_to_done}
 
 -- the grants, after a grant where nothing was held
-pub grants_after_grant : (rows : List Grant) (h : History) (grant : Grant) → held_at h grant.device grant.page ≡ None → AreGrants rows h
-    → AreGrants (rows ++ grant ∷ []) (Granted grant.device grant.page grant.frame grant.rights ∷ h)
+pub grants_after_grant : (rows : List Grant) (h : History) (grant : Grant) → held_at h grant.device grant.page ≡ None → AreHeldGrants rows h
+    → AreHeldGrants (rows ++ grant ∷ []) (Granted grant.device grant.page grant.frame grant.rights ∷ h)
 grants_after_grant rows h grant none shows other = (
   (λ c. held_to_grant h grant other none (elim (Contains-push_cases rows grant other c) [ inl before ↦ inl ((shows other).0 before) | inr same ↦ inr same ])),
   (λ held. elim (held_from_grant h grant other held) [
@@ -28,8 +28,8 @@ grants_after_grant rows h grant none shows other = (
 )
 
 -- after a release
-pub grants_after_release : (rows : List Grant) (h : History) (device page number : ℕ) → AreGrants rows h
-    → AreGrants (without_page device page rows) (Released device page number ∷ h)
+pub grants_after_release : (rows : List Grant) (h : History) (device page number : ℕ) → AreHeldGrants rows h
+    → AreHeldGrants (without_page device page rows) (Released device page number ∷ h)
 grants_after_release rows h device page number shows other = (
   (λ c. let kept = contains_from_filter (λ grant. not (is_at device page grant)) rows other c in
       held_to_release h device page number other ((shows other).0 kept.0) kept.1),
@@ -38,7 +38,7 @@ grants_after_release rows h device page number shows other = (
 )
 
 -- after a confirmation
-pub grants_after_done : (rows : List Grant) (h : History) (number : ℕ) → AreGrants rows h → AreGrants rows (Confirmed number ∷ h)
+pub grants_after_done : (rows : List Grant) (h : History) (number : ℕ) → AreHeldGrants rows h → AreHeldGrants rows (Confirmed number ∷ h)
 grants_after_done rows h number shows other = shows other
 
 -- the claims, after a grant
@@ -116,7 +116,7 @@ unused_after_done h last number given unused other above = by (number == other) 
     by true e = let same = eqb-true number other e in absurd (omega arith)
 
 -- what is held at a page is what a search for the page finds
-pub held_is : (rows : List Grant) (h : History) → AreGrants rows h → (device page : ℕ) → option_map pair_of (find (is_at device page) rows) ≡ held_at h device page
+pub held_is : (rows : List Grant) (h : History) → AreHeldGrants rows h → (device page : ℕ) → option_map pair_of (find (is_at device page) rows) ≡ held_at h device page
 held_is rows h shows device page = by (find (is_at device page) rows) refl (held_at h device page) refl
   where
     by : (found : Option Grant) → find (is_at device page) rows ≡ found → (held : Option Pair) → held_at h device page ≡ held → option_map pair_of found ≡ held
@@ -150,7 +150,7 @@ open_is rows h last shows number grant = (
         ap (λ (x : OpenClaim). Some x.grant) (shows.single claim (claim_from number grant) was.0 c (sym (eqb-true number claim.number was.1)))
 
 -- a device may reach a frame exactly where a row lets it
-pub may_by_grant : (rows : List Grant) (h : History) → AreGrants rows h → (device frame : ℕ) (kind : AccessKind) → list_any (lets device frame kind) rows ≡ true → May h device frame kind
+pub may_by_grant : (rows : List Grant) (h : History) → AreHeldGrants rows h → (device frame : ℕ) (kind : AccessKind) → list_any (lets device frame kind) rows ≡ true → May h device frame kind
 may_by_grant rows h shows device frame kind any =
     let (grant, c, passes) = passing_from_any (lets device frame kind) rows any in
     let outer = and_parts (device == grant.device) ((frame == grant.frame) && allows grant.rights kind) passes in
@@ -178,7 +178,7 @@ may_by_claim rows h last shows device frame kind any =
       inner.1,
     )
 
-pub row_from_may : (rows : List Grant) (claims : List OpenClaim) (h : History) (last : ℕ) → AreGrants rows h → AreClaims claims h last → (device frame : ℕ) (kind : AccessKind)
+pub row_from_may : (rows : List Grant) (claims : List OpenClaim) (h : History) (last : ℕ) → AreHeldGrants rows h → AreClaims claims h last → (device frame : ℕ) (kind : AccessKind)
     → May h device frame kind → (list_any (lets device frame kind) rows ≡ true) ⊎ (list_any (claim_lets device frame kind) claims ≡ true)
 row_from_may rows claims h last shows lingers device frame kind (page, rights, reaches, allowed) =
     let grant = grant_from device page (frame, rights) in
@@ -190,14 +190,14 @@ row_from_may rows claims h last shows lingers device frame kind (page, rights, r
     ]
 
 -- who holds a frame, and which claim lingers on it
-pub holder_is : (rows : List Grant) (h : History) → AreGrants rows h → (frame : ℕ) (found : Option Grant) → found ≡ find (is_on frame) rows
+pub holder_is : (rows : List Grant) (h : History) → AreHeldGrants rows h → (frame : ℕ) (found : Option Grant) → found ≡ find (is_on frame) rows
     → IfSome found (λ grant. (grant.frame ≡ frame) × IsHeld h grant)
 holder_is rows h shows frame None e = tt
 holder_is rows h shows frame (Some grant) e =
     let was = found_by (is_on frame) rows grant (sym e) in
     (sym (eqb-true frame grant.frame was.1), (shows grant).0 was.0)
 
-pub no_holder_is : (rows : List Grant) (h : History) → AreGrants rows h → (frame : ℕ) (found : Option Grant) → found ≡ find (is_on frame) rows
+pub no_holder_is : (rows : List Grant) (h : History) → AreHeldGrants rows h → (frame : ℕ) (found : Option Grant) → found ≡ find (is_on frame) rows
     → IsNone found ↔ ((grant : Grant) → grant.frame ≡ frame → ¬ IsHeld h grant)
 no_holder_is rows h shows frame None e = (
   (λ none grant on held. false≢true (sym (none_by (is_on frame) rows (sym e) grant ((shows grant).1 held)) ∙ eq-eqb frame grant.frame (sym on))),
@@ -229,11 +229,11 @@ none_lingering_is rows h last shows frame (Some claim) e =
     )
 
 -- whether anything is held at a page, by what a search for it finds
-pub held_some : (rows : List Grant) (h : History) → AreGrants rows h → (device page : ℕ) (grant : Grant) → find (is_at device page) rows ≡ Some grant
+pub held_some : (rows : List Grant) (h : History) → AreHeldGrants rows h → (device page : ℕ) (grant : Grant) → find (is_at device page) rows ≡ Some grant
     → held_at h device page ≡ Some (pair_of grant)
 held_some rows h shows device page grant found = sym (held_is rows h shows device page) ∙ ap (option_map pair_of) found
 
-pub held_none : (rows : List Grant) (h : History) → AreGrants rows h → (device page : ℕ) → find (is_at device page) rows ≡ None → held_at h device page ≡ None
+pub held_none : (rows : List Grant) (h : History) → AreHeldGrants rows h → (device page : ℕ) → find (is_at device page) rows ≡ None → held_at h device page ≡ None
 held_none rows h shows device page found = sym (held_is rows h shows device page) ∙ ap (option_map pair_of) found
 
 -- the claim of which a search tells the grant

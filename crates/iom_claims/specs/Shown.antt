@@ -7,8 +7,8 @@ use Rattle.iom_claims.specs.Claimed.{Claimed, IsHeld, IsOpen}
 use Rattle.iom_claims.specs.Rows.{Rows, has_mark}
 
 -- a row for each page that is held, and no other
-abbrev pub AreGrants : List Grant → History → Type 0
-AreGrants rows history = (grant : Grant) → Contains rows grant ↔ IsHeld history grant
+abbrev pub AreHeldGrants : List Grant → History → Type 0
+AreHeldGrants rows history = (grant : Grant) → Contains rows grant ↔ IsHeld history grant
 
 -- a row for each claim that is open, and no other; each has a number of its own, and that was given
 pub record AreClaims (rows : List OpenClaim) (history : History) (last : ℕ) : Type 0 where
@@ -21,8 +21,8 @@ abbrev pub AreUnused : History → ℕ → Type 0
 AreUnused history last = (number : ℕ) → last < number → confirms history number ≡ false
 
 -- the rows show what was claimed
-pub record Shows (rows : Rows) (claimed : Claimed) : Type 0 where
-  pub holds : AreGrants rows.held claimed.history
+pub record ShowsClaimed (rows : Rows) (claimed : Claimed) : Type 0 where
+  pub holds : AreHeldGrants rows.held claimed.history
   pub lingers : AreClaims rows.claims claimed.history claimed.last
   pub unused : AreUnused claimed.history claimed.last
   pub counted : rows.last ≡ claimed.last

@@ -6,7 +6,7 @@ ghost use Rattle.iom_claims.specs.declared.grant.Grant.{Grant};
 ghost use Rattle.iom_claims.specs.declared.grant.OpenClaim.{OpenClaim};
 ghost use Rattle.iom_claims.specs.Claimed.{Claimed, nothing_claimed, IsHeld, IsOpen, after_grant, after_release, after_done, after_mark};
 ghost use Rattle.iom_claims.specs.Rows.{is_at, is_on, claim_is_on, without_number, Withdraws};
-ghost use Rattle.iom_claims.specs.Shown.{Shows};
+ghost use Rattle.iom_claims.specs.Shown.{ShowsClaimed};
 
 use crate::grant::{Grant, OpenClaim};
 use crate::rows::{
@@ -46,7 +46,7 @@ impl Model for Claims {
 impl Claims {
     /// Nothing is claimed. Takes no memory.
     pub fn new(alloc: Global) -> Claims
-        ensures { Shows result nothing_claimed }
+        ensures { ShowsClaimed result nothing_claimed }
     {
         Claims {
             held: Vec::new(alloc),
@@ -58,14 +58,14 @@ impl Claims {
 
     /// What the device holds at the page.
     pub fn held_at(&self, device: DeviceId, page: u64) -> Option<(u32, Rights)>
-        ensures { (c : Claimed) → Shows self.now c → result ≡ held_at c.history device page }
+        ensures { (c : Claimed) → ShowsClaimed self.now c → result ≡ held_at c.history device page }
     {
         pair_at(&self.held, device, page)
     }
 
     /// What the open claim of this number withdrew.
     pub fn open_claim(&self, number: u32) -> Option<Grant>
-        ensures { (c : Claimed) → Shows self.now c → (grant : Grant)
+        ensures { (c : Claimed) → ShowsClaimed self.now c → (grant : Grant)
             → (result ≡ Some grant) ↔ IsOpen c.history (record { number = number; grant = grant }) }
     {
         withdrawn_by(&self.claims, number)
@@ -73,7 +73,7 @@ impl Claims {
 
     /// Whether the device may reach the frame by an access of this kind.
     pub fn may(&self, device: DeviceId, frame: u32, kind: AccessKind) -> bool
-        ensures { (c : Claimed) → Shows self.now c → IsTrue result ↔ May c.history device frame kind }
+        ensures { (c : Claimed) → ShowsClaimed self.now c → IsTrue result ↔ May c.history device frame kind }
     {
         if some_grant_lets(&self.held, device, frame, kind) {
             return true;
@@ -84,8 +84,8 @@ impl Claims {
     /// Who holds the frame: of several the one to whom it was granted first.
     pub fn holder_of(&self, frame: u32) -> Option<Grant>
         ensures first { result ≡ find (is_on frame) self.now.held }
-        ensures held { (c : Claimed) → Shows self.now c → IfSome result (λ grant. (grant.frame ≡ frame) × IsHeld c.history grant) }
-        ensures none { (c : Claimed) → Shows self.now c
+        ensures held { (c : Claimed) → ShowsClaimed self.now c → IfSome result (λ grant. (grant.frame ≡ frame) × IsHeld c.history grant) }
+        ensures none { (c : Claimed) → ShowsClaimed self.now c
             → IsNone result ↔ ((grant : Grant) → grant.frame ≡ frame → ¬ IsHeld c.history grant) }
     {
         grant_on(&self.held, frame).copied()
@@ -94,8 +94,8 @@ impl Claims {
     /// The open claim that lingers on the frame: of several the oldest.
     pub fn lingering_on(&self, frame: u32) -> Option<OpenClaim>
         ensures first { result ≡ find (claim_is_on frame) self.now.claims }
-        ensures open { (c : Claimed) → Shows self.now c → IfSome result (λ claim. (claim.grant.frame ≡ frame) × IsOpen c.history claim) }
-        ensures none { (c : Claimed) → Shows self.now c
+        ensures open { (c : Claimed) → ShowsClaimed self.now c → IfSome result (λ claim. (claim.grant.frame ≡ frame) × IsOpen c.history claim) }
+        ensures none { (c : Claimed) → ShowsClaimed self.now c
             → IsNone result ↔ ((claim : OpenClaim) → claim.grant.frame ≡ frame → ¬ IsOpen c.history claim) }
     {
         claim_on(&self.claims, frame).copied()
@@ -103,7 +103,7 @@ impl Claims {
 
     /// Whether the frame is handed on.
     pub fn is_handed_on(&self, frame: u32) -> bool
-        ensures { (c : Claimed) → Shows self.now c → result ≡ c.handed_on frame }
+        ensures { (c : Claimed) → ShowsClaimed self.now c → result ≡ c.handed_on frame }
     {
         self.handed_on.contains(&frame)
     }
@@ -111,9 +111,9 @@ impl Claims {
     /// Claims that the device may reach the frame at the page, with the right. Refused where it holds
     /// something there, whatever lingers, and for want of memory: then nothing changes.
     pub fn grant(&mut self, grant: Grant) -> Result<(), Refusal>
-        ensures granted { (c : Claimed) → Shows self.old c → OnOk result (Shows self.new (after_grant grant c)) }
+        ensures granted { (c : Claimed) → ShowsClaimed self.old c → OnOk result (ShowsClaimed self.new (after_grant grant c)) }
         ensures rows { OnOk result ((self.new.held ≡ self.old.held ++ grant ∷ []) × (self.new.claims ≡ self.old.claims)) }
-        ensures busy { (c : Claimed) → Shows self.old c
+        ensures busy { (c : Claimed) → ShowsClaimed self.old c
             → (result ≡ Err Refusal.IovaBusy) ↔ IsSome (held_at c.history grant.device grant.page) }
         ensures refused { IfErr result (λ why. (why ≡ Refusal.IovaBusy) ⊎ (why ≡ Refusal.Memory)) }
         ensures unchanged { OnErr result (self.new ≡ self.old) }
@@ -134,12 +134,12 @@ impl Claims {
     /// was ever given. Refused where nothing is held, where there is no such number in 32 bits
     /// (`TooManyPending`), and for want of memory: then nothing changes.
     pub fn release(&mut self, device: DeviceId, page: u64) -> Result<u32, Refusal>
-        ensures released { (c : Claimed) → Shows self.old c → OnOk result (Shows self.new (after_release device page c)) }
+        ensures released { (c : Claimed) → ShowsClaimed self.old c → OnOk result (ShowsClaimed self.new (after_release device page c)) }
         ensures number { IfOk result (λ number. number ≡ self.old.last + 1) }
         ensures rows { IfOk result (λ number. (grant : Grant) → find (is_at device page) self.old.held ≡ Some grant
             → Withdraws self.old self.new grant number) }
-        ensures not_granted { (c : Claimed) → Shows self.old c → (result ≡ Err Refusal.NotGranted) ↔ (held_at c.history device page ≡ None) }
-        ensures used_up { (c : Claimed) → Shows self.old c
+        ensures not_granted { (c : Claimed) → ShowsClaimed self.old c → (result ≡ Err Refusal.NotGranted) ↔ (held_at c.history device page ≡ None) }
+        ensures used_up { (c : Claimed) → ShowsClaimed self.old c
             → (result ≡ Err Refusal.TooManyPending) ↔ (IsSome (held_at c.history device page) × (self.old.last ≡ 2 ^ 32 - 1)) }
         ensures refused { IfErr result (λ why. (why ≡ Refusal.NotGranted) ⊎ (why ≡ Refusal.TooManyPending) ⊎ (why ≡ Refusal.Memory)) }
         ensures unchanged { OnErr result (self.new ≡ self.old) }
@@ -175,9 +175,9 @@ impl Claims {
     /// The claim of this number is done: what it withdrew lingers no more. Refused where it isn't open, and
     /// then nothing changes. Takes no memory.
     pub fn done(&mut self, number: u32) -> Result<(), NoSuchClaim>
-        ensures done { (c : Claimed) → Shows self.old c → OnOk result (Shows self.new (after_done number c)) }
+        ensures done { (c : Claimed) → ShowsClaimed self.old c → OnOk result (ShowsClaimed self.new (after_done number c)) }
         ensures rows { OnOk result ((self.new.held ≡ self.old.held) × (self.new.claims ≡ without_number number self.old.claims)) }
-        ensures open { (c : Claimed) → Shows self.old c
+        ensures open { (c : Claimed) → ShowsClaimed self.old c
             → IsOk result ↔ ((grant : Grant) × IsOpen c.history (record { number = number; grant = grant })) }
         ensures unchanged { OnErr result (self.new ≡ self.old) }
     {
@@ -193,7 +193,7 @@ impl Claims {
     /// The frame is handed on to somebody else. Where memory is refused nothing changes, and nothing else is
     /// refused.
     pub fn hand_on(&mut self, frame: u32) -> Result<(), Refusal>
-        ensures marked { (c : Claimed) → Shows self.old c → OnOk result (Shows self.new (after_mark frame true c)) }
+        ensures marked { (c : Claimed) → ShowsClaimed self.old c → OnOk result (ShowsClaimed self.new (after_mark frame true c)) }
         ensures rows { (self.new.held ≡ self.old.held) × (self.new.claims ≡ self.old.claims) }
         ensures refused { IfErr result (λ why. why ≡ Refusal.Memory) }
         ensures unchanged { OnErr result (self.new ≡ self.old) }
@@ -206,7 +206,7 @@ impl Claims {
 
     /// The driver has the frame from whoever gives frames out, so it is handed on no more. Takes no memory.
     pub fn take(&mut self, frame: u32)
-        ensures cleared { (c : Claimed) → Shows self.old c → Shows self.new (after_mark frame false c) }
+        ensures cleared { (c : Claimed) → ShowsClaimed self.old c → ShowsClaimed self.new (after_mark frame false c) }
         ensures rows { (self.new.held ≡ self.old.held) × (self.new.claims ≡ self.old.claims) }
     {
         self.handed_on.remove(&frame);

@@ -11,7 +11,7 @@ use Rattle.iom_registers.specs.declared.directory.DirectoryMode.{DirectoryMode}
 use Rattle.iom_registers.specs.declared.directory.DirectoryMode.TheVariants as mode
 use Rattle.iom_reach.specs.Memory.{Tables, Goes, Ends, WalkStep}
 use Rattle.iom_reach.specs.Scene.{Context, Directory, Off, Bare, At}
-use Rattle.iom_hardware_ways.specs.Formats.{word_in, found_context, found_non_leaf, context_of, context_in, context_format, indices_from, steps_of}
+use Rattle.iom_hardware_ways.specs.Formats.{word_in, context_found, found_non_leaf, context_of, stored_context, context_format, indices_from, steps_of}
 use Rattle.iom_hardware_ways.specs.Laws.{DirectoriesAreFound}
 use Rattle.iom_hardware_ways.specs.Scenes.{directory_by}
 use Rattle.iom_hardware_ways.proofs.FormatLemmas.{context_there, non_leaf_there, ddi_low, ddi_lowest, some_indices}
@@ -20,7 +20,7 @@ use Rattle.iom_hardware_ways.proofs.FormatLemmas.{context_there, non_leaf_there,
 abbrev IsFound : Result DeviceContext Cause → Context → Type 0
 IsFound result context = (found : DeviceContext) × (result ≡ Ok found) × (context_of found ≡ context)
 
-context_back : (loaded : Result DeviceContext Cause) (On : ℕ → Type 0) (context : Context) → ((next : ℕ) → On next → ⊥) → Goes (found_context loaded) On (λ said. said ≡ context) → IsFound loaded context
+context_back : (loaded : Result DeviceContext Cause) (On : ℕ → Type 0) (context : Context) → ((next : ℕ) → On next → ⊥) → Goes (context_found loaded) On (λ said. said ≡ context) → IsFound loaded context
 context_back (Ok found) On context none same = (found, refl, same)
 context_back (Err cause) On context none never = absurd never
 
@@ -42,7 +42,7 @@ ends_found : (memory : List (List ℕ)) (level page id : ℕ) (context : Context
     → IsFound (path_end_from memory level page id) context
 ends_found memory zero page id context ends =
     subst (λ r. IsFound r context) (sym (context_there memory page (ddi 0 id) (ddi_lowest id)))
-    (context_back (context_in (slice_get memory (page + 0)) (32 * ddi 0 id)) (λ next. Ends context_format (slice_get memory) next [] context) context (λ next never. never) ends)
+    (context_back (stored_context (slice_get memory (page + 0)) (32 * ddi 0 id)) (λ next. Ends context_format (slice_get memory) next [] context) context (λ next never. never) ends)
 ends_found memory (suc level) page id context ends =
     let (first, others, all) = some_indices level id in
     subst (λ w. IsFound (follow_entry (loaded_entry w) (λ next. path_end_from memory level next id)) context) (sym (non_leaf_there memory page (ddi (suc level) id) (ddi_low level id)))

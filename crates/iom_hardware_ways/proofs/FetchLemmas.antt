@@ -38,7 +38,7 @@ use Rattle.iom_reach.specs.Memory.{DiffersAt}
 use Rattle.iom_reach.specs.Occurrences.{AreSomeOfOr, IsPartOf, IsMemoryBy, DoCommand}
 use Rattle.iom_reach.specs.Scene.{Other}
 use Rattle.iom_hardware_ways.specs.Formats.{word_in, command_in, word_frame, stored_by, context_of}
-use Rattle.iom_hardware_ways.specs.Scenes.{place_at, places_from, waiting_in, contexts_in, mapping_of, mappings_in, cached_key, said_on, message_of, scene_of}
+use Rattle.iom_hardware_ways.specs.Scenes.{place_at, places_from, waiting_places, contexts_in, mapping_of, mappings_in, cached_key, said_on, message_of, scene_of}
 use Rattle.iom_hardware_ways.proofs.CarryLemmas.{sent_cases}
 use Rattle.iom_hardware_ways.proofs.ContextLemmas.{same_shown}
 use Rattle.iom_hardware_ways.proofs.FlightLemmas.{set_differs}
@@ -68,7 +68,7 @@ one_less memory r ne =
 
 -- the places of those that wait
 waiting_drops : (memory : List (List ℕ)) (r : Registers) → is_command_queue_on r ≡ true → command_head r ≢ command_tail r
-    → waiting_in r ≡ place_at (place_of r (command_head r)) ∷ waiting_in (with_command_done r)
+    → waiting_places r ≡ place_at (place_of r (command_head r)) ∷ waiting_places (with_command_done r)
 waiting_drops memory r on ne =
     let size = command_entries r in
     let next = next_index size (command_head r) in
@@ -187,7 +187,7 @@ module _ (trusted : ℕ → Bool) (old new : HardwareParts) (command : Command) 
       let place = place_at (place_of r (command_head r)) in
       one DoCommand (scene_of trusted old) (scene_of trusted new) (
         place,
-        waiting_in (with_command_done r),
+        waiting_places (with_command_done r),
         slice_get new.memory,
         contexts_in mode (contexts_of new.iommu),
         mappings_in (translations_of new.iommu),

@@ -21,7 +21,7 @@ use Rattle.iom_stage_walk.specs.Entries.{Entries, entries, entry_read, slot}
 use Rattle.iom_stage_walk.specs.Paths.{Reaches, IsLawfulLeaf, pages_spanned, page_in}
 use Rattle.iom_reach.specs.Memory.{Tables, Found, Nothing, Leaf, WalkStep, Goes, Ends}
 use Rattle.iom_reach.specs.Scene.{Mapping, At}
-use Rattle.iom_hardware_ways.specs.Formats.{word_in, step_at, index_of, found_leaf, found_entry, entry_format, found_context, found_non_leaf, context_of, context_in, context_format, indices_from, steps_of}
+use Rattle.iom_hardware_ways.specs.Formats.{word_in, step_at, index_of, found_leaf, found_entry, entry_format, context_found, found_non_leaf, context_of, stored_context, context_format, indices_from, steps_of}
 use Rattle.iom_hardware_ways.specs.Scenes.{directory_by}
 
 -- a word by its frame and offset
@@ -92,7 +92,7 @@ four_words : (a b c d e f g h : Option ℕ) → a ≡ e → b ≡ f → c ≡ g 
 four_words a b c d e f g h i j k l = rw (i, j, k, l) refl
 
 pub context_there : (memory : List (List ℕ)) (page index : ℕ) → index < 128
-    → loaded_context (context_words_at memory (context_place page index)) ≡ context_in (slice_get memory (page + 0)) (32 * index)
+    → loaded_context (context_words_at memory (context_place page index)) ≡ stored_context (slice_get memory (page + 0)) (32 * index)
 unfolding context_words_at
 context_there memory page index low =
     let a = 4096 * page + 32 * index in
@@ -116,8 +116,8 @@ follows memory (Ok entry) follow steps context later is = later entry.next.numbe
 follows memory (Err cause) follow steps context later is = absurd (cc)
 
 loaded_leaf : (loaded : Result DeviceContext Cause) (On : ℕ → Type 0) (context : DeviceContext) → loaded ≡ Ok context
-    → Goes (found_context loaded) On (λ said. said ≡ context_of context)
-loaded_leaf loaded On context is = subst (λ l. Goes (found_context l) On (λ said. said ≡ context_of context)) (sym is) refl
+    → Goes (context_found loaded) On (λ said. said ≡ context_of context)
+loaded_leaf loaded On context is = subst (λ l. Goes (context_found l) On (λ said. said ≡ context_of context)) (sym is) refl
 
 ends_below : (memory : List (List ℕ)) (level page id : ℕ) (rest : List WalkStep) (context : DeviceContext) (first : WalkStep) (others : List WalkStep) → rest ≡ first ∷ others
     → Goes (found_non_leaf (loaded_entry (word_in (slice_get memory (page + 0)) (8 * ddi (suc level) id)))) (λ next. Ends context_format (slice_get memory) next rest (context_of context)) (λ said. said ≡ context_of context)
@@ -135,7 +135,7 @@ some_indices (suc level) id = (record { frame = 0; place = ddi (suc level) id },
 pub located_ends : (memory : List (List ℕ)) (level page id : ℕ) (context : DeviceContext) → path_end_from memory level page id ≡ Ok context
     → Ends context_format (slice_get memory) page (indices_from level id) (context_of context)
 located_ends memory zero page id context is =
-    loaded_leaf (context_in (slice_get memory (page + 0)) (32 * ddi 0 id)) (λ next. Ends context_format (slice_get memory) next [] (context_of context)) context
+    loaded_leaf (stored_context (slice_get memory (page + 0)) (32 * ddi 0 id)) (λ next. Ends context_format (slice_get memory) next [] (context_of context)) context
     (sym (context_there memory page (ddi 0 id) (ddi_lowest id)) ∙ is)
 located_ends memory (suc level) page id context is =
     let (first, others, all) = some_indices level id in

@@ -16,7 +16,7 @@ use Rattle.iom_reach.specs.Ways.{WalkBegins, AtRoot, PartWay}
 use Rattle.iom_reach.proofs.LawLemmas.{turns_add_no_way, accesses_had_ways}
 use Rattle.iom_hardware_ways.specs.Calls.{HardwareCall, DoInTurn}
 use Rattle.iom_hardware_ways.specs.Laws.{CallsAddNoWay, MakesIn, MadeAccessesHadWays, QuietStaysQuiet, GoodClaimsHold, FreeStaysFree, BeginsSafe}
-use Rattle.iom_hardware_ways.specs.Scenes.{directory_by, waiting_in, message_of, scene_of}
+use Rattle.iom_hardware_ways.specs.Scenes.{directory_by, waiting_places, message_of, scene_of}
 use Rattle.iom_hardware_ways.proofs.CallLemmas.{calls_are_occurrences}
 use Rattle.iom_hardware_ways.proofs.FlightLemmas.{makes}
 use Rattle.iom_hardware_ways.proofs.ListLemmas.{in_none}
@@ -80,7 +80,7 @@ module _ (trusted : ℕ → Bool) (frames : ℕ) (disks : List ℕ) (hardware : 
   none_read frame (inl (space, table, steps_to, page, begins, reads)) = none_begins space table steps_to begins
   none_read frame (inr (inl (device, tables, plugged, at, reads))) = no_directory tables at
   none_read frame (inr (inr (offset, there))) =
-      in_none {X = Place} (record { frame = frame; offset = offset }) (subst (λ (r : Registers). Contains (waiting_in r) (record { frame = frame; offset = offset })) on.iommu.registers there)
+      in_none {X = Place} (record { frame = frame; offset = offset }) (subst (λ (r : Registers). Contains (waiting_places r) (record { frame = frame; offset = offset })) on.iommu.registers there)
 
   no_message : (message : Message) → Contains (map message_of hardware.fabric) message → ⊥
   no_message message there = in_none message (subst (λ (f : List OnLink). Contains (map message_of f) message) on.fabric there)

@@ -13,14 +13,14 @@ use Rattle.iom_registers.specs.Queues.{directory_mode, directory_root}
 use Rattle.iom_tlb.specs.Content.{Content as Translations}
 use Rattle.iom_reach.specs.Scene.{Scene}
 use Rattle.iom_hardware_ways.specs.Formats.{formats}
-use Rattle.iom_hardware_ways.specs.Scenes.{directory_by, waiting_in, fault_frames_of, ats_kind, contexts_in, mappings_in, kept_entries, message_of, flights_in, scene_of}
+use Rattle.iom_hardware_ways.specs.Scenes.{directory_by, waiting_places, fault_frames_of, ats_kind, contexts_in, mappings_in, kept_entries, message_of, flights_in, scene_of}
 
 abbrev pub scene_by : (ℕ → Bool) → List (List ℕ) → Registers → Content ℕ DeviceContext → Translations → List FlightRow → List Device → List OnLink → Scene
 scene_by trusted memory r contexts translations rows devices fabric = record {
   formats = formats;
   memory = slice_get memory;
   directory = directory_by (directory_mode r) (directory_root r);
-  waiting = waiting_in r;
+  waiting = waiting_places r;
   fault_frames = fault_frames_of r;
   kind_of = λ device. option_map ats_kind (kind_in devices device);
   is_trusted = trusted;

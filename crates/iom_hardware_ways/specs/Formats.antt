@@ -83,22 +83,22 @@ context_of context = record {
   stages = stages_in context.first_stage context.second_stage context.gscid context.pscid.number;
 }
 
-abbrev pub found_context : Result DeviceContext Cause → Found Context
-found_context (Ok context) = Leaf (context_of context)
-found_context (Err cause) = Nothing
+abbrev pub context_found : Result DeviceContext Cause → Found Context
+context_found (Ok context) = Leaf (context_of context)
+context_found (Err cause) = Nothing
 
 abbrev pub found_non_leaf : Result NonLeafEntry Cause → Found Context
 found_non_leaf (Ok entry) = Pointer entry.next.number
 found_non_leaf (Err cause) = Nothing
 
 -- the context at an offset, by its four words, or the cause for which there is none
-abbrev pub context_in : Frame → ℕ → Result DeviceContext Cause
-context_in frame offset =
+abbrev pub stored_context : Frame → ℕ → Result DeviceContext Cause
+stored_context frame offset =
     loaded_context (four_context_words (word_in frame offset) (word_in frame (offset + 8)) (word_in frame (offset + 16)) (word_in frame (offset + 24)))
 
 -- at the last step a context stands, before it non-leaf entries
 abbrev pub context_format : Format Context
-context_format frame place [] = found_context (context_in frame (context_size * place))
+context_format frame place [] = context_found (stored_context frame (context_size * place))
 context_format frame place (step ∷ left) = found_non_leaf (loaded_entry (word_in frame (entry_size * place)))
 
 -- the steps along the indices of a device's id, one a level

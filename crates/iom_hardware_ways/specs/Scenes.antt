@@ -49,8 +49,8 @@ places_from base size index zero = []
 places_from base size index (suc more) = place_at (base + 16 * index) ∷ places_from base size (next_index size index) more
 
 -- where those between head and tail stand; none where the queue is off
-abbrev pub waiting_in : Registers → List Place
-waiting_in r = if is_command_queue_on r then places_from (command_base r) (command_entries r) (command_head r) (how_many r) else []
+abbrev pub waiting_places : Registers → List Place
+waiting_places r = if is_command_queue_on r then places_from (command_base r) (command_entries r) (command_head r) (how_many r) else []
 
 -- the frames of the fault queue, one for each of its places; none where it is off
 abbrev pub fault_frames_of : Registers → List ℕ
@@ -119,7 +119,7 @@ scene_of trusted parts = record {
   formats = formats;
   memory = slice_get parts.memory;
   directory = directory_by (directory_mode (registers_of parts.iommu)) (directory_root (registers_of parts.iommu));
-  waiting = waiting_in (registers_of parts.iommu);
+  waiting = waiting_places (registers_of parts.iommu);
   fault_frames = fault_frames_of (registers_of parts.iommu);
   kind_of = λ device. option_map ats_kind (kind_in parts.devices device);
   is_trusted = trusted;
