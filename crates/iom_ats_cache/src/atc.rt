@@ -104,6 +104,13 @@ impl Atc {
         self.epoch
     }
 
+    /// What it has, the oldest first.
+    pub fn entries(&self) -> &[Entry]
+        ensures { result.now ≡ self.now.entries }
+    {
+        self.entries.as_slice()
+    }
+
     /// The frame for an access of this kind to the page: that of the page's entry. None exactly where there is
     /// none, or its right doesn't allow the kind.
     pub fn look(&self, page: PageNumber, kind: AccessKind) -> Option<u32>

@@ -38,6 +38,14 @@ impl DirCache {
         })
     }
 
+    /// The context that is cached for the device. Which one goes next stays as it is.
+    #[tactic(auto, unfolding(crate::specs::Cached::cached_contexts, crate::specs::Cached::contexts_in_order))]
+    pub fn peek(&self, id: DeviceId) -> Option<Context>
+        ensures { result ≡ cached_contexts self.now id }
+    {
+        self.contexts.peek(&id).copied()
+    }
+
     /// The context of the device, where of those that are cached it was the last that was looked at or kept: then it
     /// stands where a look would put it. None where another one was, though one may be cached for the device.
     #[inline(always)]

@@ -58,16 +58,16 @@ is_on r on = by (is_command_queue_on r) on
     by false is = is
 
 -- where something stands at the head, head and tail are apart
-apart : (memory : List (List ℕ)) (r : Registers) (entry : QueueEntry) → slice_get (commands_in memory r) 0 ≡ Some entry → command_head r ≢ command_tail r
+pub apart : (memory : List (List ℕ)) (r : Registers) (entry : QueueEntry) → slice_get (commands_in memory r) 0 ≡ Some entry → command_head r ≢ command_tail r
 apart memory r entry is same = let none : None ≡ Some entry = sym (none_is memory r same) ∙ is in cc
 
 -- and one command less waits once it is done
-one_less : (memory : List (List ℕ)) (r : Registers) → command_head r ≢ command_tail r → how_many r ≡ suc (how_many (with_command_done r))
+pub one_less : (memory : List (List ℕ)) (r : Registers) → command_head r ≢ command_tail r → how_many r ≡ suc (how_many (with_command_done r))
 one_less memory r ne =
     sym (count memory r) ∙ ap (λ (l : List QueueEntry). length l) (list_drops memory r ne) ∙ ap suc (count memory (with_command_done r))
 
 -- the places of those that wait
-waiting_drops : (memory : List (List ℕ)) (r : Registers) → is_command_queue_on r ≡ true → command_head r ≢ command_tail r
+pub waiting_drops : (memory : List (List ℕ)) (r : Registers) → is_command_queue_on r ≡ true → command_head r ≢ command_tail r
     → waiting_places r ≡ place_at (place_of r (command_head r)) ∷ waiting_places (with_command_done r)
 waiting_drops memory r on ne =
     let size = command_entries r in
@@ -98,7 +98,7 @@ entry_there memory page index =
     word_there memory (a + 8) (a / 4096) (a % 4096 + 8) (omega arith) low (omega (arith, even)) in
     ap (λ w. entry_by_words w (word_in (slice_get memory (a / 4096)) (a % 4096 + 8))) (sym first) ∙ ap (λ w. entry_by_words (word_at 8 memory a) w) (sym second)
 
-head_there : (memory : List (List ℕ)) (r : Registers) (entry : QueueEntry) → slice_get (commands_in memory r) 0 ≡ Some entry
+pub head_there : (memory : List (List ℕ)) (r : Registers) (entry : QueueEntry) → slice_get (commands_in memory r) 0 ≡ Some entry
     → command_in (slice_get memory (place_at (place_of r (command_head r))).frame) (place_at (place_of r (command_head r))).offset ≡ entry
 head_there memory r entry is =
     let here : Some (first_entry memory r) ≡ Some entry = sym (first_is memory r (apart memory r entry is)) ∙ is in

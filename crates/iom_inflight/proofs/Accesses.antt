@@ -1,12 +1,12 @@
 -- What the accesses of a row are after one more at the end of the rings, and one less at their front.
-use Rattle.std.proofs.Common.{suc, not, append-nil, ◌≡◌, ◌+◌, ◌-◌, ◌*◌, ◌<◌, ◌≤◌, ◌++◌, ◌==◌, ◌&&◌, ◌%◌, ◌∙◌, ℕ, List, [], ◌∷◌, length, take, drop, min, option_map, slice_get, refl, sym, ap, inl, inr, arith, length-append, length-drop}
+use Rattle.std.proofs.Common.{zero, suc, not, append-nil, ◌≡◌, ◌+◌, ◌-◌, ◌*◌, ◌<◌, ◌≤◌, ◌++◌, ◌==◌, ◌&&◌, ◌%◌, ◌∙◌, ℕ, List, [], ◌∷◌, length, take, drop, min, option_map, slice_get, refl, sym, ap, inl, inr, arith, length-append, length-drop}
 use Rattle.std.specs.List.{list_all}
 use Rattle.std.proofs.lemmas.Bool.Decides.{eqb_tells}
 use Rattle.std.proofs.lemmas.List.{take-append-le, drop-append-le, take_all}
 use Rattle.iom_base.specs.declared.access.AccessKind.{AccessKind}
 use Rattle.circular_buffer.specs.Buffer.{Buffer, buffer, keep_last}
 use Rattle.iom_inflight.specs.declared.header.AccessHeader.{AccessHeader}
-use Rattle.iom_inflight.specs.Flights.{has_access, first_made, is_awaited}
+use Rattle.iom_inflight.specs.Flights.{made_in, has_access, first_made, is_awaited}
 use Rattle.iom_inflight.specs.Rings.{kept_bytes, access_with, accesses_of, bytes_kept, AreShort, AreRings, is_header_awaited}
 
 -- each header has its access
@@ -25,6 +25,14 @@ pub oldest_of : (device : ℕ) (waiting : List AccessHeader) (bytes : List ℕ)
     ≡ option_map (λ (a : AccessHeader). record { device = device; frame = a.frame; offset = a.address % 4096; len = a.len; kind = a.kind }) (slice_get waiting 0)
 oldest_of device [] bytes = refl
 oldest_of device (a ∷ later) bytes = refl
+
+-- the access at a place is that of the header there
+pub made_of : (device place : ℕ) (waiting : List AccessHeader) (bytes : List ℕ)
+    → made_in device (accesses_of waiting bytes) place
+    ≡ option_map (λ (a : AccessHeader). record { device = device; frame = a.frame; offset = a.address % 4096; len = a.len; kind = a.kind }) (slice_get waiting place)
+made_of device place [] bytes = refl
+made_of device zero (a ∷ later) bytes = refl
+made_of device (suc place) (a ∷ later) bytes = made_of device place later (drop (kept_bytes a.kind a.len) bytes)
 
 -- none is awaited where no header is
 pub drained_of : (before : ℕ) (kind : AccessKind) (waiting : List AccessHeader) (bytes : List ℕ)

@@ -1,5 +1,5 @@
 -- The accesses in flight, those of each device in a row of its own.
-use Rattle.std.specs.Prelude.{ℕ, ◌+◌, ◌==◌, nat_le, Bool, true, false, ◌&&◌, not, List, [], ◌∷◌, length, Option, None, Some, IsSome, if◌then◌else◌}
+use Rattle.std.specs.Prelude.{ℕ, ◌+◌, ◌==◌, nat_le, Bool, true, false, ◌&&◌, not, List, [], ◌∷◌, length, slice_get, Option, None, Some, IsSome, option_map, if◌then◌else◌}
 use Rattle.std.specs.List.{list_all, list_any}
 use Rattle.iom_base.specs.Accesses.{offset_of}
 use Rattle.iom_base.specs.declared.access.AcceptedAccess.{AcceptedAccess}
@@ -68,6 +68,14 @@ accepted_in (Some row) = row.accepted
 abbrev pub count_all : List FlightRow → ℕ
 count_all [] = 0
 count_all (row ∷ rows) = length row.waiting + count_all rows
+
+-- what is made of the access at this place, the oldest at 0
+abbrev pub made_in : ℕ → List NumberedAccess → ℕ → Option MadeAt
+made_in device waiting place = option_map (λ (own : NumberedAccess). made_at device own.accepted) (slice_get waiting place)
+
+abbrev pub waiting_at : Option FlightRow → ℕ → Option MadeAt
+waiting_at None place = None
+waiting_at (Some row) place = made_in row.device row.waiting place
 
 -- the oldest of these
 abbrev pub first_made : ℕ → List NumberedAccess → Option MadeAt

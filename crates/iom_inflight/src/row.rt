@@ -4,7 +4,7 @@ ghost use Rattle.iom_base.specs.Accesses.{read_of, write_of};
 ghost use Rattle.iom_base.specs.Bytes.{with_bytes};
 ghost use Rattle.iom_base.specs.Sizes.{page_size, in_flight_limit};
 ghost use Rattle.iom_base.specs.declared.access.AccessKind.TheVariants.{Read, Write};
-ghost use Rattle.iom_inflight.specs.Flights.{FlightRow, new_row, first_made, has_access, is_row_drained};
+ghost use Rattle.iom_inflight.specs.Flights.{FlightRow, new_row, made_in, first_made, has_access, is_row_drained};
 ghost use Rattle.std.specs.List.{list_all};
 ghost use Rattle.iom_inflight.specs.Rings.{is_header_awaited};
 ghost use Rattle.iom_inflight.specs.Rows.{RowAccepts, IsMakeable, RowMakes, OldestIsRead, OldestWrites};
@@ -107,6 +107,21 @@ impl Row {
         ensures { result ≡ is_row_drained before kind self.now }
     {
         none_awaited(&self.waiting, before, kind)
+    }
+
+    /// What is made of the access at this place, the oldest at 0.
+    #[tactic(auto, using(crate::proofs::Accesses::made_of))]
+    pub(crate) fn waiting_at(&self, place: usize) -> Option<MadeAt>
+        ensures { result ≡ made_in self.now.device self.now.waiting place }
+    {
+        let header = self.waiting.get(place)?;
+        Some(MadeAt {
+            device: self.device,
+            frame: header.frame,
+            offset: (header.address % PAGE_SIZE) as u16,
+            len: header.len,
+            kind: header.kind,
+        })
     }
 
     /// The oldest, which is made next.

@@ -1,15 +1,15 @@
 // The IOMMU at power-on, and its devices.
 ghost use Rattle.std.specs.Prelude.{◌≡◌, IfOk, is_some};
-ghost use Rattle.iom_inflight.specs.Flights.{row_of};
+ghost use Rattle.iom_inflight.specs.Flights.{row_of, waiting_at};
 ghost use Rattle.iom_inflight.specs.Sound.{AreFlights, AreRowsIn};
 ghost use Rattle.iom_tlb.specs.Content.{HasNothing};
-ghost use Rattle.iom_iommu.specs.Parts.{IsAtPowerOn, cache_of, AddsDevice, flights_of, frames_of};
+ghost use Rattle.iom_iommu.specs.Parts.{IsAtPowerOn, cache_of, contexts_of, AddsDevice, flights_of, frames_of};
 
 use crate::iommu::Iommu;
 use iom_base::DeviceId;
 use iom_command_queue::Slots;
-use iom_device_dir::DirCache;
-use iom_inflight::InFlight;
+use iom_device_dir::{Context, DirCache};
+use iom_inflight::{InFlight, MadeAt};
 use iom_registers::Registers;
 use iom_tlb::TransCache;
 use std::alloc::{AllocError, Global};
@@ -49,6 +49,28 @@ impl<C: TransCache> Iommu<C> {
         ensures { result ≡ is_some (row_of (flights_of self.now).rows device) }
     {
         self.in_flight.is_added(device)
+    }
+
+    /// The context that is cached for the device. Which one goes next stays as it is.
+    pub fn cached_context(&self, device: DeviceId) -> Option<Context>
+        ensures { result ≡ contexts_of self.now device }
+    {
+        self.contexts.peek(device)
+    }
+
+    /// The cache of translations.
+    pub fn translations(&self) -> &C
+        ensures { result.now ≡ cache_of self.now }
+    {
+        &self.translations
+    }
+
+    /// What is made of the access of the device at this place among those in flight, the oldest at 0; None where as many
+    /// aren't in flight.
+    pub fn waiting_at(&self, device: DeviceId, place: usize) -> Option<MadeAt>
+        ensures { result ≡ waiting_at (row_of (flights_of self.now).rows device) place }
+    {
+        self.in_flight.waiting_at(device, place)
     }
 
     /// How many frames the memory has that its calls are lent.

@@ -9,3 +9,4 @@ pub mod WayLemmas
 pub mod SetLemmas
 pub mod EmptyLemmas
 pub mod CacheLemmas
+pub mod PlaceLemmas

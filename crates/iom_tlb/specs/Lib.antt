@@ -4,5 +4,6 @@ pub mod Invalidations
 pub mod Entries
 pub mod Ways
 pub mod WayCalls
+pub mod Places
 pub mod Laws
 pub mod Chosen

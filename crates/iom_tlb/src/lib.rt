@@ -15,6 +15,7 @@
 //! [`PlainCache`] has the 64 translations that were used last, and takes memory for each new one.
 #![tactic(auto)]
 
+mod cached_page;
 mod chosen;
 mod cover;
 mod entries;
@@ -28,6 +29,7 @@ mod way_cache;
 mod way_set;
 mod words;
 
+pub use cached_page::CachedPage;
 pub use chosen::Ioatc;
 pub use cover::Cover;
 pub use invalidation::invalidate;
@@ -35,4 +37,4 @@ pub use lanes::find_way;
 pub use plain::{MAX_TRANSLATIONS, PlainCache};
 pub use space::Space;
 pub use trans_cache::{TransCache, Translation};
-pub use way_cache::WayCache;
+pub use way_cache::{PLACES, WayCache};

@@ -1,18 +1,24 @@
-ghost use Rattle.std.specs.Prelude.{◌≡◌, ◌<◌, ◌%◌, ℕ, true, IfOk, length, get_or};
+ghost use Rattle.std.specs.Prelude.{◌≡◌, ◌<◌, ◌%◌, ℕ, true, IfOk, IfSome, Some, length, get_or};
 ghost use Rattle.iom_tlb.specs.Content.{Keeps, Drops, HasNothing};
 ghost use Rattle.iom_tlb.specs.Covers.{covers};
 ghost use Rattle.iom_tlb.specs.Ways.{in_set, no_ways, content_of_sets};
+ghost use Rattle.iom_tlb.specs.declared.cached_page.CachedPage.{CachedPage};
+ghost use Rattle.iom_tlb.specs.Places.{IsCached, StandsAt, HavePlaces};
 ghost use Rattle.iom_tlb.specs.WayCalls.{AreAtHome, AreCountersAtZero, CountersStay, PutsInSet};
 
+use crate::cached_page::CachedPage;
 use crate::cover::Cover;
 use crate::space::Space;
 use crate::trans_cache::{TransCache, Translation};
-use crate::way_set::WaySet;
+use crate::way_set::{WAYS, WaySet};
 use std::alloc::{AllocError, Global};
 use std::marker::Model;
 
 /// Sets of a cache.
 const SETS: usize = 64;
+
+/// Places of a cache, one for each way of each set.
+pub const PLACES: usize = SETS * WAYS;
 
 /// A cache of 64 sets of eight ways, seen as the list of its sets. A page is in the set of its number modulo 64.
 /// A new page takes the lowest empty way of its set. Where none is empty it takes the way at the counter of the
@@ -94,6 +100,26 @@ impl WayCache {
     {
         let sets = new_sets(alloc)?;
         Ok(WayCache { sets })
+    }
+
+    /// That all that it has stands at a place. It does nothing.
+    pub fn facts(&self)
+        ensures { HavePlaces self.now }
+    {
+        for number in 0..SETS {
+            let set = &self.sets[number];
+            set.facts();
+        }
+    }
+
+    /// What stands at a place: there is one for each way of each set. It changes nothing.
+    pub fn page_at(&self, place: usize) -> Option<CachedPage>
+        requires { place < 512 }
+        ensures cached { IfSome result (IsCached self.now) }
+        ensures stands { (cached : CachedPage) → StandsAt self.now place cached → result ≡ Some cached }
+    {
+        let set = &self.sets[place / WAYS];
+        set.page_at(place % WAYS)
     }
 }
 

@@ -1,12 +1,15 @@
 // A set of the cache: eight ways, side by side.
-ghost use Rattle.std.specs.Prelude.{◌≡◌, ◌<◌, ◌%◌, ℕ, true, false};
+ghost use Rattle.std.specs.Prelude.{◌≡◌, ◌<◌, ◌%◌, ℕ, true, false, IfSome, Some};
 ghost use Rattle.iom_tlb.specs.Content.{Sets, Drops, HasNothing};
 ghost use Rattle.iom_tlb.specs.Covers.{covers};
+ghost use Rattle.iom_tlb.specs.declared.cached_page.CachedPage.{CachedPage};
+ghost use Rattle.iom_tlb.specs.Places.{IsInWay, HasWays};
 ghost use Rattle.iom_tlb.specs.Entries.{is_key};
 ghost use Rattle.iom_tlb.specs.Ways.{is_space, space_word, in_set};
 ghost use Rattle.iom_tlb.specs.WayCalls.{AreAtHome, TakesWay, PutsWay, Empties};
 ghost use Rattle.iom_tlb.specs.declared.space.Space.{Space};
 
+use crate::cached_page::CachedPage;
 use crate::cover::Cover;
 use crate::lanes::find_way;
 use crate::space::Space;
@@ -16,7 +19,7 @@ use iom_base::Rights;
 use std::marker::Model;
 
 /// Ways of a set.
-const WAYS: usize = 8;
+pub(crate) const WAYS: usize = 8;
 
 /// What stands in an empty way. Nothing reads it.
 const NO_TRANSLATION: Translation = Translation {
@@ -115,6 +118,27 @@ impl WaySet {
     {
         let way = find_way(&self.spaces, &self.pages, space_word(space), page)?;
         Some(self.translations[way])
+    }
+
+    /// That all that it has stands in a way. It does nothing.
+    pub(crate) fn facts(&self)
+        ensures { HasWays self.now }
+    {
+        let _next = &self.next;
+    }
+
+    /// What a way has.
+    pub(crate) fn page_at(&self, way: usize) -> Option<CachedPage>
+        requires { way < 8 }
+        ensures cached { IfSome result (λ cached. IsInWay self.now way cached × (in_set self.now (cached.space, cached.page) ≡ Some cached.translation)) }
+        ensures stands { (cached : CachedPage) → IsInWay self.now way cached → result ≡ Some cached }
+    {
+        let space = space_of(self.spaces[way])?;
+        Some(CachedPage {
+            space,
+            page: self.pages[way],
+            translation: self.translations[way],
+        })
     }
 
     /// Keeps a translation in the way that has its page, or takes a way for it.
