@@ -42,6 +42,7 @@ pub(crate) fn page_at(devices: &Devices, device: DeviceId, index: usize) -> Opti
 }
 
 /// Releases the row of the page, unless it is released already. Its frame, where it wasn't.
+#[inline(always)]
 fn release_row(pages: &mut Pages, page: u64, ticket: u32) -> Option<u32>
     ensures rows { (a : ℕ) → get nat_eq pages.new a
         ≡ (if page == a then released_row_if_any (get nat_eq pages.old a) ticket else get nat_eq pages.old a) }
@@ -67,6 +68,7 @@ fn take_waiting_row(pages: &mut Pages, index: usize, ticket: u32) -> Option<(u64
 }
 
 /// Drops the row of the page, if it waits for the ticket.
+#[inline(always)]
 fn take_waiting_row_at(pages: &mut Pages, page: u64, ticket: u32) -> Option<PageRow>
     ensures taken { IfSome result (λ row. TakesRow pages.old pages.new page row ticket) }
     ensures kept { IfNone result ((a : ℕ) → get nat_eq pages.new a ≡ get nat_eq pages.old a) }
@@ -131,6 +133,7 @@ pub(crate) fn grant_in(
 }
 
 /// Releases the row of the page of the device, unless it is released already. Its frame, where it wasn't.
+#[inline(always)]
 fn release_row_in(devices: &mut Devices, device: DeviceId, page: u64, ticket: u32) -> Option<u32>
     ensures rows { ReleasesRow devices.old devices.new device page ticket }
     ensures frame { result ≡ held_frame (row_at devices.old device page) }
@@ -141,6 +144,8 @@ fn release_row_in(devices: &mut Devices, device: DeviceId, page: u64, ticket: u3
 }
 
 /// Releases the row of the page of the device, unless it is released already, and counts it as released.
+// Written into its callers, with what it calls: most releases are of one page.
+#[inline(always)]
 pub(crate) fn release_in(
     devices: &mut Devices,
     frames: &mut FrameRows,
@@ -194,6 +199,7 @@ fn take_in(
 }
 
 /// Drops the row of the page of the device, if it waits for the ticket.
+#[inline(always)]
 fn take_at_in(devices: &mut Devices, device: DeviceId, page: u64, ticket: u32) -> Option<PageRow>
     ensures taken { IfSome result (λ row. TakesRowOf devices.old devices.new device page row ticket) }
     ensures kept { IfNone result (KeepsRows devices.old devices.new) }
@@ -235,6 +241,8 @@ fn drop_waiting(devices: &mut Devices, frames: &mut FrameRows, device: DeviceId,
 }
 
 /// Drops the row of the page of the device, if it waits for the ticket.
+// Written into its callers, with what it calls: most releases are of one page.
+#[inline(always)]
 fn drop_waiting_at(
     devices: &mut Devices,
     frames: &mut FrameRows,

@@ -67,6 +67,7 @@ impl Ledger {
     }
 
     /// What the device holds at the page.
+    #[inline(always)]
     pub fn holds(&self, device: DeviceId, page: u64) -> Option<(u32, Rights)>
         ensures shown { result ≡ held_in self.now device page }
         ensures held { (h : History) → Agrees self.now h → result ≡ held_at h device page }

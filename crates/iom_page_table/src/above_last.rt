@@ -26,6 +26,7 @@ pub(crate) fn count_missing<B: Bytes>(
 }
 
 /// The table of the last level, where there is one.
+#[inline(always)]
 pub(crate) fn last_table<B: Bytes>(
     memory: &B,
     size: Size,

@@ -79,6 +79,7 @@ pub fn map<B: Bytes>(
 
 /// Clears the leaf of a page: its eight bytes are zero, and no other byte changes. A page that has no last
 /// table has nothing to clear.
+#[inline(always)]
 pub fn unmap<B: Bytes>(memory: &mut B, size: Size, root: u32, page: u64)
     requires page { page < page_limit_of size }
     requires tree { IsRoot size (B.frames_of memory.old) root }

@@ -77,6 +77,8 @@ pub(crate) fn set_up<D: Disk>(blocks: &mut Vec<Block<D>>, id: DeviceId, layout: 
 
 /// It hears that its access of this number was made, and takes the bytes where that is the one that it waits
 /// for.
+// Written into its caller, as what it calls is: a block device hears so at every other event.
+#[inline(always)]
 pub(crate) fn hear_made<D: Disk>(
     blocks: &mut Vec<Block<D>>,
     id: DeviceId,

@@ -96,6 +96,8 @@ impl<D: Disk> Blk<D> {
     /// The access of this number was made, with these bytes where it was a read. They are taken only where the device began this
     /// access itself since its last reset, and waits for it still. Where they aren't as many as it wants, which can't come of a
     /// port that makes what it accepted, the device is to be reset.
+    // Written into its caller: a call would cost as much as what it does for most accesses.
+    #[inline(always)]
     pub fn made(&mut self, number: u64, bytes: &[u8])
         ensures own { self.old.front.waits ≡ Some number → EndsWaiting self.old.front bytes.now self.new.front }
         ensures others { self.old.front.waits ≢ Some number → self.new.front ≡ self.old.front }

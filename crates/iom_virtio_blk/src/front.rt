@@ -136,6 +136,7 @@ impl Front {
     }
 
     /// Whether these bytes are those of the access that it wants: as many as it reads, and none where it writes.
+    #[inline(always)]
     fn takes(&self, bytes: &[u8]) -> bool
         requires ready { IsReady self.now }
         ensures { IsTrue result ↔ AreOf bytes.now (wanted_by self.now) }
@@ -151,6 +152,7 @@ impl Front {
     }
 
     /// The device takes the bytes of the access that it wants.
+    #[inline(always)]
     fn take(&mut self, bytes: &[u8])
         requires ready { IsReady self.old }
         requires running { self.old.stage ≡ DriverOk }
@@ -175,6 +177,7 @@ impl Front {
     /// The access of this number was made, with these bytes where it was a read. The device takes them
     /// only where that is the access which it began itself since its last reset, and still waits for. Where
     /// they aren't as many as it wants, it is to be reset.
+    #[inline(always)]
     pub(crate) fn made(&mut self, number: u64, bytes: &[u8])
         requires ready { IsReady self.old }
         ensures own { self.old.waits ≡ Some number → EndsWaiting self.old bytes.now self.new }

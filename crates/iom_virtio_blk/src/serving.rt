@@ -85,6 +85,8 @@ impl Serving {
     }
 
     /// The access that comes next: what is written is part of the sector at hand, or the status.
+    // Written into its callers: what it answers would go through memory.
+    #[inline(always)]
     pub(crate) fn access(&self, chain: &Buffers) -> WantedAccess
         requires under_way { IsUnderWay self.now chain.now }
         requires status { 1 ≤ byte_count chain.now.writable }

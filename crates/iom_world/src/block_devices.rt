@@ -199,6 +199,7 @@ impl World {
     /// The step of a block device wants this access, within one page: `Accepted`, `Busy` or `Fault` as for any
     /// device's, be it untranslated or, where the device has a cache, through that; `Stepped(Asked)` where it
     /// misses there.
+    #[inline(always)]
     pub(crate) fn access<'a>(
         &mut self,
         id: DeviceId,

@@ -201,6 +201,8 @@ impl World {
     /// The step of a block device that wants this access, within one page. Where no block device has the id
     /// it is refused. Else it is `Accepted`, `Busy` or `Fault` as any device's request, untranslated or, where
     /// the device has a cache, through that; or `Stepped(Asked)` where it misses there.
+    // Written into its caller, which knows whether it reads or writes.
+    #[inline(always)]
     pub fn begin<'a>(
         &mut self,
         device: DeviceId,
