@@ -21,7 +21,7 @@ use Rattle.iom_script.specs.declared.script.ScriptLine.{ScriptLine}
 use Rattle.iom_script.specs.declared.script.ScriptLine.TheVariants as says
 use Rattle.iom_script.specs.Digits.{hex_digits}
 use Rattle.iom_script.specs.Words.{◌␣◌, IsWithout, IsDevice, IsNumber, IsPage, IsAddress, IsRight, IsMode, IsKind, IsHex}
-use Rattle.iom_script.specs.Grammar.{IsEventLine, IsScriptLine, IsWorldLine, SayLines, Says}
+use Rattle.iom_script.specs.Grammar.{IsEventLine, IsScriptLine, IsWorldLine, SayEach, Says}
 use Rattle.iom_script.proofs.CutLemmas.{cut_is_one, cut_has_separator}
 use Rattle.iom_script.proofs.HexLemmas.{same_hex, length_hex}
 use Rattle.iom_script.proofs.HexBytesLemmas.{same_hex_of}
@@ -34,10 +34,10 @@ use Rattle.iom_script.proofs.RecoveryEventLemmas.{quarantine_event, quarantine_f
 use Rattle.iom_script.proofs.BlockEventLemmas.{medium_event, medium_from, MediumWords, queue_event, queue_from, QueueWords, step_event, step_from, status_event, status_from}
 
 -- the text says one value
-abbrev SaysOne : {X : Type 0} → (List ℕ → X → Type 0) → Type 0
+abbrev pub SaysOne : {X : Type 0} → (List ℕ → X → Type 0) → Type 0
 SaysOne {X} Says = (text : List ℕ) (x y : X) → Says text x → Says text y → x ≡ y
 
-device_same : SaysOne IsDevice
+pub device_same : SaysOne IsDevice
 device_same text x y p q = same_hex 6 x y p.0 q.0 (sym p.1 ∙ q.1)
 
 own : IsNumeralModel (AllDigits 10) (digits_value 10)
@@ -52,7 +52,7 @@ address_same text x y p q =
     let digits : hex_digits p.0 x ≡ hex_digits q.0 y = ap (drop 2) (sym p.4 ∙ q.4) in
     same_hex p.0 x y p.3 (subst (λ k. y < 16 ^ k) (sym count) q.3) (digits ∙ ap (λ k. hex_digits k y) (sym count))
 
-right_same : SaysOne IsRight
+pub right_same : SaysOne IsRight
 right_same text x y (inl a) (inl b) = a.1 ∙ sym b.1
 right_same text x y (inl a) (inr b) = absurd (omega (arith, ap length (sym a.0 ∙ b.0)))
 right_same text x y (inr a) (inl b) = absurd (omega (arith, ap length (sym a.0 ∙ b.0)))
@@ -133,17 +133,17 @@ hex_same : SaysOne IsHex
 hex_same text x y p q = same_hex_of x y p.2 q.2 (sym p.3 ∙ q.3)
 
 -- words one after another
-followed_same : {B : Type 0} (Says : List ℕ → ℕ → Type 0) (More : List ℕ → B → Type 0) → HasNoSpace Says → SaysOne Says → SaysOne More → SaysOne (Followed Says More)
+pub followed_same : {B : Type 0} (Says : List ℕ → ℕ → Type 0) (More : List ℕ → B → Type 0) → HasNoSpace Says → SaysOne Says → SaysOne More → SaysOne (Followed Says More)
 followed_same {B} Says More spaceless one more_one text a b p q =
     let same = cut_is_one 32 p.1.0 q.1.0 p.0 q.0 (spaceless p.1.0 a.0 p.1.1) (spaceless q.1.0 b.0 q.1.1) (sym p.1.2 ∙ q.1.2) in
     let value = one q.1.0 a.0 b.0 (subst (λ w. Says w a.0) same.0 p.1.1) q.1.1 in
     let more = more_one q.0 a.1 b.1 (subst (λ t. More t a.1) same.1 p.2) q.2 in
     ap (λ (v : ℕ). let r : ℕ × B = (v, a.1) in r) value ∙ ap (λ (m : B). let r : ℕ × B = (b.0, m) in r) more
 
--- events of one line with the same first word
-event_by_words : {V : Type 0} (f : V → Event) (R : V → Type 0) (a b : Event) → ((v w : V) → R v → R w → v ≡ w)
+-- what is said by one line with the same first word
+pub event_by_words : {V X : Type 0} (f : V → X) (R : V → Type 0) (a b : X) → ((v w : V) → R v → R w → v ≡ w)
     → (v : V) × R v × (f v ≡ a) → (w : V) × R w × (f w ≡ b) → a ≡ b
-event_by_words {V} f R a b one p q = sym p.2 ∙ ap f (one p.0 q.0 p.1 q.1) ∙ q.2
+event_by_words {V} {X} f R a b one p q = sym p.2 ∙ ap f (one p.0 q.0 p.1 q.1) ∙ q.2
 
 fetch_same : (b : Event) → IsEventLine (codes "fetch") b → Fetch ≡ b
 fetch_same Fetch q = refl
@@ -307,15 +307,16 @@ line_same line (says.Event a) says.Settle p q = absurd (no_event_settles line a 
 line_same line says.Settle (says.Event b) p q = absurd (no_event_settles line b p q)
 line_same line says.Settle says.Settle p q = refl
 
--- and so do several
-lines_same : (lines : List (List ℕ)) (xs ys : List ScriptLine) → SayLines lines xs → SayLines lines ys → xs ≡ ys
-lines_same [] [] [] p q = refl
-lines_same [] [] (y ∷ ys) p q = absurd q
-lines_same [] (x ∷ xs) ys p q = absurd p
-lines_same (l ∷ ls) [] ys p q = absurd p
-lines_same (l ∷ ls) (x ∷ xs) [] p q = absurd q
-lines_same (l ∷ ls) (x ∷ xs) (y ∷ ys) p q =
-    ap (λ e. e ∷ xs) (line_same l x y p.0 q.0) ∙ ap (λ es. y ∷ es) (lines_same ls xs ys p.1 q.1)
+-- and so do several, where each says one
+pub each_same : {L X : Type 0} (Says : L → X → Type 0) → ((l : L) (x y : X) → Says l x → Says l y → x ≡ y)
+    → (lines : List L) (xs ys : List X) → SayEach Says lines xs → SayEach Says lines ys → xs ≡ ys
+each_same {L} {X} Says one [] [] [] p q = refl
+each_same {L} {X} Says one [] [] (y ∷ ys) p q = absurd q
+each_same {L} {X} Says one [] (x ∷ xs) ys p q = absurd p
+each_same {L} {X} Says one (l ∷ ls) [] ys p q = absurd p
+each_same {L} {X} Says one (l ∷ ls) (x ∷ xs) [] p q = absurd q
+each_same {L} {X} Says one (l ∷ ls) (x ∷ xs) (y ∷ ys) p q =
+    ap (λ e. e ∷ xs) (one l x y p.0 q.0) ∙ ap (λ es. y ∷ es) (each_same Says one ls xs ys p.1 q.1)
 
 -- two scripts with the same parts
 same_script : (s t : Script) → s.world ≡ t.world → s.lines ≡ t.lines → s ≡ t
@@ -327,18 +328,18 @@ same_script s t world lines =
 pub says_same : (lines : List (List ℕ)) (s t : Script) → Says lines s → Says lines t → s ≡ t
 says_same [] s t p q = same_script s t (p.0 ∙ sym q.0) (p.1 ∙ sym q.1)
 says_same (l ∷ ls) s t p q =
-    same_script s t (p.1 ∙ ap Some (world_same l p.0 q.0 p.2 q.2) ∙ sym q.1) (lines_same ls s.lines t.lines p.3 q.3)
+    same_script s t (p.1 ∙ ap Some (world_same l p.0 q.0 p.2 q.2) ∙ sym q.1) (each_same IsScriptLine line_same ls s.lines t.lines p.3 q.3)
 
 -- a front of lines that all say something says something
-lines_front : (xs ys : List (List ℕ)) (all : List ScriptLine) → SayLines (xs ++ ys) all → (front : List ScriptLine) × SayLines xs front
-lines_front [] ys all say = ([], tt)
-lines_front (x ∷ xs) ys [] say = absurd say
-lines_front (x ∷ xs) ys (a ∷ rest) say = let more = lines_front xs ys rest say.1 in (a ∷ more.0, (say.0, more.1))
+pub each_front : {L X : Type 0} (Says : L → X → Type 0) (xs ys : List L) (all : List X) → SayEach Says (xs ++ ys) all → (front : List X) × SayEach Says xs front
+each_front {L} {X} Says [] ys all say = ([], tt)
+each_front {L} {X} Says (x ∷ xs) ys [] say = absurd say
+each_front {L} {X} Says (x ∷ xs) ys (a ∷ rest) say = let more = each_front Says xs ys rest say.1 in (a ∷ more.0, (say.0, more.1))
 
 -- a front of lines that say a script says one
 pub says_front : (xs ys : List (List ℕ)) (script : Script) → Says (xs ++ ys) script → (front : Script) × Says xs front
 says_front [] ys script say = let nothing : Script = record { world = None; lines = [] } in (nothing, (refl, refl))
 says_front (x ∷ xs) ys script say =
-    let others = lines_front xs ys script.lines say.3 in
+    let others = each_front IsScriptLine xs ys script.lines say.3 in
     let front : Script = record { world = Some say.0; lines = others.0 } in
     (front, (say.0, refl, say.2, others.1))

@@ -1,3 +1,4 @@
+//! The words of a line, each with what it says: for whoever reads lines of this language, or of one beside it.
 ghost use Rattle.std.specs.Prelude.{◌≡◌, ◌/◌, ◌%◌, ◌^◌, ◌*◌, ◌<◌, ◌≤◌, ◌++◌, ◌↔◌, length, IfOk, IsTrue, MatchOption, None};
 ghost use Rattle.memchr.specs.Find.{IsFirstByte, is_byte};
 ghost use Rattle.iom_script.specs.Digits.{hex_digit, hex_digits};
@@ -21,7 +22,7 @@ fn first_place(byte: u8, bytes: &[u8]) -> Option<usize>
 
 /// The bytes before the first separator, and those behind it.
 #[inline(always)]
-pub(crate) fn cut(bytes: &[u8], separator: u8) -> Option<(&[u8], &[u8])>
+pub fn cut(bytes: &[u8], separator: u8) -> Option<(&[u8], &[u8])>
     ensures { Reads (shown result) (λ parts. IsCut bytes.now separator parts.0 parts.1) }
 {
     let place = first_place(separator, bytes)?;
@@ -30,7 +31,7 @@ pub(crate) fn cut(bytes: &[u8], separator: u8) -> Option<(&[u8], &[u8])>
 
 /// What follows, where the text begins so.
 #[inline(always)]
-pub(crate) fn after<'a>(text: &'a [u8], start: &[u8]) -> Option<&'a [u8]>
+pub fn after<'a>(text: &'a [u8], start: &[u8]) -> Option<&'a [u8]>
     ensures { Reads (shown_rest result) (λ rest. text.now ≡ start.now ++ rest) }
 {
     text.strip_prefix(start)
@@ -38,7 +39,7 @@ pub(crate) fn after<'a>(text: &'a [u8], start: &[u8]) -> Option<&'a [u8]>
 
 /// Whether the text is the word. Written into its caller, where the word is known: a comparison of slices is a call.
 #[inline(always)]
-pub(crate) fn is_word(text: &[u8], word: &[u8]) -> bool
+pub fn is_word(text: &[u8], word: &[u8]) -> bool
     ensures { IsTrue result ↔ (text.now ≡ word.now) }
 {
     text.len() == word.len() && after(text, word).is_some()
@@ -117,7 +118,7 @@ fn six_digits(text: &[u8]) -> Option<u64>
 }
 
 /// The device that the word names.
-pub(crate) fn device_of(text: &[u8]) -> Option<DeviceId>
+pub fn device_of(text: &[u8]) -> Option<DeviceId>
     ensures { Reads result (IsDevice text.now) }
 {
     if text.len() != 6 {
@@ -168,7 +169,7 @@ fn leading_number(text: &[u8]) -> Option<(u64, usize)>
 /// The number that the word says.
 // A call: written into the readers of all events, the loop would carry what their lines say.
 #[inline(never)]
-pub(crate) fn number_of(text: &[u8]) -> Option<u64>
+pub fn number_of(text: &[u8]) -> Option<u64>
     ensures { Reads result (IsNumber text.now) }
 {
     let (number, count) = leading_number(text)?;
@@ -179,7 +180,7 @@ pub(crate) fn number_of(text: &[u8]) -> Option<u64>
 }
 
 /// The page that the word says.
-pub(crate) fn page_of(text: &[u8]) -> Option<PageNumber>
+pub fn page_of(text: &[u8]) -> Option<PageNumber>
     ensures { Reads result (IsPage text.now) }
 {
     let number = number_of(text)?;
@@ -187,7 +188,7 @@ pub(crate) fn page_of(text: &[u8]) -> Option<PageNumber>
 }
 
 /// The right that the word says.
-pub(crate) fn right_of(text: &[u8]) -> Option<GrantRights>
+pub fn right_of(text: &[u8]) -> Option<GrantRights>
     ensures { Reads result (IsRight text.now) }
 {
     if is_word(text, b"r") {
@@ -230,7 +231,7 @@ fn first_word(text: &[u8]) -> Option<(&[u8], &[u8])>
 }
 
 /// The mode, and whether `ats` follows it.
-pub(crate) fn attaching_of(text: &[u8]) -> Option<(Mode, bool)>
+pub fn attaching_of(text: &[u8]) -> Option<(Mode, bool)>
     ensures { Reads result (λ read. IsAttaching text.now read.0 read.1) }
 {
     if let Some(mode) = mode_of(text) {
@@ -245,7 +246,7 @@ pub(crate) fn attaching_of(text: &[u8]) -> Option<(Mode, bool)>
 }
 
 /// What the words say that is plugged in.
-pub(crate) fn kind_of(text: &[u8]) -> Option<NewDevice>
+pub fn kind_of(text: &[u8]) -> Option<NewDevice>
     ensures { Reads result (IsKind text.now) }
 {
     if is_word(text, b"raw") {
@@ -287,7 +288,7 @@ fn first_bytes(alloc: Global, text: &[u8]) -> Result<Option<Vec<u8>>, AllocError
 }
 
 /// The bytes that the word says. They take memory once, as much as they need.
-pub(crate) fn bytes_of(alloc: Global, text: &[u8]) -> Result<Option<Sequence<u8>>, AllocError>
+pub fn bytes_of(alloc: Global, text: &[u8]) -> Result<Option<Sequence<u8>>, AllocError>
     ensures { IfOk result (λ bytes. Reads bytes (IsHex text.now)) }
 {
     if text.len() < 2 || text.len() > 8192 || text.len() % 2 != 0 {
@@ -306,7 +307,7 @@ pub(crate) fn bytes_of(alloc: Global, text: &[u8]) -> Result<Option<Sequence<u8>
 }
 
 /// The device that the first word names, and what follows it.
-pub(crate) fn device_and(text: &[u8]) -> Option<(DeviceId, &[u8])>
+pub fn device_and(text: &[u8]) -> Option<(DeviceId, &[u8])>
     ensures { Reads (with_rest result) (λ found. Begins IsDevice text.now found.0 found.1) }
 {
     if text.len() < 7 || text[6] != b' ' {
@@ -319,7 +320,7 @@ pub(crate) fn device_and(text: &[u8]) -> Option<(DeviceId, &[u8])>
 /// The number that the first word says, and what follows it.
 // Written into its few readers: what it answers would go through memory.
 #[inline(always)]
-pub(crate) fn number_and(text: &[u8]) -> Option<(u64, &[u8])>
+pub fn number_and(text: &[u8]) -> Option<(u64, &[u8])>
     ensures { Reads (with_rest result) (λ found. Begins IsNumber text.now found.0 found.1) }
 {
     let (number, count) = leading_number(text)?;
@@ -337,7 +338,7 @@ fn is_digit_count(digits: usize) -> bool
 }
 
 /// The address that the word says.
-pub(crate) fn address_of(text: &[u8]) -> Option<u64>
+pub fn address_of(text: &[u8]) -> Option<u64>
     ensures { Reads result (IsAddress text.now) }
 {
     let digits = after(text, b"0x")?;
@@ -348,7 +349,7 @@ pub(crate) fn address_of(text: &[u8]) -> Option<u64>
 }
 
 /// The address that the first word says, and what follows it.
-pub(crate) fn address_and(text: &[u8]) -> Option<(u64, &[u8])>
+pub fn address_and(text: &[u8]) -> Option<(u64, &[u8])>
     ensures { Reads (with_rest result) (λ found. Begins IsAddress text.now found.0 found.1) }
 {
     let digits = after(text, b"0x")?;

@@ -1,33 +1,19 @@
 -- Lines of a trace, put together of what was read of them.
-use Rattle.std.proofs.Common.{◌≡◌, ◌∙◌, ◌^◌, ◌<◌, ℕ, Bool, true, false, List, [], ◌∷◌, ◌++◌, length, get_or, Option, None, Some, MatchOption, IfSome, IsTrue, inl, inr, refl, sym, ap, append-nil, append_assoc, arith}
+use Rattle.std.proofs.Common.{◌≡◌, ◌∙◌, ℕ, Bool, true, false, List, [], ◌∷◌, ◌++◌, Option, None, Some, MatchOption, IfSome, IsTrue, inl, inr, refl, sym, ap, append-nil, append_assoc}
 use Rattle.std.specs.Prelude.{codes, ⊤}
 use Rattle.std.specs.Borrow.{Bor}
 use Rattle.std.specs.Fmt.{decimal}
-use Rattle.std.specs.Str.Parse.{AllDigits, digits_value}
 use Rattle.std.proofs.lemmas.Bool.{false≢true}
-use Rattle.std.proofs.lemmas.Fmt.{decimal-digits_value}
 use Rattle.std.proofs.lemmas.List.{flat_map_more}
-use Rattle.std.proofs.lemmas.Str.Parse.{IsNumeralModel, numerals_by_value, tells_digits}
 use Rattle.iom_base.specs.declared.access.Access.{Access}
 use Rattle.iom_machine.specs.declared.event.Event.{Event}
 use Rattle.iom_machine.specs.declared.event.Event.TheVariants as events
 use Rattle.iom_machine.specs.declared.outcome.Outcome.{Outcome}
 use Rattle.iom_machine.specs.declared.outcome.Outcome.TheVariants as outcomes
-use Rattle.iom_script.specs.Cuts.{shown_rest}
 use Rattle.iom_script.specs.Grammar.{IsEventLine}
 use Rattle.iom_script.specs.Lines.{line_of}
-use Rattle.iom_script.specs.Reading.{Reads}
 use Rattle.iom_script.specs.Words.{◌␣◌, IsNumber}
 use Rattle.iom_trace_lines.specs.TraceLines.{AsksFor, frames_text, is_accepted, tables_text, on_text, MayShow, SaysLine, Step}
-
-own : IsNumeralModel (AllDigits 10) (digits_value 10)
-own = numerals_by_value (AllDigits 10) tells_digits
-
--- digits without leading zeros say their number
-pub digits_say : (text : List ℕ) (number : ℕ) → 0 < length text → (get_or text 0 0 ≡ 48 → length text ≡ 1) → AllDigits 10 text → number ≡ digits_value 10 text → number < 2 ^ 32
-    → IsNumber text number
-digits_say text number some lead digits value fits =
-    (omega (arith, fits), sym (decimal-digits_value own text digits some lead (omega (arith, fits, value))) ∙ ap decimal (sym value))
 
 -- one frame more, with a space before it
 pub frame_more : (text so_far words word behind : List ℕ) (frames : List ℕ) (frame : ℕ) → text ≡ frames_text frames ++ so_far → so_far ≡ codes " " ++ words → words ≡ word ++ behind → IsNumber word frame
@@ -103,7 +89,8 @@ handoff_says line said None frame tables is (word, number, named) granted = inr 
 handoff_says line said (Some answer) frame tables is (word, number, named) granted =
     inr (word, frame, number, refl, refl, inr (is ∙ ap (λ (l : List ℕ). l ++ codes " => " ++ answer.now) named ∙ ap (λ (l : List ℕ). (codes "handoff" ␣ word) ++ codes " => " ++ l) granted ∙ append_assoc (codes "handoff" ␣ word) (codes " => ") (codes "ok")))
 
--- what follows a prefix
-pub follows : (text prefix : List ℕ) (result : Option (Bor (List ℕ))) → Reads (shown_rest result) (λ rest. text ≡ prefix ++ rest) → IfSome result (λ rest. text ≡ prefix ++ rest.now)
-follows text prefix None reads = tt
-follows text prefix (Some rest) reads = (reads rest.now).0 refl
+-- the frame that is handed off
+pub frame_handed : (said word : List ℕ) (result : Option ℕ) → said ≡ codes "handoff " ++ word → IfSome result (IsNumber word)
+    → IfSome result (λ frame. (named : List ℕ) × IsNumber named frame × (said ≡ codes "handoff" ␣ named))
+frame_handed said word None is number = tt
+frame_handed said word (Some frame) is number = (word, number, is)

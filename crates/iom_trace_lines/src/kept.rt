@@ -1,11 +1,10 @@
 // Outcomes that lines tell.
-use crate::words::{
-    byte_of, cut_word, is_word, number_of, short_number_of, without_prefix, word_of,
-};
+use crate::words::{byte_of, number_of, short_number_of, word_of};
 use arrayvec::ArrayVec;
 use iom_base::{Cause, Refusal, Rights};
 use iom_fabric::Translation;
 use iom_machine::{BlockStep, CommandName, Event, FaultRecord, Fetched, Outcome};
+use iom_script::words::{after, cut, is_word};
 use iom_virtqueue::ChainFault;
 
 static REFUSALS: [Refusal; 23] = [
@@ -103,7 +102,7 @@ macro_rules! tell {
 
 /// The refusal that `N NAME` says.
 fn refusal_of(text: &[u8]) -> Option<Refusal> {
-    let (_, name) = cut_word(text)?;
+    let (_, name) = cut(text, b' ')?;
     for refusal in &REFUSALS {
         if refusal.name().as_bytes() == name {
             return Some(*refusal);
@@ -125,9 +124,9 @@ fn cause_of(text: &[u8]) -> Option<Cause> {
 
 /// The record of which these are the four words.
 fn record_of(text: &[u8]) -> Option<FaultRecord> {
-    let (first, rest) = cut_word(text)?;
-    let (second, rest) = cut_word(rest)?;
-    let (third, fourth) = cut_word(rest)?;
+    let (first, rest) = cut(text, b' ')?;
+    let (second, rest) = cut(rest, b' ')?;
+    let (third, fourth) = cut(rest, b' ')?;
     let words = [
         word_of(first)?,
         word_of(second)?,
@@ -181,11 +180,11 @@ fn rights_of(text: &[u8]) -> Option<Rights> {
 
 /// The answer to a question that `FRAME RIGHT` or `fault C` says.
 fn translation_of(text: &[u8]) -> Option<Translation> {
-    if let Some(code) = without_prefix(text, b"fault ") {
+    if let Some(code) = after(text, b"fault ") {
         let cause = cause_of(code)?;
         return Some(Translation::Refused(cause));
     }
-    let (frame, rights) = cut_word(text)?;
+    let (frame, rights) = cut(text, b' ')?;
     Some(Translation::Page {
         frame: short_number_of(frame)?,
         rights: rights_of(rights)?,
@@ -207,7 +206,7 @@ fn chain_of(text: &[u8]) -> Option<ChainFault> {
 
 /// The request that `HEAD LEN` says is done.
 fn finished_of(text: &[u8]) -> Option<BlockStep> {
-    let (head, len) = cut_word(text)?;
+    let (head, len) = cut(text, b' ')?;
     let head = number_of(head)?;
     Some(BlockStep::Finished {
         head: u16::try_from(head).ok()?,
@@ -327,17 +326,17 @@ impl KeptOutcomes {
     }
 
     fn under_a(&mut self, text: &[u8]) -> Option<&Outcome> {
-        if let Some(number) = without_prefix(text, b"accepted ") {
+        if let Some(number) = after(text, b"accepted ") {
             return tell!(self.accepted, Outcome::Accepted, number_of(number)?);
         }
-        if let Some(answer) = without_prefix(text, b"answer ") {
+        if let Some(answer) = after(text, b"answer ") {
             return tell!(self.answered, Outcome::Answered, translation_of(answer)?);
         }
         self.stepped(BlockStep::Asked, text, b"asked")
     }
 
     fn under_b(&mut self, text: &[u8]) -> Option<&Outcome> {
-        if let Some(digits) = without_prefix(text, b"bytes ") {
+        if let Some(digits) = after(text, b"bytes ") {
             match &mut self.bytes {
                 Outcome::Bytes(list) => {
                     if !put_bytes(list, digits) {
@@ -384,18 +383,18 @@ impl KeptOutcomes {
     }
 
     fn under_c(&mut self, text: &[u8]) -> Option<&Outcome> {
-        if let Some(tickets) = without_prefix(text, b"confirmed ") {
+        if let Some(tickets) = after(text, b"confirmed ") {
             return self.confirmed(tickets);
         }
-        if let Some(serial) = without_prefix(text, b"closed ") {
+        if let Some(serial) = after(text, b"closed ") {
             return tell!(self.closed, Outcome::Closed, number_of(serial)?);
         }
-        let fault = chain_of(without_prefix(text, b"chain ")?)?;
+        let fault = chain_of(after(text, b"chain ")?)?;
         tell!(self.stepped, Outcome::Stepped, BlockStep::Chain(fault))
     }
 
     fn under_d(&mut self, text: &[u8]) -> Option<&Outcome> {
-        if let Some(name) = without_prefix(text, b"did ") {
+        if let Some(name) = after(text, b"did ") {
             let fetched = Fetched::Did(command_of(name)?);
             return tell!(self.fetched, Outcome::Fetched, fetched);
         }
@@ -406,13 +405,13 @@ impl KeptOutcomes {
     }
 
     fn under_f(&mut self, text: &[u8]) -> Option<&Outcome> {
-        if let Some(code) = without_prefix(text, b"fault ") {
+        if let Some(code) = after(text, b"fault ") {
             return tell!(self.fault, Outcome::Fault, cause_of(code)?);
         }
-        if let Some(request) = without_prefix(text, b"finished ") {
+        if let Some(request) = after(text, b"finished ") {
             return tell!(self.stepped, Outcome::Stepped, finished_of(request)?);
         }
-        match without_prefix(text, b"free ")? {
+        match after(text, b"free ")? {
             b"yes" => tell!(self.free, Outcome::Free, true),
             b"no" => tell!(self.free, Outcome::Free, false),
             _ => None,
@@ -420,10 +419,10 @@ impl KeptOutcomes {
     }
 
     fn under_i(&mut self, text: &[u8]) -> Option<&Outcome> {
-        if let Some(serial) = without_prefix(text, b"invalidated ") {
+        if let Some(serial) = after(text, b"invalidated ") {
             return tell!(self.invalidated, Outcome::Invalidated, number_of(serial)?);
         }
-        if let Some(serial) = without_prefix(text, b"ignored ") {
+        if let Some(serial) = after(text, b"ignored ") {
             return tell!(self.not_closed, Outcome::NotClosed, number_of(serial)?);
         }
         if is_word(text, b"ignored") {
@@ -449,7 +448,7 @@ impl KeptOutcomes {
     }
 
     fn under_r(&mut self, text: &[u8]) -> Option<&Outcome> {
-        if let Some(digits) = without_prefix(text, b"read ") {
+        if let Some(digits) = after(text, b"read ") {
             match &mut self.read {
                 Outcome::Read(list) => {
                     if !put_bytes(list, digits) {
@@ -460,10 +459,10 @@ impl KeptOutcomes {
             }
             return Some(&self.read);
         }
-        if let Some(why) = without_prefix(text, b"refused ") {
+        if let Some(why) = after(text, b"refused ") {
             return tell!(self.refused, Outcome::Refused, refusal_of(why)?);
         }
-        if let Some(words) = without_prefix(text, b"record ") {
+        if let Some(words) = after(text, b"record ") {
             return tell!(self.record, Outcome::Record, record_of(words)?);
         }
         if is_word(text, b"refusal") {
@@ -473,7 +472,7 @@ impl KeptOutcomes {
     }
 
     fn under_s(&mut self, text: &[u8]) -> Option<&Outcome> {
-        if let Some(number) = without_prefix(text, b"status ") {
+        if let Some(number) = after(text, b"status ") {
             let status = u8::try_from(number_of(number)?).ok()?;
             return tell!(self.status, Outcome::Status, status);
         }
@@ -487,7 +486,7 @@ impl KeptOutcomes {
     }
 
     fn under_t(&mut self, text: &[u8]) -> Option<&Outcome> {
-        if let Some(ticket) = without_prefix(text, b"ticket ") {
+        if let Some(ticket) = after(text, b"ticket ") {
             return tell!(self.ticket, Outcome::Ticket, short_number_of(ticket)?);
         }
         if_word(text, b"timed-out", &self.timed_out)
@@ -496,7 +495,7 @@ impl KeptOutcomes {
     /// What is told under `w`: `waiting` says of a step that its access isn't made yet, and else that the IOMMU waits with
     /// a command.
     fn under_w(&mut self, event: &Event, text: &[u8]) -> Option<&Outcome> {
-        if let Some(count) = without_prefix(text, b"wrote ") {
+        if let Some(count) = after(text, b"wrote ") {
             return tell!(self.wrote, Outcome::Wrote, number_of(count)?);
         }
         match event {

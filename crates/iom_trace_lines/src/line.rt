@@ -1,5 +1,5 @@
 // How a line of a trace is read.
-ghost use Rattle.std.specs.Prelude.{◌≡◌, ◌≢◌, ◌↔◌, ◌<◌, ◌++◌, ℕ, List, [], length, slice_index, IfSome, IfOk, IsTrue, MatchOption, None, codes, true, false, ⊤};
+ghost use Rattle.std.specs.Prelude.{◌≡◌, ◌≢◌, ◌↔◌, ◌++◌, ℕ, List, [], IfSome, IfOk, IsTrue, MatchOption, None, codes, true, false, ⊤};
 ghost use Rattle.iom_machine.specs.declared.event.Event.{Event};
 ghost use Rattle.iom_machine.specs.declared.event.Event.TheVariants as events;
 ghost use Rattle.iom_machine.specs.declared.outcome.Outcome.TheVariants as outcomes;
@@ -10,9 +10,9 @@ ghost use Rattle.iom_trace_lines.specs.TraceLines.{AsksFor, frames_text, is_acce
 use crate::kept::KeptOutcomes;
 use crate::outcomes::read_outcome;
 use crate::trace::{Behind, TraceLine};
-use crate::words::{is_word, without_prefix};
 use iom_base::{Access, AccessKind, DeviceId, Sequence};
 use iom_machine::{Event, Outcome};
+use iom_script::words::{after, is_word, number_of};
 use iom_script::{LineBuffer, event_of, is_spoken, world_of};
 use memchr::{memchr, memchr_iter};
 use std::alloc::{AllocError, Global};
@@ -29,42 +29,19 @@ fn cut<'a>(text: &'a [u8], separator: &[u8], by: usize) -> (&'a [u8], Option<&'a
     };
     for place in memchr_iter(*byte, text) {
         let (before, rest) = text.split_at(place.saturating_sub(by).min(text.len()));
-        if let Some(behind) = without_prefix(rest, separator) {
+        if let Some(behind) = after(rest, separator) {
             return (before, Some(behind));
         }
     }
     (text, None)
 }
 
-/// Whether there is a first digit, and no others behind a zero.
-fn leads_as_number(word: &[u8]) -> bool
-    ensures { IsTrue result → (0 < length word.now) × (slice_index word.now 0 ≡ 48 → length word.now ≡ 1) }
-{
-    match word {
-        [] => false,
-        [_] => true,
-        [first, ..] => *first != b'0',
-    }
-}
-
 /// The frame that the word names, as a number without leading zeros.
 fn frame_of(word: &[u8]) -> Option<u32>
     ensures { IfSome result (IsNumber word.now) }
 {
-    if !leads_as_number(word) {
-        return None;
-    }
-    let mut number = 0u32;
-    for count in 0..word.len() {
-        let digit = word[count];
-        if !digit.is_ascii_digit() {
-            return None;
-        }
-        number = number
-            .checked_mul(10)?
-            .checked_add(u32::from(digit - b'0'))?;
-    }
-    Some(number)
+    let number = number_of(word)?;
+    u32::try_from(number).ok()
 }
 
 /// The first word of the text, and the text from the space behind it on.
@@ -85,7 +62,7 @@ fn read_frames(text: &[u8], frames: &mut Vec<u32>) -> Result<bool, AllocError>
         if rest.is_empty() {
             return Ok(true);
         }
-        let Some(words) = without_prefix(rest, b" ") else {
+        let Some(words) = after(rest, b" ") else {
             return Ok(false);
         };
         let (word, behind) = first_word(words);
@@ -124,7 +101,7 @@ fn read_behind(
     ensures { IfOk result (λ read. IfSome read (λ it. MayShow event.now outcome.now it.has_tables it.on
         × (codes "; " ++ behind.now ≡ tables_text it.has_tables tables.new.items ++ on_text it.on))) }
 {
-    if let Some(text) = without_prefix(behind, b"tables") {
+    if let Some(text) = after(behind, b"tables") {
         if !takes_frames(event, outcome) || !read_frames(text, tables)? {
             return Ok(None);
         }
@@ -133,7 +110,7 @@ fn read_behind(
             on: None,
         }));
     }
-    let Some(word) = without_prefix(behind, b"on ") else {
+    let Some(word) = after(behind, b"on ") else {
         return Ok(None);
     };
     if !is_accepted(outcome) {
@@ -273,7 +250,7 @@ fn is_granted(answered: Option<&[u8]>) -> bool
 fn handed_off(said: &[u8]) -> Option<u32>
     ensures { IfSome result (λ frame. (word : List ℕ) × IsNumber word frame × (said.now ≡ codes "handoff" ␣ word)) }
 {
-    let word = without_prefix(said, b"handoff ")?;
+    let word = after(said, b"handoff ")?;
     frame_of(word)
 }
 

@@ -3,9 +3,10 @@ ghost use Rattle.std.specs.Prelude.{◌≡◌, ◌++◌, ◌∷◌, [], IfSome, 
 ghost use Rattle.iom_script.specs.Lines.{line_of};
 
 use crate::kept::KeptOutcomes;
-use crate::words::{is_feed, without_prefix};
+use crate::words::is_feed;
 use iom_machine::{Event, Outcome};
 use iom_script::LineBuffer;
+use iom_script::words::after;
 
 /// The outcome that the text tells of the event: it is read, and then printed anew.
 pub fn read_outcome<'a>(
@@ -31,7 +32,7 @@ pub fn read_outcome<'a>(
 fn is_line(line: &[u8], text: &[u8]) -> bool
     ensures { IsTrue result → line.now ≡ text.now ++ 10 ∷ [] }
 {
-    match without_prefix(line, text) {
+    match after(line, text) {
         None => false,
         Some(rest) => is_feed(rest),
     }

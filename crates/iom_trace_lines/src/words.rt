@@ -1,22 +1,8 @@
-// Words of a line, and what they say.
-ghost use Rattle.std.specs.Prelude.{◌≡◌, ◌++◌, ◌∷◌, [], IfSome, IsTrue};
+// Words of a line that tells an outcome, and what they say. A number may have leading zeros here, since the outcome is
+// printed anew.
+ghost use Rattle.std.specs.Prelude.{◌≡◌, ◌∷◌, [], IsTrue};
 
-/// What follows the prefix, where the text begins with it.
-// Written into its caller, where the prefix is known: a comparison of slices is a call.
-#[inline(always)]
-pub(crate) fn without_prefix<'a>(text: &'a [u8], prefix: &[u8]) -> Option<&'a [u8]>
-    ensures { IfSome result (λ rest. text.now ≡ prefix.now ++ rest.now) }
-{
-    text.strip_prefix(prefix)
-}
-
-/// Whether the text is the word.
-#[inline(always)]
-pub(crate) fn is_word(text: &[u8], word: &[u8]) -> bool
-    ensures { IsTrue result → text.now ≡ word.now }
-{
-    text.len() == word.len() && without_prefix(text, word).is_some()
-}
+use iom_script::words::after;
 
 /// Whether the bytes are a line feed, and no more.
 pub(crate) fn is_feed(bytes: &[u8]) -> bool
@@ -87,7 +73,7 @@ pub(crate) fn byte_of(high: u8, low: u8) -> Option<u8> {
 
 /// The number that `0x` and sixteen hexadecimal digits say.
 pub(crate) fn word_of(text: &[u8]) -> Option<u64> {
-    let digits = without_prefix(text, b"0x")?;
+    let digits = after(text, b"0x")?;
     if digits.len() != 16 {
         return None;
     }
@@ -100,10 +86,4 @@ pub(crate) fn word_of(text: &[u8]) -> Option<u64> {
         number = number << 4 | u64::from(value);
     }
     Some(number)
-}
-
-/// The word before the first space, and what stands behind that.
-pub(crate) fn cut_word(text: &[u8]) -> Option<(&[u8], &[u8])> {
-    let place = text.iter().position(|byte| *byte == b' ')?;
-    Some((text.get(..place)?, text.get(place.saturating_add(1)..)?))
 }

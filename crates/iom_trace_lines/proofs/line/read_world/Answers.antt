@@ -6,5 +6,5 @@ pub returns-in-Some : goal.returns-in-Some
 returns-in-Some c tables = (
   c.args.said.now,
   (c.in-Some.ensures c.in-Some.size).0 refl,
-  ap (λ (l : List ℕ). c.args.said.now ++ codes " => " ++ l) (c.is_word.ensures c.if-not-is_word.false) ∙ append_assoc c.args.said.now (codes " => ") (codes "ok"),
+  ap (λ (l : List ℕ). c.args.said.now ++ codes " => " ++ l) (c.is_word.ensures.0 c.if-not-is_word.false) ∙ append_assoc c.args.said.now (codes " => ") (codes "ok"),
 )
