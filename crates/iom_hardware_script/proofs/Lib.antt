@@ -1,0 +1,4 @@
+mod ClaimLemmas
+mod HardwareLineLemmas
+mod SetupLemmas
+mod HardwareTextLemmas

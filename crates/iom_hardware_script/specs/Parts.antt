@@ -1,0 +1,62 @@
+-- The kinds of lines one by one: what the private functions below `line_of` read. No public contract cites it.
+use Rattle.std.specs.Prelude.{◌≡◌, ℕ, List, codes, ⊤}
+use Rattle.iom_hardware_script.specs.declared.script.Claim.{Claim}
+use Rattle.iom_hardware_script.specs.declared.script.Claim.TheVariants as claims
+use Rattle.iom_hardware_script.specs.declared.script.HardwareLine.{HardwareLine}
+use Rattle.iom_hardware_script.specs.declared.script.HardwareLine.TheVariants as says
+use Rattle.iom_hardware_script.specs.Grammar.{IsClaim, IsHardwareLine}
+
+-- what the text of a claim begins with: its first word, and a space
+abbrev pub claim_start : Claim → List ℕ
+claim_start (claims.Grant device page frame rights) = codes "grant "
+claim_start (claims.Ready device page) = codes "ready "
+claim_start (claims.Release device page) = codes "release "
+claim_start (claims.Done number) = codes "done "
+claim_start (claims.HandOff frame) = codes "handoff "
+claim_start (claims.Take frame) = codes "take "
+claim_start (claims.Trust device) = codes "trust "
+
+-- the text begins so, and says what is claimed
+abbrev pub IsClaimWith : List ℕ → List ℕ → Claim → Type 0
+IsClaimWith start text claim = (claim_start claim ≡ start) × IsClaim text claim
+
+-- a register is read
+abbrev pub IsRegisterRead : HardwareLine → Type 0
+IsRegisterRead (says.RegisterRead offset width) = ⊤
+IsRegisterRead (says.RegisterWrite offset width value) = ⊥
+IsRegisterRead (says.Claim claim) = ⊥
+IsRegisterRead (says.Event event) = ⊥
+
+-- a register is written
+abbrev pub IsRegisterWrite : HardwareLine → Type 0
+IsRegisterWrite (says.RegisterRead offset width) = ⊥
+IsRegisterWrite (says.RegisterWrite offset width value) = ⊤
+IsRegisterWrite (says.Claim claim) = ⊥
+IsRegisterWrite (says.Event event) = ⊥
+
+-- something is claimed
+abbrev pub IsClaimed : HardwareLine → Type 0
+IsClaimed (says.RegisterRead offset width) = ⊥
+IsClaimed (says.RegisterWrite offset width value) = ⊥
+IsClaimed (says.Claim claim) = ⊤
+IsClaimed (says.Event event) = ⊥
+
+-- software does it: a register is read or written, or something is claimed
+abbrev pub IsOfSoftware : HardwareLine → Type 0
+IsOfSoftware (says.RegisterRead offset width) = ⊤
+IsOfSoftware (says.RegisterWrite offset width value) = ⊤
+IsOfSoftware (says.Claim claim) = ⊤
+IsOfSoftware (says.Event event) = ⊥
+
+-- the line says this, and it is of that kind
+abbrev pub IsRegisterReadLine : List ℕ → HardwareLine → Type 0
+IsRegisterReadLine line said = IsRegisterRead said × IsHardwareLine line said
+
+abbrev pub IsRegisterWriteLine : List ℕ → HardwareLine → Type 0
+IsRegisterWriteLine line said = IsRegisterWrite said × IsHardwareLine line said
+
+abbrev pub IsClaimLine : List ℕ → HardwareLine → Type 0
+IsClaimLine line said = IsClaimed said × IsHardwareLine line said
+
+abbrev pub IsSoftwareLine : List ℕ → HardwareLine → Type 0
+IsSoftwareLine line said = IsOfSoftware said × IsHardwareLine line said

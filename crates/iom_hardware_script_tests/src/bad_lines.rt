@@ -1,0 +1,157 @@
+use crate::expect::{bad_line, expect, script_of};
+use iom_hardware_script::{parse, setup_of};
+use iom_script::ScriptFault;
+
+// A script that says nothing has no hardware and no lines.
+#[test]
+fn an_empty_script_says_nothing(rt: HostRuntime) {
+    let script = script_of(&rt, rt.alloc(), b"\n# hardware 64\n");
+    expect(&rt, script.frames.is_none());
+    expect(&rt, script.lines.as_slice().is_empty());
+}
+
+/// First lines that say no hardware, each behind a comment.
+const BAD_FIRST: &[u8] = b"\
+    #\nhardware\n\
+    |#\nhardware \n\
+    |#\nhardware 63\n\
+    |#\nhardware 4097\n\
+    |#\nhardware 4294967360\n\
+    |#\nhardware 064\n\
+    |#\nhardware 0x40\n\
+    |#\nhardware 64 \n\
+    |#\nhardware 64 stepped\n\
+    |#\nhardware 64 nonleaf\n\
+    |#\nhardware 64 1\n\
+    |#\nhardware 64\
+    |#\nHardware 64\n\
+    |#\nworld 64 1\n\
+    |#\nfetch\n";
+
+#[test]
+fn bad_first_lines_are_named(rt: HostRuntime) {
+    for script in BAD_FIRST.split(|byte| *byte == b'|') {
+        expect(&rt, bad_line(rt.alloc(), script) == 2);
+    }
+    expect(&rt, setup_of(b"hardware 64") == Some(64));
+    expect(&rt, setup_of(b"hardware 4096") == Some(4096));
+    expect(&rt, setup_of(b"hardware 4097").is_none());
+}
+
+/// Second lines that aren't in the grammar: those of our driver, of block devices and of settling, and lines of each
+/// kind that lack a word, have one too many, or have another where a number, a device or a right is to be.
+const BAD_SECOND: &[u8] = b"\
+    hardware 64\n\
+    |attach 000001 first\
+    |detach 000001\
+    |grant 000001 3 5 rw\
+    |release 000001 3\
+    |quarantine 000001\
+    |revive 000001\
+    |restart\
+    |poll\
+    |faults\
+    |free 5\
+    |settle\
+    |medium 000001 0\
+    |queue 000001 8 0x3000 0x3080 0x30c0\
+    |step 000001\
+    |status 000001\
+    |load 000001\
+    |auto 1\
+    |hardware 64\
+    |world 64 1\
+    |device 1 raw\
+    |device 000001 disk\
+    |reset\
+    |read 000001 0x3ffc\
+    |write 000001 0x3ffc 0\
+    |tread 000001 3ffc 4\
+    |twrite 000001 0x3ffc\
+    |aread 000001 0x3ffc 04\
+    |awrite 000001 0x 00\
+    |ask 000001 0x3\
+    |forge 000001\
+    |commit\
+    |fetch 1\
+    |timeout \
+    |deliver\
+    |drop -1\
+    |repeat 0x1\
+    |poke 5000 00\
+    |peek 0x5000\
+    |mmio-read\
+    |mmio-read 72\
+    |mmio-read 72 \
+    |mmio-read 72 4 \
+    |mmio-read 72 4 0x0\
+    |mmio-read 0x48 4\
+    |mmio-read 072 4\
+    |mmio-read 18446744073709551616 4\
+    |mmio-reads 72 4\
+    |mmio_read 72 4\
+    |mmio-write\
+    |mmio-write 72 4\
+    |mmio-write 72 4 \
+    |mmio-write 72 4 1\
+    |mmio-write 72 4 0x\
+    |mmio-write 72 4 0xF\
+    |mmio-write 72 4 0x00000000000000001\
+    |mmio-write 72 0x4 0x1\
+    |mmio-write 72 4 0x1 1\
+    |claim\
+    |claim \
+    |claim grant\
+    |claim grant 000001 3 7\
+    |claim grant 000001 3 7 w\
+    |claim grant 000001 3 7 rw \
+    |claim grant 000001 03 7 rw\
+    |claim grant 1 3 7 rw\
+    |claim ready 000001\
+    |claim ready 000001 0x3\
+    |claim ready 000001 3 7\
+    |claim release 000001\
+    |claim release 3 000001\
+    |claim done\
+    |claim done 01\
+    |claim done 1 2\
+    |claim handoff\
+    |claim handoff 0x7\
+    |claim take 7 8\
+    |claim take -7\
+    |claim trust\
+    |claim trust 1\
+    |claim trust 000001 3\
+    |claim  trust 000001\
+    |claims trust 000001\
+    |claim free 7";
+
+#[test]
+fn bad_second_lines_are_named(rt: HostRuntime) {
+    let mut lines = BAD_SECOND.split(|byte| *byte == b'|');
+    let Some(first) = lines.next() else {
+        return;
+    };
+    for line in lines {
+        if let Ok(mut script) = Vec::from_slice(rt.alloc(), first) {
+            let whole = script.extend_from_slice(line).is_ok() && script.push(b'\n').is_ok();
+            expect(&rt, whole && bad_line(rt.alloc(), &script) == 2);
+        }
+    }
+}
+
+// A line that no line feed ends is bad, though it would say something.
+#[test]
+fn the_last_line_ends_too(rt: HostRuntime) {
+    expect(&rt, bad_line(rt.alloc(), b"hardware 64\n\nfetch") == 3);
+    expect(&rt, bad_line(rt.alloc(), b"hardware 64\n\nfetch\n") == 0);
+}
+
+#[test]
+fn a_refused_allocation_is_told(rt: HostRuntime) {
+    match parse(rt.alloc(), b"hardware 64\npoke 0x0 00\nfetch\n") {
+        Ok(script) => expect(&rt, script.lines.as_slice().len() == 2),
+        Err(ScriptFault::Memory) => {}
+        Err(ScriptFault::Line(_)) => expect(&rt, false),
+    }
+}

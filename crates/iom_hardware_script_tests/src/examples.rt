@@ -1,0 +1,208 @@
+use crate::expect::{expect, script_of};
+
+/// Each line that scripts of drivers under test have had, right ones and such as have a mistake, once.
+const LINES: &[u8] = b"\
+    hardware 64\n\
+    device 000001 raw\n\
+    claim take 63\n\
+    claim take 62\n\
+    claim take 61\n\
+    mmio-write 24 8 0xfc07\n\
+    mmio-write 36 4 0x0\n\
+    mmio-write 72 4 0x103\n\
+    mmio-read 72 4\n\
+    mmio-write 40 8 0xf806\n\
+    mmio-write 48 4 0x0\n\
+    mmio-write 76 4 0x103\n\
+    mmio-read 76 4\n\
+    mmio-write 16 8 0xf402\n\
+    mmio-read 16 8\n\
+    mmio-read 32 4\n\
+    poke 0x3f000 03000000000000000000000000000000\n\
+    mmio-write 36 4 0x1\n\
+    poke 0x3f010 01000000000000000000000000000000\n\
+    mmio-write 36 4 0x2\n\
+    poke 0x3f020 02300000000000000000000000000000\n\
+    mmio-write 36 4 0x3\n\
+    fetch\n\
+    claim take 60\n\
+    poke 0x3d028 0000000000000000\n\
+    poke 0x3d030 0050000000000000\n\
+    poke 0x3d038 3c00000000000080\n\
+    poke 0x3d020 0100000000000000\n\
+    poke 0x3f030 03000000020100000000000000000000\n\
+    mmio-write 36 4 0x4\n\
+    poke 0x3f040 02300000000000000000000000000000\n\
+    mmio-write 36 4 0x5\n\
+    peek 0x3c000 8\n\
+    claim take 59\n\
+    poke 0x3c000 01ec000000000000\n\
+    peek 0x3b000 8\n\
+    claim take 58\n\
+    poke 0x3b000 01e8000000000000\n\
+    claim grant 000001 3 7 rw\n\
+    poke 0x3a018 d71c000000000000\n\
+    claim ready 000001 3\n\
+    write 000001 0x3000 a5\n\
+    commit 000001\n\
+    claim release 000001 3\n\
+    poke 0x3a018 0000000000000000\n\
+    poke 0x3f050 0154000001000000000c000000000000\n\
+    mmio-write 36 4 0x6\n\
+    poke 0x3f060 02300000000000000000000000000000\n\
+    mmio-write 36 4 0x7\n\
+    claim done 1\n\
+    claim handoff 7\n\
+    claim take 56\n\
+    claim take 57\n\
+    poke 0x3d028 3800000000500080\n\
+    poke 0x3d030 0000000000000000\n\
+    poke 0x3d038 0000000000000000\n\
+    peek 0x38000 8\n\
+    claim take 55\n\
+    poke 0x38000 01dc000000000000\n\
+    peek 0x37000 8\n\
+    claim take 54\n\
+    poke 0x37000 01d8000000000000\n\
+    poke 0x36018 d71c000000000000\n\
+    poke 0x36018 0000000000000000\n\
+    poke 0x3f050 8104000002500000000c000000000000\n\
+    device 000002 ats\n\
+    poke 0x3d048 0000000000000000\n\
+    poke 0x3d050 0050000000000000\n\
+    poke 0x3d058 3c00000000000080\n\
+    poke 0x3d040 0300000000000000\n\
+    poke 0x3f030 03000000020200000000000000000000\n\
+    claim grant 000002 3 7 rw\n\
+    claim ready 000002 3\n\
+    ask 000002 3\n\
+    deliver 0\n\
+    awrite 000002 0x3000 a5\n\
+    commit 000002\n\
+    claim release 000002 3\n\
+    poke 0x3f060 04000000020200000030000000000000\n\
+    poke 0x3f070 02300000000000000000000000000000\n\
+    mmio-write 36 4 0x8\n\
+    awrite 000002 0x3000 5a\n\
+    drop 0\n\
+    timeout\n\
+    mmio-write 72 4 0x0\n\
+    mmio-write 72 4 0x1\n\
+    poke 0x3f020 81000000000000000000000000000000\n\
+    poke 0x3f030 04000000020200000008000000000000\n\
+    claim take 2047\n\
+    claim take 2046\n\
+    claim take 2045\n\
+    mmio-write 24 8 0x1ffc07\n\
+    mmio-write 40 8 0x1ff806\n\
+    mmio-write 16 8 0x1ff402\n\
+    poke 0x7ff000 03000000000000000000000000000000\n\
+    poke 0x7ff010 01000000000000000000000000000000\n\
+    poke 0x7ff020 02300000000000000000000000000000\n\
+    claim take 2044\n\
+    poke 0x7fd028 0000000000000000\n\
+    poke 0x7fd030 0050000000000000\n\
+    poke 0x7fd038 fc07000000000080\n\
+    poke 0x7fd020 0100000000000000\n\
+    poke 0x7ff030 03000000020100000000000000000000\n\
+    poke 0x7ff040 02300000000000000000000000000000\n\
+    claim take 2043\n\
+    claim grant 000001 2 514 rw\n\
+    claim grant 000001 3 515 rw\n\
+    poke 0x7fb000 d700080000000000\n\
+    poke 0x7fc000 01ec1f0000000000\n\
+    claim take 2042\n\
+    poke 0x7fb000 01e81f0000000000\n\
+    poke 0x7ff050 0154000001000000000c000000000000\n\
+    poke 0x7ff060 02300000000000000000000000000000\n\
+    claim handoff 515\n\
+    write 000001 0x2000 a5\n\
+    poke 0x3f050 02300000000000000000000000000000\n\
+    poke 0x3f060 0154000001000000000c000000000000\n\
+    poke 0x3f050 0164000001000000000c000000000000\n\
+    poke 0x3f050 8104000002600000000c000000000000\n\
+    poke 0x3f050 04000000020200000030000000000000\n\
+    deliver 1\n\
+    poke 0x3b000 0000000000000000\n\
+    claim handoff 58\n\
+    poke 0x3a018 d724000000000000\n\
+    read 000001 0x3000 1\n\
+    poke 0x3d038 3b00000000000080\n\
+    poke 0x3f040 023400000100000000f0000000000000\n\
+    peek 0x3c000 4\n\
+    peek 0x3a000 8\n\
+    poke 0x3a000 01e4000000000000\n\
+    poke 0x39018 d71c000000000000\n\
+    claim grant 000001 4 8 rw\n\
+    poke 0x39020 d720000000000000\n\
+    claim ready 000001 4\n\
+    write 000001 0x4000 a5\n\
+    poke 0x39018 0000000000000000\n\
+    poke 0x3f060 023400000100000000f0000000000000\n\
+    claim release 000001 4\n\
+    poke 0x39020 0000000000000000\n\
+    poke 0x3f070 01540000010000000010000000000000\n\
+    poke 0x3f080 023400000100000000f0000000000000\n\
+    mmio-write 36 4 0x9\n\
+    claim done 2\n\
+    claim handoff 8\n\
+    poke 0x3f020 02000000000000000000000000000000\n\
+    poke 0x3f040 02000000000000000000000000000000\n\
+    poke 0x3f060 02000000000000000000000000000000\n\
+    mmio-write 24 8 0xfc02\n\
+    poke 0x3f060 01540000010000000010000000000000\n\
+    poke 0x3f070 01540000010000000014000000000000\n\
+    poke 0x3f000 01540000010000000018000000000000\n\
+    poke 0x3f010 0154000001000000001c000000000000\n\
+    poke 0x3f020 01540000010000000020000000000000\n\
+    poke 0x3f030 01540000010000000024000000000000\n\
+    poke 0x3f030 02300000000000000000000000000000\n\
+    poke 0x3d030 0060000000000000\n\
+    poke 0x3d038 3900000000000080\n\
+    peek 0x39000 8\n\
+    poke 0x39000 01e0000000000000\n\
+    claim grant 000001 3 8 rw\n\
+    poke 0x37018 d720000000000000\n\
+    poke 0x3f050 01500000010000000000000000000000\n\
+    poke 0x7ff050 01540000010000000000000000000000\n\
+    poke 0x3d020 0300000000000000\n\
+    twrite 000001 0x9000 a5\n\
+    poke 0x3a018 531c000000000000\n\
+    claim grant 000001 4 58 rw\n\
+    poke 0x3a020 d7e8000000000000\n\
+    write 000001 0x4028 d724000000000000\n\
+    write 000001 0x5000 a5\n\
+    device 000002 raw\n\
+    poke 0x3d058 3900000000000080\n\
+    poke 0x3d040 0100000000000000\n\
+    poke 0x37018 d71c000000000000\n\
+    read 000002 0x3000 1\n\
+    read 000002 0x4000 1\n\
+    poke 0x3d040 0000000000000000\n\
+    poke 0x3d058 0000000000000000\n\
+    write 000002 0x3a018 d71c000000000000\n\
+    poke 0x3d050 0060000000000000\n\
+    poke 0x37018 d7f4000000000000\n\
+    write 000002 0x3038 0000000000000000\n\
+    read 000001 0x7000 1\n\
+    poke 0x37018 d7fc000000000000\n\
+    poke 0x3f000 02000000000000000000000000000000\n\
+    write 000002 0x3000 02040000d71c000006e8000000000000\n\
+    poke 0x3f000 020400000204000004fc000000000000\n\
+    poke 0x3f010 02000000d71c000006e8000000000000\n\
+    peek 0x3a018 8\n\
+    poke 0x3f010 03000000000000000000000000000000\n\
+    poke 0x3f020 03000000000000000000000000000000\n\
+    aread 000002 0x3000 1\n\
+    device 000001 blk 0\n\
+    tread 000001 0x7000 1\n\
+    poke 0x3c000 0000000000000000\n\
+    claim handoff 59\n\
+    poke 0x38000 d700000000000000\n";
+
+#[test]
+fn lines_of_scripts_are_in_the_grammar(rt: HostRuntime) {
+    let script = script_of(&rt, rt.alloc(), LINES);
+    expect(&rt, script.frames == Some(64));
+    expect(&rt, script.lines.as_slice().len() == 196);
+}

@@ -1,0 +1,231 @@
+use crate::expect::{expect, script_of};
+use iom_base::{GrantRights, NewDevice, Sequence};
+use iom_hardware_script::{Claim, HardwareLine};
+use iom_machine::Event;
+
+/// A script of each kind of line, at the boundaries of what is written.
+const EACH: &[u8] = b"\
+    # the first line that says something\n\
+    hardware 4096\n\
+    \n\
+    device 000001 raw\n\
+    device 00000a ats\n\
+    device 00000b blk 3\n\
+    reset 00000a\n\
+    read 000001 0x3ffc 4\n\
+    write 00000a 0x3ffffff000 00f1\n\
+    tread 000001 0x5000 5\n\
+    # a comment\n\
+    twrite 000001 0x5001 f1\n\
+    aread 00000a 0x3ffc 4\n\
+    awrite 00000a 0x3ffe 00f1\n\
+    ask 00000a 4503599627370495\n\
+    forge 000001 18446744073709551615\n\
+    commit 000001\n\
+    fetch\n\
+    timeout\n\
+    deliver 0\n\
+    drop 1\n\
+    repeat 2\n\
+    poke 0x3f010 0100000000000000\n\
+    peek 0x3c000 8\n\
+    mmio-read 72 4\n\
+    mmio-read 18446744073709551615 0\n\
+    mmio-write 24 8 0xfc07\n\
+    mmio-write 0 18446744073709551615 0xffffffffffffffff\n\
+    claim grant 000001 3 7 rw\n\
+    claim grant ffffff 18446744073709551615 0 r\n\
+    claim ready 000001 3\n\
+    claim release 000001 3\n\
+    claim done 18446744073709551615\n\
+    claim handoff 7\n\
+    claim take 63\n\
+    claim trust 000002\n";
+
+/// What a line says: the number of the line, its name and its numbers. Bytes are a number too, the first of them the
+/// highest digits, after their count.
+type Told = (u64, &'static str, [u64; 4]);
+
+/// What those lines say, behind that of the hardware.
+static TOLD_OF_EACH: [Told; 32] = [
+    (4, "raw", [1, 0, 0, 0]),
+    (5, "ats", [10, 0, 0, 0]),
+    (6, "blk", [11, 3, 0, 0]),
+    (7, "reset", [10, 0, 0, 0]),
+    (8, "read", [1, 0x3ffc, 4, 0]),
+    (9, "write", [10, 0x3ffffff000, 2, 0xf1]),
+    (10, "tread", [1, 0x5000, 5, 0]),
+    (12, "twrite", [1, 0x5001, 1, 0xf1]),
+    (13, "aread", [10, 0x3ffc, 4, 0]),
+    (14, "awrite", [10, 0x3ffe, 2, 0xf1]),
+    (15, "ask", [10, 4503599627370495, 0, 0]),
+    (16, "forge", [1, u64::MAX, 0, 0]),
+    (17, "commit", [1, 0, 0, 0]),
+    (18, "fetch", [0, 0, 0, 0]),
+    (19, "timeout", [0, 0, 0, 0]),
+    (20, "deliver", [0, 0, 0, 0]),
+    (21, "drop", [1, 0, 0, 0]),
+    (22, "repeat", [2, 0, 0, 0]),
+    (23, "poke", [0x3f010, 8, 0x0100000000000000, 0]),
+    (24, "peek", [0x3c000, 8, 0, 0]),
+    (25, "mmio-read", [72, 4, 0, 0]),
+    (26, "mmio-read", [u64::MAX, 0, 0, 0]),
+    (27, "mmio-write", [24, 8, 0xfc07, 0]),
+    (28, "mmio-write", [0, u64::MAX, u64::MAX, 0]),
+    (29, "claim grant rw", [1, 3, 7, 0]),
+    (30, "claim grant r", [0xffffff, u64::MAX, 0, 0]),
+    (31, "claim ready", [1, 3, 0, 0]),
+    (32, "claim release", [1, 3, 0, 0]),
+    (33, "claim done", [u64::MAX, 0, 0, 0]),
+    (34, "claim handoff", [7, 0, 0, 0]),
+    (35, "claim take", [63, 0, 0, 0]),
+    (36, "claim trust", [2, 0, 0, 0]),
+];
+
+/// A name and numbers.
+type Named = (&'static str, [u64; 4]);
+
+fn number_of(bytes: &Sequence<u8>) -> u64 {
+    let mut number = 0u64;
+    for byte in bytes.as_slice() {
+        number = number.wrapping_mul(256).wrapping_add(u64::from(*byte));
+    }
+    number
+}
+
+fn stored(name: &'static str, device: u32, address: u64, bytes: &Sequence<u8>) -> Named {
+    let count = bytes.as_slice().len() as u64;
+    (name, [u64::from(device), address, count, number_of(bytes)])
+}
+
+fn loaded(name: &'static str, device: u32, address: u64, len: u64) -> Named {
+    (name, [u64::from(device), address, len, 0])
+}
+
+fn of_device(name: &'static str, device: u32, second: u64) -> Named {
+    (name, [u64::from(device), second, 0, 0])
+}
+
+fn one(name: &'static str, number: u64) -> Named {
+    (name, [number, 0, 0, 0])
+}
+
+fn plugged(device: u32, new: NewDevice) -> Named {
+    match new {
+        NewDevice::Raw => of_device("raw", device, 0),
+        NewDevice::Ats => of_device("ats", device, 0),
+        NewDevice::Block { disk } => of_device("blk", device, disk),
+        NewDevice::CachedBlock { disk } => of_device("ablk", device, disk),
+    }
+}
+
+/// What devices ask for.
+fn told_of_request(event: &Event) -> Option<Named> {
+    Some(match event {
+        Event::Read {
+            device,
+            address,
+            len,
+        } => loaded("read", *device, *address, *len),
+        Event::Write {
+            device,
+            address,
+            bytes,
+        } => stored("write", *device, *address, bytes),
+        Event::ReadTranslated {
+            device,
+            address,
+            len,
+        } => loaded("tread", *device, *address, *len),
+        Event::WriteTranslated {
+            device,
+            address,
+            bytes,
+        } => stored("twrite", *device, *address, bytes),
+        Event::ReadThroughCache {
+            device,
+            address,
+            len,
+        } => loaded("aread", *device, *address, *len),
+        Event::WriteThroughCache {
+            device,
+            address,
+            bytes,
+        } => stored("awrite", *device, *address, bytes),
+        _ => return None,
+    })
+}
+
+fn told_of_event(event: &Event) -> Named {
+    if let Some(told) = told_of_request(event) {
+        return told;
+    }
+    match event {
+        Event::Plug { device, new } => plugged(*device, *new),
+        Event::Reset { device } => of_device("reset", *device, 0),
+        Event::Ask { device, page } => of_device("ask", *device, page.number()),
+        Event::Forge { device, serial } => of_device("forge", *device, *serial),
+        Event::Commit { device } => of_device("commit", *device, 0),
+        Event::Fetch => one("fetch", 0),
+        Event::Timeout => one("timeout", 0),
+        Event::Deliver { place } => one("deliver", *place),
+        Event::Drop { place } => one("drop", *place),
+        Event::Repeat { place } => one("repeat", *place),
+        Event::Poke { address, bytes } => {
+            let count = bytes.as_slice().len() as u64;
+            ("poke", [*address, count, number_of(bytes), 0])
+        }
+        Event::Peek { address, len } => ("peek", [*address, *len, 0, 0]),
+        _ => one("another", 0),
+    }
+}
+
+fn told_of_claim(claim: &Claim) -> Named {
+    match *claim {
+        Claim::Grant {
+            device,
+            page,
+            frame,
+            rights,
+        } => {
+            let name = match rights {
+                GrantRights::ReadOnly => "claim grant r",
+                GrantRights::ReadWrite => "claim grant rw",
+            };
+            (name, [u64::from(device), page, frame, 0])
+        }
+        Claim::Ready { device, page } => of_device("claim ready", device, page),
+        Claim::Release { device, page } => of_device("claim release", device, page),
+        Claim::Done { number } => one("claim done", number),
+        Claim::HandOff { frame } => one("claim handoff", frame),
+        Claim::Take { frame } => one("claim take", frame),
+        Claim::Trust { device } => of_device("claim trust", device, 0),
+    }
+}
+
+fn told_of(line: &HardwareLine) -> Named {
+    match line {
+        HardwareLine::Event(event) => told_of_event(event),
+        HardwareLine::RegisterRead { offset, width } => ("mmio-read", [*offset, *width, 0, 0]),
+        HardwareLine::RegisterWrite {
+            offset,
+            width,
+            value,
+        } => ("mmio-write", [*offset, *width, *value, 0]),
+        HardwareLine::Claim(claim) => told_of_claim(claim),
+    }
+}
+
+#[test]
+fn each_kind_of_line_says_its_own(rt: HostRuntime) {
+    let script = script_of(&rt, rt.alloc(), EACH);
+    expect(&rt, script.frames == Some(4096));
+    let lines = script.lines.as_slice();
+    expect(&rt, lines.len() == TOLD_OF_EACH.len());
+    for (said, told) in lines.iter().zip(TOLD_OF_EACH.iter()) {
+        let (name, numbers) = told_of(&said.line);
+        expect(&rt, said.number == told.0);
+        expect(&rt, name == told.1);
+        expect(&rt, numbers == told.2);
+    }
+}

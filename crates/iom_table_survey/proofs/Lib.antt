@@ -1,0 +1,3 @@
+pub mod RowLemmas
+pub mod AddLemmas
+pub mod LevelLemmas

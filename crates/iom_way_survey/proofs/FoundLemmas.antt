@@ -1,0 +1,99 @@
+-- What is reached by the tables of a context that was found, and what a device may keep.
+use Rattle.std.proofs.Common.{◌≡◌, ◌⊎◌, inl, inr, ℕ, List, Option, Some, subst, sym}
+use Rattle.iom_base.specs.Sizes.{levels_of}
+use Rattle.iom_base.specs.declared.device_kind.DeviceKind.{DeviceKind}
+use Rattle.iom_base.specs.declared.device_kind.DeviceKind.TheVariants as kinds
+use Rattle.iom_base.specs.declared.ppn.Ppn.{Ppn}
+use Rattle.iom_base.specs.declared.size.Size.{Size}
+use Rattle.iom_device.specs.Caches.{epoch_of}
+use Rattle.iom_device.specs.declared.device.Device.{Device}
+use Rattle.iom_device_dir.specs.declared.context.Context.{Context as DeviceContext}
+use Rattle.iom_device_dir.specs.declared.stages.FirstStage.{FirstStage as First}
+use Rattle.iom_device_dir.specs.declared.stages.FirstStage.TheVariants as first
+use Rattle.iom_device_dir.specs.declared.stages.SecondStage.{SecondStage as Second}
+use Rattle.iom_device_dir.specs.declared.stages.SecondStage.TheVariants as second
+use Rattle.iom_device_dir.specs.declared.values.GuestRoot.{GuestRoot}
+use Rattle.iom_fabric.specs.declared.fabric.OnLink.{OnLink}
+use Rattle.iom_stage_walk.specs.Entries.{entries}
+use Rattle.iom_table_survey.specs.Levels.{IsTable, IsMapped}
+use Rattle.iom_table_survey.specs.Reaches.{AddsReach}
+use Rattle.iom_table_survey.specs.Rows.{Adds, IsInRun}
+use Rattle.iom_table_survey.specs.declared.reach.Reach.{Reach}
+use Rattle.iom_table_survey.proofs.AddLemmas.{adds_same, adds_none, reach_same, reach_none, reach_then}
+use Rattle.iom_tlb.specs.declared.space.Space.{Space}
+use Rattle.iom_way_survey.specs.Found.{space_in, HaveTable, HaveLeaf, FoundTable, FoundLeaf, IsInCache, IsAnsweredAmong, LetsKind}
+
+-- the root of a second stage has four frames
+pub tables_of_second : (memory : List (List ℕ)) (f : First) (s : Second) (size : Size) (root : GuestRoot) (number levels : ℕ) (old new : List ℕ)
+    → s ≡ second.Tables size root → number ≡ root.number → levels ≡ levels_of size
+    → Adds old new (IsTable (entries memory) (IsInRun number 4) levels) → Adds old new (HaveTable memory f s)
+tables_of_second memory f s size root number levels old new is same many adds =
+    subst (λ (x : Second). Adds old new (HaveTable memory f x)) (sym is)
+    (by f (subst (λ (n : ℕ). Adds old new (IsTable (entries memory) (IsInRun n 4) (levels_of size))) same
+    (subst (λ (l : ℕ). Adds old new (IsTable (entries memory) (IsInRun number 4) l)) many adds)))
+  where
+    by : (g : First) → Adds old new (IsTable (entries memory) (IsInRun root.number 4) (levels_of size)) → Adds old new (HaveTable memory g (second.Tables size root))
+    by first.Bare it = it
+    by (first.Tables size' root') it = it
+
+pub leaves_of_second : (memory : List (List ℕ)) (f : First) (s : Second) (size : Size) (root : GuestRoot) (number levels : ℕ) (old new : Reach)
+    → s ≡ second.Tables size root → number ≡ root.number → levels ≡ levels_of size
+    → AddsReach old new (IsMapped (entries memory) (IsInRun number 4) levels) → AddsReach old new (HaveLeaf memory f s)
+leaves_of_second memory f s size root number levels old new is same many adds =
+    subst (λ (x : Second). AddsReach old new (HaveLeaf memory f x)) (sym is)
+    (by f (subst (λ (n : ℕ). AddsReach old new (IsMapped (entries memory) (IsInRun n 4) (levels_of size))) same
+    (subst (λ (l : ℕ). AddsReach old new (IsMapped (entries memory) (IsInRun number 4) l)) many adds)))
+  where
+    by : (g : First) → AddsReach old new (IsMapped (entries memory) (IsInRun root.number 4) (levels_of size)) → AddsReach old new (HaveLeaf memory g (second.Tables size root))
+    by first.Bare it = it
+    by (first.Tables size' root') it = it
+
+-- that of a first stage has one
+pub tables_of_first : (memory : List (List ℕ)) (f : First) (s : Second) (size : Size) (root : Ppn) (number levels : ℕ) (old new : List ℕ)
+    → s ≡ second.Bare → f ≡ first.Tables size root → number ≡ root.number → levels ≡ levels_of size
+    → Adds old new (IsTable (entries memory) (IsInRun number 1) levels) → Adds old new (HaveTable memory f s)
+tables_of_first memory f s size root number levels old new bare is same many adds =
+    subst (λ (x : Second). Adds old new (HaveTable memory f x)) (sym bare)
+    (subst (λ (g : First). Adds old new (HaveTable memory g second.Bare)) (sym is)
+    (subst (λ (n : ℕ). Adds old new (IsTable (entries memory) (IsInRun n 1) (levels_of size))) same
+    (subst (λ (l : ℕ). Adds old new (IsTable (entries memory) (IsInRun number 1) l)) many adds)))
+
+pub leaves_of_first : (memory : List (List ℕ)) (f : First) (s : Second) (size : Size) (root : Ppn) (number levels : ℕ) (old new : Reach)
+    → s ≡ second.Bare → f ≡ first.Tables size root → number ≡ root.number → levels ≡ levels_of size
+    → AddsReach old new (IsMapped (entries memory) (IsInRun number 1) levels) → AddsReach old new (HaveLeaf memory f s)
+leaves_of_first memory f s size root number levels old new bare is same many adds =
+    subst (λ (x : Second). AddsReach old new (HaveLeaf memory f x)) (sym bare)
+    (subst (λ (g : First). AddsReach old new (HaveLeaf memory g second.Bare)) (sym is)
+    (subst (λ (n : ℕ). AddsReach old new (IsMapped (entries memory) (IsInRun n 1) (levels_of size))) same
+    (subst (λ (l : ℕ). AddsReach old new (IsMapped (entries memory) (IsInRun number 1) l)) many adds)))
+
+-- a context that has the address space, and one that has another
+module _ (memory : List (List ℕ)) (own : Space) (found : Option DeviceContext) (context : DeviceContext) (is : found ≡ Some context) where
+  pub found_tables : (old new : List ℕ) → space_in context ≡ Some own → Adds old new (HaveTable memory context.first_stage context.second_stage) → Adds old new (FoundTable memory own found)
+  found_tables old new same adds = subst (λ (o : Option DeviceContext). Adds old new (FoundTable memory own o)) (sym is)
+      (adds_same old new (HaveTable memory context.first_stage context.second_stage) (FoundTable memory own (Some context)) adds (λ f (so, table). table) (λ f table. (same, table)))
+
+  pub found_leaves : (old new : Reach) → space_in context ≡ Some own → AddsReach old new (HaveLeaf memory context.first_stage context.second_stage) → AddsReach old new (FoundLeaf memory own found)
+  found_leaves old new same adds = subst (λ (o : Option DeviceContext). AddsReach old new (FoundLeaf memory own o)) (sym is)
+      (reach_same old new (HaveLeaf memory context.first_stage context.second_stage) (FoundLeaf memory own (Some context)) adds (λ kind f (so, leaf). leaf) (λ kind f leaf. (same, leaf)))
+
+  pub other_tables : (row : List ℕ) → ¬ (space_in context ≡ Some own) → Adds row row (FoundTable memory own found)
+  other_tables row differs = subst (λ (o : Option DeviceContext). Adds row row (FoundTable memory own o)) (sym is)
+      (adds_none row (FoundTable memory own (Some context)) (λ f (so, table). differs so))
+
+  pub other_leaves : (reach : Reach) → ¬ (space_in context ≡ Some own) → AddsReach reach reach (FoundLeaf memory own found)
+  other_leaves reach differs = subst (λ (o : Option DeviceContext). AddsReach reach reach (FoundLeaf memory own o)) (sym is)
+      (reach_none reach (FoundLeaf memory own (Some context)) (λ kind f (so, leaf). differs so))
+
+-- what a device with a cache may keep: what it has, and what is answered
+pub lets_cached : (fabric : List OnLink) (device : Device) (kind : DeviceKind) (epoch : ℕ) (old between new : Reach) → (kind ≡ kinds.Ats) ⊎ (kind ≡ kinds.CachedBlock) → epoch ≡ epoch_of device.cache
+    → AddsReach old between (IsInCache device.cache) → AddsReach between new (IsAnsweredAmong device.id epoch fabric) → AddsReach old new (LetsKind kind fabric device)
+lets_cached fabric device kind epoch old between new which same cached answered = by which
+  where
+    both : AddsReach old new (λ own f. IsInCache device.cache own f ⊎ IsAnsweredAmong device.id (epoch_of device.cache) fabric own f)
+    both = reach_then old between new (IsInCache device.cache) (IsAnsweredAmong device.id (epoch_of device.cache) fabric) cached
+        (subst (λ (e : ℕ). AddsReach between new (IsAnsweredAmong device.id e fabric)) same answered)
+
+    by : (kind ≡ kinds.Ats) ⊎ (kind ≡ kinds.CachedBlock) → AddsReach old new (LetsKind kind fabric device)
+    by (inl is) = subst (λ (k : DeviceKind). AddsReach old new (LetsKind k fabric device)) (sym is) both
+    by (inr is) = subst (λ (k : DeviceKind). AddsReach old new (LetsKind k fabric device)) (sym is) both

@@ -1,0 +1,11 @@
+pub mod TreeLemmas
+pub mod WayLemmas
+pub mod FoundLemmas
+pub mod BackLemmas
+pub mod DirectoryLemmas
+pub mod QueueLemmas
+pub mod StepLemmas
+pub mod RowLemmas
+pub mod SafeLemmas
+pub mod PathLemmas
+pub mod LookLemmas

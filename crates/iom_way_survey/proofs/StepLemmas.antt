@@ -1,0 +1,97 @@
+-- Steps of loops over lists.
+use Rattle.std.proofs.Common.{◌≡◌, ◌⊎◌, ◌∙◌, inl, inr, ℕ, zero, suc, ◌+◌, ◌<◌, ◌≤◌, List, [], ◌∷◌, ◌++◌, length, get_or, slice_get, true, Option, Some, subst, refl, sym, ap, arith}
+use Rattle.std.specs.Prelude.{IfSome}
+use Rattle.std.proofs.lemmas.Bool.{cases_lt}
+use Rattle.iom_base.specs.declared.access.AccessKind.{AccessKind}
+use Rattle.iom_table_survey.specs.Reaches.{frames_by, AddsReach}
+use Rattle.iom_table_survey.specs.Rows.{Adds, has, place_of}
+use Rattle.iom_tlb.specs.Places.{StandsAt, IsCached, HavePlaces}
+use Rattle.iom_tlb.specs.Ways.{Ways}
+use Rattle.iom_tlb.specs.declared.cached_page.CachedPage.{CachedPage}
+use Rattle.iom_tlb.specs.declared.space.Space.{Space}
+use Rattle.iom_way_survey.specs.Found.{ServesIn, IsCachedIn}
+use Rattle.iom_table_survey.specs.declared.reach.Reach.{Reach}
+use Rattle.iom_table_survey.proofs.AddLemmas.{adds_same, reach_same}
+
+-- what is read at an index
+pub at_get : {X : Type 0} (xs : List X) (k : ℕ) (x : X) → k < length xs → x ≡ get_or xs k x → slice_get xs k ≡ Some x
+at_get [] k x low is = absurd (omega (arith, low))
+at_get (a ∷ xs) zero x low is = ap (λ y. Some y) (sym is)
+at_get (a ∷ xs) (suc k) x low is = at_get xs k x (omega (arith, low)) is
+
+-- what is so of an element, is so of that which is found at its place
+module _ {X : Type 0} (xs : List X) (k : ℕ) (x : X) (at : slice_get xs k ≡ Some x) where
+  only : (y : X) → slice_get xs k ≡ Some y → y ≡ x
+  only y here = let same : Some y ≡ Some x = sym here ∙ at in cc
+
+  pub adds_there : (old new : List ℕ) (P : X → ℕ → Type 0) → Adds old new (P x) → Adds old new (λ f. (y : X) × (slice_get xs k ≡ Some y) × P y f)
+  adds_there old new P adds = adds_same old new (P x) (λ f. (y : X) × (slice_get xs k ≡ Some y) × P y f) adds
+      (λ f (y, here, p). subst (λ z. P z f) (only y here) p) (λ f p. (x, at, p))
+
+  pub reach_there : (old new : Reach) (P : X → AccessKind → ℕ → Type 0) → AddsReach old new (P x) → AddsReach old new (λ kind f. (y : X) × (slice_get xs k ≡ Some y) × P y kind f)
+  reach_there old new P adds = reach_same old new (P x) (λ kind f. (y : X) × (slice_get xs k ≡ Some y) × P y kind f) adds
+      (λ kind f (y, here, p). subst (λ z. P z kind f) (only y here) p) (λ kind f p. (x, at, p))
+
+-- an element that was pushed
+pub push_get : {X : Type 0} (xs : List X) (last : X) (k : ℕ) (x : X) → slice_get (xs ++ last ∷ []) k ≡ Some x → (slice_get xs k ≡ Some x) ⊎ ((k ≡ length xs) × (last ≡ x))
+push_get [] last zero x is = inr (refl, (let same : Some last ≡ Some x = is in cc))
+push_get [] last (suc k) x is = inl is
+push_get (a ∷ xs) last zero x is = inl is
+push_get (a ∷ xs) last (suc k) x is = elim (push_get xs last k x is) [
+  | inl here ↦ inl here
+  | inr (end, same) ↦ inr (ap suc end, same)
+]
+
+pub get_low : {X : Type 0} (xs : List X) (k : ℕ) (x : X) → slice_get xs k ≡ Some x → k < length xs
+get_low [] k x is = absurd (cc)
+get_low (a ∷ xs) zero x is = omega arith
+get_low (a ∷ xs) (suc k) x is = omega (arith, get_low xs k x is)
+
+-- A LOOK THAT SEES MORE THAN IT NEEDS TO
+
+-- what is so at least goes in, and what is so at most
+pub record Between (old new : Reach) (Least Most : AccessKind → ℕ → Type 0) : Type 0 where
+  pub stays : (kind : AccessKind) (f : ℕ) → has (frames_by old kind) f ≡ true → has (frames_by new kind) f ≡ true
+  pub added : (kind : AccessKind) (f : ℕ) → Least kind f → has (frames_by new kind) f ≡ true
+  pub sole : (kind : AccessKind) (f : ℕ) → has (frames_by new kind) f ≡ true → (has (frames_by old kind) f ≡ true) ⊎ ((g : ℕ) × Most kind g × (place_of g ≡ place_of f))
+
+pub between_none : (reach : Reach) (L : ℕ → AccessKind → ℕ → Type 0) (Most : AccessKind → ℕ → Type 0) → Between reach reach (λ kind f. (j : ℕ) × (j < 0) × L j kind f) Most
+between_none reach L Most = record { stays = λ kind f had. had; added = λ kind f (j, never, l). absurd (omega (arith, never)); sole = λ kind f had. inl had }
+
+pub between_next : (old between new : Reach) (L : ℕ → AccessKind → ℕ → Type 0) (Most N : AccessKind → ℕ → Type 0) (k : ℕ) → Between old between (λ kind f. (j : ℕ) × (j < k) × L j kind f) Most
+    → AddsReach between new N → ((kind : AccessKind) (f : ℕ) → L k kind f → N kind f) → ((kind : AccessKind) (f : ℕ) → N kind f → Most kind f)
+    → Between old new (λ kind f. (j : ℕ) × (j < k + 1) × L j kind f) Most
+between_next old between new L Most N k before here to from = record {
+  stays = λ kind f had. (here kind).stays f (before.stays kind f had);
+  added = λ kind f (j, low, l). at kind f j l (cases_lt j k) low;
+  sole = λ kind f there. last kind f ((here kind).sole f there);
+}
+  where
+    at : (kind : AccessKind) (f j : ℕ) → L j kind f → (j < k) ⊎ (k ≤ j) → j < k + 1 → has (frames_by new kind) f ≡ true
+    at kind f j l (inl less) low = (here kind).stays f (before.added kind f (j, less, l))
+    at kind f j l (inr more) low = let e : j ≡ k = omega (arith, more, low) in (here kind).added f (to kind f (subst (λ i. L i kind f) e l))
+
+    last : (kind : AccessKind) (f : ℕ) → (has (frames_by between kind) f ≡ true) ⊎ ((g : ℕ) × N kind g × (place_of g ≡ place_of f))
+        → (has (frames_by old kind) f ≡ true) ⊎ ((g : ℕ) × Most kind g × (place_of g ≡ place_of f))
+    last kind f (inl had) = before.sole kind f had
+    last kind f (inr (g, n, same)) = inr (g, from kind g n, same)
+
+-- what stands at a place of the cache leads to the frame
+abbrev pub StandsServing : List Ways → Space → ℕ → AccessKind → ℕ → Type 0
+StandsServing sets own place kind frame = (cached : CachedPage) × StandsAt sets place cached × ServesIn own cached kind frame
+
+pub stands_by : (sets : List Ways) (own : Space) (place : ℕ) (found : Option CachedPage) → ((cached : CachedPage) → StandsAt sets place cached → found ≡ Some cached)
+    → (kind : AccessKind) (f : ℕ) → StandsServing sets own place kind f → (cached : CachedPage) × (found ≡ Some cached) × ServesIn own cached kind f
+stands_by sets own place found stands kind f (cached, there, serves) = (cached, stands cached there, serves)
+
+pub cached_by : (sets : List Ways) (own : Space) (found : Option CachedPage) → IfSome found (IsCached sets)
+    → (kind : AccessKind) (f : ℕ) → (cached : CachedPage) × (found ≡ Some cached) × ServesIn own cached kind f → IsCachedIn sets own kind f
+cached_by sets own found is kind f (cached, there, serves) = (cached, subst (λ (o : Option CachedPage). IfSome o (IsCached sets)) there is, serves)
+
+pub between_all : (old new : Reach) (sets : List Ways) (own : Space) → HavePlaces sets
+    → Between old new (λ kind f. (k : ℕ) × (k < 512) × StandsServing sets own k kind f) (IsCachedIn sets own) → AddsReach old new (IsCachedIn sets own)
+between_all old new sets own places between kind = record {
+  stays = between.stays kind;
+  added = λ f (cached, is, serves). let (k, low, stands) = places cached is in between.added kind f (k, low, (cached, stands, serves));
+  sole = between.sole kind;
+}

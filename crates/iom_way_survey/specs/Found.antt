@@ -1,0 +1,203 @@
+-- What the survey looks for, read off the parts of a hardware.
+use Rattle.std.specs.Prelude.{◌≡◌, ◌⊎◌, ℕ, Bool, true, false, ◌&&◌, List, ◌<◌, length, slice_get, Option, None, Some, Result, Ok, Err, ⊤, if◌then◌else◌}
+use Rattle.iom_base.specs.Sizes.{levels_of}
+use Rattle.iom_base.specs.Rights.{allows}
+use Rattle.iom_base.specs.declared.access.AccessKind.{AccessKind}
+use Rattle.iom_base.specs.declared.cause.Cause.{Cause}
+use Rattle.iom_device_dir.specs.Located.{located_by_mode}
+use Rattle.iom_device_dir.specs.Paths.{fits_directory}
+use Rattle.iom_device_dir.specs.declared.context.Context.{Context as DeviceContext}
+use Rattle.iom_device_dir.specs.declared.stages.FirstStage.{FirstStage as First}
+use Rattle.iom_device_dir.specs.declared.stages.FirstStage.TheVariants as first
+use Rattle.iom_device_dir.specs.declared.stages.SecondStage.{SecondStage as Second}
+use Rattle.iom_device_dir.specs.declared.stages.SecondStage.TheVariants as second
+use Rattle.iom_ats_cache.specs.Cache.{Cache}
+use Rattle.iom_ats_cache.specs.declared.entry.Entry.{Entry}
+use Rattle.iom_base.specs.declared.device_kind.DeviceKind.{DeviceKind}
+use Rattle.iom_base.specs.declared.device_kind.DeviceKind.TheVariants as kinds
+use Rattle.iom_device.specs.Caches.{epoch_of}
+use Rattle.iom_device.specs.declared.device.Device.{Device}
+use Rattle.iom_fabric.specs.declared.fabric.OnLink.{OnLink}
+use Rattle.iom_fabric.specs.declared.message.Message.{Message as Sent}
+use Rattle.iom_fabric.specs.declared.message.Message.TheVariants as sent
+use Rattle.iom_fabric.specs.declared.message.Translation.TheVariants as told
+use Rattle.iom_hardware.specs.HardwareParts.{HardwareParts}
+use Rattle.iom_iommu.specs.Parts.{registers_of, contexts_of, cache_of, flights_of}
+use Rattle.iom_iommu.specs.Stages.{space_through}
+use Rattle.iom_inflight.specs.Flights.{waiting_at, row_of}
+use Rattle.iom_inflight.specs.declared.made.MadeAt.{MadeAt}
+use Rattle.iom_registers.specs.declared.directory.DirectoryMode.{DirectoryMode}
+use Rattle.iom_registers.specs.declared.directory.DirectoryMode.TheVariants as mode
+use Rattle.iom_registers.specs.Queues.{directory_mode, directory_root}
+use Rattle.iom_stage_walk.specs.Entries.{entries}
+use Rattle.iom_table_survey.specs.Levels.{IsTable, IsMapped}
+use Rattle.iom_table_survey.specs.Rows.{IsInRun}
+use Rattle.iom_tlb.specs.declared.space.Space.{Space}
+use Rattle.iom_tlb.specs.declared.cached_page.CachedPage.{CachedPage}
+use Rattle.iom_tlb.specs.Places.{IsCached}
+use Rattle.iom_tlb.specs.Ways.{Ways}
+
+-- ddtp names a directory
+abbrev pub has_directory : DirectoryMode → Bool
+has_directory mode.Off = false
+has_directory mode.Bare = false
+has_directory mode.OneLevel = true
+has_directory mode.TwoLevels = true
+has_directory mode.ThreeLevels = true
+
+abbrev pub mode_in : HardwareParts → DirectoryMode
+mode_in parts = directory_mode (registers_of parts.iommu)
+
+abbrev pub found_of : Result DeviceContext Cause → Option DeviceContext
+found_of (Ok context) = Some context
+found_of (Err cause) = None
+
+-- the context that is cached for the id, where a request finds it
+abbrev pub cached_found : HardwareParts → ℕ → Option DeviceContext
+cached_found parts id = if has_directory (mode_in parts) && fits_directory (mode_in parts) id then contexts_of parts.iommu id else None
+
+-- the context that the directory has for the id
+abbrev pub stored_found : HardwareParts → ℕ → Option DeviceContext
+stored_found parts id = found_of (located_by_mode (mode_in parts) parts.memory (directory_root (registers_of parts.iommu)) id)
+
+-- a request of a device with the id may find this context
+abbrev pub Finds : HardwareParts → ℕ → DeviceContext → Type 0
+Finds parts id context = (cached_found parts id ≡ Some context) ⊎ (stored_found parts id ≡ Some context)
+
+-- the address space of its stages
+abbrev pub space_in : DeviceContext → Option Space
+space_in context = space_through context.first_stage context.second_stage context
+
+-- the tables of these stages that decide, of which the root of a second stage has four frames, have the frame
+abbrev pub HaveTable : List (List ℕ) → First → Second → ℕ → Type 0
+HaveTable memory first.Bare second.Bare frame = ⊥
+HaveTable memory (first.Tables size root) second.Bare frame = IsTable (entries memory) (IsInRun root.number 1) (levels_of size) frame
+HaveTable memory one (second.Tables size root) frame = IsTable (entries memory) (IsInRun root.number 4) (levels_of size) frame
+
+-- they map it, for this kind of access
+abbrev pub HaveLeaf : List (List ℕ) → First → Second → AccessKind → ℕ → Type 0
+HaveLeaf memory first.Bare second.Bare kind frame = ⊥
+HaveLeaf memory (first.Tables size root) second.Bare kind frame = IsMapped (entries memory) (IsInRun root.number 1) (levels_of size) kind frame
+HaveLeaf memory one (second.Tables size root) kind frame = IsMapped (entries memory) (IsInRun root.number 4) (levels_of size) kind frame
+
+-- CONTEXTS THAT ARE FOUND
+
+-- a context was found, it has this address space, and its tables have the frame
+abbrev pub FoundTable : List (List ℕ) → Space → Option DeviceContext → ℕ → Type 0
+FoundTable memory own None frame = ⊥
+FoundTable memory own (Some context) frame = (space_in context ≡ Some own) × HaveTable memory context.first_stage context.second_stage frame
+
+-- they map it
+abbrev pub FoundLeaf : List (List ℕ) → Space → Option DeviceContext → AccessKind → ℕ → Type 0
+FoundLeaf memory own None kind frame = ⊥
+FoundLeaf memory own (Some context) kind frame = (space_in context ≡ Some own) × HaveLeaf memory context.first_stage context.second_stage kind frame
+
+-- so of one of the contexts that a request of the device may find
+abbrev pub DeviceTable : HardwareParts → Space → ℕ → ℕ → Type 0
+DeviceTable parts own id frame = FoundTable parts.memory own (cached_found parts id) frame ⊎ FoundTable parts.memory own (stored_found parts id) frame
+
+abbrev pub DeviceLeaf : HardwareParts → Space → ℕ → AccessKind → ℕ → Type 0
+DeviceLeaf parts own id kind frame = FoundLeaf parts.memory own (cached_found parts id) kind frame ⊎ FoundLeaf parts.memory own (stored_found parts id) kind frame
+
+-- of any device's
+abbrev pub SpaceTable : HardwareParts → Space → ℕ → Type 0
+SpaceTable parts own frame = (k : ℕ) × (k < length parts.devices) × ((device : Device) × (slice_get parts.devices k ≡ Some device) × DeviceTable parts own device.id frame)
+
+abbrev pub SpaceLeaf : HardwareParts → Space → AccessKind → ℕ → Type 0
+SpaceLeaf parts own kind frame = (k : ℕ) × (k < length parts.devices) × ((device : Device) × (slice_get parts.devices k ≡ Some device) × DeviceLeaf parts own device.id kind frame)
+
+-- ADDRESS SPACES
+
+-- what is cached of a page of the space leads to the frame
+abbrev pub ServesIn : Space → CachedPage → AccessKind → ℕ → Type 0
+ServesIn own cached kind frame = (cached.space ≡ own) × ((cached.translation.frame ≡ frame) × (allows cached.translation.rights kind ≡ true))
+
+abbrev pub IsCachedIn : List Ways → Space → AccessKind → ℕ → Type 0
+IsCachedIn sets own kind frame = (cached : CachedPage) × IsCached sets cached × ServesIn own cached kind frame
+
+-- what is reached in the space
+abbrev pub InSpace : HardwareParts → Space → AccessKind → ℕ → Type 0
+InSpace parts own kind frame = IsCachedIn (cache_of parts.iommu) own kind frame ⊎ SpaceLeaf parts own kind frame
+
+-- EN_ATS
+
+abbrev pub IsKeptAmong : List Entry → AccessKind → ℕ → Type 0
+IsKeptAmong entries kind frame = (k : ℕ) × (k < length entries) × ((entry : Entry) × (slice_get entries k ≡ Some entry) × ((entry.frame ≡ frame) × (allows entry.rights kind ≡ true)))
+
+-- the message is an answer to a question of the device, of this epoch, and maps the frame
+abbrev pub AnswersSo : ℕ → Sent → AccessKind → ℕ → Type 0
+AnswersSo epoch (sent.Ask asked page) kind frame = ⊥
+AnswersSo epoch (sent.Answer asked page (told.Page own rights)) kind frame = (asked ≡ epoch) × ((own ≡ frame) × (allows rights kind ≡ true))
+AnswersSo epoch (sent.Answer asked page (told.Refused cause)) kind frame = ⊥
+AnswersSo epoch (sent.InvReq serial range) kind frame = ⊥
+AnswersSo epoch (sent.InvDone serial) kind frame = ⊥
+
+abbrev pub AnswersWith : ℕ → ℕ → OnLink → AccessKind → ℕ → Type 0
+AnswersWith id epoch on kind frame = (on.device ≡ id) × AnswersSo epoch on.message kind frame
+
+abbrev pub IsAnsweredAmong : ℕ → ℕ → List OnLink → AccessKind → ℕ → Type 0
+IsAnsweredAmong id epoch fabric kind frame = (k : ℕ) × (k < length fabric) × ((on : OnLink) × (slice_get fabric k ≡ Some on) × AnswersWith id epoch on kind frame)
+
+abbrev pub IsInCache : Option Cache → AccessKind → ℕ → Type 0
+IsInCache None kind frame = ⊥
+IsInCache (Some cache) kind frame = IsKeptAmong cache.entries kind frame
+
+-- what a context with EN_ATS lets through of a device of this kind
+abbrev pub LetsKind : DeviceKind → List OnLink → Device → AccessKind → ℕ → Type 0
+LetsKind kinds.Raw fabric device kind frame = ⊤
+LetsKind kinds.Ats fabric device kind frame = IsInCache device.cache kind frame ⊎ IsAnsweredAmong device.id (epoch_of device.cache) fabric kind frame
+LetsKind kinds.CachedBlock fabric device kind frame = IsInCache device.cache kind frame ⊎ IsAnsweredAmong device.id (epoch_of device.cache) fabric kind frame
+LetsKind kinds.Block fabric device kind frame = ⊥
+
+abbrev pub LetsDevice : List OnLink → Device → AccessKind → ℕ → Type 0
+LetsDevice fabric device kind frame = LetsKind device.kind fabric device kind frame
+
+abbrev pub ByAts : List OnLink → Device → Bool → AccessKind → ℕ → Type 0
+ByAts fabric device lets kind frame = LetsDevice fabric device kind frame × (lets ≡ true)
+
+-- CONTEXTS
+
+-- through a context with this address space; where it has none nothing is translated
+abbrev pub ThroughSpace : HardwareParts → Option Space → AccessKind → ℕ → Type 0
+ThroughSpace parts None kind frame = ⊤
+ThroughSpace parts (Some own) kind frame = InSpace parts own kind frame
+
+abbrev pub TablesThrough : HardwareParts → Option Space → ℕ → Type 0
+TablesThrough parts None frame = ⊥
+TablesThrough parts (Some own) frame = SpaceTable parts own frame
+
+-- through a context that was found
+abbrev pub ThroughFound : HardwareParts → Device → Option DeviceContext → AccessKind → ℕ → Type 0
+ThroughFound parts device None kind frame = ⊥
+ThroughFound parts device (Some context) kind frame = ByAts parts.fabric device context.en_ats kind frame ⊎ ThroughSpace parts (space_in context) kind frame
+
+abbrev pub TablesFound : HardwareParts → Option DeviceContext → ℕ → Type 0
+TablesFound parts None frame = ⊥
+TablesFound parts (Some context) frame = TablesThrough parts (space_in context) frame
+
+-- DEVICES
+
+abbrev pub IsMade : Option MadeAt → AccessKind → ℕ → Type 0
+IsMade None kind frame = ⊥
+IsMade (Some made) kind frame = (frame ≡ made.frame) × (kind ≡ made.kind)
+
+-- an access in flight is of this kind, and on the frame
+abbrev pub IsInFlight : HardwareParts → ℕ → AccessKind → ℕ → Type 0
+IsInFlight parts id kind frame = (k : ℕ) × (k < 8) × IsMade (waiting_at (row_of (flights_of parts.iommu).rows id) k) kind frame
+
+abbrev pub IsModeBare : HardwareParts → Type 0
+IsModeBare parts = mode_in parts ≡ mode.Bare
+
+-- all ways of a device that is plugged in
+abbrev pub WayOf : HardwareParts → Device → AccessKind → ℕ → Type 0
+WayOf parts device kind frame =
+    ((IsInFlight parts device.id kind frame ⊎ IsModeBare parts) ⊎ ThroughFound parts device (cached_found parts device.id) kind frame)
+    ⊎ ThroughFound parts device (stored_found parts device.id) kind frame
+
+-- the tables of the address spaces of its contexts
+abbrev pub TablesOfDevice : HardwareParts → ℕ → ℕ → Type 0
+TablesOfDevice parts id frame = TablesFound parts (cached_found parts id) frame ⊎ TablesFound parts (stored_found parts id) frame
+
+-- of some device that is plugged in
+abbrev pub SomeTable : HardwareParts → ℕ → Type 0
+SomeTable parts frame = (k : ℕ) × (k < length parts.devices) × ((device : Device) × (slice_get parts.devices k ≡ Some device) × TablesOfDevice parts device.id frame)

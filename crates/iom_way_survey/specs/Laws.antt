@@ -1,0 +1,66 @@
+-- What is proved of tables: looked at level by level they are what walks read, and lead to what walks lead to.
+use Rattle.std.specs.Prelude.{◌≡◌, ◌↔◌, ◌*◌, ◌≤◌, ℕ, Bool, List, ◌∷◌, length, replicate, slice_get, Contains, suc, Some}
+use Rattle.iom_base.specs.declared.access.AccessKind.{AccessKind}
+use Rattle.iom_base.specs.Tables.{table_entries}
+use Rattle.iom_stage_walk.specs.Entries.{entries}
+use Rattle.iom_reach.specs.Memory.{ReadsFrame}
+use Rattle.iom_reach.specs.Safe.{IsOfTables, IsOfDirectory}
+use Rattle.iom_reach.specs.Scene.{Mapping}
+use Rattle.iom_reach.specs.Ways.{LeadsTo, ServesKind, Way}
+use Rattle.iom_device.specs.Caches.{device_with}
+use Rattle.iom_device.specs.declared.device.Device.{Device}
+use Rattle.iom_hardware.specs.HardwareParts.{HardwareParts}
+use Rattle.iom_hardware_ways.specs.Scenes.{scene_of}
+use Rattle.iom_inflight.specs.Flights.{FlightRow, row_of}
+use Rattle.iom_iommu.specs.Parts.{registers_of, flights_of}
+use Rattle.iom_way_survey.specs.Directories.{DirectoryReads}
+use Rattle.iom_way_survey.specs.Found.{WayOf, SomeTable}
+use Rattle.iom_way_survey.specs.Queues.{IsOfFaults}
+use Rattle.iom_hardware_ways.specs.Formats.{entry_format, steps_along, formats}
+use Rattle.iom_hardware_ways.specs.Laws.{PagesAreIndices}
+use Rattle.iom_table_survey.specs.Levels.{IsTable, IsMapped}
+use Rattle.iom_table_survey.specs.Rows.{IsInRun}
+
+-- a root of so many frames, and below it tables of one frame each
+abbrev pub widths_from : ℕ → ℕ → List ℕ
+widths_from frames below = (table_entries * frames) ∷ replicate below table_entries
+
+-- some walk from the root leads to the frame, for this kind of access
+abbrev pub IsLedTo : List (List ℕ) → ℕ → List ℕ → AccessKind → ℕ → Type 0
+IsLedTo memory root widths kind frame = (mapping : Mapping) × LeadsTo formats (slice_get memory) root (steps_along widths) mapping × ServesKind mapping frame kind
+
+-- some walk from the root reads the frame
+abbrev pub IsReadFrom : List (List ℕ) → ℕ → List ℕ → ℕ → Type 0
+IsReadFrom memory root widths frame = (page : ℕ) × ReadsFrame entry_format (slice_get memory) root (steps_along widths page) frame
+
+abbrev pub LevelsAreWalks : Type 0
+LevelsAreWalks = (memory : List (List ℕ)) (root frames below : ℕ) → PagesAreIndices (widths_from frames below)
+    → ((frame : ℕ) → IsTable (entries memory) (IsInRun root frames) (suc below) frame ↔ IsReadFrom memory root (widths_from frames below) frame)
+    × ((kind : AccessKind) (frame : ℕ) → IsMapped (entries memory) (IsInRun root frames) (suc below) kind frame ↔ IsLedTo memory root (widths_from frames below) kind frame)
+
+-- each way of a device that is plugged in, of whose accesses at most eight are in flight, is one of those that are looked for
+abbrev pub WaysAreLookedFor : Type 0
+WaysAreLookedFor = (trusted : ℕ → Bool) (parts : HardwareParts) (device : Device) (frame : ℕ) (kind : AccessKind) → device_with parts.devices device.id ≡ Some device
+    → ((own : FlightRow) → row_of (flights_of parts.iommu).rows device.id ≡ Some own → length own.waiting ≤ 8)
+    → Way (scene_of trusted parts) device.id frame kind → WayOf parts device kind frame
+
+-- and each of these is one
+abbrev pub LooksFindWays : Type 0
+LooksFindWays = (trusted : ℕ → Bool) (parts : HardwareParts) (device : Device) (frame : ℕ) (kind : AccessKind) → device_with parts.devices device.id ≡ Some device
+    → WayOf parts device kind frame → Way (scene_of trusted parts) device.id frame kind
+
+-- the frames of tables that hardware reads are looked for
+abbrev pub TablesAreLookedFor : Type 0
+TablesAreLookedFor = (trusted : ℕ → Bool) (parts : HardwareParts) (frame : ℕ) → IsOfTables (scene_of trusted parts) frame → SomeTable parts frame
+
+-- and each of these is read
+abbrev pub LooksFindTables : Type 0
+LooksFindTables = (trusted : ℕ → Bool) (parts : HardwareParts) (frame : ℕ) → SomeTable parts frame → IsOfTables (scene_of trusted parts) frame
+
+-- so are those of the directory
+abbrev pub DirectoryIsLookedFor : Type 0
+DirectoryIsLookedFor = (trusted : ℕ → Bool) (parts : HardwareParts) (frame : ℕ) → IsOfDirectory (scene_of trusted parts) frame → DirectoryReads parts frame
+
+-- so are those of the fault queue, into which the IOMMU stores records
+abbrev pub FaultsAreLookedFor : Type 0
+FaultsAreLookedFor = (trusted : ℕ → Bool) (parts : HardwareParts) (frame : ℕ) → Contains (scene_of trusted parts).fault_frames frame → IsOfFaults (registers_of parts.iommu) frame

@@ -1,0 +1,5 @@
+pub mod Found
+pub mod Directories
+pub mod Queues
+pub mod Laws
+pub mod Surveys

@@ -1,0 +1,73 @@
+-- What a survey says of a scene.
+use Rattle.std.specs.Prelude.{◌≡◌, ◌⊎◌, ℕ, ◌==◌, Bool, true, false, List, [], length, slice_get, Contains, Option, None, Some}
+use Rattle.std.specs.List.{find, list_any}
+use Rattle.iom_base.specs.declared.access.AccessKind.{AccessKind}
+use Rattle.iom_device.specs.declared.device.Device.{Device}
+use Rattle.iom_hardware.specs.HardwareParts.{HardwareParts}
+use Rattle.iom_reach.specs.Safe.{IsRead, HasWord}
+use Rattle.iom_reach.specs.Scene.{Scene}
+use Rattle.iom_reach.specs.Ways.{Way}
+use Rattle.iom_table_survey.specs.Reaches.{frames_by, IsReachOf}
+use Rattle.iom_table_survey.specs.Rows.{has, IsCommon}
+use Rattle.iom_way_survey.specs.Found.{WayOf}
+use Rattle.iom_way_survey.specs.declared.findings.Conflict.{Conflict}
+use Rattle.iom_way_survey.specs.declared.findings.DeviceReach.{DeviceReach}
+use Rattle.iom_way_survey.specs.declared.findings.Survey.{Survey}
+
+-- whether the number is one of these
+abbrev pub is_among : List ℕ → ℕ → Bool
+is_among ids id = list_any (λ own. own == id) ids
+
+-- what a survey finds of a device: nothing, where it has no row of it
+abbrev pub reach_in : Option DeviceReach → AccessKind → ℕ → Bool
+reach_in None kind frame = false
+reach_in (Some row) kind frame = has (frames_by row.reach kind) frame
+
+abbrev pub reaches_in : List DeviceReach → ℕ → AccessKind → ℕ → Bool
+reaches_in rows id kind frame = reach_in (find (λ (row : DeviceReach). row.id == id) rows) kind frame
+
+-- the row is the device's: what it reaches is all that is looked for
+pub record IsRowOf (parts : HardwareParts) (trusted : List ℕ) (row : DeviceReach) (device : Device) : Type 0 where
+  pub id : row.id ≡ device.id
+  pub is_trusted : row.is_trusted ≡ is_among trusted device.id
+  pub reach : IsReachOf row.reach (WayOf parts device)
+
+-- so many devices have their rows, in their order
+pub record HaveRows (parts : HardwareParts) (trusted : List ℕ) (rows : List DeviceReach) (count : ℕ) : Type 0 where
+  pub long : length rows ≡ count
+  pub each : (k : ℕ) (row : DeviceReach) (device : Device) → slice_get rows k ≡ Some row → slice_get parts.devices k ≡ Some device → IsRowOf parts trusted row device
+
+-- each device has its own
+abbrev pub AreRowsOf : HardwareParts → List ℕ → List DeviceReach → Type 0
+AreRowsOf parts trusted rows = HaveRows parts trusted rows (length parts.devices)
+
+-- nothing was found
+pub record IsOfNothing (survey : Survey) : Type 0 where
+  pub devices : survey.devices.items ≡ []
+  pub read : (frame : ℕ) → has survey.read frame ≡ false
+  pub stored : (frame : ℕ) → has survey.stored frame ≡ false
+
+-- rows of untrusted devices, of those that a scene has
+abbrev pub TellsTrust : Scene → List DeviceReach → Type 0
+TellsTrust scene rows = (k : ℕ) (row : DeviceReach) → slice_get rows k ≡ Some row → row.is_trusted ≡ scene.is_trusted row.id
+
+-- THE SURVEY misses no way of the scene, no frame that hardware reads, and none into which the IOMMU stores
+pub record Surveys (survey : Survey) (scene : Scene) : Type 0 where
+  pub reached : (device frame : ℕ) (kind : AccessKind) → Way scene device frame kind → reaches_in survey.devices.items device kind frame ≡ true
+  pub read : (frame : ℕ) → IsRead scene frame → has survey.read frame ≡ true
+  pub stored : (frame : ℕ) → Contains scene.fault_frames frame ⊎ HasWord scene frame → has survey.stored frame ≡ true
+  pub trusted : TellsTrust scene survey.devices.items
+
+-- no device that isn't trusted, nor the IOMMU, writes what hardware reads
+pub record AreApart (survey : Survey) : Type 0 where
+  pub devices : (k : ℕ) (row : DeviceReach) → slice_get survey.devices.items k ≡ Some row → row.is_trusted ≡ false → (frame : ℕ) → ¬ IsCommon survey.read row.reach.writable frame
+  pub iommu : (frame : ℕ) → ¬ IsCommon survey.read survey.stored frame
+
+-- who writes this frame that hardware reads
+abbrev pub WritesCommon : Survey → Option ℕ → ℕ → Type 0
+WritesCommon survey None frame = IsCommon survey.read survey.stored frame
+WritesCommon survey (Some id) frame =
+    (k : ℕ) × (row : DeviceReach) × (slice_get survey.devices.items k ≡ Some row) × ((row.id ≡ id) × ((row.is_trusted ≡ false) × IsCommon survey.read row.reach.writable frame))
+
+abbrev pub IsConflict : Survey → Conflict → Type 0
+IsConflict survey conflict = WritesCommon survey conflict.device conflict.frame

@@ -1,0 +1,154 @@
+// The contexts that a request of a device may find, and what the tables of a context lead to.
+ghost use Rattle.std.specs.Prelude.{◌≡◌, ◌<◌, ◌≤◌, length, slice_get, Some};
+ghost use Rattle.iom_hardware.specs.HardwareParts.{hardware_parts};
+ghost use Rattle.iom_iommu.specs.Stages.{space_through};
+ghost use Rattle.iom_table_survey.specs.Reaches.{AddsReach};
+ghost use Rattle.iom_table_survey.specs.Rows.{Adds};
+ghost use Rattle.iom_way_survey.specs.Found.{has_directory, cached_found, stored_found, found_of, space_in, HaveTable, HaveLeaf, FoundTable, FoundLeaf};
+
+use iom_base::{Cause, DeviceId};
+use iom_device::Device;
+use iom_device_dir::{Context, FirstStage, SecondStage, fits_directory, locate};
+use iom_hardware::Hardware;
+use iom_phys_mem::Memory;
+use iom_registers::{DirectoryMode, DirectoryPointer};
+use iom_table_survey::{FrameRow, Reach, survey};
+use iom_tlb::Space;
+
+/// Whether there is a directory in this mode.
+fn has_directory(mode: DirectoryMode) -> bool
+    ensures { result ≡ has_directory mode }
+{
+    match mode {
+        DirectoryMode::Off | DirectoryMode::Bare => false,
+        DirectoryMode::OneLevel | DirectoryMode::TwoLevels | DirectoryMode::ThreeLevels => true,
+    }
+}
+
+/// The device at a place.
+pub(crate) fn device_at(hardware: &Hardware, place: usize) -> &Device
+    requires { place < length hardware.now.devices.items }
+    ensures { slice_get hardware.now.devices.items place ≡ Some result.now }
+{
+    match hardware.devices.get(place) {
+        Some(device) => device,
+        None => unreachable!(),
+    }
+}
+
+/// The context, where one was located.
+fn located(answer: Result<Context, Cause>) -> Option<Context>
+    ensures { result ≡ found_of answer }
+{
+    match answer {
+        Ok(context) => Some(context),
+        Err(_) => None,
+    }
+}
+
+/// The context that is cached for the device, where a request finds it.
+pub(crate) fn cached_in(hardware: &Hardware, id: DeviceId) -> Option<Context>
+    ensures { result ≡ cached_found (hardware_parts hardware.now) id }
+{
+    let mode = hardware.iommu.registers().directory_mode();
+    if has_directory(mode) && fits_directory(mode, id) {
+        return hardware.iommu.cached_context(id);
+    }
+    None
+}
+
+/// The context that the directory has for the device.
+#[tactic(auto, unfolding(iom_device_dir::specs::Located::located_by_mode))]
+pub(crate) fn stored_in(hardware: &Hardware, id: DeviceId) -> Option<Context>
+    ensures { result ≡ stored_found (hardware_parts hardware.now) id }
+{
+    let registers = hardware.iommu.registers();
+    let mode = registers.directory_mode();
+    if !has_directory(mode) {
+        return None;
+    }
+    let pointer = DirectoryPointer {
+        mode,
+        ppn: registers.directory_root(),
+    };
+    located(locate(&hardware.memory, pointer, id))
+}
+
+/// The address space that the stages of the context translate. None where both are Bare.
+pub(crate) fn space_of(context: &Context) -> Option<Space>
+    ensures { result ≡ space_in context.now }
+{
+    let pscid = context.pscid.number();
+    let gscid = context.gscid;
+    match (context.first_stage, context.second_stage) {
+        (FirstStage::Bare, SecondStage::Bare) => None,
+        (FirstStage::Tables { .. }, SecondStage::Bare) => Some(Space::First { pscid }),
+        (FirstStage::Bare, SecondStage::Tables { .. }) => Some(Space::Second { gscid }),
+        (FirstStage::Tables { .. }, SecondStage::Tables { .. }) => {
+            Some(Space::Both { gscid, pscid })
+        }
+    }
+}
+
+/// The tables that decide where the stages lead: of both stages those of the second.
+fn survey_stages(
+    memory: &Memory,
+    first: FirstStage,
+    second: SecondStage,
+    tables: &mut FrameRow,
+    reach: &mut Reach,
+)
+    requires { length memory.now ≤ 4096 }
+    ensures tables { Adds tables.old tables.new (HaveTable memory.now first second) }
+    ensures leaves { AddsReach reach.old reach.new (HaveLeaf memory.now first second) }
+{
+    match second {
+        SecondStage::Tables { size, root } => {
+            survey(
+                memory,
+                root.number(),
+                4,
+                size.levels() as u32,
+                tables,
+                reach,
+            );
+        }
+        SecondStage::Bare => {
+            if let FirstStage::Tables { size, root } = first {
+                survey(
+                    memory,
+                    root.number(),
+                    1,
+                    size.levels() as u32,
+                    tables,
+                    reach,
+                );
+            }
+        }
+    }
+}
+
+/// The tables of the context that was found, where its address space is this one.
+pub(crate) fn survey_found(
+    memory: &Memory,
+    found: Option<Context>,
+    space: Space,
+    tables: &mut FrameRow,
+    reach: &mut Reach,
+)
+    requires { length memory.now ≤ 4096 }
+    ensures tables { Adds tables.old tables.new (FoundTable memory.now space found) }
+    ensures leaves { AddsReach reach.old reach.new (FoundLeaf memory.now space found) }
+{
+    if let Some(context) = found {
+        if space_of(&context) == Some(space) {
+            survey_stages(
+                memory,
+                context.first_stage,
+                context.second_stage,
+                tables,
+                reach,
+            );
+        }
+    }
+}

@@ -1,0 +1,116 @@
+// All ways of a device.
+ghost use Rattle.std.specs.Prelude.{◌≡◌, ◌<◌, ◌≤◌, ℕ, true, length, slice_get, Some};
+ghost use Rattle.iom_hardware.specs.HardwareParts.{hardware_parts};
+ghost use Rattle.iom_inflight.specs.Flights.{waiting_at, row_of};
+ghost use Rattle.iom_inflight.specs.declared.made.MadeAt.{MadeAt};
+ghost use Rattle.iom_iommu.specs.Parts.{flights_of};
+ghost use Rattle.iom_registers.specs.declared.directory.DirectoryMode.TheVariants.{Bare};
+ghost use Rattle.iom_table_survey.specs.Reaches.{AddsReach};
+ghost use Rattle.iom_table_survey.specs.Rows.{Adds};
+ghost use Rattle.iom_way_survey.specs.Found.{ByAts, ThroughSpace, TablesThrough, TablesFound, ThroughFound, TablesOfDevice, IsMade, IsInFlight, WayOf};
+
+use crate::contexts::{cached_in, space_of, stored_in};
+use crate::kept::survey_ats;
+use crate::spaces::survey_space;
+use iom_base::MAX_IN_FLIGHT;
+use iom_device::Device;
+use iom_device_dir::Context;
+use iom_hardware::Hardware;
+use iom_inflight::MadeAt;
+use iom_registers::DirectoryMode;
+use iom_table_survey::{FrameRow, Reach};
+use iom_tlb::Space;
+
+/// By EN_ATS.
+fn survey_by_ats(hardware: &Hardware, device: &Device, lets_ats: bool, reach: &mut Reach)
+    ensures { AddsReach reach.old reach.new (ByAts hardware.now.fabric device.now lets_ats) }
+{
+    if lets_ats {
+        survey_ats(hardware, device, reach);
+    }
+}
+
+/// By the address space, and by having none.
+fn survey_by_space(
+    hardware: &Hardware,
+    space: Option<Space>,
+    tables: &mut FrameRow,
+    reach: &mut Reach,
+)
+    requires { length hardware.now.memory ≤ 4096 }
+    ensures tables { Adds tables.old tables.new (TablesThrough (hardware_parts hardware.now) space) }
+    ensures reached { AddsReach reach.old reach.new (ThroughSpace (hardware_parts hardware.now) space) }
+{
+    match space {
+        Some(space) => survey_space(hardware, space, tables, reach),
+        None => reach.insert_all(),
+    }
+}
+
+/// Through a context that was found.
+fn survey_through(
+    hardware: &Hardware,
+    device: &Device,
+    found: Option<Context>,
+    tables: &mut FrameRow,
+    reach: &mut Reach,
+)
+    requires { length hardware.now.memory ≤ 4096 }
+    ensures tables { Adds tables.old tables.new (TablesFound (hardware_parts hardware.now) found) }
+    ensures reached { AddsReach reach.old reach.new (ThroughFound (hardware_parts hardware.now) device.now found) }
+{
+    if let Some(context) = found {
+        survey_by_ats(hardware, device, context.en_ats, reach);
+        survey_by_space(hardware, space_of(&context), tables, reach);
+    }
+}
+
+/// An access in flight.
+fn survey_access(made: Option<MadeAt>, reach: &mut Reach)
+    ensures { AddsReach reach.old reach.new (IsMade made) }
+{
+    if let Some(access) = made {
+        reach.insert_for(access.frame, access.kind);
+    }
+}
+
+/// The accesses in flight.
+fn survey_flights(hardware: &Hardware, device: &Device, reach: &mut Reach)
+    ensures { AddsReach reach.old reach.new (IsInFlight (hardware_parts hardware.now) device.now.id) }
+{
+    for place in 0..MAX_IN_FLIGHT {
+        survey_access(hardware.iommu.waiting_at(device.id, place), reach);
+    }
+}
+
+/// By mode Bare.
+fn survey_bare(mode: DirectoryMode, reach: &mut Reach)
+    ensures { AddsReach reach.old reach.new (λ kind f. mode ≡ Bare) }
+{
+    match mode {
+        DirectoryMode::Bare => reach.insert_all(),
+        DirectoryMode::Off
+        | DirectoryMode::OneLevel
+        | DirectoryMode::TwoLevels
+        | DirectoryMode::ThreeLevels => {}
+    }
+}
+
+/// All ways of the device, and the tables of the contexts that have the address spaces of its own.
+pub(crate) fn survey_device(
+    hardware: &Hardware,
+    device: &Device,
+    tables: &mut FrameRow,
+    reach: &mut Reach,
+)
+    requires { length hardware.now.memory ≤ 4096 }
+    ensures tables { Adds tables.old tables.new (TablesOfDevice (hardware_parts hardware.now) device.now.id) }
+    ensures reached { AddsReach reach.old reach.new (WayOf (hardware_parts hardware.now) device.now) }
+{
+    survey_flights(hardware, device, reach);
+    survey_bare(hardware.iommu.registers().directory_mode(), reach);
+    let cached = cached_in(hardware, device.id);
+    survey_through(hardware, device, cached, tables, reach);
+    let stored = stored_in(hardware, device.id);
+    survey_through(hardware, device, stored, tables, reach);
+}

@@ -1,0 +1,92 @@
+// The frames that walks of the directory read.
+ghost use Rattle.std.specs.Prelude.{◌≡◌, ◌<◌, option_map};
+ghost use Rattle.iom_base.specs.declared.ppn.Ppn.{Ppn};
+ghost use Rattle.iom_device_dir.specs.Located.{loaded_entry};
+ghost use Rattle.iom_device_dir.specs.Paths.{entry_place};
+ghost use Rattle.iom_hardware.specs.HardwareParts.{hardware_parts};
+ghost use Rattle.iom_phys_mem.specs.Words.{word_at};
+ghost use Rattle.iom_registers.specs.Queues.{directory_root};
+ghost use Rattle.iom_table_survey.specs.Rows.{Adds};
+ghost use Rattle.iom_way_survey.specs.Directories.{next_of, IsOnPath, PathReads, DirectoryReads};
+
+use crate::contexts::device_at;
+use iom_base::{DeviceId, ENTRY_SIZE, PAGE_SIZE, Ppn};
+use iom_device_dir::{NonLeafEntry, fits_directory};
+use iom_hardware::Hardware;
+use iom_phys_mem::{Bytes, Memory};
+use iom_registers::{DirectoryMode, Registers};
+use iom_table_survey::FrameRow;
+
+/// The page that the entry at the index of a directory page names.
+fn next_page(memory: &Memory, page: Ppn, index: u64) -> Option<Ppn>
+    requires { index < 512 }
+    ensures { option_map (λ (next : Ppn). next.number) result ≡ next_of (loaded_entry (word_at 8 memory.now (entry_place page.number index))) }
+{
+    let word = memory.load_u64(PAGE_SIZE * page.number() + ENTRY_SIZE * index)?;
+    match NonLeafEntry::decode(word) {
+        Ok(entry) => Some(entry.next),
+        Err(_) => None,
+    }
+}
+
+/// The path from a page of contexts.
+fn survey_contexts_page(page: Ppn, read: &mut FrameRow)
+    ensures { Adds read.old read.new (λ f. f ≡ page.number) }
+{
+    read.insert(page.number());
+}
+
+/// The path from a page one level above.
+fn survey_middle(memory: &Memory, page: Ppn, id: DeviceId, read: &mut FrameRow)
+    ensures { Adds read.old read.new (IsOnPath memory.now 1 page.number id) }
+{
+    read.insert(page.number());
+    if let Some(next) = next_page(memory, page, u64::from(id) / (1 << 7) % (1 << 9)) {
+        survey_contexts_page(next, read);
+    }
+}
+
+/// The path from a page two levels above.
+fn survey_top(memory: &Memory, page: Ppn, id: DeviceId, read: &mut FrameRow)
+    ensures { Adds read.old read.new (IsOnPath memory.now 2 page.number id) }
+{
+    read.insert(page.number());
+    if let Some(next) = next_page(memory, page, u64::from(id) / (1 << 16) % (1 << 8)) {
+        survey_middle(memory, next, id, read);
+    }
+}
+
+/// The path of the id, by the levels that the mode gives the directory.
+fn survey_path(memory: &Memory, mode: DirectoryMode, root: Ppn, id: DeviceId, read: &mut FrameRow)
+    ensures { Adds read.old read.new (PathReads memory.now mode root.number id) }
+{
+    if !fits_directory(mode, id) {
+        return;
+    }
+    match mode {
+        DirectoryMode::Off | DirectoryMode::Bare => {}
+        DirectoryMode::OneLevel => survey_contexts_page(root, read),
+        DirectoryMode::TwoLevels => survey_middle(memory, root, id, read),
+        DirectoryMode::ThreeLevels => survey_top(memory, root, id, read),
+    }
+}
+
+/// The page that is the directory's root.
+fn root_of(registers: &Registers) -> Ppn
+    ensures { result.number ≡ directory_root registers.now }
+{
+    Ppn::new(registers.directory_root()).unwrap()
+}
+
+/// The paths of all devices that are plugged in.
+pub(crate) fn survey_directory(hardware: &Hardware, read: &mut FrameRow)
+    ensures { Adds read.old read.new (DirectoryReads (hardware_parts hardware.now)) }
+{
+    let registers = hardware.iommu.registers();
+    let root = root_of(registers);
+    let mode = registers.directory_mode();
+    for place in 0..hardware.devices.len() {
+        let device = device_at(hardware, place);
+        survey_path(&hardware.memory, mode, root, device.id, read);
+    }
+}

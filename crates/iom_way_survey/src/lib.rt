@@ -1,0 +1,23 @@
+//! A survey of hardware: by which frames each device can still be reached, which of them hardware reads, and into which the
+//! IOMMU stores.
+//!
+//! `iom_reach` says by which ways a device can reach a frame (RISC-V IOMMU Architecture Specification 1.0, chapters 2 and 3;
+//! PCI Express Base Specification, chapter 10), `iom_hardware_ways` reads the values off a hardware. `specs/Found.antt` says
+//! what of them is looked for, without any walk: tables level by level, contexts, what is cached, what is under way. The
+//! layers above may rely on [`Survey::look`] to miss no way and no frame that hardware reads or stores into, and on
+//! [`Survey::is_safe`] to be true only where nobody but software can write what hardware reads; and on [`laws`]: what is
+//! looked for is each way of a device, and nothing else.
+#![tactic(auto)]
+
+mod contexts;
+mod devices;
+mod directory;
+mod findings;
+mod kept;
+pub mod laws;
+mod looking;
+mod queues;
+mod spaces;
+mod survey;
+
+pub use findings::{Conflict, Survey};

@@ -1,0 +1,52 @@
+// A survey is made.
+ghost use Rattle.std.specs.Prelude.{◌≡◌, ◌≤◌, length, IfOk};
+ghost use Rattle.iom_hardware.specs.HardwareParts.{hardware_parts};
+ghost use Rattle.iom_hardware.specs.Sound.{IsSoundHardware};
+ghost use Rattle.iom_hardware_ways.specs.Scenes.{scene_of};
+ghost use Rattle.iom_way_survey.specs.Surveys.{is_among, IsOfNothing, Surveys};
+
+use crate::directory::survey_directory;
+use crate::findings::Survey;
+use crate::queues::{survey_faults, survey_queue};
+use crate::survey::survey_devices;
+use iom_base::{DeviceId, MAX_DEVICES};
+use iom_hardware::Hardware;
+use iom_table_survey::FrameRow;
+use std::alloc::{AllocError, Global};
+
+impl Survey {
+    /// A survey of nothing. It takes all the memory that it ever takes.
+    pub fn new(alloc: Global) -> Result<Survey, AllocError>
+        ensures { IfOk result IsOfNothing }
+    {
+        Ok(Survey {
+            devices: Vec::with_capacity(alloc, MAX_DEVICES)?,
+            read: FrameRow::new(),
+            stored: FrameRow::new(),
+        })
+    }
+
+    /// Looks at the hardware, of which software entrusts these devices with all memory. What was found before is forgotten.
+    /// The hardware has at most 4,096 frames, and is sound, as each of its calls leaves it. Nothing of it changes, and no
+    /// memory is taken.
+    pub fn look(&mut self, hardware: &Hardware, trusted: &[DeviceId])
+        requires size { length hardware.now.memory ≤ 4096 }
+        requires sound { IsSoundHardware (hardware_parts hardware.now) hardware.now.events }
+        ensures { Surveys self.new (scene_of (is_among trusted.now) (hardware_parts hardware.now)) }
+    {
+        hardware.facts();
+        self.devices.clear();
+        self.read.clear();
+        self.stored.clear();
+        survey_devices(hardware, trusted, &mut self.devices, &mut self.read);
+        survey_directory(hardware, &mut self.read);
+        let registers = hardware.iommu.registers();
+        survey_queue(
+            &hardware.memory,
+            registers,
+            &mut self.read,
+            &mut self.stored,
+        );
+        survey_faults(registers, &mut self.stored);
+    }
+}

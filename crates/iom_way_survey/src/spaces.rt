@@ -1,0 +1,90 @@
+// What is reached in an address space: by what is cached of it, and by the tables of each context that has it.
+ghost use Rattle.std.specs.Prelude.{◌≡◌, ◌<◌, ◌≤◌, ℕ, length, slice_get, Some};
+ghost use Rattle.iom_device.specs.declared.device.Device.{Device};
+ghost use Rattle.iom_hardware.specs.HardwareParts.{hardware_parts};
+ghost use Rattle.iom_table_survey.specs.Reaches.{AddsReach};
+ghost use Rattle.iom_table_survey.specs.Rows.{Adds};
+ghost use Rattle.iom_way_survey.specs.Found.{FoundTable, FoundLeaf, DeviceTable, DeviceLeaf, SpaceTable, SpaceLeaf, ServesIn, IsCachedIn, InSpace};
+ghost use Rattle.iom_tlb.specs.declared.cached_page.CachedPage.{CachedPage};
+
+use crate::contexts::{cached_in, device_at, stored_in, survey_found};
+use iom_base::DeviceId;
+use iom_hardware::Hardware;
+use iom_table_survey::{FrameRow, Reach};
+use iom_tlb::{CachedPage, Ioatc, PLACES, Space};
+
+/// The translation that stands at a place, where it is of the space.
+fn survey_page(page: Option<CachedPage>, space: Space, reach: &mut Reach)
+    ensures { AddsReach reach.old reach.new (λ kind f. (own : CachedPage) × (page ≡ Some own) × ServesIn space own kind f) }
+{
+    if let Some(cached) = page {
+        if cached.space == space {
+            reach.insert(cached.translation.frame, cached.translation.rights);
+        }
+    }
+}
+
+/// All that the cache has of the space.
+fn survey_translations(cache: &Ioatc, space: Space, reach: &mut Reach)
+    ensures { AddsReach reach.old reach.new (IsCachedIn cache.now space) }
+{
+    cache.facts();
+    for place in 0..PLACES {
+        survey_page(cache.page_at(place), space, reach);
+    }
+}
+
+/// The tables of the contexts that a request of the device may find, where these have the space.
+fn survey_contexts(
+    hardware: &Hardware,
+    id: DeviceId,
+    space: Space,
+    tables: &mut FrameRow,
+    reach: &mut Reach,
+)
+    requires { length hardware.now.memory ≤ 4096 }
+    ensures tables { Adds tables.old tables.new (DeviceTable (hardware_parts hardware.now) space id) }
+    ensures leaves { AddsReach reach.old reach.new (DeviceLeaf (hardware_parts hardware.now) space id) }
+{
+    survey_found(
+        &hardware.memory,
+        cached_in(hardware, id),
+        space,
+        tables,
+        reach,
+    );
+    survey_found(
+        &hardware.memory,
+        stored_in(hardware, id),
+        space,
+        tables,
+        reach,
+    );
+}
+
+/// The same of each device.
+fn survey_all_contexts(hardware: &Hardware, space: Space, tables: &mut FrameRow, reach: &mut Reach)
+    requires { length hardware.now.memory ≤ 4096 }
+    ensures tables { Adds tables.old tables.new (SpaceTable (hardware_parts hardware.now) space) }
+    ensures leaves { AddsReach reach.old reach.new (SpaceLeaf (hardware_parts hardware.now) space) }
+{
+    for place in 0..hardware.devices.len() {
+        let device = device_at(hardware, place);
+        survey_contexts(hardware, device.id, space, tables, reach);
+    }
+}
+
+/// What is reached in the space, and the tables that are walked for it.
+pub(crate) fn survey_space(
+    hardware: &Hardware,
+    space: Space,
+    tables: &mut FrameRow,
+    reach: &mut Reach,
+)
+    requires { length hardware.now.memory ≤ 4096 }
+    ensures tables { Adds tables.old tables.new (SpaceTable (hardware_parts hardware.now) space) }
+    ensures reached { AddsReach reach.old reach.new (InSpace (hardware_parts hardware.now) space) }
+{
+    survey_translations(hardware.iommu.translations(), space, reach);
+    survey_all_contexts(hardware, space, tables, reach);
+}
