@@ -1,0 +1,96 @@
+// How the hardware uses a frame.
+use crate::chronicle::Chronicle;
+use crate::directory::path_reads;
+use crate::found::{context_at, has_directory, mode_of, tables_of};
+use crate::queues::{has_waiting, has_word, is_of_commands, is_of_faults};
+use crate::told::{ContextPlace, ReadAs, Use};
+use iom_base::DeviceId;
+use iom_hardware::Hardware;
+
+/// Whether walks by the device's context in that place read the frame as a table.
+fn walks_read(hardware: &Hardware, device: DeviceId, place: ContextPlace, frame: u32) -> bool {
+    let Some(context) = context_at(hardware, device, place) else {
+        return false;
+    };
+    match tables_of(&context) {
+        Some(tables) => tables.read(&hardware.memory, frame),
+        None => false,
+    }
+}
+
+/// Whether the frame is the root of the directory.
+fn is_root(hardware: &Hardware, frame: u32) -> bool {
+    has_directory(mode_of(hardware))
+        && hardware.iommu.registers().directory_root() == u64::from(frame)
+}
+
+/// Whether the walk to the context of a device that is plugged in reads the frame.
+fn is_of_directory(hardware: &Hardware, frame: u32) -> bool {
+    for device in hardware.devices.iter() {
+        if path_reads(hardware, device.id, frame) {
+            return true;
+        }
+    }
+    false
+}
+
+impl Chronicle {
+    /// How the hardware uses the frame, the first that applies: a queue that is on, or the word of a fence that waits; the
+    /// directory, its root or a page on the path of a plugged device; a table that walks of a plugged device read.
+    pub fn use_of(&self, hardware: &Hardware, frame: u32) -> Option<Use> {
+        let registers = hardware.iommu.registers();
+        if is_of_commands(registers, frame) {
+            return Some(Use::CommandQueue);
+        }
+        if is_of_faults(registers, frame) || has_word(hardware, frame) {
+            return Some(Use::FaultQueue);
+        }
+        if is_root(hardware, frame) {
+            return Some(Use::DirectoryRoot);
+        }
+        if is_of_directory(hardware, frame) {
+            return Some(Use::DirectoryPage);
+        }
+        self.table_use(hardware, frame)
+    }
+
+    /// As what the hardware reads the frame and relies on what it finds: the first that applies of a table, the directory, and
+    /// commands that wait.
+    pub fn read_as(&self, hardware: &Hardware, frame: u32) -> Option<ReadAs> {
+        if let Some(Use::Table { walker, .. }) = self.table_use(hardware, frame) {
+            return Some(ReadAs::Table { walker });
+        }
+        if is_of_directory(hardware, frame) {
+            return Some(ReadAs::Directory);
+        }
+        if has_waiting(hardware.iommu.registers(), frame) {
+            return Some(ReadAs::CommandQueue);
+        }
+        None
+    }
+
+    /// Whose walks read the frame as a table: the first device's in the order of plugging, by its stored context, else by the
+    /// cached one.
+    fn table_use(&self, hardware: &Hardware, frame: u32) -> Option<Use> {
+        for device in hardware.devices.iter() {
+            let walker = device.id;
+            if walks_read(hardware, walker, ContextPlace::Stored, frame) {
+                return Some(Use::Table {
+                    walker,
+                    cached_since: None,
+                });
+            }
+            if walks_read(hardware, walker, ContextPlace::Cached, frame) {
+                let since = match self.contexts.since(walker) {
+                    Some(line) => line,
+                    None => self.line,
+                };
+                return Some(Use::Table {
+                    walker,
+                    cached_since: Some(since),
+                });
+            }
+        }
+        None
+    }
+}

@@ -1,0 +1,20 @@
+-- What follows of good claims, by the laws of hardware.
+use Rattle.std.proofs.Common.{◌≡◌, ℕ, List, sym, subst}
+use Rattle.iom_base.specs.declared.access.AccessKind.{AccessKind}
+use Rattle.iom_claims.specs.Claimed.{after_done}
+use Rattle.iom_hardware.specs.HardwareParts.{hardware_parts}
+use Rattle.iom_hardware_session.specs.Good.{scene_in, HasClaimedWaysAlone}
+use Rattle.iom_hardware_session.specs.Laws.{DoneStaysDone, HandedOffStaysFree}
+use Rattle.iom_hardware_ways.specs.Laws.{GoodClaimsHold, FreeStaysFree}
+use Rattle.iom_reach.specs.Laws.{IsOutOfReach}
+use Rattle.iom_way_survey.specs.Surveys.{is_among}
+
+pub done_stays : GoodClaimsHold → DoneStaysDone
+done_stays holds session before number grant calls made ((safe, timely), each) opened same (events, between, new, turns, makes) =
+    holds (is_among session.trusted.items) (after_done number before).history calls events grant.device made (hardware_parts session.hardware) between new safe timely
+    (subst (λ (f : ℕ). HasClaimedWaysAlone (scene_in session) (after_done number before) grant.device f) (sym same) (each grant opened)) turns makes
+
+pub handed_off_stays : FreeStaysFree → HandedOffStaysFree
+handed_off_stays free session before after frame id calls made ((safe, timely), nobodys, reach, unused) same (events, between, new, turns, makes) =
+    free (is_among session.trusted.items) calls events id made (hardware_parts session.hardware) between new safe timely
+    (subst (λ (f : ℕ). IsOutOfReach (scene_in session) f) (sym same) reach) turns makes

@@ -1,0 +1,5 @@
+pub mod WayLemmas
+pub mod TimelyLemmas
+pub mod SoftwareLemmas
+pub mod DoneLemmas
+pub mod GoodLemmas

@@ -1,0 +1,93 @@
+-- What is found of a claim, by what the survey and the rows of claims answer.
+use Rattle.std.proofs.Common.{◌≡◌, ◌==◌, ◌<◌, ◌∙◌, ◌⊎◌, inl, inr, ℕ, zero, suc, Bool, true, false, List, [], ◌∷◌, map, find, length, slice_get, Contains, Option, None, Some, option_map, refl, sym, ap, subst, arith}
+use Rattle.std.proofs.lemmas.Bool.Decides.{eqb_tells}
+use Rattle.iom_base.specs.declared.access.AccessKind.{AccessKind}
+use Rattle.iom_base.specs.declared.access.AccessKind.TheVariants.{Read, Write}
+use Rattle.iom_base.specs.declared.device_kind.DeviceKind.{DeviceKind}
+use Rattle.iom_device.specs.Caches.{device_with, kind_in}
+use Rattle.iom_device.specs.declared.device.Device.{Device}
+use Rattle.iom_hardware.specs.HardwareParts.{HardwareParts}
+use Rattle.iom_hardware.specs.Sound.{IsSoundHardware, flight_ids, device_ids}
+use Rattle.iom_hardware_ways.specs.Scenes.{ats_kind, flights_in, scene_of}
+use Rattle.iom_inflight.specs.Flights.{FlightRow, row_of}
+use Rattle.iom_iommu.specs.Parts.{flights_of}
+use Rattle.iom_reach.specs.Scene.{AtsKind, PendingAccess, HasDevice}
+use Rattle.iom_reach.specs.Ways.{Way, Accepted, AnyFrame, ByContext, OnTheWalk}
+
+-- what holds of reads and of writes holds of each kind of access
+pub both_kinds : (P : AccessKind → Type 0) → P Read → P Write → (kind : AccessKind) → P kind
+both_kinds P reads writes Read = reads
+both_kinds P reads writes Write = writes
+
+-- nothing is both
+pub no_both : (b : Bool) → b ≡ true → b ≡ false → ⊥
+no_both true t f = cc
+no_both false t f = cc
+
+-- a device that is found by its id stands somewhere
+pub stands : (devices : List Device) (id : ℕ) (own : Device) → device_with devices id ≡ Some own → (k : ℕ) × (slice_get devices k ≡ Some own) × (own.id ≡ id)
+stands [] id own at = absurd (cc)
+stands (first ∷ others) id own at = by (stands others id own) (eqb_tells first.id id)
+  where
+    by : (device_with others id ≡ Some own → (k : ℕ) × (slice_get others k ≡ Some own) × (own.id ≡ id))
+        → (((first.id == id) ≡ true) × (first.id ≡ id)) ⊎ (((first.id == id) ≡ false) × ¬ (first.id ≡ id)) → (k : ℕ) × (slice_get (first ∷ others) k ≡ Some own) × (own.id ≡ id)
+    by later (inl e) =
+        let same : Some first ≡ Some own = rw e.0 at at in
+        (0, same, subst (λ (d : Option Device). is_id d) same e.1)
+      where
+        is_id : Option Device → Type 0
+        is_id None = ⊥
+        is_id (Some d) = d.id ≡ id
+    by later (inr ne) = let found = later (rw ne.0 at at) in (suc found.0, found.1, found.2)
+
+-- what is plugged in stands somewhere
+pub plugged : (devices : List Device) (id : ℕ) (kind : AtsKind) → option_map ats_kind (kind_in devices id) ≡ Some kind → (k : ℕ) × (own : Device) × (slice_get devices k ≡ Some own) × (own.id ≡ id)
+plugged devices id kind is = by (device_with devices id) refl is
+  where
+    by : (found : Option Device) → device_with devices id ≡ found → option_map ats_kind (option_map (λ (device : Device). device.kind) found) ≡ Some kind
+        → (k : ℕ) × (own : Device) × (slice_get devices k ≡ Some own) × (own.id ≡ id)
+    by None e there = absurd (cc)
+    by (Some own) e there = let found = stands devices id own e in (found.0, own, found.1, found.2)
+
+-- a device that has a row of accesses stands somewhere
+pub rowed : (rows : List FlightRow) (devices : List Device) (id : ℕ) (row : FlightRow) → flight_ids rows ≡ device_ids devices → row_of rows id ≡ Some row
+    → (k : ℕ) × (own : Device) × (slice_get devices k ≡ Some own) × (own.id ≡ id)
+rowed [] devices id row same at = absurd (cc)
+rowed (first ∷ rows) [] id row same at = absurd (cc)
+rowed (first ∷ rows) (device ∷ devices) id row same at = by (rowed rows devices id row (rest same)) (eqb_tells first.device id)
+  where
+    rest : flight_ids (first ∷ rows) ≡ device_ids (device ∷ devices) → flight_ids rows ≡ device_ids devices
+    rest e = cc
+
+    head : flight_ids (first ∷ rows) ≡ device_ids (device ∷ devices) → device.id ≡ first.device
+    head e = cc
+
+    by : (row_of rows id ≡ Some row → (k : ℕ) × (own : Device) × (slice_get devices k ≡ Some own) × (own.id ≡ id))
+        → (((first.device == id) ≡ true) × (first.device ≡ id)) ⊎ (((first.device == id) ≡ false) × ¬ (first.device ≡ id))
+        → (k : ℕ) × (own : Device) × (slice_get (device ∷ devices) k ≡ Some own) × (own.id ≡ id)
+    by later (inl e) = (0, device, refl, head same ∙ e.1)
+    by later (inr ne) = let found = later (rw ne.0 at at) in (suc found.0, found.1, found.2, found.3)
+
+-- so does one that has an access in flight
+pub flying : (rows : List FlightRow) (devices : List Device) (id : ℕ) (access : PendingAccess) → flight_ids rows ≡ device_ids devices
+    → Contains (flights_in (row_of rows id)) access → (k : ℕ) × (own : Device) × (slice_get devices k ≡ Some own) × (own.id ≡ id)
+flying rows devices id access same inside = by (row_of rows id) refl inside
+  where
+    by : (found : Option FlightRow) → row_of rows id ≡ found → Contains (flights_in found) access → (k : ℕ) × (own : Device) × (slice_get devices k ≡ Some own) × (own.id ≡ id)
+    by None e (k, less, is) = absurd (omega (arith, less))
+    by (Some row) e there = rowed rows devices id row same e
+
+-- A device that has a way is plugged in
+pub has_place : (trusted : ℕ → Bool) (parts : HardwareParts) (events device frame : ℕ) (kind : AccessKind) → IsSoundHardware parts events → Way (scene_of trusted parts) device frame kind
+    → (k : ℕ) × (own : Device) × (slice_get parts.devices k ≡ Some own) × (own.id ≡ device)
+has_place trusted parts events device frame kind sound (Accepted inside) = flying (flights_of parts.iommu).rows parts.devices device (record { frame = frame; kind = kind }) sound.rows inside
+has_place trusted parts events device frame kind sound (AnyFrame (own, is) bare) = plugged parts.devices device own is
+has_place trusted parts events device frame kind sound (ByContext context ((own, is), there, found) through) = plugged parts.devices device own is
+has_place trusted parts events device frame kind sound (OnTheWalk space table steps mapping (k, less, at) leads serves) = absurd (omega (arith, less))
+
+-- one place has one device
+pub one_there : (devices : List Device) (k place : ℕ) (own other : Device) → k ≡ place → slice_get devices k ≡ Some own → slice_get devices place ≡ Some other → own ≡ other
+one_there devices k place own other same there at = inside (sym there ∙ ap (slice_get devices) same ∙ at)
+  where
+    inside : Some own ≡ Some other → own ≡ other
+    inside e = cc

@@ -1,0 +1,95 @@
+-- What a line of devices, hardware or software does to hardware, by its answer.
+use Rattle.std.specs.Prelude.{◌≡◌, ℕ, false, List, Option, Some, None, Result, Ok, Err}
+use Rattle.iom_base.specs.Accesses.{read_of, write_of}
+use Rattle.iom_hardware.specs.HardwareParts.{hardware_parts, disks_at_hand}
+use Rattle.iom_hardware.specs.Plugging.{Plugs}
+use Rattle.iom_hardware.specs.Processor.{Stores, BytesStandAt, HaveNoPlace}
+use Rattle.iom_hardware.specs.declared.answers.NoPlace.{NoPlace}
+use Rattle.iom_hardware.specs.declared.hardware.Hardware.{Hardware}
+use Rattle.iom_hardware.specs.declared.sender.Sender.TheVariants.{Own}
+use Rattle.iom_hardware_ways.specs.Calls.{HardwareCall, CallDoes}
+use Rattle.iom_hardware_ways.specs.Calls as call
+use Rattle.iom_hardware_script.specs.Grammar.{is_of_hardware, IsOfHardware}
+use Rattle.iom_machine.specs.declared.event.Event.{Event}
+use Rattle.iom_machine.specs.declared.event.Event.TheVariants.{Plug, Reset, Read, Write, ReadTranslated, WriteTranslated, ReadThroughCache, WriteThroughCache, Ask, Forge, Commit, Fetch, Timeout, Deliver, Drop, Repeat, Poke, Peek}
+use Rattle.iom_hardware_session.specs.declared.answer.Answer.{Answer}
+use Rattle.iom_hardware_session.specs.declared.answer.Answer.TheVariants as answered
+
+-- the call of hardware that an event is, with what it answers; none for what software does
+abbrev pub call_of : Event → Answer → Option HardwareCall
+call_of (Read device address len) (answered.Replied answer) = Some (call.Request Own device (read_of address len) answer)
+call_of (Write device address bytes) (answered.Replied answer) = Some (call.Request Own device (write_of address bytes) answer)
+call_of (ReadTranslated device address len) (answered.Replied answer) = Some (call.Translated device (read_of address len) answer)
+call_of (WriteTranslated device address bytes) (answered.Replied answer) = Some (call.Translated device (write_of address bytes) answer)
+call_of (ReadThroughCache device address len) (answered.ThroughCache answer) = Some (call.ThroughCache Own device (read_of address len) answer)
+call_of (WriteThroughCache device address bytes) (answered.ThroughCache answer) = Some (call.ThroughCache Own device (write_of address bytes) answer)
+call_of (Ask device page) (answered.Sent answer) = Some (call.Ask device page answer)
+call_of (Forge device serial) (answered.Sent answer) = Some (call.Forge device serial answer)
+call_of Fetch (answered.Fetched fetched) = Some (call.Fetch fetched)
+call_of Timeout (answered.TimedOut has_effect) = Some (call.Timeout has_effect)
+call_of (Deliver place) (answered.Delivered delivered) = Some (call.Deliver place delivered)
+call_of (Drop place) (answered.Dropped found) = Some (call.Drop place found)
+call_of (Repeat place) (answered.Repeated repeated) = Some (call.Repeat place repeated)
+call_of (Commit device) (answered.Committed answer) = Some (call.Commit device answer)
+call_of (Reset device) (answered.Reset answer) = Some (call.Reset device answer)
+call_of event answer = None
+
+-- the call does this, and leaves the disks at hand
+abbrev pub Does : Option HardwareCall → Hardware → Hardware → Type 0
+Does None old new = ⊥
+Does (Some call) old new = CallDoes call (hardware_parts old) (hardware_parts new) × (disks_at_hand new ≡ disks_at_hand old)
+
+-- all stays
+abbrev pub Stays : Hardware → Hardware → Type 0
+Stays old new = (hardware_parts new ≡ hardware_parts old) × (disks_at_hand new ≡ disks_at_hand old)
+
+-- memory alone changes
+abbrev pub MemoryChanges : Hardware → Hardware → Type 0
+MemoryChanges old new = (hardware_parts new ≡ record (hardware_parts old) { memory = new.memory }) × (disks_at_hand new ≡ disks_at_hand old)
+
+-- the processor's load of so many bytes has a place, or hasn't
+abbrev pub Loads : List (List ℕ) → ℕ → ℕ → Result (Unit {0}) NoPlace → Type 0
+Loads memory address len (Ok done) = (bytes : List ℕ) × BytesStandAt memory address len bytes
+Loads memory address len (Err why) = HaveNoPlace memory address len why
+
+-- WHAT AN EVENT DOES TO HARDWARE, by its answer. Events of the model's own driver aren't of hardware, nor are those of block devices
+abbrev pub EventDoes : Event → Answer → Hardware → Hardware → Type 0
+EventDoes (Plug device what) (answered.Plugged answer) old new =
+    Plugs (disks_at_hand old) (hardware_parts old) device what answer (hardware_parts new) (disks_at_hand new)
+EventDoes (Poke address bytes) (answered.Stored answer) old new = Stores old.memory address bytes answer new.memory × MemoryChanges old new
+EventDoes (Peek address len) (answered.Loaded answer) old new = Loads old.memory address len answer × Stays old new
+EventDoes event answer old new = Does (call_of event answer) old new
+
+-- the same of any event: one that is none of hardware is answered so, and does nothing
+abbrev pub EventOrNone : Event → Answer → Hardware → Hardware → Type 0
+EventOrNone event answer old new = (IsOfHardware event → EventDoes event answer old new) × (is_of_hardware event ≡ false → (answer ≡ answered.NotOfHardware) × Stays old new)
+
+-- the event is a request for an access
+abbrev pub IsAccess : Event → Type 0
+IsAccess (Read device address len) = Unit {0}
+IsAccess (Write device address bytes) = Unit {0}
+IsAccess (ReadTranslated device address len) = Unit {0}
+IsAccess (WriteTranslated device address bytes) = Unit {0}
+IsAccess (ReadThroughCache device address len) = Unit {0}
+IsAccess (WriteThroughCache device address bytes) = Unit {0}
+IsAccess _ = ⊥
+
+-- it is one of a message
+abbrev pub IsMessage : Event → Type 0
+IsMessage (Ask device page) = Unit {0}
+IsMessage (Forge device serial) = Unit {0}
+IsMessage (Deliver place) = Unit {0}
+IsMessage (Drop place) = Unit {0}
+IsMessage (Repeat place) = Unit {0}
+IsMessage _ = ⊥
+
+-- it is another of hardware
+abbrev pub IsOther : Event → Type 0
+IsOther (Plug device what) = Unit {0}
+IsOther (Reset device) = Unit {0}
+IsOther (Commit device) = Unit {0}
+IsOther Fetch = Unit {0}
+IsOther Timeout = Unit {0}
+IsOther (Poke address bytes) = Unit {0}
+IsOther (Peek address len) = Unit {0}
+IsOther _ = ⊥

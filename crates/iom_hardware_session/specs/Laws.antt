@@ -1,0 +1,30 @@
+-- What follows of a claim that is good: the reclaim theorem of somebody else's driver.
+use Rattle.std.specs.Prelude.{◌≡◌, ℕ, List}
+use Rattle.iom_claims.specs.Claimed.{Claimed, IsOpen, after_done}
+use Rattle.iom_claims.specs.declared.grant.Grant.{Grant}
+use Rattle.iom_hardware.specs.HardwareParts.{HardwareParts, hardware_parts}
+use Rattle.iom_hardware_script.specs.declared.script.Claim.TheVariants as claim
+use Rattle.iom_hardware_session.specs.declared.state.Session.{Session}
+use Rattle.iom_hardware_session.specs.Good.{scene_in, GoodMeans}
+use Rattle.iom_hardware_ways.specs.Calls.{HardwareCall, DoInTurn}
+use Rattle.iom_hardware_ways.specs.Laws.{MakesIn}
+use Rattle.iom_inflight.specs.declared.made.MadeAt.{MadeAt}
+use Rattle.iom_ledger.specs.History.{May}
+use Rattle.iom_way_survey.specs.Surveys.{is_among}
+
+-- these calls of hardware and devices alone come one after another from where the session stands, and then the device makes this access
+abbrev pub ComesToMake : Session → List HardwareCall → ℕ → MadeAt → Type 0
+ComesToMake session calls id made =
+    (events : ℕ) × (between : HardwareParts) × (new : HardwareParts)
+    × DoInTurn (is_among session.trusted.items) events (hardware_parts session.hardware) calls between × MakesIn (is_among session.trusted.items) between id made new
+
+-- WHAT WAS WITHDRAWN IS OUT OF REACH. After a claim is done and good, the device makes no access to that frame but those that what is claimed allows
+abbrev pub DoneStaysDone : Type 0
+DoneStaysDone = (session : Session) (before : Claimed) (number : ℕ) (grant : Grant) (calls : List HardwareCall) (made : MadeAt)
+    → GoodMeans (claim.Done number) (scene_in session) before (after_done number before) → IsOpen before.history (record { number = number; grant = grant })
+    → made.frame ≡ grant.frame → ComesToMake session calls grant.device made → May (after_done number before).history grant.device made.frame made.kind
+
+-- NOBODY TOUCHES A FRAME THAT WAS HANDED OFF and good: no device makes any access there
+abbrev pub HandedOffStaysFree : Type 0
+HandedOffStaysFree = (session : Session) (before after : Claimed) (frame id : ℕ) (calls : List HardwareCall) (made : MadeAt)
+    → GoodMeans (claim.HandOff frame) (scene_in session) before after → made.frame ≡ frame → ¬ ComesToMake session calls id made

@@ -1,0 +1,92 @@
+-- What a line does to a session, and what stays.
+use Rattle.std.specs.Prelude.{◌≡◌, ◌-◌, ◌^◌, ◌++◌, [], ◌∷◌, ℕ, true, List, nat_lt, Option, Some, None, Ok, ⊤, if◌then◌else◌}
+use Rattle.iom_claims.specs.Claimed.{Claimed}
+use Rattle.iom_hardware.specs.HardwareParts.{hardware_parts, disks_at_hand}
+use Rattle.iom_hardware.specs.declared.hardware.Hardware.{Hardware}
+use Rattle.iom_hardware_script.specs.declared.script.Claim.{Claim as Said}
+use Rattle.iom_hardware_script.specs.declared.script.Claim.TheVariants as claim
+use Rattle.iom_hardware_script.specs.declared.script.HardwareLine.{HardwareLine}
+use Rattle.iom_hardware_script.specs.declared.script.HardwareLine.TheVariants as line
+use Rattle.iom_hardware_session.specs.declared.answer.Answer.{Answer}
+use Rattle.iom_hardware_session.specs.declared.answer.Answer.TheVariants as answered
+use Rattle.iom_hardware_session.specs.declared.answer.ClaimAnswer.{ClaimAnswer}
+use Rattle.iom_hardware_session.specs.declared.answer.ClaimAnswer.TheVariants as found
+use Rattle.iom_hardware_session.specs.declared.state.Session.{Session}
+use Rattle.iom_hardware_session.specs.Claiming.{claimed_after}
+use Rattle.iom_hardware_session.specs.Events.{EventOrNone, Stays}
+use Rattle.iom_hardware_session.specs.Good.{GoodMeans}
+use Rattle.iom_reach.specs.Scene.{Scene}
+use Rattle.iom_inflight.specs.declared.made.MadeAt.{MadeAt}
+use Rattle.iom_iommu.specs.Parts.{registers_of, after_write}
+use Rattle.iom_ledger.specs.History.{May}
+use Rattle.iom_registers.specs.Places.{register_at, answer_of, done_of, changed_by}
+use Rattle.iom_registers.specs.Table.{value_of}
+
+-- what is claimed, and who is trusted, stay
+abbrev pub KeepsClaims : Session → Session → Type 0
+KeepsClaims old new = (new.claims ≡ old.claims) × (new.trusted ≡ old.trusted)
+
+-- hardware stays, and who is trusted
+abbrev pub KeepsHardware : Session → Session → Type 0
+KeepsHardware old new = (new.hardware ≡ old.hardware) × (new.trusted ≡ old.trusted)
+
+-- all stays but what was last looked at
+abbrev pub KeepsAll : Session → Session → Type 0
+KeepsAll old new = KeepsHardware old new × (new.claims ≡ old.claims)
+
+-- a width of more than 32 bits is that of no register
+abbrev pub short_width : ℕ → ℕ
+short_width width = if nat_lt width (2 ^ 32) then width else 2 ^ 32 - 1
+
+-- THE DRIVER READS a register
+abbrev pub ReadsRegister : (offset width : ℕ) → Hardware → Answer → Type 0
+ReadsRegister offset width old answer = answer ≡ answered.Value (answer_of (value_of (registers_of old.iommu)) (register_at offset (short_width width)))
+
+-- THE DRIVER WRITES a register
+abbrev pub WritesRegister : (offset width value : ℕ) → Hardware → Answer → Hardware → Type 0
+WritesRegister offset width value old answer new =
+    (answer ≡ answered.Written (done_of (register_at offset (short_width width))))
+    × (hardware_parts new ≡ record (hardware_parts old) { iommu = changed_by (after_write old.iommu) old.iommu value (register_at offset (short_width width)) })
+    × (disks_at_hand new ≡ disks_at_hand old)
+
+-- the device is trusted, besides those that are
+abbrev pub TrustsAlso : ℕ → ClaimAnswer → List ℕ → List ℕ → Type 0
+TrustsAlso device found.Trusted old new = new ≡ old ++ device ∷ []
+TrustsAlso device found old new = new ≡ old
+
+-- who is trusted after a claim
+abbrev pub Trusts : Said → ClaimAnswer → List ℕ → List ℕ → Type 0
+Trusts (claim.Trust device) answer old new = TrustsAlso device answer old new
+Trusts said answer old new = new ≡ old
+
+-- WHAT A LINE DOES TO HARDWARE, by its answer
+abbrev pub LineDoes : HardwareLine → Answer → Hardware → Hardware → Type 0
+LineDoes (line.Event event) answer old new = EventOrNone event answer old new
+LineDoes (line.RegisterRead offset width) answer old new = ReadsRegister offset width old answer × Stays old new
+LineDoes (line.RegisterWrite offset width value) answer old new = WritesRegister offset width value old answer new
+LineDoes (line.Claim said) answer old new = Stays old new
+
+-- WHAT IS CLAIMED after a line, by its answer
+abbrev pub claimed_by : HardwareLine → Answer → Claimed → Claimed
+claimed_by (line.Claim said) (answered.Claim found) before = claimed_after said found before
+claimed_by said answer before = before
+
+-- THE ACCESS THAT A LINE MADE
+abbrev pub made_by : Answer → Option MadeAt
+made_by (answered.Committed (Ok made)) = made
+made_by answer = None
+
+-- nothing that is claimed allows it
+abbrev pub IsViolation : Claimed → Option MadeAt → Type 0
+IsViolation claimed None = ⊥
+IsViolation claimed (Some made) = ¬ May claimed.history made.device made.frame made.kind
+
+-- who is trusted after a line
+abbrev pub TrustsBy : HardwareLine → Answer → List ℕ → List ℕ → Type 0
+TrustsBy (line.Claim said) (answered.Claim found) old new = Trusts said found old new
+TrustsBy said answer old new = new ≡ old
+
+-- what a claim that is answered well means
+abbrev pub IsGoodLine : HardwareLine → Answer → Scene → Claimed → Type 0
+IsGoodLine (line.Claim said) (answered.Claim answer) scene before = answer ≡ found.Good → GoodMeans said scene before (claimed_after said answer before)
+IsGoodLine said answer scene before = ⊤

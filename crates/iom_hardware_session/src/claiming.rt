@@ -1,0 +1,189 @@
+// What the driver claims, and what is found of it.
+ghost use Rattle.std.specs.Prelude.{◌≡◌, ◌<◌, ◌≤◌, length, IfOk};
+ghost use Rattle.iom_claims.specs.Claimed.{Claimed};
+ghost use Rattle.iom_claims.specs.Shown.{ShowsClaimed};
+ghost use Rattle.iom_hardware_script.specs.declared.script.Claim.{Claim as Said};
+ghost use Rattle.iom_hardware_script.specs.declared.script.Claim.TheVariants as said;
+ghost use Rattle.iom_hardware_session.specs.Claiming.{claimed_after};
+ghost use Rattle.iom_hardware_session.specs.Good.{GoodMeans, scene_in};
+ghost use Rattle.iom_hardware_session.specs.Lines.{KeepsHardware, KeepsAll, TrustsAlso};
+
+use crate::answer::{ClaimAnswer, Wrong};
+use crate::state::Session;
+use iom_base::{DeviceId, GrantRights, Refusal};
+use iom_claims::Grant;
+use iom_phys_mem::Bytes;
+
+/// The pages of the 64-bit address space.
+const PAGES: u64 = 1 << 52;
+
+impl Session {
+    /// The number of a frame of memory.
+    fn frame_of(&self, frame: u64) -> Result<u32, Refusal>
+        ensures { IfOk result (λ number. (number ≡ frame) × (number < length self.now.hardware.memory)) }
+    {
+        match u32::try_from(frame) {
+            Ok(number) if number < self.hardware.memory.frames() => Ok(number),
+            _ => Err(Refusal::FrameOutOfRange),
+        }
+    }
+
+    /// The number of the frame that is claimed for the device at the page, or why it can't be.
+    fn grantable(&self, device: DeviceId, page: u64, frame: u64) -> Result<u32, Refusal>
+        ensures { IfOk result (λ number. (number ≡ frame) × (number < length self.now.hardware.memory)) }
+    {
+        if self.hardware.kind_of(device).is_none() {
+            return Err(Refusal::NoSuchDevice);
+        }
+        let number = self.frame_of(frame)?;
+        if page >= PAGES {
+            return Err(Refusal::IovaOutOfRange);
+        }
+        Ok(number)
+    }
+
+    /// From here on the device may reach the frame at the page, with the right. Wrong where hardware uses the frame.
+    pub(crate) fn claim_grant(
+        &mut self,
+        device: DeviceId,
+        page: u64,
+        frame: u64,
+        rights: GrantRights,
+    ) -> ClaimAnswer
+        ensures claimed { (c : Claimed) → ShowsClaimed self.old.claims c → ShowsClaimed self.new.claims (claimed_after (said.Grant device page frame rights) result c) }
+        ensures good { (c : Claimed) → ShowsClaimed self.old.claims c → result ≡ ClaimAnswer.Good
+            → GoodMeans (said.Grant device page frame rights) (scene_in self.new) c (claimed_after (said.Grant device page frame rights) result c) }
+        ensures hardware { KeepsHardware self.old self.new }
+    {
+        let number = match self.grantable(device, page, frame) {
+            Ok(number) => number,
+            Err(why) => return ClaimAnswer::Refused(why),
+        };
+        let grant = Grant {
+            device,
+            page,
+            frame: number,
+            rights: rights.rights(),
+        };
+        if let Err(why) = self.claims.grant(grant) {
+            return ClaimAnswer::Refused(why);
+        }
+        if !self.look() {
+            return ClaimAnswer::Wrong(Wrong::Uncertain);
+        }
+        if self.is_used(number) {
+            return ClaimAnswer::Wrong(Wrong::Used);
+        }
+        ClaimAnswer::Good
+    }
+
+    /// What the device holds at the page is withdrawn.
+    pub(crate) fn claim_release(&mut self, device: DeviceId, page: u64) -> ClaimAnswer
+        ensures claimed { (c : Claimed) → ShowsClaimed self.old.claims c → ShowsClaimed self.new.claims (claimed_after (said.Release device page) result c) }
+        ensures hardware { KeepsHardware self.old self.new }
+    {
+        if self.hardware.kind_of(device).is_none() {
+            return ClaimAnswer::Refused(Refusal::NoSuchDevice);
+        }
+        match self.claims.release(device, page) {
+            Ok(number) => ClaimAnswer::Released(number),
+            Err(why) => ClaimAnswer::Refused(why),
+        }
+    }
+
+    /// No way is left to what was withdrawn under the number.
+    pub(crate) fn claim_done(&mut self, number: u64) -> ClaimAnswer
+        ensures claimed { (c : Claimed) → ShowsClaimed self.old.claims c → ShowsClaimed self.new.claims (claimed_after (said.Done number) result c) }
+        ensures good { (c : Claimed) → ShowsClaimed self.old.claims c → result ≡ ClaimAnswer.Good
+            → GoodMeans (said.Done number) (scene_in self.new) c (claimed_after (said.Done number) result c) }
+        ensures hardware { KeepsHardware self.old self.new }
+    {
+        let Ok(short) = u32::try_from(number) else {
+            return ClaimAnswer::NoSuchClaim;
+        };
+        let Some(grant) = self.claims.open_claim(short) else {
+            return ClaimAnswer::NoSuchClaim;
+        };
+        if self.claims.done(short).is_err() {
+            return ClaimAnswer::NoSuchClaim;
+        }
+        if !self.look() {
+            return ClaimAnswer::Wrong(Wrong::Uncertain);
+        }
+        self.judge_done(grant.device, grant.frame)
+    }
+
+    /// Nobody uses the frame, and it goes to somebody else.
+    pub(crate) fn claim_hand_off(&mut self, frame: u64) -> ClaimAnswer
+        ensures claimed { (c : Claimed) → ShowsClaimed self.old.claims c → ShowsClaimed self.new.claims (claimed_after (said.HandOff frame) result c) }
+        ensures good { (c : Claimed) → ShowsClaimed self.old.claims c → result ≡ ClaimAnswer.Good
+            → GoodMeans (said.HandOff frame) (scene_in self.new) c (claimed_after (said.HandOff frame) result c) }
+        ensures hardware { KeepsHardware self.old self.new }
+    {
+        let number = match self.frame_of(frame) {
+            Ok(number) => number,
+            Err(why) => return ClaimAnswer::Refused(why),
+        };
+        let user = self.user_of(number);
+        if let Err(why) = self.claims.hand_on(number) {
+            return ClaimAnswer::Refused(why);
+        }
+        if let Some(why) = user {
+            return ClaimAnswer::Wrong(why);
+        }
+        if !self.look() {
+            return ClaimAnswer::Wrong(Wrong::Uncertain);
+        }
+        self.judge_hand_off(number)
+    }
+
+    /// The frame comes from whoever gives frames out.
+    pub(crate) fn claim_take(&mut self, frame: u64) -> ClaimAnswer
+        ensures claimed { (c : Claimed) → ShowsClaimed self.old.claims c → ShowsClaimed self.new.claims (claimed_after (said.Take frame) result c) }
+        ensures good { (c : Claimed) → ShowsClaimed self.old.claims c → result ≡ ClaimAnswer.Good
+            → GoodMeans (said.Take frame) (scene_in self.new) c (claimed_after (said.Take frame) result c) }
+        ensures hardware { KeepsHardware self.old self.new }
+    {
+        let number = match self.frame_of(frame) {
+            Ok(number) => number,
+            Err(why) => return ClaimAnswer::Refused(why),
+        };
+        let user = self.user_of(number);
+        self.claims.take(number);
+        match user {
+            Some(why) => ClaimAnswer::Wrong(why),
+            None => ClaimAnswer::Good,
+        }
+    }
+
+    /// A request of the device at the page is accepted now, on what it holds there.
+    pub(crate) fn claim_ready(&mut self, device: DeviceId, page: u64) -> ClaimAnswer
+        ensures rest { KeepsAll self.old self.new }
+    {
+        if self.hardware.kind_of(device).is_none() {
+            return ClaimAnswer::Refused(Refusal::NoSuchDevice);
+        }
+        let Some((frame, rights)) = self.claims.held_at(device, page) else {
+            return ClaimAnswer::Refused(Refusal::NotGranted);
+        };
+        match self.unreadiness(device, page, frame, rights) {
+            Some(why) => ClaimAnswer::Wrong(why),
+            None => ClaimAnswer::Good,
+        }
+    }
+
+    /// What the device writes counts as what software writes.
+    pub(crate) fn claim_trust(&mut self, device: DeviceId) -> ClaimAnswer
+        ensures claims { self.new.claims ≡ self.old.claims }
+        ensures trusted { TrustsAlso device result self.old.trusted.items self.new.trusted.items }
+        ensures hardware { self.new.hardware ≡ self.old.hardware }
+    {
+        if self.hardware.kind_of(device).is_none() {
+            return ClaimAnswer::Refused(Refusal::NoSuchDevice);
+        }
+        match self.trusted.push(device) {
+            Ok(()) => ClaimAnswer::Trusted,
+            Err(_) => ClaimAnswer::Refused(Refusal::Memory),
+        }
+    }
+}

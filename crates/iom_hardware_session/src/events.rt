@@ -1,0 +1,172 @@
+// What devices and hardware do, and what the processor stores and loads.
+ghost use Rattle.std.specs.Prelude.{◌≡◌, ◌+◌, ◌<◌, ◌≤◌, ◌^◌};
+ghost use Rattle.iom_hardware_session.specs.Events.{IsAccess, IsMessage, IsOther, EventDoes, EventOrNone};
+ghost use Rattle.iom_hardware_session.specs.Lines.{KeepsClaims};
+
+use crate::answer::Answer;
+use crate::state::Session;
+use iom_base::AccessKind;
+use iom_hardware::Sender;
+use iom_machine::Event;
+
+impl Session {
+    /// A device asks for an access at an address that the IOMMU translates, at one that it says is translated, or through
+    /// its own cache.
+    fn access(&mut self, event: &Event) -> Answer
+        requires event { IsAccess event.now }
+        requires count { self.old.hardware.events + 1 < 2 ^ 64 }
+        ensures does { EventDoes event.now result self.old.hardware self.new.hardware }
+        ensures claims { KeepsClaims self.old self.new }
+        ensures counted { self.new.hardware.events ≡ self.old.hardware.events + 1 }
+    {
+        let hardware = &mut self.hardware;
+        match event {
+            Event::Read {
+                device,
+                address,
+                len,
+            } => Answer::Replied(hardware.request(
+                Sender::Own,
+                *device,
+                *address,
+                *len,
+                AccessKind::Read,
+                &[],
+            )),
+            Event::Write {
+                device,
+                address,
+                bytes,
+            } => Answer::Replied(hardware.request(
+                Sender::Own,
+                *device,
+                *address,
+                bytes.as_slice().len() as u64,
+                AccessKind::Write,
+                bytes.as_slice(),
+            )),
+            Event::ReadTranslated {
+                device,
+                address,
+                len,
+            } => Answer::Replied(hardware.translated(
+                *device,
+                *address,
+                *len,
+                AccessKind::Read,
+                &[],
+            )),
+            Event::WriteTranslated {
+                device,
+                address,
+                bytes,
+            } => Answer::Replied(hardware.translated(
+                *device,
+                *address,
+                bytes.as_slice().len() as u64,
+                AccessKind::Write,
+                bytes.as_slice(),
+            )),
+            Event::ReadThroughCache {
+                device,
+                address,
+                len,
+            } => Answer::ThroughCache(hardware.through_cache(
+                Sender::Own,
+                *device,
+                *address,
+                *len,
+                AccessKind::Read,
+                &[],
+            )),
+            Event::WriteThroughCache {
+                device,
+                address,
+                bytes,
+            } => Answer::ThroughCache(hardware.through_cache(
+                Sender::Own,
+                *device,
+                *address,
+                bytes.as_slice().len() as u64,
+                AccessKind::Write,
+                bytes.as_slice(),
+            )),
+            _ => Answer::NotOfHardware,
+        }
+    }
+
+    /// A message is sent, arrives, is lost or repeated.
+    fn message(&mut self, event: &Event) -> Answer
+        requires event { IsMessage event.now }
+        requires count { self.old.hardware.events + 1 < 2 ^ 64 }
+        ensures does { EventDoes event.now result self.old.hardware self.new.hardware }
+        ensures claims { KeepsClaims self.old self.new }
+        ensures counted { self.new.hardware.events ≡ self.old.hardware.events + 1 }
+    {
+        let hardware = &mut self.hardware;
+        match event {
+            Event::Ask { device, page } => Answer::Sent(hardware.ask(*device, *page)),
+            Event::Forge { device, serial } => Answer::Sent(hardware.forge(*device, *serial)),
+            Event::Deliver { place } => Answer::Delivered(hardware.deliver(*place)),
+            Event::Drop { place } => Answer::Dropped(hardware.drop_message(*place)),
+            Event::Repeat { place } => Answer::Repeated(hardware.repeat(*place)),
+            _ => Answer::NotOfHardware,
+        }
+    }
+
+    /// A device is plugged in, reset, or makes an access; the IOMMU takes a command, or gives a fence up; the processor
+    /// stores or loads.
+    fn other(&mut self, event: &Event) -> Answer
+        requires event { IsOther event.now }
+        requires count { self.old.hardware.events + 1 < 2 ^ 64 }
+        ensures does { EventDoes event.now result self.old.hardware self.new.hardware }
+        ensures claims { KeepsClaims self.old self.new }
+        ensures counted { self.new.hardware.events ≤ self.old.hardware.events + 1 }
+    {
+        let hardware = &mut self.hardware;
+        match event {
+            Event::Plug { device, new } => Answer::Plugged(hardware.plug(*device, *new)),
+            Event::Reset { device } => Answer::Reset(hardware.reset(*device)),
+            Event::Commit { device } => Answer::Committed(hardware.commit(*device)),
+            Event::Fetch => Answer::Fetched(hardware.fetch()),
+            Event::Timeout => Answer::TimedOut(hardware.timeout()),
+            Event::Poke { address, bytes } => {
+                Answer::Stored(hardware.store(*address, bytes.as_slice()))
+            }
+            Event::Peek { address, len } => {
+                Answer::Loaded(hardware.load(*address, *len).map(|_| ()))
+            }
+            _ => Answer::NotOfHardware,
+        }
+    }
+
+    /// What devices, hardware or the processor do; an event that is none of theirs does nothing.
+    pub(crate) fn event(&mut self, event: &Event) -> Answer
+        requires count { self.old.hardware.events + 1 < 2 ^ 64 }
+        ensures does { EventOrNone event.now result self.old.hardware self.new.hardware }
+        ensures claims { KeepsClaims self.old self.new }
+        ensures counted { self.new.hardware.events ≤ self.old.hardware.events + 1 }
+    {
+        match event {
+            Event::Read { .. }
+            | Event::Write { .. }
+            | Event::ReadTranslated { .. }
+            | Event::WriteTranslated { .. }
+            | Event::ReadThroughCache { .. }
+            | Event::WriteThroughCache { .. } => self.access(event),
+            Event::Ask { .. }
+            | Event::Forge { .. }
+            | Event::Deliver { .. }
+            | Event::Drop { .. }
+            | Event::Repeat { .. } => self.message(event),
+            Event::Plug { .. }
+            | Event::Reset { .. }
+            | Event::Commit { .. }
+            | Event::Fetch
+            | Event::Timeout
+            | Event::Poke { .. }
+            | Event::Peek { .. } => self.other(event),
+            _ => Answer::NotOfHardware,
+        }
+    }
+}

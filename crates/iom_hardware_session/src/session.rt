@@ -1,0 +1,141 @@
+ghost use Rattle.std.specs.Prelude.{◌≡◌, ◌↔◌, ◌+◌, ◌<◌, ◌^◌, ◌≤◌, [], ◌∷◌, Some, IfOk, IsTrue};
+ghost use Rattle.iom_claims.specs.Claimed.{Claimed, nothing_claimed};
+ghost use Rattle.iom_claims.specs.Shown.{ShowsClaimed};
+ghost use Rattle.iom_hardware.specs.PowerOn.{IsHardwareAtPowerOn};
+ghost use Rattle.iom_hardware_session.specs.Claiming.{claimed_after};
+ghost use Rattle.iom_hardware_session.specs.Good.{GoodMeans, scene_in};
+ghost use Rattle.iom_hardware_session.specs.Lines.{Trusts, LineDoes, TrustsBy, IsGoodLine, claimed_by, made_by, IsViolation};
+
+use crate::answer::{Answer, ClaimAnswer};
+use crate::state::Session;
+use iom_claims::Claims;
+use iom_hardware::Hardware;
+use iom_hardware_script::{Claim, HardwareLine};
+use iom_inflight::MadeAt;
+use iom_phys_mem::MemError;
+use iom_way_survey::{Conflict, Survey};
+use std::alloc::Global;
+
+/// The numbers of the disks that block devices may be plugged in with. What they serve is no matter here.
+const DISKS: [u64; 4] = [0, 1, 2, 3];
+
+/// What comes of a line, and whether the access that it made is one that nothing claimed allows.
+#[derive(Clone, Copy, PartialEq, Eq, Debug)]
+pub struct Stepped {
+    pub answer: Answer,
+    pub violated: bool,
+}
+
+impl Session {
+    /// Hardware at power-on, with so many frames of memory and four disks at hand, and nothing claimed.
+    pub fn new(alloc: Global, frames: u32) -> Result<Session, MemError>
+        ensures power_on { IfOk result (λ session. IsHardwareAtPowerOn frames (0 ∷ 1 ∷ 2 ∷ 3 ∷ []) session.hardware) }
+        ensures claims { IfOk result (λ session. ShowsClaimed session.claims nothing_claimed) }
+        ensures trusted { IfOk result (λ session. session.trusted.items ≡ []) }
+    {
+        let hardware = Hardware::new(alloc, frames, &DISKS)?;
+        let Ok(survey) = Survey::new(alloc) else {
+            return Err(MemError::OutOfMemory);
+        };
+        Ok(Session {
+            hardware,
+            claims: Claims::new(alloc),
+            trusted: Vec::new(alloc),
+            survey,
+        })
+    }
+
+    /// The hardware, to be looked at.
+    pub fn hardware(&self) -> &Hardware
+        ensures { result.now ≡ self.now.hardware }
+    {
+        &self.hardware
+    }
+
+    /// What is claimed, to be looked at.
+    pub fn claims(&self) -> &Claims
+        ensures { result.now ≡ self.now.claims }
+    {
+        &self.claims
+    }
+
+    /// Who can write what hardware reads, by what was last looked at: the first, if anybody can.
+    pub fn conflict(&self) -> Option<Conflict> {
+        self.survey.first_conflict()
+    }
+
+    fn claim(&mut self, claim: Claim) -> ClaimAnswer
+        ensures claimed { (c : Claimed) → ShowsClaimed self.old.claims c → ShowsClaimed self.new.claims (claimed_after claim result c) }
+        ensures good { (c : Claimed) → ShowsClaimed self.old.claims c → result ≡ ClaimAnswer.Good → GoodMeans claim (scene_in self.new) c (claimed_after claim result c) }
+        ensures trusts { Trusts claim result self.old.trusted.items self.new.trusted.items }
+        ensures hardware { self.new.hardware ≡ self.old.hardware }
+    {
+        match claim {
+            Claim::Grant {
+                device,
+                page,
+                frame,
+                rights,
+            } => self.claim_grant(device, page, frame, rights),
+            Claim::Ready { device, page } => self.claim_ready(device, page),
+            Claim::Release { device, page } => self.claim_release(device, page),
+            Claim::Done { number } => self.claim_done(number),
+            Claim::HandOff { frame } => self.claim_hand_off(frame),
+            Claim::Take { frame } => self.claim_take(frame),
+            Claim::Trust { device } => self.claim_trust(device),
+        }
+    }
+
+    /// Whether nothing that is claimed allows the access.
+    fn is_violation(&self, made: MadeAt) -> bool
+        ensures { (c : Claimed) → ShowsClaimed self.now.claims c → IsTrue result ↔ IsViolation c (Some made) }
+    {
+        !self.claims.may(made.device, made.frame, made.kind)
+    }
+
+    /// Whether the line made an access that nothing claimed allows.
+    fn is_violated(&self, answer: &Answer) -> bool
+        ensures { (c : Claimed) → ShowsClaimed self.now.claims c → IsTrue result ↔ IsViolation c (made_by answer.now) }
+    {
+        match answer {
+            Answer::Committed(Ok(Some(made))) => self.is_violation(*made),
+            _ => false,
+        }
+    }
+
+    /// What comes of a line, of hardware, of software or of what the driver claims.
+    fn answer(&mut self, line: &HardwareLine) -> Answer
+        requires count { self.old.hardware.events + 1 < 2 ^ 64 }
+        ensures does { LineDoes line.now result self.old.hardware self.new.hardware }
+        ensures claimed { (c : Claimed) → ShowsClaimed self.old.claims c → ShowsClaimed self.new.claims (claimed_by line.now result c) }
+        ensures trusted { TrustsBy line.now result self.old.trusted.items self.new.trusted.items }
+        ensures good { (c : Claimed) → ShowsClaimed self.old.claims c → IsGoodLine line.now result (scene_in self.new) c }
+        ensures counted { self.new.hardware.events ≤ self.old.hardware.events + 1 }
+    {
+        match line {
+            HardwareLine::Event(event) => self.event(event),
+            HardwareLine::RegisterRead { offset, width } => self.read_register(*offset, *width),
+            HardwareLine::RegisterWrite {
+                offset,
+                width,
+                value,
+            } => self.write_register(*offset, *width, *value),
+            HardwareLine::Claim(claim) => Answer::Claim(self.claim(*claim)),
+        }
+    }
+
+    /// What comes of a line, and whether it made an access that nothing claimed allows.
+    pub fn line(&mut self, line: &HardwareLine) -> Stepped
+        requires count { self.old.hardware.events + 1 < 2 ^ 64 }
+        ensures does { LineDoes line.now result.answer self.old.hardware self.new.hardware }
+        ensures claimed { (c : Claimed) → ShowsClaimed self.old.claims c → ShowsClaimed self.new.claims (claimed_by line.now result.answer c) }
+        ensures trusted { TrustsBy line.now result.answer self.old.trusted.items self.new.trusted.items }
+        ensures good { (c : Claimed) → ShowsClaimed self.old.claims c → IsGoodLine line.now result.answer (scene_in self.new) c }
+        ensures violated { (c : Claimed) → ShowsClaimed self.old.claims c → IsTrue result.violated ↔ IsViolation c (made_by result.answer) }
+        ensures counted { self.new.hardware.events ≤ self.old.hardware.events + 1 }
+    {
+        let answer = self.answer(line);
+        let violated = self.is_violated(&answer);
+        Stepped { answer, violated }
+    }
+}

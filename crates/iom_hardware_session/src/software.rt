@@ -1,0 +1,34 @@
+// What the driver does: it reads and writes registers (IOMMU specification, chapter 5).
+ghost use Rattle.std.specs.Prelude.{◌≡◌};
+ghost use Rattle.iom_hardware_session.specs.Lines.{KeepsClaims, short_width, ReadsRegister, WritesRegister};
+
+use crate::answer::Answer;
+use crate::state::Session;
+use iom_hardware::laws::software_keeps_sound;
+use iom_registers::Mmio;
+
+/// The width of an access in bytes, as registers take it. None of them has the widest.
+fn width_of(width: u64) -> u32
+    ensures { result ≡ short_width width }
+{
+    u32::try_from(width).unwrap_or(u32::MAX)
+}
+
+impl Session {
+    /// The value of the register at the offset, which has this width, both in bytes; or why there is none.
+    pub(crate) fn read_register(&self, offset: u64, width: u64) -> Answer
+        ensures { ReadsRegister offset width self.now.hardware result }
+    {
+        Answer::Value(self.hardware.iommu.read(offset, width_of(width)))
+    }
+
+    /// Writes the register at the offset, which has this width; or says why there is none, and then nothing changes.
+    pub(crate) fn write_register(&mut self, offset: u64, width: u64, value: u64) -> Answer
+        ensures written { WritesRegister offset width value self.old.hardware result self.new.hardware }
+        ensures claims { KeepsClaims self.old self.new }
+        ensures counted { self.new.hardware.events ≡ self.old.hardware.events }
+    {
+        software_keeps_sound();
+        Answer::Written(self.hardware.iommu.write(offset, width_of(width), value))
+    }
+}

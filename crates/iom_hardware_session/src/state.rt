@@ -1,0 +1,20 @@
+ghost use Rattle.iom_hardware.specs.HardwareParts.{hardware_parts};
+ghost use Rattle.iom_hardware.specs.Sound.{IsSoundHardware};
+ghost use Rattle.iom_hardware.specs.SoundIsFact.{sound_prop};
+
+use iom_base::DeviceId;
+use iom_claims::Claims;
+use iom_hardware::Hardware;
+use iom_way_survey::Survey;
+
+/// Hardware under somebody's driver, and what the driver claims.
+#[derive(Drop)]
+pub struct Session {
+    pub(crate) hardware: Hardware,
+    pub(crate) claims: Claims,
+    /// The devices that software trusts with all memory.
+    pub(crate) trusted: Vec<DeviceId>,
+    /// Where the ways are looked for.
+    pub(crate) survey: Survey,
+    ghost sound: { IsSoundHardware (hardware_parts hardware) hardware.events } by { sound_prop (hardware_parts hardware) hardware.events },
+}
