@@ -1,0 +1,95 @@
+//! Runs worked scripts of drivers under test, and prints how their answers compare with those that were worked out by a
+//! simulator that shares no code with this repository; the gate compares these lines.
+//!
+//! `data/drivers` has each script with its answers: correct drivers, drivers with one mistake each, and scripts in which
+//! something is certain only as long as nobody but the driver writes what hardware reads. A script's own text is run as
+//! `iommu-hw` runs it.
+#![tactic(auto)]
+
+use iom_hardware_runner::run;
+use std::fs;
+
+/// The scripts of `data/drivers`. A new one is its two files and a line here.
+static DRIVERS: [&str; 35] = [
+    "correct-first",
+    "correct-second",
+    "correct-ats",
+    "correct-in-flight",
+    "correct-timeout",
+    "correct-split",
+    "fence-first",
+    "wrong-pscid",
+    "wrong-gscid",
+    "vma-for-second-stage",
+    "no-ats-inval",
+    "ats-inval-first",
+    "table-freed",
+    "word-too-early",
+    "no-drain",
+    "queue-wraps",
+    "timeout-ignored",
+    "no-iodir",
+    "split-without",
+    "split-base-only",
+    "clears-late",
+    "trusts-all",
+    "ready-early",
+    "grants-a-table",
+    "shared-space",
+    "stale-context-of-reused-number",
+    "passthrough-writes-table",
+    "directory-writable",
+    "queue-writable",
+    "word-in-queue",
+    "dormant-translation",
+    "dormant-entry",
+    "plug-later",
+    "block-forges",
+    "large-leaf",
+];
+
+/// The number of the first line that differs, counted from 1.
+fn first_difference(printed: &str, wanted: &str) -> usize {
+    let lines = printed.lines().zip(wanted.lines());
+    let same = lines.take_while(|(line, other)| line == other).count();
+    same.saturating_add(1)
+}
+
+/// How the answers to the script compare with those that are wanted, and whether something was wrong.
+fn compared(rt: &HostRuntime, script: &str, wanted: &str) -> anyhow::Result<String> {
+    let alloc = rt.alloc();
+    let mut lines = Vec::new(alloc);
+    let ended = run(alloc, &mut script.as_bytes(), &mut lines);
+    let printed = String::from_utf8(lines)?;
+    let compared = if printed.as_str() == wanted {
+        format!(in alloc; "as written")?
+    } else {
+        let line = first_difference(&printed, wanted);
+        let shown = printed
+            .lines()
+            .nth(line.saturating_sub(1))
+            .unwrap_or("nothing");
+        format!(in alloc; "line {line} differs: {shown}")?
+    };
+    match ended {
+        Ok(true) => Ok(format!(in alloc; "{compared}; wrong")?),
+        Ok(false) => Ok(format!(in alloc; "{compared}; clean")?),
+        Err(fault) => Ok(format!(in alloc; "{compared}; {fault}")?),
+    }
+}
+
+fn tell(rt: &HostRuntime, name: &str) -> anyhow::Result<()> {
+    let alloc = rt.alloc();
+    let script = fs::read_to_string(rt, format!(in alloc; "drivers/{name}.hw")?.as_str())?;
+    let wanted = fs::read_to_string(rt, format!(in alloc; "drivers/{name}.out")?.as_str())?;
+    let found = compared(rt, &script, &wanted)?;
+    println!(rt; "{name}: {found}")?;
+    Ok(())
+}
+
+fn main(rt: HostRuntime) -> anyhow::Result<()> {
+    for name in &DRIVERS {
+        tell(&rt, name)?;
+    }
+    Ok(())
+}

@@ -1,0 +1,20 @@
+//! A script for a driver under test, from its bytes to the bytes of its answers.
+//!
+//! Each line is answered by one of text. What hardware and devices answer is written as `iommu-run` writes it (`iom_script`).
+//! What is found of a claim, and whether an access is a violation, is the session's to say (`iom_hardware_session`); why, and
+//! since when, is told in words by `iom_chronicle`.
+//!
+//! The layer above may rely on [`run`] telling whether anything was wrong, and on nothing being written of a script that isn't
+//! in the grammar.
+#![tactic(auto)]
+
+mod faults;
+mod outcomes;
+mod reading;
+mod running;
+mod teller;
+mod telling;
+mod words;
+
+pub use faults::RunFault;
+pub use running::run;

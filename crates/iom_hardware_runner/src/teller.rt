@@ -1,0 +1,301 @@
+// One line after another, each with its answer.
+ghost use Rattle.std.specs.Prelude.{◌≡◌, ◌+◌, ◌<◌, ◌^◌, ◌≤◌};
+
+use crate::telling::put_answer;
+use crate::words::{violation, why};
+use iom_base::{AccessKind, DeviceId, PAGE_SIZE};
+use iom_chronicle::{Chronicle, Entrance, Origin};
+use iom_command_queue::Command;
+use iom_hardware::CacheReply;
+use iom_hardware_script::{Claim, HardwareLine, NumberedLine};
+use iom_hardware_session::{Answer, ClaimAnswer, Session, Stepped};
+use iom_inflight::MadeAt;
+use iom_iommu::{Fetched, Reply};
+use iom_machine::Event;
+use iom_script::LineBuffer;
+use std::alloc::{AllocError, Global};
+
+/// A session, what is remembered of it, and the answer of the last line.
+#[derive(Drop)]
+pub(crate) struct Teller {
+    alloc: Global,
+    pub(crate) session: Session,
+    chronicle: Chronicle,
+    buffer: LineBuffer,
+    /// Whether a claim was wrong, or an access a violation.
+    pub(crate) is_wrong: bool,
+}
+
+/// What is named by a claim: a frame, and a page of a device.
+#[derive(Clone, Copy)]
+struct Subject {
+    device: DeviceId,
+    page: u64,
+    frame: u32,
+}
+
+/// The device that asks for an access, the address, and by which door it comes in.
+fn entrance_of(event: &Event) -> Option<(DeviceId, u64, Entrance)> {
+    match event {
+        Event::Read {
+            device,
+            address,
+            ..
+        }
+        | Event::Write {
+            device,
+            address,
+            ..
+        } => Some((*device, *address, Entrance::Untranslated)),
+        Event::ReadTranslated {
+            device,
+            address,
+            ..
+        }
+        | Event::WriteTranslated {
+            device,
+            address,
+            ..
+        } => Some((*device, *address, Entrance::Forged)),
+        Event::ReadThroughCache {
+            device,
+            address,
+            ..
+        }
+        | Event::WriteThroughCache {
+            device,
+            address,
+            ..
+        } => Some((*device, *address, Entrance::ThroughCache)),
+        _ => None,
+    }
+}
+
+impl Teller {
+    pub(crate) fn new(alloc: Global, session: Session, frames: u32) -> Result<Teller, AllocError> {
+        Ok(Teller {
+            alloc,
+            session,
+            chronicle: Chronicle::new(alloc, frames)?,
+            buffer: LineBuffer::new(alloc)?,
+            is_wrong: false,
+        })
+    }
+
+    /// What the claim is about, before anything of it is changed.
+    fn subject_of(&self, claim: Claim) -> Subject {
+        match claim {
+            Claim::Grant {
+                device,
+                page,
+                frame,
+                rights: _,
+            } => self.subject(device, page, frame),
+            Claim::Ready { device, page } | Claim::Release { device, page } => {
+                match self.session.claims().held_at(device, page) {
+                    Some((frame, _)) => self.subject(device, page, u64::from(frame)),
+                    None => self.subject(device, page, 0),
+                }
+            }
+            Claim::Done { number } => match u32::try_from(number) {
+                Ok(short) => self.subject_of_open(short),
+                Err(_) => self.subject(0, 0, 0),
+            },
+            Claim::HandOff { frame } | Claim::Take { frame } => self.subject(0, 0, frame),
+            Claim::Trust { device } => self.subject(device, 0, 0),
+        }
+    }
+
+    fn subject(&self, device: DeviceId, page: u64, frame: u64) -> Subject {
+        Subject {
+            device,
+            page,
+            frame: u32::try_from(frame).unwrap_or(u32::MAX),
+        }
+    }
+
+    fn subject_of_open(&self, number: u32) -> Subject {
+        match self.session.claims().open_claim(number) {
+            Some(grant) => self.subject(grant.device, grant.page, u64::from(grant.frame)),
+            None => self.subject(0, 0, 0),
+        }
+    }
+
+    /// What is remembered of a claim that is made.
+    fn remember_claim(
+        &mut self,
+        claim: Claim,
+        found: ClaimAnswer,
+        about: Subject,
+    ) -> Result<(), AllocError>
+        ensures { self.new.session.hardware.events ≡ self.old.session.hardware.events }
+    {
+        if let ClaimAnswer::Released(number) = found {
+            return self
+                .chronicle
+                .released(number, about.device, about.page, about.frame);
+        }
+        if !matches!(found, ClaimAnswer::Good | ClaimAnswer::Wrong(_)) {
+            return Ok(());
+        }
+        match claim {
+            Claim::Grant { .. } => self
+                .chronicle
+                .granted(about.device, about.page, about.frame),
+            Claim::Done { number } => {
+                self.chronicle.done(u32::try_from(number).unwrap_or(0));
+                Ok(())
+            }
+            Claim::HandOff { .. } => {
+                self.chronicle.handed_on(about.frame);
+                Ok(())
+            }
+            Claim::Take { .. } => {
+                self.chronicle.taken(about.frame);
+                Ok(())
+            }
+            Claim::Ready { .. } | Claim::Release { .. } | Claim::Trust { .. } => Ok(()),
+        }
+    }
+
+    /// An access was accepted: what let it through.
+    fn remember_access(&mut self, event: &Event)
+        ensures { self.new.session.hardware.events ≡ self.old.session.hardware.events }
+    {
+        if let Some((device, address, entrance)) = entrance_of(event) {
+            self.chronicle
+                .accepted(self.session.hardware(), device, address, entrance);
+        }
+    }
+
+    /// An access was made: where a write stored its bytes, and what let it through.
+    fn remember_made(&mut self, made: MadeAt) -> Option<Origin>
+        ensures { self.new.session.hardware.events ≡ self.old.session.hardware.events }
+    {
+        if made.kind == AccessKind::Write {
+            let address = u64::from(made.frame) * PAGE_SIZE + u64::from(made.offset);
+            self.chronicle.stored(address, u64::from(made.len));
+        }
+        self.chronicle.made(made.device)
+    }
+
+    /// What is remembered of a line of hardware, devices or the processor. What let the access through, where one was made.
+    fn remember_event(&mut self, event: &Event, answer: &Answer) -> Option<Origin>
+        ensures { self.new.session.hardware.events ≡ self.old.session.hardware.events }
+    {
+        let mut origin = None;
+        match answer {
+            Answer::Replied(Ok(Reply::Accepted(_)))
+            | Answer::ThroughCache(Ok(CacheReply::Replied(Reply::Accepted(_)))) => {
+                self.remember_access(event)
+            }
+            Answer::Committed(Ok(Some(made))) => origin = self.remember_made(*made),
+            Answer::Fetched(
+                Fetched::Did(
+                    Command::IofenceC {
+                        store: Some(store),
+                        ..
+                    },
+                ),
+            ) => self.chronicle.stored(store.address.address(), 4),
+            Answer::Stored(Ok(())) => self.remember_store(event),
+            _ => {}
+        }
+        self.chronicle.notice(self.session.hardware());
+        origin
+    }
+
+    fn remember_store(&mut self, event: &Event)
+        ensures { self.new.session.hardware.events ≡ self.old.session.hardware.events }
+    {
+        if let Event::Poke { address, bytes } = event {
+            self.chronicle
+                .stored(*address, bytes.as_slice().len() as u64);
+        }
+    }
+
+    /// The answer of the line, without a line feed, but for the words of what is wrong, which come second.
+    pub(crate) fn tell(&mut self, line: &NumberedLine) -> Result<String, AllocError>
+        requires { self.old.session.hardware.events + 1 < 2 ^ 64 }
+        ensures { self.new.session.hardware.events ≤ self.old.session.hardware.events + 1 }
+    {
+        self.chronicle.begin(line.number);
+        match &line.line {
+            HardwareLine::Claim(claim) => self.tell_claim(&line.line, *claim),
+            HardwareLine::Event(event) => self.tell_event(&line.line, event),
+            HardwareLine::RegisterRead { .. } | HardwareLine::RegisterWrite { .. } => {
+                self.step(&line.line);
+                format!(in self.alloc; "")
+            }
+        }
+    }
+
+    /// The line happens, and its answer stands in the buffer.
+    fn step(&mut self, line: &HardwareLine) -> Stepped
+        requires { self.old.session.hardware.events + 1 < 2 ^ 64 }
+        ensures { self.new.session.hardware.events ≤ self.old.session.hardware.events + 1 }
+    {
+        let stepped = self.session.line(line);
+        put_answer(
+            &mut self.buffer,
+            line,
+            &stepped.answer,
+            self.session.hardware(),
+        );
+        stepped
+    }
+
+    fn tell_claim(&mut self, line: &HardwareLine, claim: Claim) -> Result<String, AllocError>
+        requires { self.old.session.hardware.events + 1 < 2 ^ 64 }
+        ensures { self.new.session.hardware.events ≤ self.old.session.hardware.events + 1 }
+    {
+        let about = self.subject_of(claim);
+        let stepped = self.step(line);
+        let Answer::Claim(found) = stepped.answer else {
+            return format!(in self.alloc; "");
+        };
+        let words = match found {
+            ClaimAnswer::Wrong(wrong) => {
+                self.is_wrong = true;
+                why(
+                    self.alloc,
+                    &self.session,
+                    &self.chronicle,
+                    about.frame,
+                    about.page,
+                    wrong,
+                )?
+            }
+            _ => format!(in self.alloc; "")?,
+        };
+        self.remember_claim(claim, found, about)?;
+        Ok(words)
+    }
+
+    fn tell_event(&mut self, line: &HardwareLine, event: &Event) -> Result<String, AllocError>
+        requires { self.old.session.hardware.events + 1 < 2 ^ 64 }
+        ensures { self.new.session.hardware.events ≤ self.old.session.hardware.events + 1 }
+    {
+        let stepped = self.step(line);
+        let origin = self.remember_event(event, &stepped.answer);
+        match stepped.answer {
+            Answer::Committed(Ok(Some(made))) if stepped.violated => {
+                self.is_wrong = true;
+                violation(self.alloc, &self.chronicle, made, origin)
+            }
+            _ => format!(in self.alloc; ""),
+        }
+    }
+
+    /// How many events hardware has counted.
+    pub(crate) fn events(&self) -> u64
+        ensures { result ≡ self.now.session.hardware.events }
+    {
+        self.session.hardware().events
+    }
+
+    /// The text of the answer that the last line had, but for the words of what is wrong.
+    pub(crate) fn answer(&self) -> &[u8] {
+        self.buffer.as_slice()
+    }
+}
