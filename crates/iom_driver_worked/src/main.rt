@@ -7,7 +7,7 @@
 #![tactic(auto)]
 
 use iom_hardware_runner::run;
-use std::fs;
+use std::{fs, io};
 
 /// The scripts of `data/drivers`. A new one is its two files and a line here.
 static DRIVERS: [&str; 35] = [
@@ -59,7 +59,7 @@ fn first_difference(printed: &str, wanted: &str) -> usize {
 fn compared(rt: &HostRuntime, script: &str, wanted: &str) -> anyhow::Result<String> {
     let alloc = rt.alloc();
     let mut lines = Vec::new(alloc);
-    let ended = run(alloc, &mut script.as_bytes(), &mut lines);
+    let ended = run(alloc, &mut script.as_bytes(), &mut lines, &mut io::sink());
     let printed = String::from_utf8(lines)?;
     let compared = if printed.as_str() == wanted {
         format!(in alloc; "as written")?

@@ -1,14 +1,16 @@
-//! A script for a driver under test, from its bytes to the bytes of its answers.
+//! A script for a driver under test, from its bytes to the bytes of its answers, whole or line by line.
 //!
 //! Each line is answered by one of text. What hardware and devices answer is written as `iommu-run` writes it (`iom_script`).
 //! What is found of a claim, and whether an access is a violation, is the session's to say (`iom_hardware_session`); why, and
 //! since when, is told in words by `iom_chronicle`.
 //!
-//! The layer above may rely on [`run`] telling whether anything was wrong, and on nothing being written of a script that isn't
-//! in the grammar.
+//! The layer above may rely on [`run`] and [`run_live`] telling whether anything was wrong, and on nothing being written by
+//! [`run`] of a script that isn't in the grammar. What both write to the log is a script that is answered alike.
 #![tactic(auto)]
 
+mod conversation;
 mod faults;
+mod live;
 mod outcomes;
 mod reading;
 mod running;
@@ -17,4 +19,5 @@ mod telling;
 mod words;
 
 pub use faults::RunFault;
+pub use live::run_live;
 pub use running::run;

@@ -5,7 +5,7 @@ use std::alloc::Global;
 use std::io::{self, ErrorKind, Read};
 
 /// The bytes that one read gives at most.
-const CHUNK_SIZE: usize = 4080;
+pub(crate) const CHUNK_SIZE: usize = 4080;
 
 /// Why nothing was read: for want of memory, or since the reader failed.
 fn fault_of(error: &io::Error) -> RunFault {
@@ -16,7 +16,7 @@ fn fault_of(error: &io::Error) -> RunFault {
 }
 
 /// One read. A read that is interrupted is tried again, and no other.
-fn read_once<R: Read>(reader: &mut R, buffer: &mut [u8]) -> Result<usize, RunFault> {
+pub(crate) fn read_once<R: Read>(reader: &mut R, buffer: &mut [u8]) -> Result<usize, RunFault> {
     for _ in 0..u64::MAX {
         match reader.read(buffer) {
             Ok(count) => return Ok(count),
