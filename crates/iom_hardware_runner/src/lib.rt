@@ -8,9 +8,9 @@
 //! [`run`] of a script that isn't in the grammar. What both write to the log is a script that is answered alike.
 #![tactic(auto)]
 
+mod arriving;
 mod conversation;
 mod faults;
-mod live;
 mod outcomes;
 mod reading;
 mod running;
@@ -19,5 +19,4 @@ mod telling;
 mod words;
 
 pub use faults::RunFault;
-pub use live::run_live;
-pub use running::run;
+pub use running::{run, run_live};

@@ -1,27 +1,10 @@
-// A whole script, from its bytes to the bytes of its answers.
-use crate::conversation::Conversation;
+// A script, from its bytes to the bytes of its answers.
+use crate::arriving::Arriving;
 use crate::faults::RunFault;
-use crate::reading::read_script;
+use crate::reading::{CHUNK_SIZE, read_once, read_script};
 use iom_hardware_script::parse;
-use iom_script::words::cut;
 use std::alloc::Global;
 use std::io::{Read, Write};
-
-/// Answers the lines one after another.
-fn answer_lines<W: Write, L: Write>(
-    conversation: &mut Conversation,
-    bytes: &[u8],
-    writer: &mut W,
-    log: &mut L,
-) -> Result<(), RunFault> {
-    let mut rest = bytes;
-    while let Some((line, after)) = cut(rest, b'\n') {
-        conversation.take_line(line)?;
-        conversation.write_much(writer, log)?;
-        rest = after;
-    }
-    Ok(())
-}
 
 /// Reads a script whole, runs it on hardware at power-on, and writes an answer for each of its lines; and the script as
 /// it was run to the log. Whether anything was wrong.
@@ -37,9 +20,32 @@ pub fn run<R: Read, W: Write, L: Write>(
     let bytes = read_script(alloc, reader)?;
     // What it says is asked again line by line, as in a live session: so both answer alike.
     parse(alloc, &bytes)?;
-    let mut conversation = Conversation::new(alloc);
-    let answered = answer_lines(&mut conversation, &bytes, writer, log);
-    conversation.write_out(writer, log)?;
-    answered?;
-    Ok(conversation.is_wrong())
+    let mut arriving = Arriving::new(alloc);
+    arriving.take(&bytes, writer, log)?;
+    arriving.end()
+}
+
+/// Answers each line as soon as it is there, and writes it to the log. Whether anything was wrong, once no more lines come.
+///
+/// The session ends at the first line that isn't in the grammar; what was answered before stays. It may have any number
+/// of lines, each of at most 65,536 bytes.
+pub fn run_live<R: Read, W: Write, L: Write>(
+    alloc: Global,
+    reader: &mut R,
+    writer: &mut W,
+    log: &mut L,
+) -> Result<bool, RunFault> {
+    let mut chunk = [0u8; CHUNK_SIZE];
+    let mut arriving = Arriving::new(alloc);
+    for _ in 0..u64::MAX {
+        let count = read_once(reader, &mut chunk)?;
+        if count == 0 {
+            return arriving.end();
+        }
+        let Some(bytes) = chunk.get(..count) else {
+            return Err(RunFault::Reading);
+        };
+        arriving.take(bytes, writer, log)?;
+    }
+    Err(RunFault::TooManyEvents)
 }

@@ -1,24 +1,22 @@
-// A live session: each line is answered before the next is waited for.
+// Lines that come in pieces.
 use crate::conversation::Conversation;
 use crate::faults::RunFault;
-use crate::reading::{CHUNK_SIZE, read_once};
-use iom_script::words::cut;
 use std::alloc::Global;
-use std::io::{Read, Write};
+use std::io::Write;
 
-/// The bytes of the longest line, without its line feed. A line that says something has 8,225 at most.
+/// The bytes that the pieces of one line have at most, without its line feed. A line that says something has 8,225 at most.
 const LINE_LIMIT: usize = 65536;
 
-/// A session whose lines come in pieces.
+/// A conversation whose lines come in pieces.
 #[derive(Drop)]
-struct Arriving {
+pub(crate) struct Arriving {
     conversation: Conversation,
     /// What came so far of a line without its end.
     piece: Vec<u8>,
 }
 
 impl Arriving {
-    fn new(alloc: Global) -> Arriving {
+    pub(crate) fn new(alloc: Global) -> Arriving {
         Arriving {
             conversation: Conversation::new(alloc),
             piece: Vec::new(alloc),
@@ -54,55 +52,43 @@ impl Arriving {
         taken
     }
 
-    /// What one read gave: some lines, and a piece of one.
-    fn take<W: Write, L: Write>(
+    /// Some bytes came: ends of lines, and a piece of one. Each line happens, and what waits is written out where it is
+    /// much.
+    fn take_lines<W: Write, L: Write>(
         &mut self,
         bytes: &[u8],
         writer: &mut W,
         log: &mut L,
     ) -> Result<(), RunFault> {
-        let mut rest = bytes;
-        while let Some((line, after)) = cut(rest, b'\n') {
-            self.end_line(line)?;
+        for part in bytes.split_inclusive(|byte| *byte == b'\n') {
+            match part.strip_suffix(b"\n") {
+                Some(end) => self.end_line(end)?,
+                None => self.keep(part)?,
+            }
             self.conversation.write_much(writer, log)?;
-            rest = after;
         }
-        self.keep(rest)
+        Ok(())
+    }
+
+    /// Some bytes came. The lines that end in them happen, and their answers are written, also where a later line isn't in
+    /// the grammar, or fails.
+    pub(crate) fn take<W: Write, L: Write>(
+        &mut self,
+        bytes: &[u8],
+        writer: &mut W,
+        log: &mut L,
+    ) -> Result<(), RunFault> {
+        let taken = self.take_lines(bytes, writer, log);
+        self.conversation.write_out(writer, log)?;
+        taken
     }
 
     /// No more comes. Whether anything was wrong.
-    fn end(&self) -> Result<bool, RunFault> {
+    pub(crate) fn end(&self) -> Result<bool, RunFault> {
         if self.piece.is_empty() {
             Ok(self.conversation.is_wrong())
         } else {
             Err(self.bad_line())
         }
     }
-}
-
-/// Answers each line as soon as it is there, and writes it to the log. Whether anything was wrong, once no more lines come.
-///
-/// The session ends at the first line that isn't in the grammar; what was answered before stays. It may have any number
-/// of lines, each of at most 65,536 bytes.
-pub fn run_live<R: Read, W: Write, L: Write>(
-    alloc: Global,
-    reader: &mut R,
-    writer: &mut W,
-    log: &mut L,
-) -> Result<bool, RunFault> {
-    let mut chunk = [0u8; CHUNK_SIZE];
-    let mut arriving = Arriving::new(alloc);
-    for _ in 0..u64::MAX {
-        let count = read_once(reader, &mut chunk)?;
-        if count == 0 {
-            return arriving.end();
-        }
-        let taken = match chunk.get(..count) {
-            Some(bytes) => arriving.take(bytes, writer, log),
-            None => Err(RunFault::Reading),
-        };
-        arriving.conversation.write_out(writer, log)?;
-        taken?;
-    }
-    Err(RunFault::TooManyEvents)
 }
