@@ -1,8 +1,9 @@
 //! Runs worked scripts of drivers under test, and prints how their answers compare with those that were worked out by a
 //! simulator that shares no code with this repository; the gate compares these lines.
 //!
-//! `data/drivers` has each script with its answers: correct drivers, drivers with one mistake each, and scripts in which
-//! something is certain only as long as nobody but the driver writes what hardware reads. A script's own text is run as
+//! `data/drivers` has each script with its answers: correct drivers, drivers with one mistake each, scripts in which
+//! something is certain only as long as nobody but the driver writes what hardware reads, and some in which hardware acts by
+//! itself. A script's own text is run as
 //! `iommu-hw` runs it.
 #![tactic(auto)]
 
@@ -10,7 +11,7 @@ use iom_hardware_runner::run;
 use std::{fs, io};
 
 /// The scripts of `data/drivers`. A new one is its two files and a line here.
-static DRIVERS: [&str; 35] = [
+static DRIVERS: [&str; 40] = [
     "correct-first",
     "correct-second",
     "correct-ats",
@@ -46,6 +47,11 @@ static DRIVERS: [&str; 35] = [
     "plug-later",
     "block-forges",
     "large-leaf",
+    "auto-correct-first",
+    "auto-correct-ats",
+    "auto-fence-first",
+    "auto-no-ats-inval",
+    "quiesce",
 ];
 
 /// The number of the first line that differs, counted from 1.

@@ -65,7 +65,7 @@ impl Arriving {
                 Some(end) => self.end_line(end)?,
                 None => self.keep(part)?,
             }
-            self.conversation.write_much(writer, log)?;
+            self.conversation.output.write_much(writer, log)?;
         }
         Ok(())
     }
@@ -79,7 +79,7 @@ impl Arriving {
         log: &mut L,
     ) -> Result<(), RunFault> {
         let taken = self.take_lines(bytes, writer, log);
-        self.conversation.write_out(writer, log)?;
+        self.conversation.output.write(writer, log)?;
         taken
     }
 

@@ -10,10 +10,15 @@
 
 mod arriving;
 mod conversation;
+mod draws;
 mod faults;
+mod helper;
+mod machine;
 mod outcomes;
+mod output;
 mod reading;
 mod running;
+mod step;
 mod teller;
 mod telling;
 mod words;

@@ -223,7 +223,9 @@ impl Teller {
         match &line.line {
             HardwareLine::Claim(claim) => self.tell_claim(&line.line, *claim),
             HardwareLine::Event(event) => self.tell_event(&line.line, event),
-            HardwareLine::RegisterRead { .. } | HardwareLine::RegisterWrite { .. } => {
+            HardwareLine::RegisterRead { .. }
+            | HardwareLine::RegisterWrite { .. }
+            | HardwareLine::Help(_) => {
                 self.step(&line.line);
                 format!(in self.alloc; "")
             }

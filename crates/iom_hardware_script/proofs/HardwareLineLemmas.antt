@@ -13,12 +13,14 @@ use Rattle.iom_script.proofs.DecimalLemmas.{number_without_space}
 use Rattle.iom_script.proofs.EventLemmas.{keyword_reads, other_line, never_both}
 use Rattle.iom_script.proofs.SameLemmas.{number_same, address_same, followed_same, event_by_words, event_same}
 use Rattle.iom_hardware_script.specs.declared.script.Claim.{Claim}
+use Rattle.iom_hardware_script.specs.declared.script.Help.{Help}
 use Rattle.iom_hardware_script.specs.declared.script.HardwareLine.{HardwareLine}
 use Rattle.iom_hardware_script.specs.declared.script.HardwareLine.TheVariants as says
 use Rattle.iom_hardware_script.specs.declared.script.HardwareLine.TheVariants.{RegisterRead, RegisterWrite}
-use Rattle.iom_hardware_script.specs.Grammar.{IsOfHardware, IsClaim, IsHardwareLine}
+use Rattle.iom_hardware_script.specs.Grammar.{IsOfHardware, IsClaim, IsHelp, IsHardwareLine}
 use Rattle.iom_hardware_script.specs.Parts.{IsRegisterRead, IsRegisterWrite, IsClaimed, IsOfSoftware, IsRegisterReadLine, IsRegisterWriteLine, IsClaimLine, IsSoftwareLine}
 use Rattle.iom_hardware_script.proofs.ClaimLemmas.{claim_same}
+use Rattle.iom_hardware_script.proofs.HelpLemmas.{help_same, help_no_event, help_otherwise}
 
 -- mmio-read
 
@@ -34,6 +36,7 @@ register_read_from text (RegisterRead offset width) is q =
 register_read_from text (says.RegisterWrite offset width value) is q = absurd is
 register_read_from text (says.Claim claim) is q = absurd is
 register_read_from text (says.Event event) is q = absurd is
+register_read_from text (says.Help help) is q = absurd is
 
 -- a line that begins otherwise isn't such a line
 pub no_register_read : (line : List ℕ) → Reads None (λ more. line ≡ codes "mmio-read " ++ more) → Reads None (IsRegisterReadLine line)
@@ -44,6 +47,7 @@ no_register_read line none = reads_none (IsRegisterReadLine line) nothing
     nothing (says.RegisterWrite offset width value) q = absurd q.0
     nothing (says.Claim claim) q = absurd q.0
     nothing (says.Event event) q = absurd q.0
+    nothing (says.Help help) q = absurd q.0
 
 pub register_read_reads : (line text : List ℕ) → Reads (Some text) (λ more. line ≡ codes "mmio-read " ++ more) → (result : Option (ℕ × ℕ)) → Reads result (RegisterReadWords text)
     → Reads (option_map register_read_line result) (IsRegisterReadLine line)
@@ -67,6 +71,7 @@ register_write_from text (RegisterWrite offset width value) is q =
 register_write_from text (says.RegisterRead offset width) is q = absurd is
 register_write_from text (says.Claim claim) is q = absurd is
 register_write_from text (says.Event event) is q = absurd is
+register_write_from text (says.Help help) is q = absurd is
 
 -- a line that begins otherwise isn't such a line
 pub no_register_write : (line : List ℕ) → Reads None (λ more. line ≡ codes "mmio-write " ++ more) → Reads None (IsRegisterWriteLine line)
@@ -77,6 +82,7 @@ no_register_write line none = reads_none (IsRegisterWriteLine line) nothing
     nothing (says.RegisterRead offset width) q = absurd q.0
     nothing (says.Claim claim) q = absurd q.0
     nothing (says.Event event) q = absurd q.0
+    nothing (says.Help help) q = absurd q.0
 
 pub register_write_reads : (line text : List ℕ) → Reads (Some text) (λ more. line ≡ codes "mmio-write " ++ more) → (result : Option (ℕ × (ℕ × ℕ))) → Reads result (RegisterWriteWords text)
     → Reads (option_map register_write_line result) (IsRegisterWriteLine line)
@@ -95,12 +101,14 @@ no_claim_line line none = reads_none (IsClaimLine line) nothing
     nothing (says.RegisterRead offset width) q = absurd q.0
     nothing (says.RegisterWrite offset width value) q = absurd q.0
     nothing (says.Event event) q = absurd q.0
+    nothing (says.Help help) q = absurd q.0
 
 claim_line_from : (text : List ℕ) (said : HardwareLine) → IsClaimed said → IsHardwareLine (codes "claim" ␣ text) said → (claim : Claim) × IsClaim text claim × (says.Claim claim ≡ said)
 claim_line_from text (says.Claim claim) is q = (claim, subst (λ t. IsClaim t claim) (sym (append_cancel_left (codes "claim ") text q.0 q.2)) q.1, refl)
 claim_line_from text (says.RegisterRead offset width) is q = absurd is
 claim_line_from text (says.RegisterWrite offset width value) is q = absurd is
 claim_line_from text (says.Event event) is q = absurd is
+claim_line_from text (says.Help help) is q = absurd is
 
 abbrev pub claim_line : Claim → HardwareLine
 claim_line claim = says.Claim claim
@@ -129,6 +137,15 @@ software_no_event line (says.RegisterRead offset width) event p q = read_no_even
 software_no_event line (says.RegisterWrite offset width value) event p q = write_no_event (p.1.0 ␣ p.1.1 ␣ p.1.2) event (subst (λ l. IsEventLine l event) p.1.6 q)
 software_no_event line (says.Claim claim) event p q = claim_no_event p.1.0 event (subst (λ l. IsEventLine l event) p.1.2 q)
 software_no_event line (says.Event other) event p q = absurd p.0
+software_no_event line (says.Help help) event p q = absurd p.0
+
+-- nor does one that asks hardware to act by itself
+software_no_help : (line : List ℕ) (said : HardwareLine) (help : Help) → IsSoftwareLine line said → IsHelp line help → ⊥
+software_no_help line (says.RegisterRead offset width) help p q = help_otherwise line (codes "mmio-read ") (p.1.0 ␣ p.1.1) help p.1.4 refl refl refl q
+software_no_help line (says.RegisterWrite offset width value) help p q = help_otherwise line (codes "mmio-write ") (p.1.0 ␣ p.1.1 ␣ p.1.2) help p.1.6 refl refl refl q
+software_no_help line (says.Claim claim) help p q = help_otherwise line (codes "claim ") p.1.0 help p.1.2 refl refl refl q
+software_no_help line (says.Event event) help p q = absurd p.0
+software_no_help line (says.Help other) help p q = absurd p.0
 
 -- a line says one thing
 pub line_same : (line : List ℕ) (a b : HardwareLine) → IsHardwareLine line a → IsHardwareLine line b → a ≡ b
@@ -155,6 +172,15 @@ line_same line (says.RegisterWrite offset width value) (says.RegisterRead o w) p
 line_same line (says.RegisterWrite offset width value) (says.Claim claim) p q = absurd (never_both (codes "mmio-write ") (codes "claim ") (p.0 ␣ p.1 ␣ p.2) q.0 refl (sym p.6 ∙ q.2))
 line_same line (says.Claim claim) (says.RegisterRead o w) p q = absurd (never_both (codes "claim ") (codes "mmio-read ") p.0 (q.0 ␣ q.1) refl (sym p.2 ∙ q.4))
 line_same line (says.Claim claim) (says.RegisterWrite o w v) p q = absurd (never_both (codes "claim ") (codes "mmio-write ") p.0 (q.0 ␣ q.1 ␣ q.2) refl (sym p.2 ∙ q.6))
+line_same line (says.Help a) (says.Help b) p q = ap says.Help (help_same line a b p q)
+line_same line (says.Help help) (says.Event event) p q = absurd (help_no_event line help event p q.1)
+line_same line (says.Help help) (says.RegisterRead offset width) p q = absurd (software_no_help line (says.RegisterRead offset width) help (tt, q) p)
+line_same line (says.Help help) (says.RegisterWrite offset width value) p q = absurd (software_no_help line (says.RegisterWrite offset width value) help (tt, q) p)
+line_same line (says.Help help) (says.Claim claim) p q = absurd (software_no_help line (says.Claim claim) help (tt, q) p)
+line_same line (says.Event event) (says.Help help) p q = absurd (help_no_event line help event q p.1)
+line_same line (says.RegisterRead offset width) (says.Help help) p q = absurd (software_no_help line (says.RegisterRead offset width) help (tt, p) q)
+line_same line (says.RegisterWrite offset width value) (says.Help help) p q = absurd (software_no_help line (says.RegisterWrite offset width value) help (tt, p) q)
+line_same line (says.Claim claim) (says.Help help) p q = absurd (software_no_help line (says.Claim claim) help (tt, p) q)
 line_same line (says.Claim a) (says.Claim b) p q =
     ap says.Claim (claim_same p.0 a b p.1 (subst (λ t. IsClaim t b) (sym (append_cancel_left (codes "claim ") p.0 q.0 (sym p.2 ∙ q.2))) q.1))
 
@@ -170,18 +196,21 @@ write_is_of_software (says.RegisterRead offset width) is = tt
 write_is_of_software (says.RegisterWrite offset width value) is = tt
 write_is_of_software (says.Claim claim) is = tt
 write_is_of_software (says.Event event) is = absurd is
+write_is_of_software (says.Help help) is = absurd is
 
 pub read_is_of_software : (said : HardwareLine) → IsRegisterRead said → IsOfSoftware said
 read_is_of_software (says.RegisterRead offset width) is = tt
 read_is_of_software (says.RegisterWrite offset width value) is = tt
 read_is_of_software (says.Claim claim) is = tt
 read_is_of_software (says.Event event) is = absurd is
+read_is_of_software (says.Help help) is = absurd is
 
 claim_is_of_software : (said : HardwareLine) → IsClaimed said → IsOfSoftware said
 claim_is_of_software (says.RegisterRead offset width) is = tt
 claim_is_of_software (says.RegisterWrite offset width value) is = tt
 claim_is_of_software (says.Claim claim) is = tt
 claim_is_of_software (says.Event event) is = absurd is
+claim_is_of_software (says.Help help) is = absurd is
 
 -- what is read of a claim is read of software, where no register is read or written
 pub last_of_software : (line : List ℕ) (result : Option HardwareLine) → Reads None (IsRegisterWriteLine line) → Reads None (IsRegisterReadLine line) → Reads result (IsClaimLine line)
@@ -196,6 +225,7 @@ last_of_software line result write read claim = λ said. (
     found (says.RegisterWrite offset width value) q = absurd (read_nothing (IsRegisterWriteLine line) (says.RegisterWrite offset width value) write (tt, q.1))
     found (says.Claim c) q = (claim (says.Claim c)).1 (tt, q.1)
     found (says.Event event) q = absurd q.0
+    found (says.Help help) q = absurd q.0
 
 -- what is read of software is read of the line
 pub software_found : (line : List ℕ) (said : HardwareLine) → Reads (Some said) (IsSoftwareLine line) → Reads (Some said) (IsHardwareLine line)
@@ -203,18 +233,25 @@ software_found line said reads =
     let q = read_holds (IsSoftwareLine line) said reads in
     reads_some (IsHardwareLine line) said q.1 (λ other r. line_same line said other q.1 r)
 
+-- the line of what hardware is asked
+pub asked_found : (line : List ℕ) (help : Help) → Reads (Some help) (IsHelp line) → Reads (Some (says.Help help)) (IsHardwareLine line)
+asked_found line help reads =
+    let here : IsHardwareLine line (says.Help help) = read_holds (IsHelp line) help reads in
+    reads_some (IsHardwareLine line) (says.Help help) here (λ other r. line_same line (says.Help help) other here r)
+
 -- the line of an event
 pub event_found : (line : List ℕ) (event : Event) → Reads (Some event) (IsEventLine line) → IsOfHardware event → Reads (Some (says.Event event)) (IsHardwareLine line)
 event_found line event reads is =
     let here : IsHardwareLine line (says.Event event) = (is, read_holds (IsEventLine line) event reads) in
     reads_some (IsHardwareLine line) (says.Event event) here (λ other r. line_same line (says.Event event) other here r)
 
--- nothing is said where software says nothing, and no event of hardware is read
-pub nothing_found : (line : List ℕ) → Reads None (IsSoftwareLine line) → ((event : Event) → IsOfHardware event → IsEventLine line event → ⊥) → Reads None (IsHardwareLine line)
-nothing_found line none no_event = reads_none (IsHardwareLine line) nothing
+-- nothing is said where software says nothing, hardware isn't asked to act, and no event of hardware is read
+pub nothing_found : (line : List ℕ) → Reads None (IsSoftwareLine line) → Reads None (IsHelp line) → ((event : Event) → IsOfHardware event → IsEventLine line event → ⊥) → Reads None (IsHardwareLine line)
+nothing_found line none unasked no_event = reads_none (IsHardwareLine line) nothing
   where
     nothing : (said : HardwareLine) → IsHardwareLine line said → ⊥
     nothing (says.Event event) q = no_event event q.0 q.1
+    nothing (says.Help help) q = read_nothing (IsHelp line) help unasked q
     nothing (says.RegisterRead offset width) q = read_nothing (IsSoftwareLine line) (says.RegisterRead offset width) none (tt, q)
     nothing (says.RegisterWrite offset width value) q = read_nothing (IsSoftwareLine line) (says.RegisterWrite offset width value) none (tt, q)
     nothing (says.Claim claim) q = read_nothing (IsSoftwareLine line) (says.Claim claim) none (tt, q)

@@ -2,3 +2,4 @@ mod ClaimLemmas
 mod HardwareLineLemmas
 mod SetupLemmas
 mod HardwareTextLemmas
+mod HelpLemmas

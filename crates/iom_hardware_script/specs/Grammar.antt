@@ -7,6 +7,8 @@ use Rattle.iom_script.specs.Grammar.{IsEventLine, is_spoken, SayEach, IsText}
 use Rattle.iom_script.specs.BadLines.{IsFirstBadLineOf}
 use Rattle.iom_hardware_script.specs.declared.script.Claim.{Claim}
 use Rattle.iom_hardware_script.specs.declared.script.Claim.TheVariants as claims
+use Rattle.iom_hardware_script.specs.declared.script.Help.{Help}
+use Rattle.iom_hardware_script.specs.declared.script.Help.TheVariants as helps
 use Rattle.iom_hardware_script.specs.declared.script.HardwareLine.{HardwareLine}
 use Rattle.iom_hardware_script.specs.declared.script.HardwareLine.TheVariants as says
 use Rattle.iom_hardware_script.specs.declared.script.NumberedLine.{NumberedLine}
@@ -69,6 +71,14 @@ IsClaim text (claims.Take frame) =
 IsClaim text (claims.Trust device) =
     (id : List ℕ) × IsDevice id device × (text ≡ codes "trust" ␣ id)
 
+-- the line asks hardware so to act by itself
+abbrev pub IsHelp : List ℕ → Help → Type 0
+IsHelp line (helps.Auto seed) =
+    (s : List ℕ) × IsNumber s seed × (line ≡ codes "auto" ␣ s)
+IsHelp line (helps.Traffic device first last) =
+    (id f l : List ℕ) × IsDevice id device × IsNumber f first × IsNumber l last × (line ≡ codes "traffic" ␣ id ␣ f ␣ l)
+IsHelp line helps.Quiesce = line ≡ codes "quiesce"
+
 -- the line, without its line feed, says this
 abbrev pub IsHardwareLine : List ℕ → HardwareLine → Type 0
 IsHardwareLine line (says.Event event) = IsOfHardware event × IsEventLine line event
@@ -78,6 +88,7 @@ IsHardwareLine line (says.RegisterWrite offset width value) =
     (o w v : List ℕ) × IsNumber o offset × IsNumber w width × IsAddress v value × (line ≡ codes "mmio-write" ␣ o ␣ w ␣ v)
 IsHardwareLine line (says.Claim claim) =
     (text : List ℕ) × IsClaim text claim × (line ≡ codes "claim" ␣ text)
+IsHardwareLine line (says.Help help) = IsHelp line help
 
 -- so many frames as a memory can have: 64 to 4,096
 abbrev pub IsFrameCount : ℕ → Type 0

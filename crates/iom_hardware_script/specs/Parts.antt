@@ -2,9 +2,11 @@
 use Rattle.std.specs.Prelude.{◌≡◌, ℕ, List, codes, ⊤}
 use Rattle.iom_hardware_script.specs.declared.script.Claim.{Claim}
 use Rattle.iom_hardware_script.specs.declared.script.Claim.TheVariants as claims
+use Rattle.iom_hardware_script.specs.declared.script.Help.{Help}
+use Rattle.iom_hardware_script.specs.declared.script.Help.TheVariants as helps
 use Rattle.iom_hardware_script.specs.declared.script.HardwareLine.{HardwareLine}
 use Rattle.iom_hardware_script.specs.declared.script.HardwareLine.TheVariants as says
-use Rattle.iom_hardware_script.specs.Grammar.{IsClaim, IsHardwareLine}
+use Rattle.iom_hardware_script.specs.Grammar.{IsClaim, IsHelp, IsHardwareLine}
 
 -- what the text of a claim begins with: its first word, and a space
 abbrev pub claim_start : Claim → List ℕ
@@ -20,12 +22,23 @@ claim_start (claims.Trust device) = codes "trust "
 abbrev pub IsClaimWith : List ℕ → List ℕ → Claim → Type 0
 IsClaimWith start text claim = (claim_start claim ≡ start) × IsClaim text claim
 
+-- what a line begins with that asks hardware to act by itself
+abbrev pub help_start : Help → List ℕ
+help_start (helps.Auto seed) = codes "auto "
+help_start (helps.Traffic device first last) = codes "traffic "
+help_start helps.Quiesce = codes "quiesce"
+
+-- the line begins so, and asks for this
+abbrev pub IsHelpWith : List ℕ → List ℕ → Help → Type 0
+IsHelpWith start line help = (help_start help ≡ start) × IsHelp line help
+
 -- a register is read
 abbrev pub IsRegisterRead : HardwareLine → Type 0
 IsRegisterRead (says.RegisterRead offset width) = ⊤
 IsRegisterRead (says.RegisterWrite offset width value) = ⊥
 IsRegisterRead (says.Claim claim) = ⊥
 IsRegisterRead (says.Event event) = ⊥
+IsRegisterRead (says.Help help) = ⊥
 
 -- a register is written
 abbrev pub IsRegisterWrite : HardwareLine → Type 0
@@ -33,6 +46,7 @@ IsRegisterWrite (says.RegisterRead offset width) = ⊥
 IsRegisterWrite (says.RegisterWrite offset width value) = ⊤
 IsRegisterWrite (says.Claim claim) = ⊥
 IsRegisterWrite (says.Event event) = ⊥
+IsRegisterWrite (says.Help help) = ⊥
 
 -- something is claimed
 abbrev pub IsClaimed : HardwareLine → Type 0
@@ -40,6 +54,7 @@ IsClaimed (says.RegisterRead offset width) = ⊥
 IsClaimed (says.RegisterWrite offset width value) = ⊥
 IsClaimed (says.Claim claim) = ⊤
 IsClaimed (says.Event event) = ⊥
+IsClaimed (says.Help help) = ⊥
 
 -- software does it: a register is read or written, or something is claimed
 abbrev pub IsOfSoftware : HardwareLine → Type 0
@@ -47,6 +62,7 @@ IsOfSoftware (says.RegisterRead offset width) = ⊤
 IsOfSoftware (says.RegisterWrite offset width value) = ⊤
 IsOfSoftware (says.Claim claim) = ⊤
 IsOfSoftware (says.Event event) = ⊥
+IsOfSoftware (says.Help help) = ⊥
 
 -- the line says this, and it is of that kind
 abbrev pub IsRegisterReadLine : List ℕ → HardwareLine → Type 0

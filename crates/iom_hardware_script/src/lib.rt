@@ -3,7 +3,7 @@
 //!
 //! A script is text. Each line ends with a line feed; an empty line and one that begins with `#` say nothing; the
 //! first other line says how much memory the hardware has, and each one after it says one thing that hardware, a
-//! device or software does. What devices and hardware do is said as in a script of a world (`iom_script`); software
+//! device or software does, or asks hardware to act by itself. What devices and hardware do is said as in a script of a world (`iom_script`); software
 //! reads and writes the registers of the RISC-V IOMMU Architecture Specification (chapter 5, "Memory-mapped register
 //! interface") by their offsets, and claims what its devices may reach. `specs/Grammar.antt` is the grammar, as a
 //! relation between bytes and what they say, apart from the parser; `specs/Answers.antt` is the text of the answers.
@@ -16,6 +16,7 @@
 
 mod answers;
 mod claims;
+mod help;
 mod laws;
 mod lines;
 mod parser;
@@ -27,5 +28,5 @@ pub use answers::{Answer, LONGEST_ANSWER, append_answer};
 pub use laws::{hardware_grammar_is_exact, one_byte_past_a_hardware_script_is_enough};
 pub use lines::{is_of_hardware, line_of};
 pub use parser::parse;
-pub use script::{Claim, HardwareLine, HardwareScript, NumberedLine};
+pub use script::{Claim, HardwareLine, HardwareScript, Help, NumberedLine};
 pub use setup::setup_of;

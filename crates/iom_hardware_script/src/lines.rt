@@ -4,6 +4,7 @@ ghost use Rattle.iom_hardware_script.specs.Grammar.{is_of_hardware, IsHardwareLi
 ghost use Rattle.iom_hardware_script.specs.Parts.{IsClaimLine, IsSoftwareLine};
 
 use crate::claims::claim_of;
+use crate::help::help_of;
 use crate::registers::{register_read, register_write};
 use crate::script::HardwareLine;
 use iom_machine::Event;
@@ -80,6 +81,9 @@ pub fn line_of(alloc: Global, line: &[u8]) -> Result<Option<HardwareLine>, Alloc
 {
     if let Some(said) = of_software(line) {
         return Ok(Some(said));
+    }
+    if let Some(help) = help_of(line) {
+        return Ok(Some(HardwareLine::Help(help)));
     }
     let Some(event) = event_of(alloc, line)? else {
         return Ok(None);

@@ -39,6 +39,23 @@ pub enum Claim {
     },
 }
 
+/// How hardware is asked to act by itself.
+#[derive(Clone, Copy, PartialEq, Eq, Debug)]
+pub enum Help {
+    /// Before each later line of software it takes steps that are drawn from this seed; where the seed is 0, none.
+    Auto {
+        seed: u64,
+    },
+    /// Then the device also makes requests at these pages.
+    Traffic {
+        device: DeviceId,
+        first: u64,
+        last: u64,
+    },
+    /// It goes on until nothing more happens.
+    Quiesce,
+}
+
 /// What a line of a script says, behind that of the hardware.
 #[derive(Drop)]
 pub enum HardwareLine {
@@ -50,6 +67,8 @@ pub enum HardwareLine {
     RegisterWrite { offset: u64, width: u64, value: u64 },
     /// Software claims this.
     Claim(Claim),
+    /// Hardware is asked to act by itself.
+    Help(Help),
 }
 
 /// What a line of a script says, and which line it is.

@@ -58,7 +58,21 @@ const BAD_SECOND: &[u8] = b"\
     |step 000001\
     |status 000001\
     |load 000001\
-    |auto 1\
+    |auto\
+    |auto \
+    |auto 0x1\
+    |auto 01\
+    |auto 18446744073709551616\
+    |auto 1 2\
+    |traffic 000001 0\
+    |traffic 000001 0 1 2\
+    |traffic 1 0 1\
+    |traffic 000001 0x0 1\
+    |traffic 000001 0 -1\
+    |traffic 000001  0 1\
+    |quiesce \
+    |quiesce 1\
+    |Quiesce\
     |hardware 64\
     |world 64 1\
     |device 1 raw\

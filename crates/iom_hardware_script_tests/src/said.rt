@@ -1,6 +1,6 @@
 use crate::expect::{expect, script_of};
 use iom_base::{GrantRights, NewDevice, Sequence};
-use iom_hardware_script::{Claim, HardwareLine};
+use iom_hardware_script::{Claim, HardwareLine, Help};
 use iom_machine::Event;
 
 /// A script of each kind of line, at the boundaries of what is written.
@@ -40,14 +40,18 @@ const EACH: &[u8] = b"\
     claim done 18446744073709551615\n\
     claim handoff 7\n\
     claim take 63\n\
-    claim trust 000002\n";
+    claim trust 000002\n\
+    auto 18446744073709551615\n\
+    auto 0\n\
+    traffic 00000a 18446744073709551615 4\n\
+    quiesce\n";
 
 /// What a line says: the number of the line, its name and its numbers. Bytes are a number too, the first of them the
 /// highest digits, after their count.
 type Told = (u64, &'static str, [u64; 4]);
 
 /// What those lines say, behind that of the hardware.
-static TOLD_OF_EACH: [Told; 32] = [
+static TOLD_OF_EACH: [Told; 36] = [
     (4, "raw", [1, 0, 0, 0]),
     (5, "ats", [10, 0, 0, 0]),
     (6, "blk", [11, 3, 0, 0]),
@@ -80,6 +84,10 @@ static TOLD_OF_EACH: [Told; 32] = [
     (34, "claim handoff", [7, 0, 0, 0]),
     (35, "claim take", [63, 0, 0, 0]),
     (36, "claim trust", [2, 0, 0, 0]),
+    (37, "auto", [u64::MAX, 0, 0, 0]),
+    (38, "auto", [0, 0, 0, 0]),
+    (39, "traffic", [10, u64::MAX, 4, 0]),
+    (40, "quiesce", [0, 0, 0, 0]),
 ];
 
 /// A name and numbers.
@@ -203,6 +211,18 @@ fn told_of_claim(claim: &Claim) -> Named {
     }
 }
 
+fn told_of_help(help: Help) -> Named {
+    match help {
+        Help::Auto { seed } => one("auto", seed),
+        Help::Traffic {
+            device,
+            first,
+            last,
+        } => ("traffic", [u64::from(device), first, last, 0]),
+        Help::Quiesce => ("quiesce", [0, 0, 0, 0]),
+    }
+}
+
 fn told_of(line: &HardwareLine) -> Named {
     match line {
         HardwareLine::Event(event) => told_of_event(event),
@@ -213,6 +233,7 @@ fn told_of(line: &HardwareLine) -> Named {
             value,
         } => ("mmio-write", [*offset, *width, *value, 0]),
         HardwareLine::Claim(claim) => told_of_claim(claim),
+        HardwareLine::Help(help) => told_of_help(*help),
     }
 }
 

@@ -65,6 +65,7 @@ LineDoes (line.Event event) answer old new = EventOrNone event answer old new
 LineDoes (line.RegisterRead offset width) answer old new = ReadsRegister offset width old answer × Stays old new
 LineDoes (line.RegisterWrite offset width value) answer old new = WritesRegister offset width value old answer new
 LineDoes (line.Claim said) answer old new = Stays old new
+LineDoes (line.Help help) answer old new = (answer ≡ answered.NotOfHardware) × Stays old new
 
 -- WHAT IS CLAIMED after a line, by its answer
 abbrev pub claimed_by : HardwareLine → Answer → Claimed → Claimed

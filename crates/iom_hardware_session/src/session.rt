@@ -121,6 +121,7 @@ impl Session {
                 value,
             } => self.write_register(*offset, *width, *value),
             HardwareLine::Claim(claim) => Answer::Claim(self.claim(*claim)),
+            HardwareLine::Help(_) => Answer::NotOfHardware,
         }
     }
 

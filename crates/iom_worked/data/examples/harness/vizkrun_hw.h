@@ -19,6 +19,7 @@
 
 struct hw {
 	FILE *to, *from;
+	FILE *steps; /* where it is told what hardware did by itself; NULL: nowhere */
 	pid_t pid;
 	char answer[16384]; /* of the last line, without its line feed */
 };
@@ -29,8 +30,7 @@ static inline void hw_fail(const char *why, const char *what)
 	exit(4);
 }
 
-/* Says one line, as printf would print it, and gives its answer. Lines that begin with `#`, what hardware did by itself, go
- * to standard error. */
+/* Says one line, as printf would print it, and gives its answer. */
 __attribute__((format(printf, 2, 3))) static inline const char *hw_say(struct hw *hw, const char *format, ...)
 {
 	va_list arguments;
@@ -44,7 +44,8 @@ __attribute__((format(printf, 2, 3))) static inline const char *hw_say(struct hw
 			hw->answer[strcspn(hw->answer, "\n")] = 0;
 			return hw->answer;
 		}
-		fputs(hw->answer, stderr);
+		if (hw->steps)
+			fputs(hw->answer, hw->steps);
 	}
 	hw_fail("the program gives no answer", format);
 	return NULL;
@@ -65,6 +66,7 @@ static inline void hw_start(struct hw *hw, const char *program, const char *log,
 	}
 	close(to[0]), close(from[1]);
 	signal(SIGPIPE, SIG_IGN);
+	hw->steps = stderr;
 	hw->to = fdopen(to[1], "w");
 	hw->from = fdopen(from[0], "r");
 	if (!hw->to || !hw->from || strcmp(hw_say(hw, "hardware %u", frames), "ok"))

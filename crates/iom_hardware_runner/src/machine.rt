@@ -1,0 +1,225 @@
+// Hardware under a driver: each line happens and is answered, and between two lines hardware may act by itself.
+use crate::faults::RunFault;
+use crate::helper::{Helper, settling_step};
+use crate::output::Output;
+use crate::step::Step;
+use crate::teller::Teller;
+use iom_base::DeviceId;
+use iom_hardware_script::{HardwareLine, Help, NumberedLine, line_of, setup_of};
+use iom_hardware_session::Session;
+use iom_machine::Event;
+use std::alloc::Global;
+
+/// Hardware, what is claimed of it, and what makes it act by itself.
+#[derive(Drop)]
+pub(crate) struct Machine {
+    alloc: Global,
+    teller: Teller,
+    helper: Helper,
+}
+
+/// What came of a step on the way to rest.
+enum Settling {
+    /// Nothing: there is no more to do.
+    Rests,
+    Moved,
+    /// It made an access that nothing claimed allows.
+    Violated,
+}
+
+/// Whether software does this: before it hardware may act by itself.
+fn is_of_software(line: &HardwareLine) -> bool {
+    match line {
+        HardwareLine::RegisterRead { .. }
+        | HardwareLine::RegisterWrite { .. }
+        | HardwareLine::Claim(_)
+        | HardwareLine::Event(Event::Poke { .. } | Event::Peek { .. }) => true,
+        HardwareLine::Event(_) | HardwareLine::Help(_) => false,
+    }
+}
+
+/// What the text of a line says, if it is in the grammar.
+fn read(alloc: Global, text: &[u8]) -> Result<Option<HardwareLine>, RunFault> {
+    line_of(alloc, text).map_err(|_| RunFault::Memory)
+}
+
+impl Machine {
+    /// The hardware that the first line of a script asks for, at power-on. None where the line asks for none.
+    pub(crate) fn new(alloc: Global, text: &[u8]) -> Result<Option<Machine>, RunFault> {
+        let Some(frames) = setup_of(text) else {
+            return Ok(None);
+        };
+        let session = Session::new(alloc, frames).map_err(|_| RunFault::Memory)?;
+        let teller = Teller::new(alloc, session, frames).map_err(|_| RunFault::Memory)?;
+        Ok(Some(Machine {
+            alloc,
+            teller,
+            helper: Helper::new(alloc),
+        }))
+    }
+
+    /// Whether a claim was wrong, or an access a violation.
+    pub(crate) fn is_wrong(&self) -> bool {
+        self.teller.is_wrong
+    }
+
+    /// A line of a script happens, behind steps that hardware takes by itself. False where it isn't in the grammar; then
+    /// nothing happens.
+    pub(crate) fn take_line(&mut self, text: &[u8], output: &mut Output) -> Result<bool, RunFault> {
+        let Some(said) = read(self.alloc, text)? else {
+            return Ok(false);
+        };
+        if let HardwareLine::Help(help) = said {
+            self.help(help, text, output)?;
+            return Ok(true);
+        }
+        if is_of_software(&said) {
+            self.act(output)?;
+        }
+        let words = self.tell(said, output)?;
+        self.answer(&words, output)?;
+        output.log(b"", text)?;
+        Ok(true)
+    }
+
+    /// A line happens, as the next of the log. The words behind its answer.
+    fn tell(&mut self, said: HardwareLine, output: &Output) -> Result<String, RunFault> {
+        if self.teller.events() >= u64::MAX - 1 {
+            return Err(RunFault::TooManyEvents);
+        }
+        let line = NumberedLine {
+            number: output.next_number()?,
+            line: said,
+        };
+        self.teller.tell(&line).map_err(|_| RunFault::Memory)
+    }
+
+    /// Appends the answer of what happened last, and the words behind it.
+    fn answer(&self, words: &str, output: &mut Output) -> Result<(), RunFault> {
+        output.answer(self.teller.answer())?;
+        output.answer(words.as_bytes())?;
+        output.answer(b"\n")
+    }
+
+    /// Hardware takes as many steps by itself as are drawn.
+    fn act(&mut self, output: &mut Output) -> Result<(), RunFault> {
+        for _ in 0..self.helper.count() {
+            let step = self
+                .helper
+                .step(self.teller.session.hardware())
+                .map_err(|_| RunFault::Memory)?;
+            if let Some(step) = step {
+                self.take_step(step, output)?;
+            }
+        }
+        Ok(())
+    }
+
+    /// What the text says happens. The words behind its answer; None where it is no line of the language.
+    fn tell_step(&mut self, text: &str, output: &Output) -> Result<Option<String>, RunFault> {
+        match read(self.alloc, text.as_bytes())? {
+            Some(said) => Ok(Some(self.tell(said, output)?)),
+            None => Ok(None),
+        }
+    }
+
+    /// A step happens, and is told as a comment.
+    fn take_step(&mut self, step: Step, output: &mut Output) -> Result<(), RunFault> {
+        let text = format!(in self.alloc; "{step}").map_err(|_| RunFault::Memory)?;
+        let Some(words) = self.tell_step(&text, output)? else {
+            return Ok(());
+        };
+        output.answer(b"# ")?;
+        output.answer(text.as_bytes())?;
+        output.answer(b" => ")?;
+        self.answer(&words, output)?;
+        output.log(b"", text.as_bytes())
+    }
+
+    /// Hardware is asked to act by itself. A line after which it draws is a comment of the log, which has what was drawn.
+    fn help(&mut self, help: Help, text: &[u8], output: &mut Output) -> Result<(), RunFault> {
+        match help {
+            Help::Auto { seed } => {
+                self.helper.seed(seed);
+                output.answer(b"ok\n")?;
+                output.log(b"# ", text)
+            }
+            Help::Traffic {
+                device,
+                first,
+                last,
+            } => {
+                self.direct(device, first, last, output)?;
+                output.log(b"# ", text)
+            }
+            Help::Quiesce => {
+                self.quiesce(output)?;
+                output.log(b"", text)
+            }
+        }
+    }
+
+    /// The device makes requests by itself at these pages from here on, or is refused.
+    fn direct(
+        &mut self,
+        device: DeviceId,
+        first: u64,
+        last: u64,
+        output: &mut Output,
+    ) -> Result<(), RunFault> {
+        let hardware = self.teller.session.hardware();
+        let directed = self.helper.direct(hardware, device, first, last);
+        match directed.map_err(|_| RunFault::Memory)? {
+            Ok(()) => output.answer(b"ok\n"),
+            Err(why) => {
+                let text = format!(in self.alloc; "{why}\n").map_err(|_| RunFault::Memory)?;
+                output.answer(text.as_bytes())
+            }
+        }
+    }
+
+    /// Takes the next step of those that bring hardware to rest. Whether it did something, and whether that was a
+    /// violation.
+    fn settle_once(&mut self, output: &Output) -> Result<Settling, RunFault> {
+        let hardware = self.teller.session.hardware();
+        let head = hardware.iommu.registers().command_head();
+        let Some(step) = settling_step(hardware) else {
+            return Ok(Settling::Rests);
+        };
+        let text = format!(in self.alloc; "{step}").map_err(|_| RunFault::Memory)?;
+        let Some(words) = self.tell_step(&text, output)? else {
+            return Ok(Settling::Rests);
+        };
+        let hardware = self.teller.session.hardware();
+        if step == Step::Fetch && hardware.iommu.registers().command_head() == head {
+            return Ok(Settling::Rests);
+        }
+        // Nothing but a violation has words behind the answer of a step.
+        if words.is_empty() {
+            Ok(Settling::Moved)
+        } else {
+            Ok(Settling::Violated)
+        }
+    }
+
+    /// Hardware comes to rest: what is in flight is made, what is under way delivered, and commands are taken.
+    fn quiesce(&mut self, output: &mut Output) -> Result<(), RunFault> {
+        let mut steps = 0u64;
+        let mut violations = 0u64;
+        for _ in 0..u64::MAX {
+            match self.settle_once(output)? {
+                Settling::Rests => break,
+                Settling::Moved => {}
+                Settling::Violated => violations = violations.saturating_add(1),
+            }
+            steps = steps.saturating_add(1);
+        }
+        let quiet = format!(in self.alloc; "quiet {steps}").map_err(|_| RunFault::Memory)?;
+        output.answer(quiet.as_bytes())?;
+        if violations > 0 {
+            let violated = format!(in self.alloc; "; violated {violations} times");
+            output.answer(violated.map_err(|_| RunFault::Memory)?.as_bytes())?;
+        }
+        output.answer(b"\n")
+    }
+}
