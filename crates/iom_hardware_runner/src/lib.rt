@@ -11,6 +11,7 @@
 mod arriving;
 mod conversation;
 mod draws;
+mod fallen;
 mod faults;
 mod helper;
 mod machine;

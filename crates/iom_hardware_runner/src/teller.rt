@@ -2,6 +2,7 @@
 ghost use Rattle.std.specs.Prelude.{◌≡◌, ◌+◌, ◌<◌, ◌^◌, ◌≤◌};
 
 use crate::telling::put_answer;
+use crate::fallen::fallen;
 use crate::words::{violation, why};
 use iom_base::{AccessKind, DeviceId, PAGE_SIZE};
 use iom_chronicle::{Chronicle, Entrance, Origin};
@@ -227,7 +228,7 @@ impl Teller {
             | HardwareLine::RegisterWrite { .. }
             | HardwareLine::Help(_) => {
                 self.step(&line.line);
-                format!(in self.alloc; "")
+                self.tell_fallen()
             }
         }
     }
@@ -285,8 +286,19 @@ impl Teller {
                 self.is_wrong = true;
                 violation(self.alloc, &self.chronicle, made, origin)
             }
-            _ => format!(in self.alloc; ""),
+            _ => self.tell_fallen(),
         }
+    }
+
+    /// Which claims that were good aren't any more, behind a line of software.
+    fn tell_fallen(&mut self) -> Result<String, AllocError>
+        ensures { self.new.session.hardware.events ≡ self.old.session.hardware.events }
+    {
+        let words = fallen(self.alloc, &self.session, &self.chronicle)?;
+        if !words.is_empty() {
+            self.is_wrong = true;
+        }
+        Ok(words)
     }
 
     /// How many events hardware has counted.

@@ -4,7 +4,8 @@ use Rattle.iom_base.specs.declared.access.AccessKind.{AccessKind}
 use Rattle.iom_claims.specs.Claimed.{after_done}
 use Rattle.iom_hardware.specs.HardwareParts.{hardware_parts}
 use Rattle.iom_hardware_session.specs.Good.{scene_in, HasClaimedWaysAlone}
-use Rattle.iom_hardware_session.specs.Laws.{DoneStaysDone, HandedOffStaysFree}
+use Rattle.iom_hardware_session.specs.declared.watched.GoodClaim.TheVariants as good
+use Rattle.iom_hardware_session.specs.Laws.{DoneStaysDone, HandedOffStaysFree, GoodAgainHolds}
 use Rattle.iom_hardware_ways.specs.Laws.{GoodClaimsHold, FreeStaysFree}
 use Rattle.iom_reach.specs.Laws.{IsOutOfReach}
 use Rattle.iom_way_survey.specs.Surveys.{is_among}
@@ -16,5 +17,13 @@ done_stays holds session before number grant calls made ((safe, timely), each) o
 
 pub handed_off_stays : FreeStaysFree → HandedOffStaysFree
 handed_off_stays free session before after frame id calls made ((safe, timely), nobodys, reach, unused) same (events, between, new, turns, makes) =
+    free (is_among session.trusted.items) calls events id made (hardware_parts session.hardware) between new safe timely
+    (subst (λ (f : ℕ). IsOutOfReach (scene_in session) f) (sym same) reach) turns makes
+
+pub good_again_holds : GoodClaimsHold → FreeStaysFree → GoodAgainHolds
+good_again_holds holds free session claimed (good.Done number device frame) ((safe, timely), alone) = λ calls made same (events, between, new, turns, makes).
+    holds (is_among session.trusted.items) claimed.history calls events device made (hardware_parts session.hardware) between new safe timely
+    (subst (λ (f : ℕ). HasClaimedWaysAlone (scene_in session) claimed device f) (sym same) alone) turns makes
+good_again_holds holds free session claimed (good.HandedOff frame) ((safe, timely), (reach, unused)) = λ calls id made same (events, between, new, turns, makes).
     free (is_among session.trusted.items) calls events id made (hardware_parts session.hardware) between new safe timely
     (subst (λ (f : ℕ). IsOutOfReach (scene_in session) f) (sym same) reach) turns makes

@@ -64,15 +64,23 @@ EventDoes event answer old new = Does (call_of event answer) old new
 abbrev pub EventOrNone : Event → Answer → Hardware → Hardware → Type 0
 EventOrNone event answer old new = (IsOfHardware event → EventDoes event answer old new) × (is_of_hardware event ≡ false → (answer ≡ answered.NotOfHardware) × Stays old new)
 
--- the event is a request for an access
-abbrev pub IsAccess : Event → Type 0
-IsAccess (Read device address len) = Unit {0}
-IsAccess (Write device address bytes) = Unit {0}
-IsAccess (ReadTranslated device address len) = Unit {0}
-IsAccess (WriteTranslated device address bytes) = Unit {0}
-IsAccess (ReadThroughCache device address len) = Unit {0}
-IsAccess (WriteThroughCache device address bytes) = Unit {0}
-IsAccess _ = ⊥
+-- the event is a request for an access, at an address that the IOMMU translates
+abbrev pub IsUntranslated : Event → Type 0
+IsUntranslated (Read device address len) = Unit {0}
+IsUntranslated (Write device address bytes) = Unit {0}
+IsUntranslated _ = ⊥
+
+-- at one that is said to be translated
+abbrev pub IsTranslated : Event → Type 0
+IsTranslated (ReadTranslated device address len) = Unit {0}
+IsTranslated (WriteTranslated device address bytes) = Unit {0}
+IsTranslated _ = ⊥
+
+-- through the device's own cache
+abbrev pub IsThroughCache : Event → Type 0
+IsThroughCache (ReadThroughCache device address len) = Unit {0}
+IsThroughCache (WriteThroughCache device address bytes) = Unit {0}
+IsThroughCache _ = ⊥
 
 -- it is one of a message
 abbrev pub IsMessage : Event → Type 0

@@ -5,6 +5,7 @@ use Rattle.iom_claims.specs.Claimed.{Claimed, IsHeld, IsOpen}
 use Rattle.iom_claims.specs.declared.grant.Grant.{Grant}
 use Rattle.iom_claims.specs.declared.grant.OpenClaim.{OpenClaim}
 use Rattle.iom_hardware.specs.HardwareParts.{hardware_parts}
+use Rattle.iom_hardware.specs.declared.hardware.Hardware.{Hardware}
 use Rattle.iom_hardware_script.specs.declared.script.Claim.{Claim as Said}
 use Rattle.iom_hardware_script.specs.declared.script.Claim.TheVariants as claim
 use Rattle.iom_hardware_session.specs.declared.state.Session.{Session}
@@ -17,8 +18,11 @@ use Rattle.iom_reach.specs.Ways.{Way}
 use Rattle.iom_way_survey.specs.Surveys.{is_among}
 
 -- what lies between devices and memory, where these devices are trusted with all memory
+abbrev pub scene_with : Hardware → List ℕ → Scene
+scene_with hardware trusted = scene_of (is_among trusted) (hardware_parts hardware)
+
 abbrev pub scene_in : Session → Scene
-scene_in session = scene_of (is_among session.trusted.items) (hardware_parts session.hardware)
+scene_in session = scene_with session.hardware session.trusted.items
 
 -- Something can be certain: what hardware reads nobody but software writes, and no message is of an epoch to come
 abbrev pub IsCertain : Scene → Type 0

@@ -1,11 +1,14 @@
 -- What follows of a claim that is good: the reclaim theorem of somebody else's driver.
-use Rattle.std.specs.Prelude.{◌≡◌, ℕ, List}
+use Rattle.std.specs.Prelude.{◌≡◌, ℕ, List, None}
 use Rattle.iom_claims.specs.Claimed.{Claimed, IsOpen, after_done}
 use Rattle.iom_claims.specs.declared.grant.Grant.{Grant}
 use Rattle.iom_hardware.specs.HardwareParts.{HardwareParts, hardware_parts}
 use Rattle.iom_hardware_script.specs.declared.script.Claim.TheVariants as claim
 use Rattle.iom_hardware_session.specs.declared.state.Session.{Session}
+use Rattle.iom_hardware_session.specs.declared.watched.GoodClaim.{GoodClaim}
+use Rattle.iom_hardware_session.specs.declared.watched.GoodClaim.TheVariants as good
 use Rattle.iom_hardware_session.specs.Good.{scene_in, GoodMeans}
+use Rattle.iom_hardware_session.specs.Watching.{IsToldOf}
 use Rattle.iom_hardware_ways.specs.Calls.{HardwareCall, DoInTurn}
 use Rattle.iom_hardware_ways.specs.Laws.{MakesIn}
 use Rattle.iom_inflight.specs.declared.made.MadeAt.{MadeAt}
@@ -28,3 +31,13 @@ DoneStaysDone = (session : Session) (before : Claimed) (number : ℕ) (grant : G
 abbrev pub HandedOffStaysFree : Type 0
 HandedOffStaysFree = (session : Session) (before after : Claimed) (frame id : ℕ) (calls : List HardwareCall) (made : MadeAt)
     → GoodMeans (claim.HandOff frame) (scene_in session) before after → made.frame ≡ frame → ¬ ComesToMake session calls id made
+
+-- so of a claim that is watched and good still
+abbrev pub HoldsOn : GoodClaim → Session → Claimed → Type 0
+HoldsOn (good.Done number device frame) session claimed =
+    (calls : List HardwareCall) (made : MadeAt) → made.frame ≡ frame → ComesToMake session calls device made → May claimed.history device made.frame made.kind
+HoldsOn (good.HandedOff frame) session claimed = (calls : List HardwareCall) (id : ℕ) (made : MadeAt) → made.frame ≡ frame → ¬ ComesToMake session calls id made
+
+-- WHAT WAS FOUND GOOD AGAIN, of whatever was claimed by then, holds on until software changes something
+abbrev pub GoodAgainHolds : Type 0
+GoodAgainHolds = (session : Session) (claimed : Claimed) (claim : GoodClaim) → IsToldOf None claim session.hardware session.trusted.items claimed → HoldsOn claim session claimed

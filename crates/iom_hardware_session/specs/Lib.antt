@@ -3,5 +3,7 @@ pub mod Events
 pub mod Claiming
 pub mod Timely
 pub mod Good
+pub mod Wrong
+pub mod Watching
 pub mod Lines
 pub mod Laws

@@ -1,5 +1,5 @@
 -- What a line does to a session, and what stays.
-use Rattle.std.specs.Prelude.{◌≡◌, ◌-◌, ◌^◌, ◌++◌, [], ◌∷◌, ℕ, true, List, nat_lt, Option, Some, None, Ok, ⊤, if◌then◌else◌}
+use Rattle.std.specs.Prelude.{◌≡◌, ◌-◌, ◌^◌, ◌++◌, [], ◌∷◌, ℕ, Bool, true, false, List, nat_lt, Option, Some, None, Ok, ⊤, if◌then◌else◌}
 use Rattle.iom_claims.specs.Claimed.{Claimed}
 use Rattle.iom_hardware.specs.HardwareParts.{hardware_parts, disks_at_hand}
 use Rattle.iom_hardware.specs.declared.hardware.Hardware.{Hardware}
@@ -7,6 +7,7 @@ use Rattle.iom_hardware_script.specs.declared.script.Claim.{Claim as Said}
 use Rattle.iom_hardware_script.specs.declared.script.Claim.TheVariants as claim
 use Rattle.iom_hardware_script.specs.declared.script.HardwareLine.{HardwareLine}
 use Rattle.iom_hardware_script.specs.declared.script.HardwareLine.TheVariants as line
+use Rattle.iom_machine.specs.declared.event.Event.TheVariants.{Plug, Poke}
 use Rattle.iom_hardware_session.specs.declared.answer.Answer.{Answer}
 use Rattle.iom_hardware_session.specs.declared.answer.Answer.TheVariants as answered
 use Rattle.iom_hardware_session.specs.declared.answer.ClaimAnswer.{ClaimAnswer}
@@ -15,6 +16,9 @@ use Rattle.iom_hardware_session.specs.declared.state.Session.{Session}
 use Rattle.iom_hardware_session.specs.Claiming.{claimed_after}
 use Rattle.iom_hardware_session.specs.Events.{EventOrNone, Stays}
 use Rattle.iom_hardware_session.specs.Good.{GoodMeans}
+use Rattle.iom_hardware_session.specs.Watching.{still_good, AreJudgedAgain, WatchesClaim}
+use Rattle.iom_hardware_session.specs.declared.watched.Watched.{Watched}
+use Rattle.iom_hardware_session.specs.Wrong.{WrongMeans, IfWrong}
 use Rattle.iom_reach.specs.Scene.{Scene}
 use Rattle.iom_inflight.specs.declared.made.MadeAt.{MadeAt}
 use Rattle.iom_iommu.specs.Parts.{registers_of, after_write}
@@ -22,9 +26,9 @@ use Rattle.iom_ledger.specs.History.{May}
 use Rattle.iom_registers.specs.Places.{register_at, answer_of, done_of, changed_by}
 use Rattle.iom_registers.specs.Table.{value_of}
 
--- what is claimed, and who is trusted, stay
+-- what is claimed, who is trusted, and what is watched, stay
 abbrev pub KeepsClaims : Session → Session → Type 0
-KeepsClaims old new = (new.claims ≡ old.claims) × (new.trusted ≡ old.trusted)
+KeepsClaims old new = (new.claims ≡ old.claims) × (new.trusted ≡ old.trusted) × (new.watched ≡ old.watched)
 
 -- hardware stays, and who is trusted
 abbrev pub KeepsHardware : Session → Session → Type 0
@@ -32,7 +36,7 @@ KeepsHardware old new = (new.hardware ≡ old.hardware) × (new.trusted ≡ old.
 
 -- all stays but what was last looked at
 abbrev pub KeepsAll : Session → Session → Type 0
-KeepsAll old new = KeepsHardware old new × (new.claims ≡ old.claims)
+KeepsAll old new = KeepsHardware old new × (new.claims ≡ old.claims) × (new.watched ≡ old.watched)
 
 -- a width of more than 32 bits is that of no register
 abbrev pub short_width : ℕ → ℕ
@@ -91,3 +95,29 @@ TrustsBy said answer old new = new ≡ old
 abbrev pub IsGoodLine : HardwareLine → Answer → Scene → Claimed → Type 0
 IsGoodLine (line.Claim said) (answered.Claim answer) scene before = answer ≡ found.Good → GoodMeans said scene before (claimed_after said answer before)
 IsGoodLine said answer scene before = ⊤
+
+-- what a claim that is answered so means, where it isn't true
+abbrev pub IsWrongLine : HardwareLine → Answer → Hardware → List ℕ → Claimed → Type 0
+IsWrongLine (line.Claim said) (answered.Claim answer) hardware trusted before = IfWrong answer (λ why. WrongMeans said why hardware trusted before (claimed_after said answer before))
+IsWrongLine said answer hardware trusted before = ⊤
+
+-- software changes hardware by the line, or plugs a device in
+abbrev pub is_of_software : HardwareLine → Bool
+is_of_software (line.Event (Poke address bytes)) = true
+is_of_software (line.Event (Plug device what)) = true
+is_of_software (line.RegisterWrite offset width value) = true
+is_of_software said = false
+
+-- what is watched after a line that isn't of software, by its answer
+abbrev pub WatchesStep : HardwareLine → Answer → Claimed → List Watched → List Watched → Type 0
+WatchesStep (line.Claim said) (answered.Claim found) before old new = WatchesClaim said found before old new
+WatchesStep said answer before old new = new ≡ old
+
+-- so of any line, by whether it is of software
+abbrev pub WatchesWhere : Bool → HardwareLine → Answer → Claimed → Session → Session → Type 0
+WatchesWhere true said answer before old new = AreJudgedAgain (still_good old.watched.items) new.watched.items new.hardware new.trusted.items before
+WatchesWhere false said answer before old new = WatchesStep said answer before (still_good old.watched.items) new.watched.items
+
+-- WHAT IS WATCHED after a line: what was found wrong at the line before is forgotten, and where software changes hardware all the others are judged again
+abbrev pub WatchesBy : HardwareLine → Answer → Claimed → Session → Session → Type 0
+WatchesBy said answer before old new = WatchesWhere (is_of_software said) said answer before old new

@@ -7,9 +7,12 @@ ghost use Rattle.iom_hardware_script.specs.declared.script.Claim.TheVariants as 
 ghost use Rattle.iom_hardware_session.specs.Claiming.{claimed_after};
 ghost use Rattle.iom_hardware_session.specs.Good.{GoodMeans, scene_in};
 ghost use Rattle.iom_hardware_session.specs.Lines.{KeepsHardware, KeepsAll, TrustsAlso};
+ghost use Rattle.iom_hardware_session.specs.Watching.{WatchesClaim};
+ghost use Rattle.iom_hardware_session.specs.Wrong.{IfWrong, WrongMeans};
 
 use crate::answer::{ClaimAnswer, Wrong};
 use crate::state::Session;
+use crate::watched::{GoodClaim, drop_hand_off, watch};
 use iom_base::{DeviceId, GrantRights, Refusal};
 use iom_claims::Grant;
 use iom_phys_mem::Bytes;
@@ -53,6 +56,8 @@ impl Session {
         ensures claimed { (c : Claimed) → ShowsClaimed self.old.claims c → ShowsClaimed self.new.claims (claimed_after (said.Grant device page frame rights) result c) }
         ensures good { (c : Claimed) → ShowsClaimed self.old.claims c → result ≡ ClaimAnswer.Good
             → GoodMeans (said.Grant device page frame rights) (scene_in self.new) c (claimed_after (said.Grant device page frame rights) result c) }
+        ensures wrong { (c : Claimed) → ShowsClaimed self.old.claims c → IfWrong result (λ why. WrongMeans (said.Grant device page frame rights) why self.new.hardware self.new.trusted.items c (claimed_after (said.Grant device page frame rights) result c)) }
+        ensures watched { (c : Claimed) → ShowsClaimed self.old.claims c → WatchesClaim (said.Grant device page frame rights) result c self.old.watched.items self.new.watched.items }
         ensures hardware { KeepsHardware self.old self.new }
     {
         let number = match self.grantable(device, page, frame) {
@@ -68,6 +73,7 @@ impl Session {
         if let Err(why) = self.claims.grant(grant) {
             return ClaimAnswer::Refused(why);
         }
+        drop_hand_off(&mut self.watched, number);
         if !self.look() {
             return ClaimAnswer::Wrong(Wrong::Uncertain);
         }
@@ -80,6 +86,8 @@ impl Session {
     /// What the device holds at the page is withdrawn.
     pub(crate) fn claim_release(&mut self, device: DeviceId, page: u64) -> ClaimAnswer
         ensures claimed { (c : Claimed) → ShowsClaimed self.old.claims c → ShowsClaimed self.new.claims (claimed_after (said.Release device page) result c) }
+        ensures wrong { IfWrong result (λ why. ⊥) }
+        ensures watched { self.new.watched ≡ self.old.watched }
         ensures hardware { KeepsHardware self.old self.new }
     {
         if self.hardware.kind_of(device).is_none() {
@@ -96,6 +104,8 @@ impl Session {
         ensures claimed { (c : Claimed) → ShowsClaimed self.old.claims c → ShowsClaimed self.new.claims (claimed_after (said.Done number) result c) }
         ensures good { (c : Claimed) → ShowsClaimed self.old.claims c → result ≡ ClaimAnswer.Good
             → GoodMeans (said.Done number) (scene_in self.new) c (claimed_after (said.Done number) result c) }
+        ensures wrong { (c : Claimed) → ShowsClaimed self.old.claims c → IfWrong result (λ why. WrongMeans (said.Done number) why self.new.hardware self.new.trusted.items c (claimed_after (said.Done number) result c)) }
+        ensures watched { (c : Claimed) → ShowsClaimed self.old.claims c → WatchesClaim (said.Done number) result c self.old.watched.items self.new.watched.items }
         ensures hardware { KeepsHardware self.old self.new }
     {
         let Ok(short) = u32::try_from(number) else {
@@ -104,13 +114,23 @@ impl Session {
         let Some(grant) = self.claims.open_claim(short) else {
             return ClaimAnswer::NoSuchClaim;
         };
+        if self.watched.reserve(1).is_err() {
+            return ClaimAnswer::Refused(Refusal::Memory);
+        }
         if self.claims.done(short).is_err() {
             return ClaimAnswer::NoSuchClaim;
         }
         if !self.look() {
             return ClaimAnswer::Wrong(Wrong::Uncertain);
         }
-        self.judge_done(grant.device, grant.frame)
+        let found = self.judge_done(grant.device, grant.frame);
+        let claim = GoodClaim::Done {
+            number: short,
+            device: grant.device,
+            frame: grant.frame,
+        };
+        watch(&mut self.watched, found, claim);
+        found
     }
 
     /// Nobody uses the frame, and it goes to somebody else.
@@ -118,6 +138,8 @@ impl Session {
         ensures claimed { (c : Claimed) → ShowsClaimed self.old.claims c → ShowsClaimed self.new.claims (claimed_after (said.HandOff frame) result c) }
         ensures good { (c : Claimed) → ShowsClaimed self.old.claims c → result ≡ ClaimAnswer.Good
             → GoodMeans (said.HandOff frame) (scene_in self.new) c (claimed_after (said.HandOff frame) result c) }
+        ensures wrong { (c : Claimed) → ShowsClaimed self.old.claims c → IfWrong result (λ why. WrongMeans (said.HandOff frame) why self.new.hardware self.new.trusted.items c (claimed_after (said.HandOff frame) result c)) }
+        ensures watched { (c : Claimed) → ShowsClaimed self.old.claims c → WatchesClaim (said.HandOff frame) result c self.old.watched.items self.new.watched.items }
         ensures hardware { KeepsHardware self.old self.new }
     {
         let number = match self.frame_of(frame) {
@@ -125,6 +147,9 @@ impl Session {
             Err(why) => return ClaimAnswer::Refused(why),
         };
         let user = self.user_of(number);
+        if self.watched.reserve(1).is_err() {
+            return ClaimAnswer::Refused(Refusal::Memory);
+        }
         if let Err(why) = self.claims.hand_on(number) {
             return ClaimAnswer::Refused(why);
         }
@@ -134,7 +159,13 @@ impl Session {
         if !self.look() {
             return ClaimAnswer::Wrong(Wrong::Uncertain);
         }
-        self.judge_hand_off(number)
+        let found = self.judge_hand_off(number);
+        watch(
+            &mut self.watched,
+            found,
+            GoodClaim::HandedOff { frame: number },
+        );
+        found
     }
 
     /// The frame comes from whoever gives frames out.
@@ -142,6 +173,8 @@ impl Session {
         ensures claimed { (c : Claimed) → ShowsClaimed self.old.claims c → ShowsClaimed self.new.claims (claimed_after (said.Take frame) result c) }
         ensures good { (c : Claimed) → ShowsClaimed self.old.claims c → result ≡ ClaimAnswer.Good
             → GoodMeans (said.Take frame) (scene_in self.new) c (claimed_after (said.Take frame) result c) }
+        ensures wrong { (c : Claimed) → ShowsClaimed self.old.claims c → IfWrong result (λ why. WrongMeans (said.Take frame) why self.new.hardware self.new.trusted.items c (claimed_after (said.Take frame) result c)) }
+        ensures watched { (c : Claimed) → ShowsClaimed self.old.claims c → WatchesClaim (said.Take frame) result c self.old.watched.items self.new.watched.items }
         ensures hardware { KeepsHardware self.old self.new }
     {
         let number = match self.frame_of(frame) {
@@ -150,6 +183,7 @@ impl Session {
         };
         let user = self.user_of(number);
         self.claims.take(number);
+        drop_hand_off(&mut self.watched, number);
         match user {
             Some(why) => ClaimAnswer::Wrong(why),
             None => ClaimAnswer::Good,
@@ -175,6 +209,8 @@ impl Session {
     /// What the device writes counts as what software writes.
     pub(crate) fn claim_trust(&mut self, device: DeviceId) -> ClaimAnswer
         ensures claims { self.new.claims ≡ self.old.claims }
+        ensures wrong { IfWrong result (λ why. ⊥) }
+        ensures watched { self.new.watched ≡ self.old.watched }
         ensures trusted { TrustsAlso device result self.old.trusted.items self.new.trusted.items }
         ensures hardware { self.new.hardware ≡ self.old.hardware }
     {

@@ -1,6 +1,6 @@
 // What devices and hardware do, and what the processor stores and loads.
 ghost use Rattle.std.specs.Prelude.{◌≡◌, ◌+◌, ◌<◌, ◌≤◌, ◌^◌};
-ghost use Rattle.iom_hardware_session.specs.Events.{IsAccess, IsMessage, IsOther, EventDoes, EventOrNone};
+ghost use Rattle.iom_hardware_session.specs.Events.{IsUntranslated, IsTranslated, IsThroughCache, IsMessage, IsOther, EventDoes, EventOrNone};
 ghost use Rattle.iom_hardware_session.specs.Lines.{KeepsClaims};
 
 use crate::answer::Answer;
@@ -10,10 +10,9 @@ use iom_hardware::Sender;
 use iom_machine::Event;
 
 impl Session {
-    /// A device asks for an access at an address that the IOMMU translates, at one that it says is translated, or through
-    /// its own cache.
-    fn access(&mut self, event: &Event) -> Answer
-        requires event { IsAccess event.now }
+    /// A device asks for an access at an address that the IOMMU translates.
+    fn untranslated(&mut self, event: &Event) -> Answer
+        requires event { IsUntranslated event.now }
         requires count { self.old.hardware.events + 1 < 2 ^ 64 }
         ensures does { EventDoes event.now result self.old.hardware self.new.hardware }
         ensures claims { KeepsClaims self.old self.new }
@@ -45,6 +44,20 @@ impl Session {
                 AccessKind::Write,
                 bytes.as_slice(),
             )),
+            _ => Answer::NotOfHardware,
+        }
+    }
+
+    /// A device asks for an access at an address that it says is translated.
+    fn translated(&mut self, event: &Event) -> Answer
+        requires event { IsTranslated event.now }
+        requires count { self.old.hardware.events + 1 < 2 ^ 64 }
+        ensures does { EventDoes event.now result self.old.hardware self.new.hardware }
+        ensures claims { KeepsClaims self.old self.new }
+        ensures counted { self.new.hardware.events ≡ self.old.hardware.events + 1 }
+    {
+        let hardware = &mut self.hardware;
+        match event {
             Event::ReadTranslated {
                 device,
                 address,
@@ -67,6 +80,20 @@ impl Session {
                 AccessKind::Write,
                 bytes.as_slice(),
             )),
+            _ => Answer::NotOfHardware,
+        }
+    }
+
+    /// A device asks for an access through its own cache.
+    fn through_cache(&mut self, event: &Event) -> Answer
+        requires event { IsThroughCache event.now }
+        requires count { self.old.hardware.events + 1 < 2 ^ 64 }
+        ensures does { EventDoes event.now result self.old.hardware self.new.hardware }
+        ensures claims { KeepsClaims self.old self.new }
+        ensures counted { self.new.hardware.events ≡ self.old.hardware.events + 1 }
+    {
+        let hardware = &mut self.hardware;
+        match event {
             Event::ReadThroughCache {
                 device,
                 address,
@@ -148,12 +175,11 @@ impl Session {
         ensures counted { self.new.hardware.events ≤ self.old.hardware.events + 1 }
     {
         match event {
-            Event::Read { .. }
-            | Event::Write { .. }
-            | Event::ReadTranslated { .. }
-            | Event::WriteTranslated { .. }
-            | Event::ReadThroughCache { .. }
-            | Event::WriteThroughCache { .. } => self.access(event),
+            Event::Read { .. } | Event::Write { .. } => self.untranslated(event),
+            Event::ReadTranslated { .. } | Event::WriteTranslated { .. } => self.translated(event),
+            Event::ReadThroughCache { .. } | Event::WriteThroughCache { .. } => {
+                self.through_cache(event)
+            }
             Event::Ask { .. }
             | Event::Forge { .. }
             | Event::Deliver { .. }

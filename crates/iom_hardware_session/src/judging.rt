@@ -1,5 +1,5 @@
 // What is found of a claim, as hardware stands.
-ghost use Rattle.std.specs.Prelude.{◌≡◌, ◌↔◌, true, false, None, IfSome, IsTrue};
+ghost use Rattle.std.specs.Prelude.{◌≡◌, ◌↔◌, ◌<◌, true, false, length, None, IfSome, IsTrue};
 ghost use Rattle.iom_base.specs.declared.access.AccessKind.{AccessKind};
 ghost use Rattle.iom_claims.specs.Claimed.{Claimed};
 ghost use Rattle.iom_claims.specs.Shown.{ShowsClaimed};
@@ -9,12 +9,13 @@ ghost use Rattle.iom_hardware_session.specs.Claiming.{is_made};
 ghost use Rattle.iom_hardware_session.specs.Good.{scene_in, IsCertain, IsNobodys, IsUnused, HasClaimedWaysAlone};
 ghost use Rattle.iom_hardware_session.specs.Lines.{KeepsAll};
 ghost use Rattle.iom_hardware_session.specs.Timely.{IsTimelyMessage};
+ghost use Rattle.iom_hardware_session.specs.Wrong.{IsUntimely, IsUncertain, HardwareUses, DoneIsWrong, HandOffIsWrong, TakeIsWrong, IfWrong};
 ghost use Rattle.iom_ledger.specs.History.{May};
 ghost use Rattle.iom_reach.specs.Laws.{IsOutOfReach};
 ghost use Rattle.iom_reach.specs.Safe.{AreTimely};
 ghost use Rattle.iom_reach.specs.Scene.{Scene};
 ghost use Rattle.iom_reach.specs.Ways.{Way};
-ghost use Rattle.iom_way_survey.specs.Surveys.{Surveys, reaches_in};
+ghost use Rattle.iom_way_survey.specs.Surveys.{Surveys, InventsNone, IsSurveyOf, reaches_in};
 
 use crate::answer::{ClaimAnswer, Wrong};
 use crate::state::Session;
@@ -26,7 +27,8 @@ impl Session {
     /// Looks by which ways each device can reach which frames, as hardware stands. False where memory has more frames than
     /// a survey has places for: none has, and that is asked here, since it isn't carried through every line.
     pub(crate) fn look(&mut self) -> bool
-        ensures looked { IsTrue result → Surveys self.new.survey (scene_in self.new) }
+        ensures looked { IsTrue result → IsSurveyOf self.new.survey (scene_in self.new) }
+        ensures too_large { result ≡ false → 4096 < length self.new.hardware.memory }
         ensures rest { KeepsAll self.old self.new }
     {
         if self.hardware.memory.frames() > MAX_FRAMES {
@@ -80,7 +82,8 @@ impl Session {
     /// Whether no message is of an epoch to come of its device's cache. That is always so: it is asked here, since 64
     /// messages are looked at sooner than it is carried through every line.
     fn is_timely(&self) -> bool
-        ensures { IsTrue result → AreTimely (scene_in self.now) }
+        ensures timely { IsTrue result → AreTimely (scene_in self.now) }
+        ensures untimely { result ≡ false → IsUntimely (hardware_parts self.now.hardware) }
     {
         let messages = self.hardware.messages();
         for place in 0..messages.len() {
@@ -95,8 +98,9 @@ impl Session {
 
     /// Whether anything can be certain: nobody but software writes what hardware reads.
     pub(crate) fn is_certain(&self) -> bool
-        requires { Surveys self.now.survey (scene_in self.now) }
-        ensures { IsTrue result → IsCertain (scene_in self.now) }
+        requires { IsSurveyOf self.now.survey (scene_in self.now) }
+        ensures certain { IsTrue result → IsCertain (scene_in self.now) }
+        ensures uncertain { result ≡ false → IsUncertain self.now.hardware self.now.trusted.items }
     {
         if !self.survey.is_safe() {
             return false;
@@ -107,6 +111,7 @@ impl Session {
     /// Whether hardware reads the frame, or the IOMMU may store a fault record or a fence's word there.
     pub(crate) fn is_used(&self, frame: u32) -> bool
         ensures unused { (scene : Scene) → Surveys self.now.survey scene → result ≡ false → IsUnused scene frame }
+        ensures used { (scene : Scene) → InventsNone self.now.survey scene → IsTrue result → HardwareUses scene frame }
     {
         if self.survey.is_read_by_hardware(u64::from(frame)) {
             return true;
@@ -116,7 +121,8 @@ impl Session {
 
     /// Whether somebody holds the frame, or a claim that withdrew it is open: which, if so.
     pub(crate) fn user_of(&self, frame: u32) -> Option<Wrong>
-        ensures { (c : Claimed) → ShowsClaimed self.now.claims c → result ≡ None → IsNobodys c frame }
+        ensures nobodys { (c : Claimed) → ShowsClaimed self.now.claims c → result ≡ None → IsNobodys c frame }
+        ensures somebodys { (c : Claimed) → ShowsClaimed self.now.claims c → IfSome result (λ why. TakeIsWrong why c frame) }
     {
         if self.claims.holder_of(frame).is_some() {
             return Some(Wrong::Held);
@@ -144,7 +150,7 @@ impl Session {
 
     /// The first device of which the survey has a way to the frame, and the first kind of access by which.
     fn first_way_to(&self, frame: u32) -> Option<(DeviceId, AccessKind)>
-        requires looked { Surveys self.now.survey (scene_in self.now) }
+        requires looked { IsSurveyOf self.now.survey (scene_in self.now) }
         ensures none { result ≡ None → IsOutOfReach (scene_in self.now) frame }
         ensures some { IfSome result (λ way. reaches_in self.now.survey.devices.items way.0 way.1 frame ≡ true) }
     {
@@ -157,15 +163,43 @@ impl Session {
         None
     }
 
+    /// Why it isn't so that the device has no way to the frame but those that are claimed, if it has another.
+    pub(crate) fn left_of_done(&self, device: DeviceId, frame: u32) -> Option<Wrong>
+        requires looked { IsSurveyOf self.now.survey (scene_in self.now) }
+        ensures none { (c : Claimed) → ShowsClaimed self.now.claims c → result ≡ None → HasClaimedWaysAlone (scene_in self.now) c device frame }
+        ensures some { (c : Claimed) → ShowsClaimed self.now.claims c → IfSome result (λ why. DoneIsWrong why self.now.hardware self.now.trusted.items c device frame) }
+    {
+        match self.way_beyond(device, frame) {
+            Some(kind) => Some(Wrong::Reached(device, kind)),
+            None => None,
+        }
+    }
+
+    /// Why it isn't so that no device reaches the frame and hardware doesn't use it, if one does.
+    pub(crate) fn left_of_hand_off(&self, frame: u32) -> Option<Wrong>
+        requires looked { IsSurveyOf self.now.survey (scene_in self.now) }
+        ensures none { result ≡ None → IsOutOfReach (scene_in self.now) frame × IsUnused (scene_in self.now) frame }
+        ensures some { (c : Claimed) → IfSome result (λ why. HandOffIsWrong why self.now.hardware self.now.trusted.items c frame) }
+    {
+        if let Some((device, kind)) = self.first_way_to(frame) {
+            return Some(Wrong::Reached(device, kind));
+        }
+        if self.is_used(frame) {
+            return Some(Wrong::Used);
+        }
+        None
+    }
+
     /// What is found of a claim that no way is left of the device to the frame but those that are claimed.
     pub(crate) fn judge_done(&self, device: DeviceId, frame: u32) -> ClaimAnswer
-        requires looked { Surveys self.now.survey (scene_in self.now) }
+        requires looked { IsSurveyOf self.now.survey (scene_in self.now) }
         ensures good { (c : Claimed) → ShowsClaimed self.now.claims c → result ≡ ClaimAnswer.Good
             → IsCertain (scene_in self.now) × HasClaimedWaysAlone (scene_in self.now) c device frame }
+        ensures wrong { (c : Claimed) → ShowsClaimed self.now.claims c → IfWrong result (λ why. DoneIsWrong why self.now.hardware self.now.trusted.items c device frame) }
         ensures made { is_made result ≡ true }
     {
-        if let Some(kind) = self.way_beyond(device, frame) {
-            return ClaimAnswer::Wrong(Wrong::Reached(device, kind));
+        if let Some(why) = self.left_of_done(device, frame) {
+            return ClaimAnswer::Wrong(why);
         }
         if !self.is_certain() {
             return ClaimAnswer::Wrong(Wrong::Uncertain);
@@ -175,15 +209,13 @@ impl Session {
 
     /// What is found of a claim that nobody uses the frame, which is nobody's.
     pub(crate) fn judge_hand_off(&self, frame: u32) -> ClaimAnswer
-        requires looked { Surveys self.now.survey (scene_in self.now) }
+        requires looked { IsSurveyOf self.now.survey (scene_in self.now) }
         ensures good { result ≡ ClaimAnswer.Good → IsCertain (scene_in self.now) × IsOutOfReach (scene_in self.now) frame × IsUnused (scene_in self.now) frame }
+        ensures wrong { (c : Claimed) → IfWrong result (λ why. HandOffIsWrong why self.now.hardware self.now.trusted.items c frame) }
         ensures made { is_made result ≡ true }
     {
-        if let Some((device, kind)) = self.first_way_to(frame) {
-            return ClaimAnswer::Wrong(Wrong::Reached(device, kind));
-        }
-        if self.is_used(frame) {
-            return ClaimAnswer::Wrong(Wrong::Used);
+        if let Some(why) = self.left_of_hand_off(frame) {
+            return ClaimAnswer::Wrong(why);
         }
         if !self.is_certain() {
             return ClaimAnswer::Wrong(Wrong::Uncertain);

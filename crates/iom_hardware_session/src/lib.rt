@@ -20,7 +20,10 @@ mod ready;
 mod session;
 mod software;
 mod state;
+mod watched;
+mod watching;
 
 pub use answer::{Answer, ClaimAnswer, Found, Wrong};
 pub use session::Stepped;
 pub use state::Session;
+pub use watched::{GoodClaim, Watched};

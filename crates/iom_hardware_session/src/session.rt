@@ -4,14 +4,18 @@ ghost use Rattle.iom_claims.specs.Shown.{ShowsClaimed};
 ghost use Rattle.iom_hardware.specs.PowerOn.{IsHardwareAtPowerOn};
 ghost use Rattle.iom_hardware_session.specs.Claiming.{claimed_after};
 ghost use Rattle.iom_hardware_session.specs.Good.{GoodMeans, scene_in};
-ghost use Rattle.iom_hardware_session.specs.Lines.{Trusts, LineDoes, TrustsBy, IsGoodLine, claimed_by, made_by, IsViolation};
+ghost use Rattle.iom_hardware_session.specs.Watching.{WatchesClaim};
+ghost use Rattle.iom_hardware_session.specs.Wrong.{IfWrong, WrongMeans};
+ghost use Rattle.iom_hardware_session.specs.Lines.{Trusts, LineDoes, TrustsBy, IsGoodLine, IsWrongLine, WatchesStep, WatchesBy, is_of_software, claimed_by, made_by, IsViolation};
 
 use crate::answer::{Answer, ClaimAnswer};
 use crate::state::Session;
+use crate::watched::{Watched, drop_fallen};
 use iom_claims::Claims;
 use iom_hardware::Hardware;
 use iom_hardware_script::{Claim, HardwareLine};
 use iom_inflight::MadeAt;
+use iom_machine::Event;
 use iom_phys_mem::MemError;
 use iom_way_survey::{Conflict, Survey};
 use std::alloc::Global;
@@ -32,6 +36,7 @@ impl Session {
         ensures power_on { IfOk result (λ session. IsHardwareAtPowerOn frames (0 ∷ 1 ∷ 2 ∷ 3 ∷ []) session.hardware) }
         ensures claims { IfOk result (λ session. ShowsClaimed session.claims nothing_claimed) }
         ensures trusted { IfOk result (λ session. session.trusted.items ≡ []) }
+        ensures watched { IfOk result (λ session. session.watched.items ≡ []) }
     {
         let hardware = Hardware::new(alloc, frames, &DISKS)?;
         let Ok(survey) = Survey::new(alloc) else {
@@ -41,6 +46,8 @@ impl Session {
             hardware,
             claims: Claims::new(alloc),
             trusted: Vec::new(alloc),
+            watched: Vec::new(alloc),
+            alloc,
             survey,
         })
     }
@@ -67,6 +74,8 @@ impl Session {
     fn claim(&mut self, claim: Claim) -> ClaimAnswer
         ensures claimed { (c : Claimed) → ShowsClaimed self.old.claims c → ShowsClaimed self.new.claims (claimed_after claim result c) }
         ensures good { (c : Claimed) → ShowsClaimed self.old.claims c → result ≡ ClaimAnswer.Good → GoodMeans claim (scene_in self.new) c (claimed_after claim result c) }
+        ensures wrong { (c : Claimed) → ShowsClaimed self.old.claims c → IfWrong result (λ why. WrongMeans claim why self.new.hardware self.new.trusted.items c (claimed_after claim result c)) }
+        ensures watched { (c : Claimed) → ShowsClaimed self.old.claims c → WatchesClaim claim result c self.old.watched.items self.new.watched.items }
         ensures trusts { Trusts claim result self.old.trusted.items self.new.trusted.items }
         ensures hardware { self.new.hardware ≡ self.old.hardware }
     {
@@ -110,6 +119,8 @@ impl Session {
         ensures claimed { (c : Claimed) → ShowsClaimed self.old.claims c → ShowsClaimed self.new.claims (claimed_by line.now result c) }
         ensures trusted { TrustsBy line.now result self.old.trusted.items self.new.trusted.items }
         ensures good { (c : Claimed) → ShowsClaimed self.old.claims c → IsGoodLine line.now result (scene_in self.new) c }
+        ensures wrong { (c : Claimed) → ShowsClaimed self.old.claims c → IsWrongLine line.now result self.new.hardware self.new.trusted.items c }
+        ensures watched { (c : Claimed) → ShowsClaimed self.old.claims c → WatchesStep line.now result c self.old.watched.items self.new.watched.items }
         ensures counted { self.new.hardware.events ≤ self.old.hardware.events + 1 }
     {
         match line {
@@ -125,18 +136,44 @@ impl Session {
         }
     }
 
-    /// What comes of a line, and whether it made an access that nothing claimed allows.
+    /// What comes of a line, and whether it made an access that nothing claimed allows. Claims that were good are judged
+    /// again where software changes hardware: [`Session::watched`] tells what is found of them.
     pub fn line(&mut self, line: &HardwareLine) -> Stepped
         requires count { self.old.hardware.events + 1 < 2 ^ 64 }
         ensures does { LineDoes line.now result.answer self.old.hardware self.new.hardware }
         ensures claimed { (c : Claimed) → ShowsClaimed self.old.claims c → ShowsClaimed self.new.claims (claimed_by line.now result.answer c) }
         ensures trusted { TrustsBy line.now result.answer self.old.trusted.items self.new.trusted.items }
         ensures good { (c : Claimed) → ShowsClaimed self.old.claims c → IsGoodLine line.now result.answer (scene_in self.new) c }
+        ensures wrong { (c : Claimed) → ShowsClaimed self.old.claims c → IsWrongLine line.now result.answer self.new.hardware self.new.trusted.items c }
+        ensures watched { (c : Claimed) → ShowsClaimed self.old.claims c → WatchesBy line.now result.answer c self.old self.new }
         ensures violated { (c : Claimed) → ShowsClaimed self.old.claims c → IsTrue result.violated ↔ IsViolation c (made_by result.answer) }
         ensures counted { self.new.hardware.events ≤ self.old.hardware.events + 1 }
     {
+        drop_fallen(&mut self.watched);
         let answer = self.answer(line);
         let violated = self.is_violated(&answer);
+        if is_of_software(line) {
+            self.judge_again();
+        }
         Stepped { answer, violated }
     }
+
+    /// The claims that were good, in their order, each about something else. Behind a line of software they were judged
+    /// again, and one that isn't good any more says why; it is forgotten at the next line.
+    pub fn watched(&self) -> &[Watched]
+        ensures { result.now ≡ self.now.watched.items }
+    {
+        &self.watched
+    }
+}
+
+/// Whether software changes hardware by the line, or plugs a device in.
+fn is_of_software(line: &HardwareLine) -> bool
+    ensures { result ≡ is_of_software line.now }
+{
+    matches!(
+        line,
+        HardwareLine::Event(Event::Poke { .. } | Event::Plug { .. })
+            | HardwareLine::RegisterWrite { .. }
+    )
 }

@@ -2,10 +2,12 @@ ghost use Rattle.iom_hardware.specs.HardwareParts.{hardware_parts};
 ghost use Rattle.iom_hardware.specs.Sound.{IsSoundHardware};
 ghost use Rattle.iom_hardware.specs.SoundIsFact.{sound_prop};
 
+use crate::watched::Watched;
 use iom_base::DeviceId;
 use iom_claims::Claims;
 use iom_hardware::Hardware;
 use iom_way_survey::Survey;
+use std::alloc::Global;
 
 /// Hardware under somebody's driver, and what the driver claims.
 #[derive(Drop)]
@@ -14,6 +16,9 @@ pub struct Session {
     pub(crate) claims: Claims,
     /// The devices that software trusts with all memory.
     pub(crate) trusted: Vec<DeviceId>,
+    /// The claims that were good, each about something else, with what is found of them since the last line.
+    pub(crate) watched: Vec<Watched>,
+    pub(crate) alloc: Global,
     /// Where the ways are looked for.
     pub(crate) survey: Survey,
     ghost sound: { IsSoundHardware (hardware_parts hardware) hardware.events } by { sound_prop (hardware_parts hardware) hardware.events },

@@ -104,7 +104,7 @@ none_back (first.Tables size root) (second.Tables size' root') context is = absu
 -- DEVICES
 
 -- where a device stands, one with its id is found
-found_with : (devices : List Device) (k : ℕ) (device : Device) → slice_get devices k ≡ Some device → (own : Device) × (device_with devices device.id ≡ Some own)
+pub found_with : (devices : List Device) (k : ℕ) (device : Device) → slice_get devices k ≡ Some device → (own : Device) × (device_with devices device.id ≡ Some own)
 found_with [] k device at = absurd (none_is_some device at)
 found_with (first ∷ others) zero device at =
     let same : Some first ≡ Some device = at in
@@ -138,7 +138,7 @@ module _ (trusted : ℕ → Bool) (parts : HardwareParts) where
   abbrev S : Scene
   S = scene_of trusted parts
 
-  has : (id : ℕ) (device : Device) → device_with parts.devices id ≡ Some device → HasDevice S id
+  pub has : (id : ℕ) (device : Device) → device_with parts.devices id ≡ Some device → HasDevice S id
   has id device at = (ats_kind device.kind, ap (λ (found : Option Device). option_map ats_kind (option_map (λ (d : Device). d.kind) found)) at)
 
   kind_is : (id : ℕ) (device : Device) (own : DeviceKind) → device_with parts.devices id ≡ Some device → device.kind ≡ own → S.kind_of id ≡ Some (ats_kind own)

@@ -9,3 +9,4 @@ pub mod RowLemmas
 pub mod SafeLemmas
 pub mod PathLemmas
 pub mod LookLemmas
+pub mod SoleLemmas

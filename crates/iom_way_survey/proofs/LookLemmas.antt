@@ -29,7 +29,7 @@ use Rattle.iom_way_survey.proofs.WayLemmas.{way_of, plugged, device_place, none_
 -- ROWS
 
 -- in lists of one length something stands at the same place
-same_place : {X Y : Type 0} (xs : List X) (ys : List Y) (k : ℕ) (x : X) → length xs ≡ length ys → slice_get xs k ≡ Some x → (y : Y) × (slice_get ys k ≡ Some y)
+pub same_place : {X Y : Type 0} (xs : List X) (ys : List Y) (k : ℕ) (x : X) → length xs ≡ length ys → slice_get xs k ≡ Some x → (y : Y) × (slice_get ys k ≡ Some y)
 same_place [] ys k x long at = absurd (none_is_some x at)
 same_place (a ∷ xs) [] k x long at = absurd (omega (arith, long))
 same_place (a ∷ xs) (b ∷ ys) zero x long at = (b, refl)

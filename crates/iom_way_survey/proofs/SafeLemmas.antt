@@ -1,5 +1,5 @@
 -- Where nobody writes what hardware reads, a scene that is surveyed is safe.
-use Rattle.std.proofs.Common.{◌≡◌, ◌∙◌, inl, inr, ℕ, suc, Bool, true, false, List, [], ◌∷◌, slice_get, Option, None, Some, refl, sym, ap}
+use Rattle.std.proofs.Common.{◌≡◌, ◌∙◌, inl, inr, ℕ, suc, Bool, true, false, List, [], ◌∷◌, slice_get, Option, None, Some, subst, refl, sym, ap}
 use Rattle.std.specs.Prelude.{IfSome, IfNone, is_some, not}
 use Rattle.std.proofs.lemmas.Bool.{false≢true}
 use Rattle.std.proofs.lemmas.Bool.Decides.{eqb_tells}
@@ -9,7 +9,7 @@ use Rattle.iom_reach.specs.Safe.{IsSafe}
 use Rattle.iom_reach.specs.Scene.{Scene}
 use Rattle.iom_table_survey.specs.Reaches.{frames_by}
 use Rattle.iom_table_survey.specs.Rows.{has}
-use Rattle.iom_way_survey.specs.Surveys.{reaches_in, Surveys, AreApart, IsConflict}
+use Rattle.iom_way_survey.specs.Surveys.{reaches_in, Surveys, InventsNone, IsSurveyOf, IsReachedAs, IsClash, WritesCommon, AreApart, IsConflict}
 use Rattle.iom_way_survey.specs.declared.findings.Conflict.{Conflict}
 use Rattle.iom_way_survey.specs.declared.findings.DeviceReach.{DeviceReach}
 use Rattle.iom_way_survey.specs.declared.findings.Survey.{Survey}
@@ -42,3 +42,23 @@ pub some_conflicts : (survey : Survey) (found : Option Conflict) (none : Bool) �
 some_conflicts survey (Some one) none conflict is found = (one, conflict)
 some_conflicts survey None true conflict is found = absurd (false≢true (sym found))
 some_conflicts survey None false conflict is found = absurd (false≢true is)
+
+-- where one was, and the survey has what is there, somebody who isn't software writes what hardware reads
+clash_by : (survey : Survey) (scene : Scene) (by_whom : Option ℕ) (frame : ℕ) → IsSurveyOf survey scene → WritesCommon survey by_whom frame → IsClash scene
+clash_by survey scene None frame (surveys, invents) (read, stored) =
+    let (other, is, same) = invents.stored frame stored in (frame, invents.read frame read, (other, inr is, same))
+clash_by survey scene (Some id) frame (surveys, invents) (k, row, at, (named, (untrusted, (read, reached)))) =
+    let (other, way, same) = invents.reached k row frame Write at reached in
+    (frame, invents.read frame read, (other, inl (row.id, sym (surveys.trusted k row at) ∙ untrusted, way), same))
+
+pub some_clash : (survey : Survey) (found : Option Conflict) (none : Bool) → IfSome found (IsConflict survey) → is_some found ≡ not none
+    → none ≡ false → (scene : Scene) → IsSurveyOf survey scene → IsClash scene
+some_clash survey found none conflict is no_one scene of =
+    let (one, is_one) = some_conflicts survey found none conflict is no_one in clash_by survey scene one.device one.frame of is_one
+
+-- what the survey has of a device is one of its ways
+pub reached_is_way : (survey : Survey) (scene : Scene) (id frame : ℕ) (kind : AccessKind) → InventsNone survey scene → reaches_in survey.devices.items id kind frame ≡ true
+    → IsReachedAs scene id frame kind
+reached_is_way survey scene id frame kind invents is =
+    let (k, row, at, (same, reached)) = row_of survey.devices.items id kind frame is in
+    subst (λ (n : ℕ). IsReachedAs scene n frame kind) same (invents.reached k row frame kind at reached)

@@ -6,7 +6,7 @@ ghost use Rattle.iom_reach.specs.Safe.{IsSafe};
 ghost use Rattle.iom_reach.specs.Scene.{Scene};
 ghost use Rattle.iom_table_survey.specs.Rows.{has, Adds, IsCommon};
 ghost use Rattle.iom_way_survey.specs.Found.{TablesOfDevice, SomeTable};
-ghost use Rattle.iom_way_survey.specs.Surveys.{is_among, IsRowOf, reaches_in, Surveys, AreRowsOf, AreApart, IsConflict};
+ghost use Rattle.iom_way_survey.specs.Surveys.{is_among, IsRowOf, reaches_in, Surveys, IsSurveyOf, IsClash, AreRowsOf, AreApart, IsConflict};
 ghost use Rattle.iom_way_survey.specs.declared.findings.Conflict.{Conflict};
 ghost use Rattle.iom_way_survey.specs.declared.findings.DeviceReach.{DeviceReach};
 
@@ -148,6 +148,7 @@ impl Survey {
     pub fn is_safe(&self) -> bool
         ensures safe { result ≡ true → (scene : Scene) → Surveys self.now scene → IsSafe scene }
         ensures conflict { result ≡ false → (one : Conflict) × IsConflict self.now one }
+        ensures clash { result ≡ false → (scene : Scene) → IsSurveyOf self.now scene → IsClash scene }
     {
         self.first_conflict().is_none()
     }

@@ -1,4 +1,4 @@
-use Rattle.iom_hardware_session.proofs.GoodLemmas.{done_stays, handed_off_stays}
+use Rattle.iom_hardware_session.proofs.GoodLemmas.{done_stays, handed_off_stays, good_again_holds}
 use Rattle.iom_hardware_session.proofs.laws.good_law.Goals as goal
 
 pub returns-clause-done : goal.returns-clause-done
@@ -6,3 +6,6 @@ returns-clause-done c = done_stays c.ways_law.ensures.claims
 
 pub returns-clause-handed_off : goal.returns-clause-handed_off
 returns-clause-handed_off c = handed_off_stays c.ways_law.ensures.free
+
+pub returns-clause-again : goal.returns-clause-again
+returns-clause-again c = good_again_holds c.ways_law.ensures.claims c.ways_law.ensures.free

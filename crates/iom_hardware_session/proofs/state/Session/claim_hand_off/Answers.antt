@@ -1,14 +1,19 @@
 use Rattle.std.proofs.Common.{ℕ, subst}
 use Rattle.iom_hardware_session.specs.Good.{scene_in, IsNobodys, IsUnused}
 use Rattle.iom_reach.specs.Laws.{IsOutOfReach}
+use Rattle.iom_hardware_session.proofs.DoneLemmas.{hand_off_wrong}
 use Rattle.iom_hardware_session.proofs.state.Session.claim_hand_off.Goals as goal
 
 pub returns-clause-good : goal.returns-clause-good
 returns-clause-good c = λ claimed shows is.
     let scene = scene_in c.look.new.self in
-    let (certain, reach, unused) = c.judge_hand_off.ensures.good is in (
+    let (certain, reach, unused) = c.judge_hand_off-found.ensures.good is in (
       certain,
-      subst (λ (f : ℕ). IsNobodys claimed f) c.in-Ok.ensures.0 (c.user_of-user.ensures claimed shows c.in_default-user.is),
+      subst (λ (f : ℕ). IsNobodys claimed f) c.in-Ok.ensures.0 (c.user_of-user.ensures.nobodys claimed shows c.in_default-user.is),
       subst (λ (f : ℕ). IsOutOfReach scene f) c.in-Ok.ensures.0 reach,
       subst (λ (f : ℕ). IsUnused scene f) c.in-Ok.ensures.0 unused,
     )
+
+pub returns-clause-wrong : goal.returns-clause-wrong
+returns-clause-wrong c = λ claimed shows.
+    hand_off_wrong c.look.new.self.hardware c.look.new.self.trusted.items claimed c.in-Ok.number c.args.frame c.judge_hand_off-found.result c.in-Ok.ensures.0 c.judge_hand_off-found.ensures.made (c.judge_hand_off-found.ensures.wrong claimed)

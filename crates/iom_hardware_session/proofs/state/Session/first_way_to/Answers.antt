@@ -27,6 +27,6 @@ loop-place-preserved c = λ k own kind less there way.
     elim (eqb_tells k c.loop-place.place) [
       | inl same ↦
           let is : own ≡ c.index.result.now = one_there devices.items k c.loop-place.place own c.index.result.now same.1 there at in
-          c.way_to.ensures.none (scene_in session) c.requires.looked c.in_default.is kind (subst (λ (d : Device). Way (scene_in session) d.id c.args.frame kind) is way)
+          c.way_to.ensures.none (scene_in session) c.requires.looked.0 c.in_default.is kind (subst (λ (d : Device). Way (scene_in session) d.id c.args.frame kind) is way)
       | inr apart ↦ c.loop-place.invariant k own kind (omega (arith, less, apart.1)) there way
     ]

@@ -6,10 +6,11 @@ use Rattle.iom_table_survey.specs.Rows.{Adds}
 use Rattle.iom_way_survey.specs.Queues.{IsFrameAmong, IsWordAmong, IsOfFaults}
 use Rattle.iom_way_survey.specs.Surveys.{is_among}
 use Rattle.iom_way_survey.proofs.LookLemmas.{ways_reached, rows_trust, all_read, all_stored}
+use Rattle.iom_way_survey.proofs.SoleLemmas.{rows_back, read_back, stored_back}
 use Rattle.iom_way_survey.proofs.findings.Survey.look.Goals as goal
 
-pub returns : goal.returns
-returns c =
+pub returns-clause-missed : goal.returns-clause-missed
+returns-clause-missed c =
     let hardware = c.args.hardware.now in
     let parts = hardware_parts hardware in
     let trusted = c.args.trusted.now in
@@ -24,4 +25,21 @@ returns c =
           c.survey_devices.ensures.tables c.survey_directory.ensures frames;
       stored = all_stored (is_among trusted) parts c.clear-3.new.self c.survey_queue.new.stored c.survey_faults.new.stored words faults;
       trusted = rows_trust parts trusted rows c.survey_devices.ensures.rows;
+    }
+
+pub returns-clause-invented : goal.returns-clause-invented
+returns-clause-invented c =
+    let hardware = c.args.hardware.now in
+    let parts = hardware_parts hardware in
+    let trusted = c.args.trusted.now in
+    let rows = c.survey_devices.new.rows.items in
+    let here = c.registers-registers.ensures in
+    let frames = subst (λ (r : Registers). Adds c.survey_directory.new.read c.survey_queue.new.read (IsFrameAmong (waiting_places r))) here c.survey_queue.ensures.frames in
+    let words = subst (λ (r : Registers). Adds c.clear-3.new.self c.survey_queue.new.stored (IsWordAmong hardware.memory (waiting_places r))) here c.survey_queue.ensures.words in
+    let faults = subst (λ (r : Registers). Adds c.survey_queue.new.stored c.survey_faults.new.stored (IsOfFaults r)) here c.survey_faults.ensures in
+    record {
+      reached = rows_back parts trusted rows c.requires.sound.own_ids c.survey_devices.ensures.rows;
+      read = read_back (is_among trusted) parts c.clear-2.new.self c.survey_devices.new.read c.survey_directory.new.read c.survey_queue.new.read
+          c.clear-2.ensures c.survey_devices.ensures.tables c.survey_directory.ensures frames;
+      stored = stored_back (is_among trusted) parts c.clear-3.new.self c.survey_queue.new.stored c.survey_faults.new.stored c.clear-3.ensures words faults;
     }
