@@ -1,8 +1,8 @@
 // One line after another, each with its answer.
 ghost use Rattle.std.specs.Prelude.{◌≡◌, ◌+◌, ◌<◌, ◌^◌, ◌≤◌};
 
-use crate::telling::put_answer;
 use crate::fallen::fallen;
+use crate::telling::put_answer;
 use crate::words::{violation, why};
 use iom_base::{AccessKind, DeviceId, PAGE_SIZE};
 use iom_chronicle::{Chronicle, Entrance, Origin};

@@ -89,10 +89,10 @@ range_has (suc n) from i least low = elim (eqb_tells from i) [
 ]
   where
     further : (a b : ℕ) → a ≤ b → (a ≡ b → ⊥) → a + 1 ≤ b
-    further a b less differ = elim (cases a b) [ | inl lower ↦ omega (arith, lower) | inr higher ↦ absurd (differ (omega (arith, less, higher))) ]
+    further a b less differ = elim (cases a b) [ inl lower ↦ omega (arith, lower) | inr higher ↦ absurd (differ (omega (arith, less, higher))) ]
       where
         cases : (a b : ℕ) → (a < b) ⊎ (b ≤ a)
-        cases a b = elim (leb_tells b a) [ | inl is ↦ inr is.1 | inr is ↦ inl is.1 ]
+        cases a b = elim (leb_tells b a) [ inl is ↦ inr is.1 | inr is ↦ inl is.1 ]
 
 record_there : (ppn entries frame : ℕ) → (ppn * 4096) / 4096 ≤ frame → frame ≤ (ppn * 4096 + 32 * (entries - 1)) / 4096 → 0 < entries
     → (index : ℕ) × ((index < entries) × ((ppn * 4096 + 32 * index) / 4096 ≡ frame))
