@@ -24,7 +24,7 @@ struct hw {
 	char answer[16384]; /* of the last line, without its line feed */
 };
 
-static inline void hw_fail(const char *why, const char *what)
+_Noreturn static inline void hw_fail(const char *why, const char *what)
 {
 	fprintf(stderr, "vizkrun_hw: %s: %s\n", why, what);
 	exit(4);
@@ -48,7 +48,6 @@ __attribute__((format(printf, 2, 3))) static inline const char *hw_say(struct hw
 			fputs(hw->answer, hw->steps);
 	}
 	hw_fail("the program gives no answer", format);
-	return NULL;
 }
 
 /* Starts the program, with a memory of so many frames. The session goes to the file `log`, where that isn't NULL. */
