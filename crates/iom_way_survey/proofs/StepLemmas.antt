@@ -1,5 +1,5 @@
 -- Steps of loops over lists.
-use Rattle.std.proofs.Common.{◌≡◌, ◌⊎◌, ◌∙◌, inl, inr, ℕ, zero, suc, ◌+◌, ◌<◌, ◌≤◌, List, [], ◌∷◌, ◌++◌, length, get_or, slice_get, true, Option, Some, subst, refl, sym, ap, arith}
+use Rattle.std.proofs.Common.{◌≡◌, ◌⊎◌, ◌∙◌, inl, inr, ℕ, zero, suc, ◌+◌, ◌<◌, ◌≤◌, List, [], ◌∷◌, ◌++◌, length, get_or, slice_get, true, Option, None, Some, subst, refl, sym, ap, arith}
 use Rattle.std.specs.Prelude.{IfSome}
 use Rattle.std.proofs.lemmas.Bool.{cases_lt}
 use Rattle.iom_base.specs.declared.access.AccessKind.{AccessKind}
@@ -9,9 +9,10 @@ use Rattle.iom_tlb.specs.Places.{StandsAt, IsCached, HavePlaces}
 use Rattle.iom_tlb.specs.Ways.{Ways}
 use Rattle.iom_tlb.specs.declared.cached_page.CachedPage.{CachedPage}
 use Rattle.iom_tlb.specs.declared.space.Space.{Space}
-use Rattle.iom_way_survey.specs.Found.{ServesIn, IsCachedIn}
+use Rattle.iom_device_dir.specs.declared.context.Context.{Context as DeviceContext}
+use Rattle.iom_way_survey.specs.Found.{ServesIn, IsCachedIn, IsBeside}
 use Rattle.iom_table_survey.specs.declared.reach.Reach.{Reach}
-use Rattle.iom_table_survey.proofs.AddLemmas.{adds_same, reach_same}
+use Rattle.iom_table_survey.proofs.AddLemmas.{adds_same, adds_then, reach_same}
 
 -- what is read at an index
 pub at_get : {X : Type 0} (xs : List X) (k : ℕ) (x : X) → k < length xs → x ≡ get_or xs k x → slice_get xs k ≡ Some x
@@ -95,3 +96,26 @@ between_all old new sets own places between kind = record {
   added = λ f (cached, is, serves). let (k, low, stands) = places cached is in between.added kind f (k, low, (cached, stands, serves));
   sole = between.sole kind;
 }
+
+-- THE CACHED CONTEXT, AND THE STORED ONE BESIDE IT
+
+-- where both are the same one of them is enough, and what was found before has it
+pub beside_adds : (P : Option DeviceContext → ℕ → Type 0) (Before : ℕ → Type 0) (cached stored beside : Option DeviceContext) (old between new : List ℕ) → ((f : ℕ) → P None f → ⊥)
+    → ((f : ℕ) → P cached f → Before f) → IsBeside cached stored beside → Adds old between Before → Adds between new (P beside) → Adds old new (λ f. Before f ⊎ P stored f)
+beside_adds P Before cached stored beside old between new none has_it (inl same) first second = adds_then old between new Before (P stored) first (subst (λ o. Adds between new (P o)) same second)
+beside_adds P Before cached stored beside old between new none has_it (inr (nothing, same)) first second =
+    adds_same old new (λ f. Before f ⊎ P beside f) (λ f. Before f ⊎ P stored f) (adds_then old between new Before (P beside) first second) to from
+  where
+    to : (f : ℕ) → Before f ⊎ P stored f → Before f ⊎ P beside f
+    to f (inl it) = inl it
+    to f (inr it) = inl (has_it f (subst (λ o. P o f) same it))
+
+    from : (f : ℕ) → Before f ⊎ P beside f → Before f ⊎ P stored f
+    from f (inl it) = inl it
+    from f (inr it) = absurd (none f (subst (λ o. P o f) nothing it))
+
+pub beside_reaches : (P : Option DeviceContext → AccessKind → ℕ → Type 0) (Before : AccessKind → ℕ → Type 0) (cached stored beside : Option DeviceContext) (old between new : Reach)
+    → ((kind : AccessKind) (f : ℕ) → P None kind f → ⊥) → ((kind : AccessKind) (f : ℕ) → P cached kind f → Before kind f) → IsBeside cached stored beside
+    → AddsReach old between Before → AddsReach between new (P beside) → AddsReach old new (λ kind f. Before kind f ⊎ P stored kind f)
+beside_reaches P Before cached stored beside old between new none has_it is first second =
+    λ kind. beside_adds (λ o. P o kind) (Before kind) cached stored beside (frames_by old kind) (frames_by between kind) (frames_by new kind) (none kind) (has_it kind) is (first kind) (second kind)

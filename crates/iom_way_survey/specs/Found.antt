@@ -64,6 +64,10 @@ stored_found parts id = found_of (located_by_mode (mode_in parts) parts.memory (
 abbrev pub Finds : HardwareParts → ℕ → DeviceContext → Type 0
 Finds parts id context = (cached_found parts id ≡ Some context) ⊎ (stored_found parts id ≡ Some context)
 
+-- what is looked at beside the cached context: the stored one, or nothing where that is the same
+abbrev pub IsBeside : Option DeviceContext → Option DeviceContext → Option DeviceContext → Type 0
+IsBeside cached stored beside = (beside ≡ stored) ⊎ ((beside ≡ None) × (stored ≡ cached))
+
 -- the address space of its stages
 abbrev pub space_in : DeviceContext → Option Space
 space_in context = space_through context.first_stage context.second_stage context

@@ -4,8 +4,9 @@ ghost use Rattle.iom_hardware.specs.HardwareParts.{hardware_parts};
 ghost use Rattle.iom_iommu.specs.Stages.{space_through};
 ghost use Rattle.iom_table_survey.specs.Reaches.{AddsReach};
 ghost use Rattle.iom_table_survey.specs.Rows.{Adds};
-ghost use Rattle.iom_way_survey.specs.Found.{has_directory, cached_found, stored_found, found_of, space_in, HaveTable, HaveLeaf, FoundTable, FoundLeaf};
+ghost use Rattle.iom_way_survey.specs.Found.{has_directory, cached_found, stored_found, found_of, space_in, HaveTable, HaveLeaf, FoundTable, FoundLeaf, IsBeside};
 
+use crate::same::is_same;
 use iom_base::{Cause, DeviceId};
 use iom_device::Device;
 use iom_device_dir::{Context, FirstStage, SecondStage, fits_directory, locate};
@@ -72,6 +73,21 @@ pub(crate) fn stored_in(hardware: &Hardware, id: DeviceId) -> Option<Context>
         ppn: registers.directory_root(),
     };
     located(locate(&hardware.memory, pointer, id))
+}
+
+/// The context that the directory has for the device, where it isn't the one that is cached: that one is looked at anyway.
+pub(crate) fn stored_beside(
+    hardware: &Hardware,
+    id: DeviceId,
+    cached: Option<Context>,
+) -> Option<Context>
+    ensures { IsBeside cached (stored_found (hardware_parts hardware.now) id) result }
+{
+    let stored = stored_in(hardware, id);
+    if is_same(stored, cached) {
+        return None;
+    }
+    stored
 }
 
 /// The address space that the stages of the context translate. None where both are Bare.

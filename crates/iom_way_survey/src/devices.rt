@@ -9,7 +9,7 @@ ghost use Rattle.iom_table_survey.specs.Reaches.{AddsReach};
 ghost use Rattle.iom_table_survey.specs.Rows.{Adds};
 ghost use Rattle.iom_way_survey.specs.Found.{ByAts, ThroughSpace, TablesThrough, TablesFound, ThroughFound, TablesOfDevice, IsMade, IsInFlight, WayOf};
 
-use crate::contexts::{cached_in, space_of, stored_in};
+use crate::contexts::{cached_in, space_of, stored_beside};
 use crate::kept::survey_ats;
 use crate::spaces::survey_space;
 use iom_base::MAX_IN_FLIGHT;
@@ -111,6 +111,6 @@ pub(crate) fn survey_device(
     survey_bare(hardware.iommu.registers().directory_mode(), reach);
     let cached = cached_in(hardware, device.id);
     survey_through(hardware, device, cached, tables, reach);
-    let stored = stored_in(hardware, device.id);
-    survey_through(hardware, device, stored, tables, reach);
+    let beside = stored_beside(hardware, device.id, cached);
+    survey_through(hardware, device, beside, tables, reach);
 }

@@ -17,6 +17,7 @@ mod kept;
 pub mod laws;
 mod looking;
 mod queues;
+mod same;
 mod spaces;
 mod survey;
 

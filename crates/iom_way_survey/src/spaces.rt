@@ -7,7 +7,7 @@ ghost use Rattle.iom_table_survey.specs.Rows.{Adds};
 ghost use Rattle.iom_way_survey.specs.Found.{FoundTable, FoundLeaf, DeviceTable, DeviceLeaf, SpaceTable, SpaceLeaf, ServesIn, IsCachedIn, InSpace};
 ghost use Rattle.iom_tlb.specs.declared.cached_page.CachedPage.{CachedPage};
 
-use crate::contexts::{cached_in, device_at, stored_in, survey_found};
+use crate::contexts::{cached_in, device_at, stored_beside, survey_found};
 use iom_base::DeviceId;
 use iom_hardware::Hardware;
 use iom_table_survey::{FrameRow, Reach};
@@ -46,20 +46,10 @@ fn survey_contexts(
     ensures tables { Adds tables.old tables.new (DeviceTable (hardware_parts hardware.now) space id) }
     ensures leaves { AddsReach reach.old reach.new (DeviceLeaf (hardware_parts hardware.now) space id) }
 {
-    survey_found(
-        &hardware.memory,
-        cached_in(hardware, id),
-        space,
-        tables,
-        reach,
-    );
-    survey_found(
-        &hardware.memory,
-        stored_in(hardware, id),
-        space,
-        tables,
-        reach,
-    );
+    let cached = cached_in(hardware, id);
+    survey_found(&hardware.memory, cached, space, tables, reach);
+    let beside = stored_beside(hardware, id, cached);
+    survey_found(&hardware.memory, beside, space, tables, reach);
 }
 
 /// The same of each device.

@@ -1,12 +1,14 @@
-use Rattle.std.proofs.Common.{◌≡◌, ◌⊎◌, ◌∙◌, subst, ap}
+use Rattle.std.proofs.Common.{◌≡◌, ◌⊎◌, ◌∙◌, inr, Option, subst, ap}
+use Rattle.iom_device_dir.specs.declared.context.Context.{Context as DeviceContext}
 use Rattle.iom_hardware.specs.HardwareParts.{hardware_parts}
 use Rattle.iom_registers.specs.Queues.{directory_mode}
 use Rattle.iom_registers.specs.declared.directory.DirectoryMode.{DirectoryMode}
 use Rattle.iom_registers.specs.declared.directory.DirectoryMode.TheVariants.{Bare}
 use Rattle.iom_table_survey.specs.Reaches.{AddsReach}
 use Rattle.iom_table_survey.specs.Rows.{Adds}
-use Rattle.iom_table_survey.proofs.AddLemmas.{adds_then, reach_then}
-use Rattle.iom_way_survey.specs.Found.{cached_found, stored_found, ThroughFound, TablesFound, IsInFlight, IsModeBare}
+use Rattle.iom_table_survey.proofs.AddLemmas.{reach_then}
+use Rattle.iom_way_survey.specs.Found.{cached_found, stored_found, ThroughFound, TablesFound, IsInFlight, IsModeBare, IsBeside}
+use Rattle.iom_way_survey.proofs.StepLemmas.{beside_adds, beside_reaches}
 use Rattle.iom_way_survey.proofs.devices.survey_device.Goals as goal
 
 pub returns : goal.returns
@@ -18,15 +20,19 @@ returns c =
     let two = c.survey_bare.new.reach in
     let three = c.survey_through.new.reach in
     let four = c.survey_through-2.new.reach in
+    let cached : Option DeviceContext = cached_found parts device.id in
+    let stored : Option DeviceContext = stored_found parts device.id in
+    let beside : Option DeviceContext = c.stored_beside-beside.result in
+    let is : IsBeside cached stored beside = subst (λ o. IsBeside o stored beside) c.cached_in-cached.ensures c.stored_beside-beside.ensures in
     record {
-      tables = adds_then c.args.tables.now c.survey_through.new.tables c.survey_through-2.new.tables (TablesFound parts (cached_found parts device.id)) (TablesFound parts (stored_found parts device.id))
-          (subst (λ o. Adds c.args.tables.now c.survey_through.new.tables (TablesFound parts o)) c.cached_in-cached.ensures c.survey_through.ensures.tables)
-          (subst (λ o. Adds c.survey_through.new.tables c.survey_through-2.new.tables (TablesFound parts o)) c.stored_in-stored.ensures c.survey_through-2.ensures.tables);
-      reached = reach_then start three four (λ kind f. (IsInFlight parts device.id kind f ⊎ IsModeBare parts) ⊎ ThroughFound parts device (cached_found parts device.id) kind f)
-          (ThroughFound parts device (stored_found parts device.id))
-          (reach_then start two three (λ kind f. IsInFlight parts device.id kind f ⊎ IsModeBare parts) (ThroughFound parts device (cached_found parts device.id))
+      tables = beside_adds (TablesFound parts) (TablesFound parts cached) cached stored beside c.args.tables.now c.survey_through.new.tables c.survey_through-2.new.tables (λ f never. never)
+          (λ f it. it) is (subst (λ o. Adds c.args.tables.now c.survey_through.new.tables (TablesFound parts o)) c.cached_in-cached.ensures c.survey_through.ensures.tables)
+          c.survey_through-2.ensures.tables;
+      reached = beside_reaches (ThroughFound parts device) (λ kind f. (IsInFlight parts device.id kind f ⊎ IsModeBare parts) ⊎ ThroughFound parts device cached kind f) cached stored beside start three four
+          (λ kind f never. never) (λ kind f it. inr it) is
+          (reach_then start two three (λ kind f. IsInFlight parts device.id kind f ⊎ IsModeBare parts) (ThroughFound parts device cached)
           (reach_then start one two (IsInFlight parts device.id) (λ kind f. IsModeBare parts) c.survey_flights.ensures
           (subst (λ (m : DirectoryMode). AddsReach one two (λ kind f. m ≡ Bare)) (c.directory_mode.ensures ∙ ap directory_mode c.registers.ensures) c.survey_bare.ensures))
           (subst (λ o. AddsReach two three (ThroughFound parts device o)) c.cached_in-cached.ensures c.survey_through.ensures.reached))
-          (subst (λ o. AddsReach three four (ThroughFound parts device o)) c.stored_in-stored.ensures c.survey_through-2.ensures.reached);
+          c.survey_through-2.ensures.reached;
     }
