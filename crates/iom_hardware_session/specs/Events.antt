@@ -35,9 +35,9 @@ call_of (Reset device) (answered.Reset answer) = Some (call.Reset device answer)
 call_of event answer = None
 
 -- the call does this, and leaves the disks at hand
-abbrev pub Does : Option HardwareCall → Hardware → Hardware → Type 0
-Does None old new = ⊥
-Does (Some call) old new = CallDoes call (hardware_parts old) (hardware_parts new) × (disks_at_hand new ≡ disks_at_hand old)
+abbrev pub CallOrNothing : Option HardwareCall → Hardware → Hardware → Type 0
+CallOrNothing None old new = ⊥
+CallOrNothing (Some call) old new = CallDoes call (hardware_parts old) (hardware_parts new) × (disks_at_hand new ≡ disks_at_hand old)
 
 -- all stays
 abbrev pub Stays : Hardware → Hardware → Type 0
@@ -58,7 +58,7 @@ EventDoes (Plug device what) (answered.Plugged answer) old new =
     Plugs (disks_at_hand old) (hardware_parts old) device what answer (hardware_parts new) (disks_at_hand new)
 EventDoes (Poke address bytes) (answered.Stored answer) old new = Stores old.memory address bytes answer new.memory × MemoryChanges old new
 EventDoes (Peek address len) (answered.Loaded answer) old new = Loads old.memory address len answer × Stays old new
-EventDoes event answer old new = Does (call_of event answer) old new
+EventDoes event answer old new = CallOrNothing (call_of event answer) old new
 
 -- the same of any event: one that is none of hardware is answered so, and does nothing
 abbrev pub EventOrNone : Event → Answer → Hardware → Hardware → Type 0

@@ -7,18 +7,18 @@ use Rattle.iom_base.specs.declared.access.AccessKind.TheVariants.{Read, Write}
 use Rattle.iom_table_survey.specs.Reaches.{frames_by, AddsReach}
 use Rattle.iom_table_survey.specs.declared.reach.Reach.{Reach}
 use Rattle.iom_table_survey.proofs.RowLemmas.{empty_has}
-use Rattle.iom_table_survey.specs.Rows.{place_of, is_set, has, Adds, IsOf, IsInRun}
+use Rattle.iom_table_survey.specs.Rows.{place_of, is_set, has, GrowsBy, IsOf, IsInRun}
 
 -- frames of one place are both in a set
 pub has_alike : (row : List ℕ) (one other : ℕ) → place_of one ≡ place_of other → has row other ≡ true → has row one ≡ true
 has_alike row one other same there = ap (λ p. is_set row p) same ∙ there
 
-pub adds_nothing : (row : List ℕ) → Adds row row (λ f. ⊥)
+pub adds_nothing : (row : List ℕ) → GrowsBy row row (λ f. ⊥)
 adds_nothing row = record { stays = λ f had. had; added = λ f never. absurd never; sole = λ f had. inl had }
 
 -- the same, where what is new is the same up to the place
-pub adds_alike : (old new : List ℕ) (P Q : ℕ → Type 0) → Adds old new P
-    → ((f : ℕ) → Q f → (g : ℕ) × P g × (place_of g ≡ place_of f)) → ((f : ℕ) → P f → (g : ℕ) × Q g × (place_of g ≡ place_of f)) → Adds old new Q
+pub adds_alike : (old new : List ℕ) (P Q : ℕ → Type 0) → GrowsBy old new P
+    → ((f : ℕ) → Q f → (g : ℕ) × P g × (place_of g ≡ place_of f)) → ((f : ℕ) → P f → (g : ℕ) × Q g × (place_of g ≡ place_of f)) → GrowsBy old new Q
 adds_alike old new P Q adds to from = record {
   stays = adds.stays;
   added = λ f q. let (g, p, same) = to f q in has_alike new f g (sym same) (adds.added g p);
@@ -29,11 +29,11 @@ adds_alike old new P Q adds to from = record {
     by f (inl had) = inl had
     by f (inr (g, p, same)) = let (h, q, alike) = from g p in inr (h, q, alike ∙ same)
 
-pub adds_same : (old new : List ℕ) (P Q : ℕ → Type 0) → Adds old new P → ((f : ℕ) → Q f → P f) → ((f : ℕ) → P f → Q f) → Adds old new Q
+pub adds_same : (old new : List ℕ) (P Q : ℕ → Type 0) → GrowsBy old new P → ((f : ℕ) → Q f → P f) → ((f : ℕ) → P f → Q f) → GrowsBy old new Q
 adds_same old new P Q adds to from = adds_alike old new P Q adds (λ f q. (f, to f q, refl)) (λ f p. (f, from f p, refl))
 
 -- one after another
-pub adds_then : (old between new : List ℕ) (P Q : ℕ → Type 0) → Adds old between P → Adds between new Q → Adds old new (λ f. P f ⊎ Q f)
+pub adds_then : (old between new : List ℕ) (P Q : ℕ → Type 0) → GrowsBy old between P → GrowsBy between new Q → GrowsBy old new (λ f. P f ⊎ Q f)
 adds_then old between new P Q first second = record {
   stays = λ f had. second.stays f (first.stays f had);
   added = λ f it. either f it;
@@ -53,7 +53,7 @@ adds_then old between new P Q first second = record {
     last f (inr (g, q, same)) = inr (g, inr q, same)
 
 -- a set that began empty
-pub of_none : (none row : List ℕ) (P : ℕ → Type 0) → ((f : ℕ) → has none f ≡ false) → Adds none row P → IsOf row P
+pub of_none : (none row : List ℕ) (P : ℕ → Type 0) → ((f : ℕ) → has none f ≡ false) → GrowsBy none row P → IsOf row P
 of_none none row P empty adds = record { all = adds.added; sole = λ f there. by f (adds.sole f there) }
   where
     by : (f : ℕ) → (has none f ≡ true) ⊎ ((g : ℕ) × P g × (place_of g ≡ place_of f)) → (g : ℕ) × P g × (place_of g ≡ place_of f)
@@ -61,13 +61,13 @@ of_none none row P empty adds = record { all = adds.added; sole = λ f there. by
     by f (inr found) = found
 
 -- all of another set
-pub adds_all_of : (old new other : List ℕ) (P : ℕ → Type 0) → Adds old new (λ f. has other f ≡ true) → IsOf other P → Adds old new P
+pub adds_all_of : (old new other : List ℕ) (P : ℕ → Type 0) → GrowsBy old new (λ f. has other f ≡ true) → IsOf other P → GrowsBy old new P
 adds_all_of old new other P adds is_of =
     adds_alike old new (λ f. has other f ≡ true) P adds (λ f p. (f, is_of.all f p, refl)) is_of.sole
 
 -- a step of a loop over numbers
-pub adds_next : (old between new : List ℕ) (P : ℕ → ℕ → Type 0) (k : ℕ) → Adds old between (λ f. (j : ℕ) × (j < k) × P j f) → Adds between new (P k)
-    → Adds old new (λ f. (j : ℕ) × (j < k + 1) × P j f)
+pub adds_next : (old between new : List ℕ) (P : ℕ → ℕ → Type 0) (k : ℕ) → GrowsBy old between (λ f. (j : ℕ) × (j < k) × P j f) → GrowsBy between new (P k)
+    → GrowsBy old new (λ f. (j : ℕ) × (j < k + 1) × P j f)
 adds_next old between new P k before here =
     adds_same old new (λ f. ((j : ℕ) × (j < k) × P j f) ⊎ P k f) (λ f. (j : ℕ) × (j < k + 1) × P j f) (adds_then old between new (λ f. (j : ℕ) × (j < k) × P j f) (P k) before here)
     to from
@@ -84,12 +84,12 @@ adds_next old between new P k before here =
     from f (inr p) = (k, omega arith, p)
 
 -- a loop over no numbers
-pub adds_none_yet : (row : List ℕ) (P : ℕ → ℕ → Type 0) → Adds row row (λ f. (j : ℕ) × (j < 0) × P j f)
+pub adds_none_yet : (row : List ℕ) (P : ℕ → ℕ → Type 0) → GrowsBy row row (λ f. (j : ℕ) × (j < 0) × P j f)
 adds_none_yet row P = record { stays = λ f had. had; added = λ f (j, never, p). absurd (omega arith); sole = λ f had. inl had }
 
 -- frames from the first on, one after another, up to the place of those from 4,096 on
 pub adds_run : (old new : List ℕ) (first count end : ℕ) → 0 < count → end ≡ min (first + count) 4097
-    → Adds old new (λ f. (min first 4096 ≤ f) × (f < end)) → Adds old new (IsInRun first count)
+    → GrowsBy old new (λ f. (min first 4096 ≤ f) × (f < end)) → GrowsBy old new (IsInRun first count)
 adds_run old new first count end some is adds = adds_alike old new (λ f. (min first 4096 ≤ f) × (f < end)) (IsInRun first count) adds to from
   where
     to : (f : ℕ) → IsInRun first count f → (g : ℕ) × ((min first 4096 ≤ g) × (g < end)) × (place_of g ≡ place_of f)
@@ -103,11 +103,11 @@ adds_run old new first count end some is adds = adds_alike old new (λ f. (min f
         at (inr above) = (f, (above, omega arith), refl)
 
 -- runs, step by step
-pub adds_no_run : (row : List ℕ) (first start : ℕ) → start ≡ min first 4096 → Adds row row (λ f. (min first 4096 ≤ f) × (f < start))
+pub adds_no_run : (row : List ℕ) (first start : ℕ) → start ≡ min first 4096 → GrowsBy row row (λ f. (min first 4096 ≤ f) × (f < start))
 adds_no_run row first start is = record { stays = λ f had. had; added = λ f (low, high). absurd (omega arith); sole = λ f had. inl had }
 
-pub adds_run_next : (old between new : List ℕ) (low k : ℕ) → low ≤ k → Adds old between (λ f. (low ≤ f) × (f < k)) → Adds between new (λ f. f ≡ k)
-    → Adds old new (λ f. (low ≤ f) × (f < k + 1))
+pub adds_run_next : (old between new : List ℕ) (low k : ℕ) → low ≤ k → GrowsBy old between (λ f. (low ≤ f) × (f < k)) → GrowsBy between new (λ f. f ≡ k)
+    → GrowsBy old new (λ f. (low ≤ f) × (f < k + 1))
 adds_run_next old between new low k within before here =
     adds_same old new (λ f. ((low ≤ f) × (f < k)) ⊎ (f ≡ k)) (λ f. (low ≤ f) × (f < k + 1)) (adds_then old between new (λ f. (low ≤ f) × (f < k)) (λ f. f ≡ k) before here)
     (λ f (above, below). to f above below (cases_lt f k)) from
@@ -121,29 +121,29 @@ adds_run_next old between new low k within before here =
     from f (inr same) = (omega arith, omega arith)
 
 -- where a condition holds, and where it doesn't
-pub adds_where : (old new : List ℕ) (P : ℕ → Type 0) (b : Bool) → b ≡ true → Adds old new P → Adds old new (λ f. P f × (b ≡ true))
+pub adds_where : (old new : List ℕ) (P : ℕ → Type 0) (b : Bool) → b ≡ true → GrowsBy old new P → GrowsBy old new (λ f. P f × (b ≡ true))
 adds_where old new P b holds adds = adds_same old new P (λ f. P f × (b ≡ true)) adds (λ f (p, so). p) (λ f p. (p, holds))
 
-pub adds_not : (row : List ℕ) (P : ℕ → Type 0) (b : Bool) → b ≡ false → Adds row row (λ f. P f × (b ≡ true))
+pub adds_not : (row : List ℕ) (P : ℕ → Type 0) (b : Bool) → b ≡ false → GrowsBy row row (λ f. P f × (b ≡ true))
 adds_not row P b fails = record { stays = λ f had. had; added = λ f (p, so). absurd (false≢true (sym fails ∙ so)); sole = λ f had. inl had }
 
 -- where nothing is so
-pub adds_none : (row : List ℕ) (P : ℕ → Type 0) → ((f : ℕ) → P f → ⊥) → Adds row row P
+pub adds_none : (row : List ℕ) (P : ℕ → Type 0) → ((f : ℕ) → P f → ⊥) → GrowsBy row row P
 adds_none row P none = record { stays = λ f had. had; added = λ f p. absurd (none f p); sole = λ f had. inl had }
 
 -- everything
-pub adds_everything : (old new : List ℕ) → ((f : ℕ) → has new f ≡ true) → Adds old new (λ f. ⊤)
+pub adds_everything : (old new : List ℕ) → ((f : ℕ) → has new f ≡ true) → GrowsBy old new (λ f. ⊤)
 adds_everything old new all = record { stays = λ f had. all f; added = λ f so. all f; sole = λ f there. inr (f, tt, refl) }
 
 -- a set of frames, and what grew from nothing
-pub to_adds : (none row : List ℕ) (P : ℕ → Type 0) → ((f : ℕ) → has none f ≡ false) → IsOf row P → Adds none row P
+pub to_adds : (none row : List ℕ) (P : ℕ → Type 0) → ((f : ℕ) → has none f ≡ false) → IsOf row P → GrowsBy none row P
 to_adds none row P empty is_of = record { stays = λ f had. absurd (false≢true (sym (empty f) ∙ had)); added = is_of.all; sole = λ f there. inr (is_of.sole f there) }
 
 -- a set that is filled in a loop
 pub of_none_yet : (row : List ℕ) (P : ℕ → ℕ → Type 0) → ((f : ℕ) → has row f ≡ false) → IsOf row (λ f. (j : ℕ) × (j < 0) × P j f)
 of_none_yet row P empty = of_none row row (λ f. (j : ℕ) × (j < 0) × P j f) empty (adds_none_yet row P)
 
-pub of_next : (old new : List ℕ) (P : ℕ → ℕ → Type 0) (k : ℕ) → IsOf old (λ f. (j : ℕ) × (j < k) × P j f) → Adds old new (P k) → IsOf new (λ f. (j : ℕ) × (j < k + 1) × P j f)
+pub of_next : (old new : List ℕ) (P : ℕ → ℕ → Type 0) (k : ℕ) → IsOf old (λ f. (j : ℕ) × (j < k) × P j f) → GrowsBy old new (P k) → IsOf new (λ f. (j : ℕ) × (j < k + 1) × P j f)
 of_next old new P k before here =
     of_none (replicate 65 0) new (λ f. (j : ℕ) × (j < k + 1) × P j f) empty_has
     (adds_next (replicate 65 0) old new P k (to_adds (replicate 65 0) old (λ f. (j : ℕ) × (j < k) × P j f) empty_has before) here)
@@ -152,7 +152,7 @@ pub of_same : (row : List ℕ) (P Q : ℕ → Type 0) → IsOf row P → ((f : �
 of_same row P Q is_of to from = record { all = λ f q. is_of.all f (to f q); sole = λ f there. let (g, p, same) = is_of.sole f there in (g, from g p, same) }
 
 -- for each kind of access
-pub reach_by : (old new : Reach) (P : AccessKind → ℕ → Type 0) → Adds old.readable new.readable (P Read) → Adds old.writable new.writable (P Write) → AddsReach old new P
+pub reach_by : (old new : Reach) (P : AccessKind → ℕ → Type 0) → GrowsBy old.readable new.readable (P Read) → GrowsBy old.writable new.writable (P Write) → AddsReach old new P
 reach_by old new P reads writes Read = reads
 reach_by old new P reads writes Write = writes
 

@@ -7,7 +7,7 @@ use Rattle.iom_stage_walk.specs.declared.entry.Entry.{Entry}
 use Rattle.iom_stage_walk.proofs.Loads.{entries_outside}
 use Rattle.iom_table_survey.specs.Levels.{PointsTo, MapsFrame, PointsFrom, MapsFrom, IsPointedTo, IsMappedBy, IsTable, IsMapped}
 use Rattle.iom_table_survey.specs.Reaches.{AddsReach}
-use Rattle.iom_table_survey.specs.Rows.{place_of, has, Adds, IsOf}
+use Rattle.iom_table_survey.specs.Rows.{place_of, has, GrowsBy, IsOf}
 use Rattle.iom_table_survey.specs.declared.reach.Reach.{Reach}
 use Rattle.iom_table_survey.proofs.AddLemmas.{adds_alike, adds_then, of_same, reach_same, reach_alike, reach_then}
 
@@ -71,7 +71,7 @@ module _ (memory : List (List ℕ)) (size : length memory ≤ 4096) (row : List 
   mapped_alike (suc n) kind f (inr below) = inr (mapped_more e (IsPointedTo e (λ t. has row t ≡ true)) (IsPointedTo e F) points n kind f below)
 
   -- what is surveyed from the set on is surveyed from those frames on
-  pub tables_from : (old new : List ℕ) (n : ℕ) → Adds old new (IsTable e (λ t. has row t ≡ true) n) → Adds old new (IsTable e F n)
+  pub tables_from : (old new : List ℕ) (n : ℕ) → GrowsBy old new (IsTable e (λ t. has row t ≡ true) n) → GrowsBy old new (IsTable e F n)
   tables_from old new n adds =
       adds_alike old new (IsTable e (λ t. has row t ≡ true) n) (IsTable e F n) adds (λ f there. (f, table_back n f there, refl)) (table_alike n)
 
@@ -121,11 +121,11 @@ all_words_mapped memory size level below old new adds =
 
 -- a level, and those below it
 pub tables_on : (memory : List (List ℕ)) → length memory ≤ 4096 → (level next old between new : List ℕ) (levels : ℕ) → ¬ (levels ≡ 0)
-    → Adds old between (λ f. has level f ≡ true) → IsOf next (IsPointedTo (entries memory) (λ t. has level t ≡ true))
-    → Adds between new (IsTable (entries memory) (λ t. has next t ≡ true) (levels - 1)) → Adds old new (IsTable (entries memory) (λ t. has level t ≡ true) levels)
+    → GrowsBy old between (λ f. has level f ≡ true) → IsOf next (IsPointedTo (entries memory) (λ t. has level t ≡ true))
+    → GrowsBy between new (IsTable (entries memory) (λ t. has next t ≡ true) (levels - 1)) → GrowsBy old new (IsTable (entries memory) (λ t. has level t ≡ true) levels)
 tables_on memory size level next old between new levels some here is_of below =
     let is : suc (levels - 1) ≡ levels = omega (arith, some) in
-    subst (λ n. Adds old new (IsTable (entries memory) (λ t. has level t ≡ true) n)) is
+    subst (λ n. GrowsBy old new (IsTable (entries memory) (λ t. has level t ≡ true) n)) is
     (adds_then old between new (λ f. has level f ≡ true) (IsTable (entries memory) (IsPointedTo (entries memory) (λ t. has level t ≡ true)) (levels - 1)) here
     (tables_from memory size next (IsPointedTo (entries memory) (λ t. has level t ≡ true)) is_of between new (levels - 1) below))
 

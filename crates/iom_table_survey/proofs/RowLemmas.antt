@@ -5,7 +5,7 @@ use Rattle.std.specs.Int.{bit_at, trailing_zeros}
 use Rattle.std.proofs.lemmas.Bool.{cases_eq, cases_lt, eqb-true, eq-eqb}
 use Rattle.std.proofs.lemmas.List.{get_or-set_same, get_or-set_other}
 use Rattle.std.proofs.lemmas.Nat.Bits.{bit_at-zero, bit_at-lt, bit_at_and, bit_at_or, bit_at_ones, bit_at-trailing_zeros}
-use Rattle.iom_table_survey.specs.Rows.{place_of, is_set, has, Adds, IsCommon}
+use Rattle.iom_table_survey.specs.Rows.{place_of, is_set, has, GrowsBy, StandInBoth}
 
 -- one bit of one word is set
 set_same : (row : List ℕ) (place now : ℕ) → place / 64 < length row → bit_at now (place % 64) ≡ 1 → is_set (set row (place / 64) now) place ≡ true
@@ -29,8 +29,8 @@ set_other row place now other within differ others = by (cases_eq (other / 64) (
 
 pub inserts : (old row : List ℕ) (frame place now : ℕ) → row ≡ old → place ≡ place_of frame → length row ≡ 65 → bit_at now (place % 64) ≡ 1
     → ((k : ℕ) → k ≢ place % 64 → bit_at now k ≡ bit_at (get_or row (place / 64) 0) k)
-    → Adds old (set row (place / 64) now) (λ f. f ≡ frame)
-inserts old row frame place now same at long one others = subst (λ r. Adds r changed (λ f. f ≡ frame)) same (record {
+    → GrowsBy old (set row (place / 64) now) (λ f. f ≡ frame)
+inserts old row frame place now same at long one others = subst (λ r. GrowsBy r changed (λ f. f ≡ frame)) same (record {
   stays = λ f had. by f (cases_eq (place_of f) place) had;
   added = λ f is. ap (λ g. is_set changed (place_of g)) is ∙ ap (λ p. is_set changed p) (sym at) ∙ here;
   sole = λ f now_has. from f (cases_eq (place_of f) place) now_has;
@@ -99,9 +99,9 @@ one_or a b low low' m is set = by (cases_eq a 1)
     by (inl one) = inl (eq-eqb a 1 one)
     by (inr other) = let whole : m ≡ 1 = eqb-true m 1 set in inr (eq-eqb b 1 (omega (arith, other)))
 
-pub union_of : (old row other new : List ℕ) → row ≡ old → ((k : ℕ) → k < 65 → get_or new k 0 ≡ bit_or (get_or row k 0) (get_or other k 0)) → Adds old new (λ f. has other f ≡ true)
+pub union_of : (old row other new : List ℕ) → row ≡ old → ((k : ℕ) → k < 65 → get_or new k 0 ≡ bit_or (get_or row k 0) (get_or other k 0)) → GrowsBy old new (λ f. has other f ≡ true)
 unfolding is_set
-union_of old row other new same all = subst (λ r. Adds r new (λ f. has other f ≡ true)) same (record {
+union_of old row other new same all = subst (λ r. GrowsBy r new (λ f. has other f ≡ true)) same (record {
   stays = λ f had. left f had;
   added = λ f had. right f had;
   sole = λ f there. by f (one_or _ _ (bit_at-lt (get_or row (place_of f / 64) 0) (place_of f % 64)) (bit_at-lt (get_or other (place_of f / 64) 0) (place_of f % 64)) _ (bits f) there);
@@ -128,7 +128,7 @@ union_of old row other new same all = subst (λ r. Adds r new (λ f. has other f
 
 -- a bit that two words have, and none
 pub common_at : (one other : List ℕ) (index k : ℕ) → index < 64 → k < 64 → bit_at (get_or one index 0) k ≡ 1 → bit_at (get_or other index 0) k ≡ 1
-    → IsCommon one other (64 * index + k) × (64 * index + k ≤ 4096)
+    → StandInBoth one other (64 * index + k) × (64 * index + k ≤ 4096)
 common_at one other index k low within mine its = (
   (has_place one index k low within ∙ eq-eqb _ 1 mine, has_place other index k low within ∙ eq-eqb _ 1 its),
   omega (arith, within, low),
@@ -145,7 +145,7 @@ lowest_of_both one other some fits k is =
     had m x y least small short whole = (omega arith, omega arith)
 
 pub no_common_at : (one other : List ℕ) (index : ℕ) → index < 64 → bit_and (get_or one index 0) (get_or other index 0) ≡ 0
-    → ((f : ℕ) → f < 64 * index → ¬ IsCommon one other f) → (f : ℕ) → f < 64 * (index + 1) → ¬ IsCommon one other f
+    → ((f : ℕ) → f < 64 * index → ¬ StandInBoth one other f) → (f : ℕ) → f < 64 * (index + 1) → ¬ StandInBoth one other f
 no_common_at one other index low none before f within (has_one, has_other) = by (cases_lt f (64 * index))
   where
     here : (k : ℕ) → k < 64 → f ≡ 64 * index + k → ⊥

@@ -15,7 +15,7 @@ abbrev pub has : List ℕ → ℕ → Bool
 has row frame = is_set row (place_of frame)
 
 -- the frames that are so go into the set, and no other; none goes out
-pub record Adds (old new : List ℕ) (IsNew : ℕ → Type 0) : Type 0 where
+pub record GrowsBy (old new : List ℕ) (IsNew : ℕ → Type 0) : Type 0 where
   pub stays : (frame : ℕ) → has old frame ≡ true → has new frame ≡ true
   pub added : (frame : ℕ) → IsNew frame → has new frame ≡ true
   pub sole : (frame : ℕ) → has new frame ≡ true → (has old frame ≡ true) ⊎ ((other : ℕ) × IsNew other × (place_of other ≡ place_of frame))
@@ -30,5 +30,5 @@ abbrev pub IsInRun : ℕ → ℕ → ℕ → Type 0
 IsInRun first count frame = (first ≤ frame) × (frame < first + count)
 
 -- the frame is in both sets, or, from 4,096 on, some such frame is in each
-abbrev pub IsCommon : List ℕ → List ℕ → ℕ → Type 0
-IsCommon one other frame = (has one frame ≡ true) × (has other frame ≡ true)
+abbrev pub StandInBoth : List ℕ → List ℕ → ℕ → Type 0
+StandInBoth one other frame = (has one frame ≡ true) × (has other frame ≡ true)

@@ -1,5 +1,5 @@
 ghost use Rattle.std.specs.Prelude.{◌≡◌, ◌<◌, ◌≤◌, ◌+◌, ◌*◌, ◌^◌, ℕ, true, false, IfSome, IfNone};
-ghost use Rattle.iom_table_survey.specs.Rows.{has, place_of as place_of_frame, Adds, IsInRun, IsCommon};
+ghost use Rattle.iom_table_survey.specs.Rows.{has, place_of as place_of_frame, GrowsBy, IsInRun, StandInBoth};
 
 use crate::bits::{BITS, first_in_both, has_bit, with_bit};
 use std::marker::Model;
@@ -60,7 +60,7 @@ impl FrameRow {
 
     /// Puts the frame into the set.
     pub fn insert(&mut self, frame: u64)
-        ensures { Adds self.old self.new (λ f. f ≡ frame) }
+        ensures { GrowsBy self.old self.new (λ f. f ≡ frame) }
     {
         let place = place_of(frame);
         self.words[place / BITS] = with_bit(self.words[place / BITS], place % BITS);
@@ -70,7 +70,7 @@ impl FrameRow {
     pub fn insert_run(&mut self, first: u64, count: u64)
         requires some { 0 < count }
         requires fits { first + count < 2 ^ 64 }
-        ensures { Adds self.old self.new (IsInRun first count) }
+        ensures { GrowsBy self.old self.new (IsInRun first count) }
     {
         let end = (first + count).min(FURTHER + 1);
         for place in first.min(FURTHER)..end {
@@ -94,7 +94,7 @@ impl FrameRow {
 
     /// Puts all frames of the other set into this one.
     pub fn union(&mut self, other: &FrameRow)
-        ensures { Adds self.old self.new (λ f. has other.now f ≡ true) }
+        ensures { GrowsBy self.old self.new (λ f. has other.now f ≡ true) }
     {
         for index in 0..WORDS {
             self.words[index] = self.words[index] | other.words[index];
@@ -111,8 +111,8 @@ impl FrameRow {
 
     /// The first frame that is in both sets; 4,096, where no other is, and each has some frame from there on.
     pub fn first_common(&self, other: &FrameRow) -> Option<u64>
-        ensures some { IfSome result (λ f. IsCommon self.now other.now f × (f ≤ 4096)) }
-        ensures none { IfNone result ((f : ℕ) → ¬ IsCommon self.now other.now f) }
+        ensures some { IfSome result (λ f. StandInBoth self.now other.now f × (f ≤ 4096)) }
+        ensures none { IfNone result ((f : ℕ) → ¬ StandInBoth self.now other.now f) }
     {
         for index in 0..WORDS - 1 {
             if let Some(bit) = first_in_both(self.words[index], other.words[index]) {

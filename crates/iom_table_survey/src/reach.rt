@@ -1,6 +1,6 @@
 ghost use Rattle.std.specs.Prelude.{◌≡◌, ◌<◌, ◌+◌, ◌^◌, ℕ, true, false, ⊤};
 ghost use Rattle.iom_base.specs.Rights.{allows};
-ghost use Rattle.iom_table_survey.specs.Rows.{has, Adds, IsInRun};
+ghost use Rattle.iom_table_survey.specs.Rows.{has, GrowsBy, IsInRun};
 ghost use Rattle.iom_table_survey.specs.Reaches.{frames_by, AddsReach};
 
 use crate::frame_row::FrameRow;
@@ -17,7 +17,7 @@ pub struct Reach {
 fn insert_where(row: &mut FrameRow, allowed: bool, first: u64, count: u64)
     requires some { 0 < count }
     requires fits { first + count < 2 ^ 64 }
-    ensures { Adds row.old row.new (λ f. IsInRun first count f × (allowed ≡ true)) }
+    ensures { GrowsBy row.old row.new (λ f. IsInRun first count f × (allowed ≡ true)) }
 {
     if allowed {
         row.insert_run(first, count);

@@ -3,7 +3,7 @@ ghost use Rattle.std.specs.Prelude.{◌≡◌, ◌<◌, ◌≤◌, ◌+◌, ◌*
 ghost use Rattle.iom_stage_walk.specs.Entries.{IsBounded, entries};
 ghost use Rattle.iom_table_survey.specs.Levels.{span, PointsTo, MapsFrame, PointsFrom, MapsFrom, IsPointedTo, IsMappedBy, IsTable, IsMapped};
 ghost use Rattle.iom_table_survey.specs.Reaches.{AddsReach};
-ghost use Rattle.iom_table_survey.specs.Rows.{has, Adds, IsOf, IsInRun};
+ghost use Rattle.iom_table_survey.specs.Rows.{has, GrowsBy, IsOf, IsInRun};
 
 use crate::bits::BITS;
 use crate::frame_row::FrameRow;
@@ -47,7 +47,7 @@ fn survey_leaf(entry: Entry, below: u32, reach: &mut Reach)
 
 /// The table that the entry names.
 fn survey_pointer(entry: Entry, next: &mut FrameRow)
-    ensures { Adds next.old next.new (PointsTo entry) }
+    ensures { GrowsBy next.old next.new (PointsTo entry) }
 {
     if let Entry::Pointer(table) = entry {
         next.insert(table);
@@ -57,7 +57,7 @@ fn survey_pointer(entry: Entry, next: &mut FrameRow)
 /// The entries of a frame of a table, with so many levels below it.
 fn survey_table(memory: &Memory, table: u64, below: u32, next: &mut FrameRow, reach: &mut Reach)
     requires { below ≤ 3 }
-    ensures pointers { Adds next.old next.new (PointsFrom (entries memory.now) table) }
+    ensures pointers { GrowsBy next.old next.new (PointsFrom (entries memory.now) table) }
     ensures leaves { AddsReach reach.old reach.new (λ kind. MapsFrom (entries memory.now) below kind table) }
 {
     for index in 0..TABLE_ENTRIES as u16 {
@@ -77,7 +77,7 @@ fn survey_marked(
     reach: &mut Reach,
 )
     requires { below ≤ 3 }
-    ensures pointers { Adds next.old next.new (λ f. PointsFrom (entries memory.now) table f × (has level.now table ≡ true)) }
+    ensures pointers { GrowsBy next.old next.new (λ f. PointsFrom (entries memory.now) table f × (has level.now table ≡ true)) }
     ensures leaves { AddsReach reach.old reach.new (λ kind f. MapsFrom (entries memory.now) below kind table f × (has level.now table ≡ true)) }
 {
     if level.contains(table) {
@@ -96,7 +96,7 @@ fn survey_word(
 )
     requires below { below ≤ 3 }
     requires word { word < 64 }
-    ensures pointers { Adds next.old next.new (λ f. (k : ℕ) × (k < 64) × (PointsFrom (entries memory.now) (64 * word + k) f × (has level.now (64 * word + k) ≡ true))) }
+    ensures pointers { GrowsBy next.old next.new (λ f. (k : ℕ) × (k < 64) × (PointsFrom (entries memory.now) (64 * word + k) f × (has level.now (64 * word + k) ≡ true))) }
     ensures leaves { AddsReach reach.old reach.new (λ kind f. (k : ℕ) × (k < 64)
         × (MapsFrom (entries memory.now) below kind (64 * word + k) f × (has level.now (64 * word + k) ≡ true))) }
 {
@@ -139,7 +139,7 @@ fn survey_levels(
 )
     requires size { length memory.now ≤ 4096 }
     requires levels { levels ≤ 4 }
-    ensures tables { Adds tables.old tables.new (IsTable (entries memory.now) (λ t. has level.now t ≡ true) levels) }
+    ensures tables { GrowsBy tables.old tables.new (IsTable (entries memory.now) (λ t. has level.now t ≡ true) levels) }
     ensures leaves { AddsReach reach.old reach.new (IsMapped (entries memory.now) (λ t. has level.now t ≡ true) levels) }
 {
     if levels == 0 {
@@ -165,7 +165,7 @@ pub fn survey(
     requires levels { levels ≤ 4 }
     requires some { 0 < frames }
     requires fits { root + frames < 2 ^ 64 }
-    ensures tables { Adds tables.old tables.new (IsTable (entries memory.now) (IsInRun root frames) levels) }
+    ensures tables { GrowsBy tables.old tables.new (IsTable (entries memory.now) (IsInRun root frames) levels) }
     ensures leaves { AddsReach reach.old reach.new (IsMapped (entries memory.now) (IsInRun root frames) levels) }
 {
     let mut level = FrameRow::new();

@@ -39,7 +39,7 @@ use Rattle.iom_hardware_ways.proofs.ListLemmas.{contains_map, get_contains}
 use Rattle.iom_hardware_ways.proofs.PageIndices.{sizes_have_indices}
 use Rattle.iom_tlb.specs.declared.space.Space.{Space}
 use Rattle.iom_tlb.specs.declared.space.Space.TheVariants as space
-use Rattle.iom_way_survey.specs.Found.{has_directory, mode_in, found_of, cached_found, stored_found, Finds, space_in, HaveTable, HaveLeaf, FoundTable, SpaceTable, TablesThrough, TablesFound, SomeTable, FoundLeaf, IsCachedIn, InSpace, AnswersSo, IsAnsweredAmong, IsInCache, LetsKind, ThroughSpace, ThroughFound, IsMade, WayOf}
+use Rattle.iom_way_survey.specs.Found.{has_directory, mode_in, found_of, cached_found, stored_found, Finds, space_in, HaveTable, HaveLeaf, FoundTable, SpaceTable, TablesThrough, TablesFound, SomeTable, FoundLeaf, IsCachedIn, InSpace, AnswersSo, IsAnsweredAmong, IsInCache, LetsKind, ThroughSpace, ThroughFound, IsThatAccess, WayOf}
 use Rattle.iom_way_survey.proofs.TreeLemmas.{levels_are_walks}
 use Rattle.iom_way_survey.proofs.WayLemmas.{StagesLead, StagesRead, spaces_by, none_is_some}
 
@@ -262,14 +262,14 @@ module _ (trusted : ℕ → Bool) (parts : HardwareParts) where
   made_of device own = made_at device own.accepted
 
   made_back : (device : ℕ) (waiting : List NumberedAccess) (k : ℕ) (found : Option NumberedAccess) (kind : AccessKind) (frame : ℕ) → slice_get waiting k ≡ found
-      → IsMade (option_map (made_of device) found) kind frame → Contains (map flight_of waiting) (record { frame = frame; kind = kind })
+      → IsThatAccess (option_map (made_of device) found) kind frame → Contains (map flight_of waiting) (record { frame = frame; kind = kind })
   made_back device waiting k None kind frame at never = absurd never
   made_back device waiting k (Some access) kind frame at (is, same) =
       subst (λ (p : PendingAccess). Contains (map flight_of waiting) p)
       (ap (λ (f : ℕ). record { frame = f; kind = access.accepted.access.kind }) (sym is) ∙ ap (λ (x : AccessKind). record { frame = frame; kind = x }) (sym same))
       (contains_map flight_of waiting access (get_contains waiting k access at))
 
-  flight_back : (row : Option FlightRow) (k : ℕ) (kind : AccessKind) (frame : ℕ) → IsMade (waiting_at row k) kind frame → Contains (flights_in row) (record { frame = frame; kind = kind })
+  flight_back : (row : Option FlightRow) (k : ℕ) (kind : AccessKind) (frame : ℕ) → IsThatAccess (waiting_at row k) kind frame → Contains (flights_in row) (record { frame = frame; kind = kind })
   flight_back None k kind frame never = absurd never
   flight_back (Some row) k kind frame made = made_back row.device row.waiting k (slice_get row.waiting k) kind frame refl made
 

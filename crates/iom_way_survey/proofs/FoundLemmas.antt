@@ -17,7 +17,7 @@ use Rattle.iom_fabric.specs.declared.fabric.OnLink.{OnLink}
 use Rattle.iom_stage_walk.specs.Entries.{entries}
 use Rattle.iom_table_survey.specs.Levels.{IsTable, IsMapped}
 use Rattle.iom_table_survey.specs.Reaches.{AddsReach}
-use Rattle.iom_table_survey.specs.Rows.{Adds, IsInRun}
+use Rattle.iom_table_survey.specs.Rows.{GrowsBy, IsInRun}
 use Rattle.iom_table_survey.specs.declared.reach.Reach.{Reach}
 use Rattle.iom_table_survey.proofs.AddLemmas.{adds_same, adds_none, reach_same, reach_none, reach_then}
 use Rattle.iom_tlb.specs.declared.space.Space.{Space}
@@ -26,13 +26,13 @@ use Rattle.iom_way_survey.specs.Found.{space_in, HaveTable, HaveLeaf, FoundTable
 -- the root of a second stage has four frames
 pub tables_of_second : (memory : List (List ℕ)) (f : First) (s : Second) (size : Size) (root : GuestRoot) (number levels : ℕ) (old new : List ℕ)
     → s ≡ second.Tables size root → number ≡ root.number → levels ≡ levels_of size
-    → Adds old new (IsTable (entries memory) (IsInRun number 4) levels) → Adds old new (HaveTable memory f s)
+    → GrowsBy old new (IsTable (entries memory) (IsInRun number 4) levels) → GrowsBy old new (HaveTable memory f s)
 tables_of_second memory f s size root number levels old new is same many adds =
-    subst (λ (x : Second). Adds old new (HaveTable memory f x)) (sym is)
-    (by f (subst (λ (n : ℕ). Adds old new (IsTable (entries memory) (IsInRun n 4) (levels_of size))) same
-    (subst (λ (l : ℕ). Adds old new (IsTable (entries memory) (IsInRun number 4) l)) many adds)))
+    subst (λ (x : Second). GrowsBy old new (HaveTable memory f x)) (sym is)
+    (by f (subst (λ (n : ℕ). GrowsBy old new (IsTable (entries memory) (IsInRun n 4) (levels_of size))) same
+    (subst (λ (l : ℕ). GrowsBy old new (IsTable (entries memory) (IsInRun number 4) l)) many adds)))
   where
-    by : (g : First) → Adds old new (IsTable (entries memory) (IsInRun root.number 4) (levels_of size)) → Adds old new (HaveTable memory g (second.Tables size root))
+    by : (g : First) → GrowsBy old new (IsTable (entries memory) (IsInRun root.number 4) (levels_of size)) → GrowsBy old new (HaveTable memory g (second.Tables size root))
     by first.Bare it = it
     by (first.Tables size' root') it = it
 
@@ -51,12 +51,12 @@ leaves_of_second memory f s size root number levels old new is same many adds =
 -- that of a first stage has one
 pub tables_of_first : (memory : List (List ℕ)) (f : First) (s : Second) (size : Size) (root : Ppn) (number levels : ℕ) (old new : List ℕ)
     → s ≡ second.Bare → f ≡ first.Tables size root → number ≡ root.number → levels ≡ levels_of size
-    → Adds old new (IsTable (entries memory) (IsInRun number 1) levels) → Adds old new (HaveTable memory f s)
+    → GrowsBy old new (IsTable (entries memory) (IsInRun number 1) levels) → GrowsBy old new (HaveTable memory f s)
 tables_of_first memory f s size root number levels old new bare is same many adds =
-    subst (λ (x : Second). Adds old new (HaveTable memory f x)) (sym bare)
-    (subst (λ (g : First). Adds old new (HaveTable memory g second.Bare)) (sym is)
-    (subst (λ (n : ℕ). Adds old new (IsTable (entries memory) (IsInRun n 1) (levels_of size))) same
-    (subst (λ (l : ℕ). Adds old new (IsTable (entries memory) (IsInRun number 1) l)) many adds)))
+    subst (λ (x : Second). GrowsBy old new (HaveTable memory f x)) (sym bare)
+    (subst (λ (g : First). GrowsBy old new (HaveTable memory g second.Bare)) (sym is)
+    (subst (λ (n : ℕ). GrowsBy old new (IsTable (entries memory) (IsInRun n 1) (levels_of size))) same
+    (subst (λ (l : ℕ). GrowsBy old new (IsTable (entries memory) (IsInRun number 1) l)) many adds)))
 
 pub leaves_of_first : (memory : List (List ℕ)) (f : First) (s : Second) (size : Size) (root : Ppn) (number levels : ℕ) (old new : Reach)
     → s ≡ second.Bare → f ≡ first.Tables size root → number ≡ root.number → levels ≡ levels_of size
@@ -69,16 +69,16 @@ leaves_of_first memory f s size root number levels old new bare is same many add
 
 -- a context that has the address space, and one that has another
 module _ (memory : List (List ℕ)) (own : Space) (found : Option DeviceContext) (context : DeviceContext) (is : found ≡ Some context) where
-  pub found_tables : (old new : List ℕ) → space_in context ≡ Some own → Adds old new (HaveTable memory context.first_stage context.second_stage) → Adds old new (FoundTable memory own found)
-  found_tables old new same adds = subst (λ (o : Option DeviceContext). Adds old new (FoundTable memory own o)) (sym is)
+  pub found_tables : (old new : List ℕ) → space_in context ≡ Some own → GrowsBy old new (HaveTable memory context.first_stage context.second_stage) → GrowsBy old new (FoundTable memory own found)
+  found_tables old new same adds = subst (λ (o : Option DeviceContext). GrowsBy old new (FoundTable memory own o)) (sym is)
       (adds_same old new (HaveTable memory context.first_stage context.second_stage) (FoundTable memory own (Some context)) adds (λ f (so, table). table) (λ f table. (same, table)))
 
   pub found_leaves : (old new : Reach) → space_in context ≡ Some own → AddsReach old new (HaveLeaf memory context.first_stage context.second_stage) → AddsReach old new (FoundLeaf memory own found)
   found_leaves old new same adds = subst (λ (o : Option DeviceContext). AddsReach old new (FoundLeaf memory own o)) (sym is)
       (reach_same old new (HaveLeaf memory context.first_stage context.second_stage) (FoundLeaf memory own (Some context)) adds (λ kind f (so, leaf). leaf) (λ kind f leaf. (same, leaf)))
 
-  pub other_tables : (row : List ℕ) → ¬ (space_in context ≡ Some own) → Adds row row (FoundTable memory own found)
-  other_tables row differs = subst (λ (o : Option DeviceContext). Adds row row (FoundTable memory own o)) (sym is)
+  pub other_tables : (row : List ℕ) → ¬ (space_in context ≡ Some own) → GrowsBy row row (FoundTable memory own found)
+  other_tables row differs = subst (λ (o : Option DeviceContext). GrowsBy row row (FoundTable memory own o)) (sym is)
       (adds_none row (FoundTable memory own (Some context)) (λ f (so, table). differs so))
 
   pub other_leaves : (reach : Reach) → ¬ (space_in context ≡ Some own) → AddsReach reach reach (FoundLeaf memory own found)

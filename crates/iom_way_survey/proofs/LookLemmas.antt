@@ -16,11 +16,11 @@ use Rattle.iom_iommu.specs.Parts.{registers_of, flights_of}
 use Rattle.iom_reach.specs.Safe.{IsRead, HasWord}
 use Rattle.iom_reach.specs.Scene.{PendingAccess}
 use Rattle.iom_reach.specs.Ways.{Way, Accepted, AnyFrame, ByContext, OnTheWalk}
-use Rattle.iom_table_survey.specs.Rows.{has, Adds}
+use Rattle.iom_table_survey.specs.Rows.{has, GrowsBy}
 use Rattle.iom_way_survey.specs.Directories.{DirectoryReads}
 use Rattle.iom_way_survey.specs.Found.{WayOf, SomeTable}
 use Rattle.iom_way_survey.specs.Queues.{IsFrameAmong, IsWordAmong, IsOfFaults}
-use Rattle.iom_way_survey.specs.Surveys.{is_among, reach_in, reaches_in, IsRowOf, AreRowsOf, TellsTrust}
+use Rattle.iom_way_survey.specs.Surveys.{is_among, reach_in, reaches_in, IsReachRow, AreRowsOf, TellsTrust}
 use Rattle.iom_way_survey.specs.declared.findings.DeviceReach.{DeviceReach}
 use Rattle.iom_way_survey.proofs.DirectoryLemmas.{directory_reads, tables_read}
 use Rattle.iom_way_survey.proofs.QueueLemmas.{fault_stored}
@@ -37,8 +37,8 @@ same_place (a ∷ xs) (b ∷ ys) (suc k) x long at = same_place xs ys k x (omega
 
 -- the device's row is found by the device's id
 row_found : (parts : HardwareParts) (trusted : List ℕ) (rows : List DeviceReach) (devices : List Device) (id : ℕ) (plug : Device) → length rows ≡ length devices
-    → ((k : ℕ) (row : DeviceReach) (device : Device) → slice_get rows k ≡ Some row → slice_get devices k ≡ Some device → IsRowOf parts trusted row device)
-    → device_with devices id ≡ Some plug → (row : DeviceReach) × (find (λ (own : DeviceReach). own.id == id) rows ≡ Some row) × IsRowOf parts trusted row plug
+    → ((k : ℕ) (row : DeviceReach) (device : Device) → slice_get rows k ≡ Some row → slice_get devices k ≡ Some device → IsReachRow parts trusted row device)
+    → device_with devices id ≡ Some plug → (row : DeviceReach) × (find (λ (own : DeviceReach). own.id == id) rows ≡ Some row) × IsReachRow parts trusted row plug
 row_found parts trusted rows [] id plug long each found = absurd (none_is_some plug found)
 row_found parts trusted [] (device ∷ devices) id plug long each found = absurd (omega (arith, long))
 row_found parts trusted (row ∷ rows) (device ∷ devices) id plug long each found =
@@ -48,7 +48,7 @@ row_found parts trusted (row ∷ rows) (device ∷ devices) id plug long each fo
           let here : Some device ≡ Some plug = rw is.0 at found in
           let same : device ≡ plug = cc in
           let yes' : (row.id == id) ≡ true = ap (λ n. n == id) own.id ∙ is.0 in
-          (row, ap (λ (b : Bool). if b then Some row else find (λ (o : DeviceReach). o.id == id) rows) yes', subst (λ (d : Device). IsRowOf parts trusted row d) same own)
+          (row, ap (λ (b : Bool). if b then Some row else find (λ (o : DeviceReach). o.id == id) rows) yes', subst (λ (d : Device). IsReachRow parts trusted row d) same own)
       | inr ne ↦
           let other : (row.id == id) ≡ false = ap (λ n. n == id) own.id ∙ ne.0 in
           let (next, at, is) = row_found parts trusted rows devices id plug (omega (arith, long)) (λ k r d. each (suc k) r d) (rw ne.0 at found) in
@@ -109,13 +109,13 @@ ways_reached parts trusted rows events sound flights are id frame kind way =
 
 -- WHAT IS READ AND STORED
 
-pub all_read : (trusted : ℕ → Bool) (parts : HardwareParts) (none tables directory all : List ℕ) → Adds none tables (SomeTable parts) → Adds tables directory (DirectoryReads parts)
-    → Adds directory all (IsFrameAmong (waiting_places (registers_of parts.iommu))) → (frame : ℕ) → IsRead (scene_of trusted parts) frame → has all frame ≡ true
+pub all_read : (trusted : ℕ → Bool) (parts : HardwareParts) (none tables directory all : List ℕ) → GrowsBy none tables (SomeTable parts) → GrowsBy tables directory (DirectoryReads parts)
+    → GrowsBy directory all (IsFrameAmong (waiting_places (registers_of parts.iommu))) → (frame : ℕ) → IsRead (scene_of trusted parts) frame → has all frame ≡ true
 all_read trusted parts none tables directory all one two three frame (inl table) = three.stays frame (two.stays frame (one.added frame (tables_read trusted parts frame table)))
 all_read trusted parts none tables directory all one two three frame (inr (inl path)) = three.stays frame (two.added frame (directory_reads trusted parts frame path))
 all_read trusted parts none tables directory all one two three frame (inr (inr (offset, there))) = three.added frame (record { frame = frame; offset = offset }, there, refl)
 
-pub all_stored : (trusted : ℕ → Bool) (parts : HardwareParts) (none words all : List ℕ) → Adds none words (IsWordAmong parts.memory (waiting_places (registers_of parts.iommu)))
-    → Adds words all (IsOfFaults (registers_of parts.iommu)) → (frame : ℕ) → Contains (scene_of trusted parts).fault_frames frame ⊎ HasWord (scene_of trusted parts) frame → has all frame ≡ true
+pub all_stored : (trusted : ℕ → Bool) (parts : HardwareParts) (none words all : List ℕ) → GrowsBy none words (IsWordAmong parts.memory (waiting_places (registers_of parts.iommu)))
+    → GrowsBy words all (IsOfFaults (registers_of parts.iommu)) → (frame : ℕ) → Contains (scene_of trusted parts).fault_frames frame ⊎ HasWord (scene_of trusted parts) frame → has all frame ≡ true
 all_stored trusted parts none words all one two frame (inl fault) = two.added frame (fault_stored (registers_of parts.iommu) frame fault)
 all_stored trusted parts none words all one two frame (inr word) = two.stays frame (one.added frame word)

@@ -12,7 +12,7 @@ use Rattle.iom_reach.specs.Scene.{Place}
 use Rattle.iom_reach.proofs.OccurrenceLemmas.{contains_head, contains_tail}
 use Rattle.iom_registers.specs.Queues.{command_base, command_entries, command_head, is_command_queue_on, with_command_done, fault_base, fault_entries, is_fault_queue_on}
 use Rattle.iom_registers.specs.declared.registers.Registers.{Registers}
-use Rattle.iom_table_survey.specs.Rows.{Adds}
+use Rattle.iom_table_survey.specs.Rows.{GrowsBy}
 use Rattle.iom_table_survey.proofs.AddLemmas.{adds_same, adds_then, adds_none}
 use Rattle.iom_way_survey.specs.Queues.{StoresWord, IsOfFaults}
 
@@ -24,7 +24,7 @@ SomePlace IsAt places frame = (place : Place) × Contains places place × IsAt p
 
 -- whatever comes to what is so of the places that are left, comes from the beginning to what is so of all
 abbrev pub IsLeft : (Place → ℕ → Type 0) → (old now : List ℕ) → (all left : List Place) → Type 0
-IsLeft IsAt old now all left = (new : List ℕ) → Adds now new (SomePlace IsAt left) → Adds old new (SomePlace IsAt all)
+IsLeft IsAt old now all left = (new : List ℕ) → GrowsBy now new (SomePlace IsAt left) → GrowsBy old new (SomePlace IsAt all)
 
 pub all_left : (IsAt : Place → ℕ → Type 0) (old : List ℕ) (all : List Place) → IsLeft IsAt old old all all
 all_left IsAt old all new adds = adds
@@ -39,14 +39,14 @@ join_place : (IsAt : Place → ℕ → Type 0) (first : Place) (others : List Pl
 join_place IsAt first others frame (inl is) = (first, contains_head first others, is)
 join_place IsAt first others frame (inr (place, there, is)) = (place, contains_tail first others place there, is)
 
-one_less_left : (IsAt : Place → ℕ → Type 0) (old now next : List ℕ) (all left others : List Place) (first : Place) → left ≡ first ∷ others → Adds now next (IsAt first)
+one_less_left : (IsAt : Place → ℕ → Type 0) (old now next : List ℕ) (all left others : List Place) (first : Place) → left ≡ first ∷ others → GrowsBy now next (IsAt first)
     → IsLeft IsAt old now all left → IsLeft IsAt old next all others
 one_less_left IsAt old now next all left others first is adds before new later =
-    before new (subst (λ (places : List Place). Adds now new (SomePlace IsAt places)) (sym is)
+    before new (subst (λ (places : List Place). GrowsBy now new (SomePlace IsAt places)) (sym is)
     (adds_same now new (λ f. IsAt first f ⊎ SomePlace IsAt others f) (SomePlace IsAt (first ∷ others)) (adds_then now next new (IsAt first) (SomePlace IsAt others) adds later)
     (split_place IsAt first others) (join_place IsAt first others)))
 
-pub none_left : (IsAt : Place → ℕ → Type 0) (old now : List ℕ) (all left : List Place) → left ≡ [] → IsLeft IsAt old now all left → Adds old now (SomePlace IsAt all)
+pub none_left : (IsAt : Place → ℕ → Type 0) (old now : List ℕ) (all left : List Place) → left ≡ [] → IsLeft IsAt old now all left → GrowsBy old now (SomePlace IsAt all)
 none_left IsAt old now all left is before =
     before now (adds_none now (SomePlace IsAt left) (λ f (place, there, at). in_none place (subst (λ (places : List Place). Contains places place) is there)))
 
@@ -63,19 +63,19 @@ abbrev pub IsWordAt : List (List ℕ) → Place → ℕ → Type 0
 IsWordAt memory place frame = StoresWord (command_in (slice_get memory place.frame) place.offset) frame
 
 pub frame_passed : (memory : List (List ℕ)) (r : Registers) (entry : QueueEntry) (old now next : List ℕ) (all : List Place) → is_command_queue_on r ≡ true
-    → slice_get (commands_in memory r) 0 ≡ Some entry → Adds now next (λ f. f ≡ place_of r (command_head r) / 4096)
+    → slice_get (commands_in memory r) 0 ≡ Some entry → GrowsBy now next (λ f. f ≡ place_of r (command_head r) / 4096)
     → IsLeft IsFrameAt old now all (waiting_places r) → IsLeft IsFrameAt old next all (waiting_places (with_command_done r))
 frame_passed memory r entry old now next all on there adds before =
     one_less_left IsFrameAt old now next all (waiting_places r) (waiting_places (with_command_done r)) (place_at (place_of r (command_head r)))
     (waiting_drops memory r on (apart memory r entry there)) adds before
 
 pub word_passed : (memory : List (List ℕ)) (r : Registers) (entry : QueueEntry) (old now next : List ℕ) (all : List Place) → is_command_queue_on r ≡ true
-    → slice_get (commands_in memory r) 0 ≡ Some entry → Adds now next (StoresWord entry)
+    → slice_get (commands_in memory r) 0 ≡ Some entry → GrowsBy now next (StoresWord entry)
     → IsLeft (IsWordAt memory) old now all (waiting_places r) → IsLeft (IsWordAt memory) old next all (waiting_places (with_command_done r))
 word_passed memory r entry old now next all on there adds before =
     one_less_left (IsWordAt memory) old now next all (waiting_places r) (waiting_places (with_command_done r)) (place_at (place_of r (command_head r)))
     (waiting_drops memory r on (apart memory r entry there))
-    (subst (λ (e : QueueEntry). Adds now next (StoresWord e)) (sym (head_there memory r entry there)) adds) before
+    (subst (λ (e : QueueEntry). GrowsBy now next (StoresWord e)) (sym (head_there memory r entry there)) adds) before
 
 -- where nothing stands at the head, none waits
 pub none_waits : (memory : List (List ℕ)) (r : Registers) → slice_get (commands_in memory r) 0 ≡ None → waiting_places r ≡ []

@@ -3,7 +3,7 @@ use Rattle.std.proofs.Common.{◌≡◌, ◌⊎◌, ◌∙◌, inl, inr, ℕ, �
 use Rattle.std.proofs.lemmas.List.{length_push}
 use Rattle.iom_device.specs.declared.device.Device.{Device}
 use Rattle.iom_hardware.specs.HardwareParts.{HardwareParts}
-use Rattle.iom_way_survey.specs.Surveys.{IsRowOf, HaveRows}
+use Rattle.iom_way_survey.specs.Surveys.{IsReachRow, HaveRows}
 use Rattle.iom_way_survey.specs.declared.findings.DeviceReach.{DeviceReach}
 use Rattle.iom_way_survey.proofs.StepLemmas.{push_get}
 
@@ -20,16 +20,16 @@ no_rows parts trusted rows empty = subst (λ rs. HaveRows parts trusted rs 0) (s
     (record { long = refl; each = λ k row device at here. absurd (none_there row k at) })
 
 pub one_more_row : (parts : HardwareParts) (trusted : List ℕ) (old new : List DeviceReach) (count : ℕ) (row : DeviceReach) (device : Device) → HaveRows parts trusted old count
-    → slice_get parts.devices count ≡ Some device → IsRowOf parts trusted row device → new ≡ old ++ row ∷ [] → HaveRows parts trusted new (count + 1)
+    → slice_get parts.devices count ≡ Some device → IsReachRow parts trusted row device → new ≡ old ++ row ∷ [] → HaveRows parts trusted new (count + 1)
 one_more_row parts trusted old new count row device have there is_of is = subst (λ rs. HaveRows parts trusted rs (count + 1)) (sym is) (record {
   long = length_push old row ∙ ap (λ n. n + 1) have.long;
   each = λ k own other at here. by k own other (push_get old row k own at) here;
 })
   where
-    by : (k : ℕ) (own : DeviceReach) (other : Device) → (slice_get old k ≡ Some own) ⊎ ((k ≡ length old) × (row ≡ own)) → slice_get parts.devices k ≡ Some other → IsRowOf parts trusted own other
+    by : (k : ℕ) (own : DeviceReach) (other : Device) → (slice_get old k ≡ Some own) ⊎ ((k ≡ length old) × (row ≡ own)) → slice_get parts.devices k ≡ Some other → IsReachRow parts trusted own other
     by k own other (inl before) here = have.each k own other before here
     by k own other (inr (end, same)) here =
         let at : k ≡ count = end ∙ have.long in
         let e : Some device ≡ Some other = sym there ∙ ap (λ j. slice_get parts.devices j) (sym at) ∙ here in
         let f : device ≡ other = cc in
-        subst (λ (r : DeviceReach). IsRowOf parts trusted r other) same (subst (λ (d : Device). IsRowOf parts trusted row d) f is_of)
+        subst (λ (r : DeviceReach). IsReachRow parts trusted r other) same (subst (λ (d : Device). IsReachRow parts trusted row d) f is_of)

@@ -9,7 +9,7 @@ use Rattle.iom_reach.specs.Safe.{IsSafe}
 use Rattle.iom_reach.specs.Scene.{Scene}
 use Rattle.iom_table_survey.specs.Reaches.{frames_by}
 use Rattle.iom_table_survey.specs.Rows.{has}
-use Rattle.iom_way_survey.specs.Surveys.{reaches_in, Surveys, InventsNone, IsSurveyOf, IsReachedAs, IsClash, WritesCommon, AreApart, IsConflict}
+use Rattle.iom_way_survey.specs.Surveys.{reaches_in, Surveys, InventsNone, IsSurveyOf, IsReachedAs, IsClash, WritesCommon, IsConflictFree, IsConflict}
 use Rattle.iom_way_survey.specs.declared.findings.Conflict.{Conflict}
 use Rattle.iom_way_survey.specs.declared.findings.DeviceReach.{DeviceReach}
 use Rattle.iom_way_survey.specs.declared.findings.Survey.{Survey}
@@ -23,7 +23,7 @@ row_of (row ∷ rows) id kind frame is = elim (eqb_tells row.id id) [
   | inr ne ↦ let (k, own, at, found) = row_of rows id kind frame (rw ne.0 at is) in (suc k, own, at, found)
 ]
 
-pub apart_is_safe : (survey : Survey) (scene : Scene) → AreApart survey → Surveys survey scene → IsSafe scene
+pub apart_is_safe : (survey : Survey) (scene : Scene) → IsConflictFree survey → Surveys survey scene → IsSafe scene
 apart_is_safe survey scene apart surveys frame is_read (inl (device, untrusted, way)) =
     let (k, row, at, (same, reached)) = row_of survey.devices.items device Write frame (surveys.reached device frame Write way) in
     let no_trust : row.is_trusted ≡ false = surveys.trusted k row at ∙ ap scene.is_trusted same ∙ untrusted in
@@ -31,7 +31,7 @@ apart_is_safe survey scene apart surveys frame is_read (inl (device, untrusted, 
 apart_is_safe survey scene apart surveys frame is_read (inr stored) = apart.iommu frame (surveys.read frame is_read, surveys.stored frame stored)
 
 -- where no conflict was found, and where one was
-pub none_is_safe : (survey : Survey) (found : Option Conflict) (none : Bool) → IfNone found (AreApart survey) → is_some found ≡ not none
+pub none_is_safe : (survey : Survey) (found : Option Conflict) (none : Bool) → IfNone found (IsConflictFree survey) → is_some found ≡ not none
     → none ≡ true → (scene : Scene) → Surveys survey scene → IsSafe scene
 none_is_safe survey None none apart is safe scene surveys = apart_is_safe survey scene apart surveys
 none_is_safe survey (Some one) true apart is safe scene surveys = absurd (false≢true (sym is))

@@ -31,7 +31,7 @@ use Rattle.iom_hardware_ways.specs.Scenes.{directory_by, waiting_places, fault_f
 use Rattle.iom_hardware_ways.proofs.FormatLemmas.{non_leaf_there, ddi_low, some_indices}
 use Rattle.iom_hardware_ways.proofs.ListLemmas.{contains_map}
 use Rattle.iom_table_survey.specs.Reaches.{frames_by}
-use Rattle.iom_table_survey.specs.Rows.{has as marked, place_of, Adds}
+use Rattle.iom_table_survey.specs.Rows.{has as marked, place_of, GrowsBy}
 use Rattle.iom_way_survey.specs.Directories.{next_of, IsOnWay, IsOnPath, PathReads, DirectoryReads}
 use Rattle.iom_way_survey.specs.Queues.{IsFrameAmong, IsWordAmong, IsOfFaults}
 use Rattle.iom_way_survey.specs.Found.{SomeTable}
@@ -130,8 +130,8 @@ module _ (trusted : ℕ → Bool) (parts : HardwareParts) where
 none_of : (row : List ℕ) (frame : ℕ) → ((f : ℕ) → marked row f ≡ false) → marked row frame ≡ true → ⊥
 none_of row frame clear is = false≢true (sym (clear frame) ∙ is)
 
-pub read_back : (trusted : ℕ → Bool) (parts : HardwareParts) (none tables directory all : List ℕ) → ((f : ℕ) → marked none f ≡ false) → Adds none tables (SomeTable parts)
-    → Adds tables directory (DirectoryReads parts) → Adds directory all (IsFrameAmong (waiting_places (registers_of parts.iommu))) → (frame : ℕ) → marked all frame ≡ true
+pub read_back : (trusted : ℕ → Bool) (parts : HardwareParts) (none tables directory all : List ℕ) → ((f : ℕ) → marked none f ≡ false) → GrowsBy none tables (SomeTable parts)
+    → GrowsBy tables directory (DirectoryReads parts) → GrowsBy directory all (IsFrameAmong (waiting_places (registers_of parts.iommu))) → (frame : ℕ) → marked all frame ≡ true
     → (other : ℕ) × IsRead (scene_of trusted parts) other × (place_of other ≡ place_of frame)
 read_back trusted parts none tables directory all clear one two three frame is = elim (three.sole frame is) [
   | inr (other, queue, same) ↦ (other, inr (inr (queue_back trusted parts other queue)), same)
@@ -145,7 +145,7 @@ read_back trusted parts none tables directory all clear one two three frame is =
 ]
 
 pub stored_back : (trusted : ℕ → Bool) (parts : HardwareParts) (none words all : List ℕ) → ((f : ℕ) → marked none f ≡ false)
-    → Adds none words (IsWordAmong parts.memory (waiting_places (registers_of parts.iommu))) → Adds words all (IsOfFaults (registers_of parts.iommu)) → (frame : ℕ) → marked all frame ≡ true
+    → GrowsBy none words (IsWordAmong parts.memory (waiting_places (registers_of parts.iommu))) → GrowsBy words all (IsOfFaults (registers_of parts.iommu)) → (frame : ℕ) → marked all frame ≡ true
     → (other : ℕ) × (Contains (scene_of trusted parts).fault_frames other ⊎ HasWord (scene_of trusted parts) other) × (place_of other ≡ place_of frame)
 stored_back trusted parts none words all clear one two frame is = elim (two.sole frame is) [
   | inr (other, fault, same) ↦ (other, inl (fault_back (registers_of parts.iommu) other fault), same)

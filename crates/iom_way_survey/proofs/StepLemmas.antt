@@ -4,7 +4,7 @@ use Rattle.std.specs.Prelude.{IfSome}
 use Rattle.std.proofs.lemmas.Bool.{cases_lt}
 use Rattle.iom_base.specs.declared.access.AccessKind.{AccessKind}
 use Rattle.iom_table_survey.specs.Reaches.{frames_by, AddsReach}
-use Rattle.iom_table_survey.specs.Rows.{Adds, has, place_of}
+use Rattle.iom_table_survey.specs.Rows.{GrowsBy, has, place_of}
 use Rattle.iom_tlb.specs.Places.{StandsAt, IsCached, HavePlaces}
 use Rattle.iom_tlb.specs.Ways.{Ways}
 use Rattle.iom_tlb.specs.declared.cached_page.CachedPage.{CachedPage}
@@ -25,7 +25,7 @@ module _ {X : Type 0} (xs : List X) (k : ℕ) (x : X) (at : slice_get xs k ≡ S
   only : (y : X) → slice_get xs k ≡ Some y → y ≡ x
   only y here = let same : Some y ≡ Some x = sym here ∙ at in cc
 
-  pub adds_there : (old new : List ℕ) (P : X → ℕ → Type 0) → Adds old new (P x) → Adds old new (λ f. (y : X) × (slice_get xs k ≡ Some y) × P y f)
+  pub adds_there : (old new : List ℕ) (P : X → ℕ → Type 0) → GrowsBy old new (P x) → GrowsBy old new (λ f. (y : X) × (slice_get xs k ≡ Some y) × P y f)
   adds_there old new P adds = adds_same old new (P x) (λ f. (y : X) × (slice_get xs k ≡ Some y) × P y f) adds
       (λ f (y, here, p). subst (λ z. P z f) (only y here) p) (λ f p. (x, at, p))
 
@@ -101,8 +101,8 @@ between_all old new sets own places between kind = record {
 
 -- where both are the same one of them is enough, and what was found before has it
 pub beside_adds : (P : Option DeviceContext → ℕ → Type 0) (Before : ℕ → Type 0) (cached stored beside : Option DeviceContext) (old between new : List ℕ) → ((f : ℕ) → P None f → ⊥)
-    → ((f : ℕ) → P cached f → Before f) → IsBeside cached stored beside → Adds old between Before → Adds between new (P beside) → Adds old new (λ f. Before f ⊎ P stored f)
-beside_adds P Before cached stored beside old between new none has_it (inl same) first second = adds_then old between new Before (P stored) first (subst (λ o. Adds between new (P o)) same second)
+    → ((f : ℕ) → P cached f → Before f) → IsBeside cached stored beside → GrowsBy old between Before → GrowsBy between new (P beside) → GrowsBy old new (λ f. Before f ⊎ P stored f)
+beside_adds P Before cached stored beside old between new none has_it (inl same) first second = adds_then old between new Before (P stored) first (subst (λ o. GrowsBy between new (P o)) same second)
 beside_adds P Before cached stored beside old between new none has_it (inr (nothing, same)) first second =
     adds_same old new (λ f. Before f ⊎ P beside f) (λ f. Before f ⊎ P stored f) (adds_then old between new Before (P beside) first second) to from
   where

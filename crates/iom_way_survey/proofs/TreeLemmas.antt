@@ -17,7 +17,7 @@ use Rattle.iom_hardware_ways.specs.Laws.{AreIndices, PagesAreIndices}
 use Rattle.iom_hardware_ways.proofs.FormatLemmas.{entry_there, indices_back}
 use Rattle.iom_table_survey.specs.Levels.{PointsTo, MapsFrame, IsPointedTo, IsTable, IsMapped}
 use Rattle.iom_table_survey.specs.Rows.{IsInRun}
-use Rattle.iom_way_survey.specs.Laws.{widths_from, IsLedTo, IsReadFrom, LevelsAreWalks}
+use Rattle.iom_way_survey.specs.Laws.{widths_from, IsLedTo, IsReadBelow, LevelsAreWalks}
 
 -- INDICES
 
@@ -309,7 +309,7 @@ module _ (memory : List (List ℕ)) (root frames below : ℕ) (pages : PagesAreI
       (ends_mapped memory below is (IsInRun root frames) root i mapping kind all (in_root i low) allowed
       (subst (λ js. Ends entry_format (slice_get memory) root (map step_at js) mapping) path ends))
 
-  read_table : (frame : ℕ) → IsReadFrom memory root (widths_from frames below) frame → IsTable (entries memory) (IsInRun root frames) (suc below) frame
+  read_table : (frame : ℕ) → IsReadBelow memory root (widths_from frames below) frame → IsTable (entries memory) (IsInRun root frames) (suc below) frame
   read_table frame (page, reads) =
       let (i, is, path, (low, all)) = first_of page in
       reads_table memory below is (IsInRun root frames) root i frame all (in_root i low) (subst (λ js. ReadsFrame entry_format (slice_get memory) root (map step_at js) frame) path reads)
@@ -336,7 +336,7 @@ module _ (memory : List (List ℕ)) (root frames below : ℕ) (pages : PagesAreI
         serves,
       )
 
-  table_read : (frame : ℕ) → IsTable (entries memory) (IsInRun root frames) (suc below) frame → IsReadFrom memory root (widths_from frames below) frame
+  table_read : (frame : ℕ) → IsTable (entries memory) (IsInRun root frames) (suc below) frame → IsReadBelow memory root (widths_from frames below) frame
   table_read frame there =
       let w = table_reads memory below (IsInRun root frames) frame there in
       let (i, low, at, rest) = root_index w.from w.place w.there w.low in

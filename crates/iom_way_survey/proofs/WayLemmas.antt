@@ -38,7 +38,7 @@ use Rattle.iom_hardware_ways.proofs.ListLemmas.{in_none, cons_cases, map_cases}
 use Rattle.iom_hardware_ways.proofs.PageIndices.{sizes_have_indices}
 use Rattle.iom_tlb.specs.declared.space.Space.{Space}
 use Rattle.iom_tlb.specs.declared.trans_cache.Translation.{Translation}
-use Rattle.iom_way_survey.specs.Found.{has_directory, mode_in, found_of, cached_found, stored_found, Finds, space_in, HaveTable, HaveLeaf, FoundTable, FoundLeaf, DeviceTable, DeviceLeaf, SpaceTable, SpaceLeaf, IsCachedIn, InSpace, IsKeptAmong, AnswersSo, IsAnsweredAmong, IsInCache, LetsKind, ByAts, ThroughSpace, ThroughFound, IsMade, WayOf}
+use Rattle.iom_way_survey.specs.Found.{has_directory, mode_in, found_of, cached_found, stored_found, Finds, space_in, HaveTable, HaveLeaf, FoundTable, FoundLeaf, DeviceTable, DeviceLeaf, SpaceTable, SpaceLeaf, IsCachedIn, InSpace, IsKeptAmong, AnswersSo, IsAnsweredAmong, IsInCache, LetsKind, ByAts, ThroughSpace, ThroughFound, IsThatAccess, WayOf}
 use Rattle.iom_way_survey.proofs.TreeLemmas.{levels_are_walks}
 
 -- LISTS
@@ -324,7 +324,7 @@ module _ (trusted : ℕ → Bool) (parts : HardwareParts) where
   through_found device found own kind frame is through = subst (λ (o : Option DeviceContext). ThroughFound parts device o kind frame) (sym is) through
 
   flight_made : (row : Option FlightRow) (frame : ℕ) (kind : AccessKind) → Contains (flights_in row) (record { frame = frame; kind = kind })
-      → ((own : FlightRow) → row ≡ Some own → length own.waiting ≤ 8) → (k : ℕ) × (k < 8) × IsMade (waiting_at row k) kind frame
+      → ((own : FlightRow) → row ≡ Some own → length own.waiting ≤ 8) → (k : ℕ) × (k < 8) × IsThatAccess (waiting_at row k) kind frame
   flight_made None frame kind there few = absurd (in_none {X = PendingAccess} (record { frame = frame; kind = kind }) there)
   flight_made (Some row) frame kind there few =
       let (access, own, is) = map_cases flight_of row.waiting (record { frame = frame; kind = kind }) there in
@@ -332,7 +332,7 @@ module _ (trusted : ℕ → Bool) (parts : HardwareParts) where
       let short = few row refl in
       let e : access.accepted.frame ≡ frame = ap (λ (p : PendingAccess). p.frame) is in
       let f : access.accepted.access.kind ≡ kind = ap (λ (p : PendingAccess). p.kind) is in
-      (k, omega (arith, low, short), subst (λ (found : Option NumberedAccess). IsMade (option_map (λ (a : NumberedAccess). made_at row.device a.accepted) found) kind frame) (sym at) (sym e, sym f))
+      (k, omega (arith, low, short), subst (λ (found : Option NumberedAccess). IsThatAccess (option_map (λ (a : NumberedAccess). made_at row.device a.accepted) found) kind frame) (sym at) (sym e, sym f))
 
   bare_mode : (m : DirectoryMode) (root : ℕ) → directory_by m root ≡ Bare → m ≡ mode.Bare
   bare_mode mode.Off root is = absurd (cc)

@@ -181,13 +181,13 @@ TablesFound parts (Some context) frame = TablesThrough parts (space_in context) 
 
 -- DEVICES
 
-abbrev pub IsMade : Option MadeAt → AccessKind → ℕ → Type 0
-IsMade None kind frame = ⊥
-IsMade (Some made) kind frame = (frame ≡ made.frame) × (kind ≡ made.kind)
+abbrev pub IsThatAccess : Option MadeAt → AccessKind → ℕ → Type 0
+IsThatAccess None kind frame = ⊥
+IsThatAccess (Some made) kind frame = (frame ≡ made.frame) × (kind ≡ made.kind)
 
 -- an access in flight is of this kind, and on the frame
 abbrev pub IsInFlight : HardwareParts → ℕ → AccessKind → ℕ → Type 0
-IsInFlight parts id kind frame = (k : ℕ) × (k < 8) × IsMade (waiting_at (row_of (flights_of parts.iommu).rows id) k) kind frame
+IsInFlight parts id kind frame = (k : ℕ) × (k < 8) × IsThatAccess (waiting_at (row_of (flights_of parts.iommu).rows id) k) kind frame
 
 abbrev pub IsModeBare : HardwareParts → Type 0
 IsModeBare parts = mode_in parts ≡ mode.Bare

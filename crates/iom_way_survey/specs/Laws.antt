@@ -30,12 +30,12 @@ abbrev pub IsLedTo : List (List ℕ) → ℕ → List ℕ → AccessKind → ℕ
 IsLedTo memory root widths kind frame = (mapping : Mapping) × LeadsTo formats (slice_get memory) root (steps_along widths) mapping × ServesKind mapping frame kind
 
 -- some walk from the root reads the frame
-abbrev pub IsReadFrom : List (List ℕ) → ℕ → List ℕ → ℕ → Type 0
-IsReadFrom memory root widths frame = (page : ℕ) × ReadsFrame entry_format (slice_get memory) root (steps_along widths page) frame
+abbrev pub IsReadBelow : List (List ℕ) → ℕ → List ℕ → ℕ → Type 0
+IsReadBelow memory root widths frame = (page : ℕ) × ReadsFrame entry_format (slice_get memory) root (steps_along widths page) frame
 
 abbrev pub LevelsAreWalks : Type 0
 LevelsAreWalks = (memory : List (List ℕ)) (root frames below : ℕ) → PagesAreIndices (widths_from frames below)
-    → ((frame : ℕ) → IsTable (entries memory) (IsInRun root frames) (suc below) frame ↔ IsReadFrom memory root (widths_from frames below) frame)
+    → ((frame : ℕ) → IsTable (entries memory) (IsInRun root frames) (suc below) frame ↔ IsReadBelow memory root (widths_from frames below) frame)
     × ((kind : AccessKind) (frame : ℕ) → IsMapped (entries memory) (IsInRun root frames) (suc below) kind frame ↔ IsLedTo memory root (widths_from frames below) kind frame)
 
 -- each way of a device that is plugged in, of whose accesses at most eight are in flight, is one of those that are looked for

@@ -8,7 +8,7 @@ use Rattle.iom_reach.specs.Safe.{IsRead, HasWord, IsWritable}
 use Rattle.iom_reach.specs.Scene.{Scene}
 use Rattle.iom_reach.specs.Ways.{Way}
 use Rattle.iom_table_survey.specs.Reaches.{frames_by, IsReachOf}
-use Rattle.iom_table_survey.specs.Rows.{has, place_of, IsCommon}
+use Rattle.iom_table_survey.specs.Rows.{has, place_of, StandInBoth}
 use Rattle.iom_way_survey.specs.Found.{WayOf}
 use Rattle.iom_way_survey.specs.declared.findings.Conflict.{Conflict}
 use Rattle.iom_way_survey.specs.declared.findings.DeviceReach.{DeviceReach}
@@ -27,7 +27,7 @@ abbrev pub reaches_in : List DeviceReach → ℕ → AccessKind → ℕ → Bool
 reaches_in rows id kind frame = reach_in (find (λ (row : DeviceReach). row.id == id) rows) kind frame
 
 -- the row is the device's: what it reaches is all that is looked for
-pub record IsRowOf (parts : HardwareParts) (trusted : List ℕ) (row : DeviceReach) (device : Device) : Type 0 where
+pub record IsReachRow (parts : HardwareParts) (trusted : List ℕ) (row : DeviceReach) (device : Device) : Type 0 where
   pub id : row.id ≡ device.id
   pub is_trusted : row.is_trusted ≡ is_among trusted device.id
   pub reach : IsReachOf row.reach (WayOf parts device)
@@ -35,7 +35,7 @@ pub record IsRowOf (parts : HardwareParts) (trusted : List ℕ) (row : DeviceRea
 -- so many devices have their rows, in their order
 pub record HaveRows (parts : HardwareParts) (trusted : List ℕ) (rows : List DeviceReach) (count : ℕ) : Type 0 where
   pub long : length rows ≡ count
-  pub each : (k : ℕ) (row : DeviceReach) (device : Device) → slice_get rows k ≡ Some row → slice_get parts.devices k ≡ Some device → IsRowOf parts trusted row device
+  pub each : (k : ℕ) (row : DeviceReach) (device : Device) → slice_get rows k ≡ Some row → slice_get parts.devices k ≡ Some device → IsReachRow parts trusted row device
 
 -- each device has its own
 abbrev pub AreRowsOf : HardwareParts → List ℕ → List DeviceReach → Type 0
@@ -91,15 +91,15 @@ abbrev pub IsSurveyOf : Survey → Scene → Type 0
 IsSurveyOf survey scene = Surveys survey scene × InventsNone survey scene
 
 -- no device that isn't trusted, nor the IOMMU, writes what hardware reads
-pub record AreApart (survey : Survey) : Type 0 where
-  pub devices : (k : ℕ) (row : DeviceReach) → slice_get survey.devices.items k ≡ Some row → row.is_trusted ≡ false → (frame : ℕ) → ¬ IsCommon survey.read row.reach.writable frame
-  pub iommu : (frame : ℕ) → ¬ IsCommon survey.read survey.stored frame
+pub record IsConflictFree (survey : Survey) : Type 0 where
+  pub devices : (k : ℕ) (row : DeviceReach) → slice_get survey.devices.items k ≡ Some row → row.is_trusted ≡ false → (frame : ℕ) → ¬ StandInBoth survey.read row.reach.writable frame
+  pub iommu : (frame : ℕ) → ¬ StandInBoth survey.read survey.stored frame
 
 -- who writes this frame that hardware reads
 abbrev pub WritesCommon : Survey → Option ℕ → ℕ → Type 0
-WritesCommon survey None frame = IsCommon survey.read survey.stored frame
+WritesCommon survey None frame = StandInBoth survey.read survey.stored frame
 WritesCommon survey (Some id) frame =
-    (k : ℕ) × (row : DeviceReach) × (slice_get survey.devices.items k ≡ Some row) × ((row.id ≡ id) × ((row.is_trusted ≡ false) × IsCommon survey.read row.reach.writable frame))
+    (k : ℕ) × (row : DeviceReach) × (slice_get survey.devices.items k ≡ Some row) × ((row.id ≡ id) × ((row.is_trusted ≡ false) × StandInBoth survey.read row.reach.writable frame))
 
 abbrev pub IsConflict : Survey → Conflict → Type 0
 IsConflict survey conflict = WritesCommon survey conflict.device conflict.frame

@@ -3,7 +3,7 @@ ghost use Rattle.std.specs.Prelude.{◌≡◌, ◌<◌, ◌≤◌, length, slice
 ghost use Rattle.iom_hardware.specs.HardwareParts.{hardware_parts};
 ghost use Rattle.iom_iommu.specs.Stages.{space_through};
 ghost use Rattle.iom_table_survey.specs.Reaches.{AddsReach};
-ghost use Rattle.iom_table_survey.specs.Rows.{Adds};
+ghost use Rattle.iom_table_survey.specs.Rows.{GrowsBy};
 ghost use Rattle.iom_way_survey.specs.Found.{has_directory, cached_found, stored_found, found_of, space_in, HaveTable, HaveLeaf, FoundTable, FoundLeaf, IsBeside};
 
 use crate::same::is_same;
@@ -115,7 +115,7 @@ fn survey_stages(
     reach: &mut Reach,
 )
     requires { length memory.now ≤ 4096 }
-    ensures tables { Adds tables.old tables.new (HaveTable memory.now first second) }
+    ensures tables { GrowsBy tables.old tables.new (HaveTable memory.now first second) }
     ensures leaves { AddsReach reach.old reach.new (HaveLeaf memory.now first second) }
 {
     match second {
@@ -153,7 +153,7 @@ pub(crate) fn survey_found(
     reach: &mut Reach,
 )
     requires { length memory.now ≤ 4096 }
-    ensures tables { Adds tables.old tables.new (FoundTable memory.now space found) }
+    ensures tables { GrowsBy tables.old tables.new (FoundTable memory.now space found) }
     ensures leaves { AddsReach reach.old reach.new (FoundLeaf memory.now space found) }
 {
     if let Some(context) = found {

@@ -6,8 +6,8 @@ ghost use Rattle.iom_inflight.specs.declared.made.MadeAt.{MadeAt};
 ghost use Rattle.iom_iommu.specs.Parts.{flights_of};
 ghost use Rattle.iom_registers.specs.declared.directory.DirectoryMode.TheVariants.{Bare};
 ghost use Rattle.iom_table_survey.specs.Reaches.{AddsReach};
-ghost use Rattle.iom_table_survey.specs.Rows.{Adds};
-ghost use Rattle.iom_way_survey.specs.Found.{ByAts, ThroughSpace, TablesThrough, TablesFound, ThroughFound, TablesOfDevice, IsMade, IsInFlight, WayOf};
+ghost use Rattle.iom_table_survey.specs.Rows.{GrowsBy};
+ghost use Rattle.iom_way_survey.specs.Found.{ByAts, ThroughSpace, TablesThrough, TablesFound, ThroughFound, TablesOfDevice, IsThatAccess, IsInFlight, WayOf};
 
 use crate::contexts::{cached_in, space_of, stored_beside};
 use crate::kept::survey_ats;
@@ -38,7 +38,7 @@ fn survey_by_space(
     reach: &mut Reach,
 )
     requires { length hardware.now.memory ≤ 4096 }
-    ensures tables { Adds tables.old tables.new (TablesThrough (hardware_parts hardware.now) space) }
+    ensures tables { GrowsBy tables.old tables.new (TablesThrough (hardware_parts hardware.now) space) }
     ensures reached { AddsReach reach.old reach.new (ThroughSpace (hardware_parts hardware.now) space) }
 {
     match space {
@@ -56,7 +56,7 @@ fn survey_through(
     reach: &mut Reach,
 )
     requires { length hardware.now.memory ≤ 4096 }
-    ensures tables { Adds tables.old tables.new (TablesFound (hardware_parts hardware.now) found) }
+    ensures tables { GrowsBy tables.old tables.new (TablesFound (hardware_parts hardware.now) found) }
     ensures reached { AddsReach reach.old reach.new (ThroughFound (hardware_parts hardware.now) device.now found) }
 {
     if let Some(context) = found {
@@ -67,7 +67,7 @@ fn survey_through(
 
 /// An access in flight.
 fn survey_access(made: Option<MadeAt>, reach: &mut Reach)
-    ensures { AddsReach reach.old reach.new (IsMade made) }
+    ensures { AddsReach reach.old reach.new (IsThatAccess made) }
 {
     if let Some(access) = made {
         reach.insert_for(access.frame, access.kind);
@@ -104,7 +104,7 @@ pub(crate) fn survey_device(
     reach: &mut Reach,
 )
     requires { length hardware.now.memory ≤ 4096 }
-    ensures tables { Adds tables.old tables.new (TablesOfDevice (hardware_parts hardware.now) device.now.id) }
+    ensures tables { GrowsBy tables.old tables.new (TablesOfDevice (hardware_parts hardware.now) device.now.id) }
     ensures reached { AddsReach reach.old reach.new (WayOf (hardware_parts hardware.now) device.now) }
 {
     survey_flights(hardware, device, reach);

@@ -6,7 +6,7 @@ ghost use Rattle.iom_device_dir.specs.Paths.{entry_place};
 ghost use Rattle.iom_hardware.specs.HardwareParts.{hardware_parts};
 ghost use Rattle.iom_phys_mem.specs.Words.{word_at};
 ghost use Rattle.iom_registers.specs.Queues.{directory_root};
-ghost use Rattle.iom_table_survey.specs.Rows.{Adds};
+ghost use Rattle.iom_table_survey.specs.Rows.{GrowsBy};
 ghost use Rattle.iom_way_survey.specs.Directories.{next_of, IsOnPath, PathReads, DirectoryReads};
 
 use crate::contexts::device_at;
@@ -31,14 +31,14 @@ fn next_page(memory: &Memory, page: Ppn, index: u64) -> Option<Ppn>
 
 /// The path from a page of contexts.
 fn survey_contexts_page(page: Ppn, read: &mut FrameRow)
-    ensures { Adds read.old read.new (λ f. f ≡ page.number) }
+    ensures { GrowsBy read.old read.new (λ f. f ≡ page.number) }
 {
     read.insert(page.number());
 }
 
 /// The path from a page one level above.
 fn survey_middle(memory: &Memory, page: Ppn, id: DeviceId, read: &mut FrameRow)
-    ensures { Adds read.old read.new (IsOnPath memory.now 1 page.number id) }
+    ensures { GrowsBy read.old read.new (IsOnPath memory.now 1 page.number id) }
 {
     read.insert(page.number());
     if let Some(next) = next_page(memory, page, u64::from(id) / (1 << 7) % (1 << 9)) {
@@ -48,7 +48,7 @@ fn survey_middle(memory: &Memory, page: Ppn, id: DeviceId, read: &mut FrameRow)
 
 /// The path from a page two levels above.
 fn survey_top(memory: &Memory, page: Ppn, id: DeviceId, read: &mut FrameRow)
-    ensures { Adds read.old read.new (IsOnPath memory.now 2 page.number id) }
+    ensures { GrowsBy read.old read.new (IsOnPath memory.now 2 page.number id) }
 {
     read.insert(page.number());
     if let Some(next) = next_page(memory, page, u64::from(id) / (1 << 16) % (1 << 8)) {
@@ -58,7 +58,7 @@ fn survey_top(memory: &Memory, page: Ppn, id: DeviceId, read: &mut FrameRow)
 
 /// The path of the id, by the levels that the mode gives the directory.
 fn survey_path(memory: &Memory, mode: DirectoryMode, root: Ppn, id: DeviceId, read: &mut FrameRow)
-    ensures { Adds read.old read.new (PathReads memory.now mode root.number id) }
+    ensures { GrowsBy read.old read.new (PathReads memory.now mode root.number id) }
 {
     if !fits_directory(mode, id) {
         return;
@@ -80,7 +80,7 @@ fn root_of(registers: &Registers) -> Ppn
 
 /// The paths of all devices that are plugged in.
 pub(crate) fn survey_directory(hardware: &Hardware, read: &mut FrameRow)
-    ensures { Adds read.old read.new (DirectoryReads (hardware_parts hardware.now)) }
+    ensures { GrowsBy read.old read.new (DirectoryReads (hardware_parts hardware.now)) }
 {
     let registers = hardware.iommu.registers();
     let root = root_of(registers);

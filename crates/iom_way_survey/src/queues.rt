@@ -1,5 +1,5 @@
 // The frames of the queues: those of commands that wait, those of fault records, and those of the words of fences.
-ghost use Rattle.iom_table_survey.specs.Rows.{Adds};
+ghost use Rattle.iom_table_survey.specs.Rows.{GrowsBy};
 ghost use Rattle.iom_way_survey.specs.Queues.{StoresWord, IsFrameAmong, IsWordAmong, IsOfFaults};
 ghost use Rattle.iom_hardware_ways.specs.Scenes.{waiting_places};
 
@@ -12,7 +12,7 @@ use iom_table_survey::FrameRow;
 
 /// The frames of fault records.
 pub(crate) fn survey_faults(registers: &Registers, stored: &mut FrameRow)
-    ensures { Adds stored.old stored.new (IsOfFaults registers.now) }
+    ensures { GrowsBy stored.old stored.new (IsOfFaults registers.now) }
 {
     if registers.is_fault_queue_on() {
         let first = registers.fault_base() / PAGE_SIZE;
@@ -23,7 +23,7 @@ pub(crate) fn survey_faults(registers: &Registers, stored: &mut FrameRow)
 
 /// The frame of the word that a fence stores.
 fn survey_word(entry: QueueEntry, stored: &mut FrameRow)
-    ensures { Adds stored.old stored.new (StoresWord entry) }
+    ensures { GrowsBy stored.old stored.new (StoresWord entry) }
 {
     if let QueueEntry::Command(
         Command::IofenceC {
@@ -43,8 +43,8 @@ pub(crate) fn survey_queue(
     read: &mut FrameRow,
     stored: &mut FrameRow,
 )
-    ensures frames { Adds read.old read.new (IsFrameAmong (waiting_places registers.now)) }
-    ensures words { Adds stored.old stored.new (IsWordAmong memory.now (waiting_places registers.now)) }
+    ensures frames { GrowsBy read.old read.new (IsFrameAmong (waiting_places registers.now)) }
+    ensures words { GrowsBy stored.old stored.new (IsWordAmong memory.now (waiting_places registers.now)) }
 {
     if !registers.is_command_queue_on() {
         return;

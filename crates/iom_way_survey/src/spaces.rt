@@ -3,7 +3,7 @@ ghost use Rattle.std.specs.Prelude.{◌≡◌, ◌<◌, ◌≤◌, ℕ, length, 
 ghost use Rattle.iom_device.specs.declared.device.Device.{Device};
 ghost use Rattle.iom_hardware.specs.HardwareParts.{hardware_parts};
 ghost use Rattle.iom_table_survey.specs.Reaches.{AddsReach};
-ghost use Rattle.iom_table_survey.specs.Rows.{Adds};
+ghost use Rattle.iom_table_survey.specs.Rows.{GrowsBy};
 ghost use Rattle.iom_way_survey.specs.Found.{FoundTable, FoundLeaf, DeviceTable, DeviceLeaf, SpaceTable, SpaceLeaf, ServesIn, IsCachedIn, InSpace};
 ghost use Rattle.iom_tlb.specs.declared.cached_page.CachedPage.{CachedPage};
 
@@ -43,7 +43,7 @@ fn survey_contexts(
     reach: &mut Reach,
 )
     requires { length hardware.now.memory ≤ 4096 }
-    ensures tables { Adds tables.old tables.new (DeviceTable (hardware_parts hardware.now) space id) }
+    ensures tables { GrowsBy tables.old tables.new (DeviceTable (hardware_parts hardware.now) space id) }
     ensures leaves { AddsReach reach.old reach.new (DeviceLeaf (hardware_parts hardware.now) space id) }
 {
     let cached = cached_in(hardware, id);
@@ -55,7 +55,7 @@ fn survey_contexts(
 /// The same of each device.
 fn survey_all_contexts(hardware: &Hardware, space: Space, tables: &mut FrameRow, reach: &mut Reach)
     requires { length hardware.now.memory ≤ 4096 }
-    ensures tables { Adds tables.old tables.new (SpaceTable (hardware_parts hardware.now) space) }
+    ensures tables { GrowsBy tables.old tables.new (SpaceTable (hardware_parts hardware.now) space) }
     ensures leaves { AddsReach reach.old reach.new (SpaceLeaf (hardware_parts hardware.now) space) }
 {
     for place in 0..hardware.devices.len() {
@@ -72,7 +72,7 @@ pub(crate) fn survey_space(
     reach: &mut Reach,
 )
     requires { length hardware.now.memory ≤ 4096 }
-    ensures tables { Adds tables.old tables.new (SpaceTable (hardware_parts hardware.now) space) }
+    ensures tables { GrowsBy tables.old tables.new (SpaceTable (hardware_parts hardware.now) space) }
     ensures reached { AddsReach reach.old reach.new (InSpace (hardware_parts hardware.now) space) }
 {
     survey_translations(hardware.iommu.translations(), space, reach);

@@ -4,9 +4,9 @@ ghost use Rattle.iom_device.specs.declared.device.Device.{Device};
 ghost use Rattle.iom_hardware.specs.HardwareParts.{hardware_parts};
 ghost use Rattle.iom_reach.specs.Safe.{IsSafe};
 ghost use Rattle.iom_reach.specs.Scene.{Scene};
-ghost use Rattle.iom_table_survey.specs.Rows.{has, Adds, IsCommon};
+ghost use Rattle.iom_table_survey.specs.Rows.{has, GrowsBy, StandInBoth};
 ghost use Rattle.iom_way_survey.specs.Found.{TablesOfDevice, SomeTable};
-ghost use Rattle.iom_way_survey.specs.Surveys.{is_among, IsRowOf, reaches_in, Surveys, IsSurveyOf, IsClash, AreRowsOf, AreApart, IsConflict};
+ghost use Rattle.iom_way_survey.specs.Surveys.{is_among, IsReachRow, reaches_in, Surveys, IsSurveyOf, IsClash, AreRowsOf, IsConflictFree, IsConflict};
 ghost use Rattle.iom_way_survey.specs.declared.findings.Conflict.{Conflict};
 ghost use Rattle.iom_way_survey.specs.declared.findings.DeviceReach.{DeviceReach};
 
@@ -33,8 +33,8 @@ fn survey_one(
     read: &mut FrameRow,
 ) -> DeviceReach
     requires { length hardware.now.memory ≤ 4096 }
-    ensures row { IsRowOf (hardware_parts hardware.now) trusted.now result device.now }
-    ensures tables { Adds read.old read.new (TablesOfDevice (hardware_parts hardware.now) device.now.id) }
+    ensures row { IsReachRow (hardware_parts hardware.now) trusted.now result device.now }
+    ensures tables { GrowsBy read.old read.new (TablesOfDevice (hardware_parts hardware.now) device.now.id) }
 {
     let mut reach = Reach::new();
     survey_device(hardware, device, read, &mut reach);
@@ -57,7 +57,7 @@ pub(crate) fn survey_devices(
     requires room { 16 ≤ vec_capacity rows.old }
     requires empty { rows.old.items ≡ [] }
     ensures rows { AreRowsOf (hardware_parts hardware.now) trusted.now rows.new.items }
-    ensures tables { Adds read.old read.new (SomeTable (hardware_parts hardware.now)) }
+    ensures tables { GrowsBy read.old read.new (SomeTable (hardware_parts hardware.now)) }
     ensures room { 16 ≤ vec_capacity rows.new }
 {
     for place in 0..hardware.devices.len() {
@@ -87,8 +87,8 @@ fn row_of(rows: &[DeviceReach], id: DeviceId) -> Option<&DeviceReach>
 
 /// The first frame that is read, and that the device may write, unless it is trusted.
 fn first_written(read: &FrameRow, row: &DeviceReach) -> Option<u64>
-    ensures some { IfSome result (λ f. (row.now.is_trusted ≡ false) × IsCommon read.now row.now.reach.writable f) }
-    ensures none { IfNone result (row.now.is_trusted ≡ false → (f : ℕ) → ¬ IsCommon read.now row.now.reach.writable f) }
+    ensures some { IfSome result (λ f. (row.now.is_trusted ≡ false) × StandInBoth read.now row.now.reach.writable f) }
+    ensures none { IfNone result (row.now.is_trusted ≡ false → (f : ℕ) → ¬ StandInBoth read.now row.now.reach.writable f) }
 {
     if row.is_trusted {
         return None;
@@ -124,7 +124,7 @@ impl Survey {
     /// The first conflict, by the order of the devices; None exactly where what hardware reads is out of reach.
     pub fn first_conflict(&self) -> Option<Conflict>
         ensures some { IfSome result (IsConflict self.now) }
-        ensures none { IfNone result (AreApart self.now) }
+        ensures none { IfNone result (IsConflictFree self.now) }
     {
         for place in 0..self.devices.len() {
             let row = row_at(&self.devices, place);

@@ -3,7 +3,7 @@ use Rattle.iom_stage_walk.specs.Entries.{entries, slot}
 use Rattle.iom_stage_walk.specs.declared.entry.Entry.{Entry}
 use Rattle.iom_table_survey.specs.Levels.{PointsTo, MapsFrame}
 use Rattle.iom_table_survey.specs.Reaches.{AddsReach}
-use Rattle.iom_table_survey.specs.Rows.{Adds}
+use Rattle.iom_table_survey.specs.Rows.{GrowsBy}
 use Rattle.iom_table_survey.proofs.AddLemmas.{adds_none_yet, adds_next, reach_none_yet, reach_next}
 use Rattle.iom_table_survey.proofs.tables.survey_table.Goals as goal
 
@@ -18,7 +18,7 @@ loop-index-preserved c =
     let entry = c.entry_at-entry.ensures.value in
     record {
       pointers = adds_next c.args.next.now c.loop-index.next c.survey_pointer.new.next (λ i f. PointsTo (entries c.args.memory.now (slot c.args.table i)) f) c.loop-index.index c.loop-index.invariant.pointers
-          (subst (λ (e : Entry). Adds c.loop-index.next c.survey_pointer.new.next (PointsTo e)) entry c.survey_pointer.ensures);
+          (subst (λ (e : Entry). GrowsBy c.loop-index.next c.survey_pointer.new.next (PointsTo e)) entry c.survey_pointer.ensures);
       leaves = reach_next c.args.reach.now c.loop-index.reach c.survey_leaf.new.reach (λ i kind f. MapsFrame (entries c.args.memory.now (slot c.args.table i)) c.args.below kind f) c.loop-index.index
           c.loop-index.invariant.leaves (subst (λ (e : Entry). AddsReach c.loop-index.reach c.survey_leaf.new.reach (MapsFrame e c.args.below)) entry c.survey_leaf.ensures);
     }
@@ -27,7 +27,7 @@ pub returns : goal.returns
 returns c =
     let last : c.loop-index.index ≡ 512 = omega arith in
     record {
-      pointers = subst (λ (n : ℕ). Adds c.args.next.now c.loop-index.next (λ f. (i : ℕ) × (i < n) × PointsTo (entries c.args.memory.now (slot c.args.table i)) f)) last c.loop-index.invariant.pointers;
+      pointers = subst (λ (n : ℕ). GrowsBy c.args.next.now c.loop-index.next (λ f. (i : ℕ) × (i < n) × PointsTo (entries c.args.memory.now (slot c.args.table i)) f)) last c.loop-index.invariant.pointers;
       leaves = subst (λ (n : ℕ). AddsReach c.args.reach.now c.loop-index.reach (λ kind f. (i : ℕ) × (i < n) × MapsFrame (entries c.args.memory.now (slot c.args.table i)) c.args.below kind f)) last
           c.loop-index.invariant.leaves;
     }

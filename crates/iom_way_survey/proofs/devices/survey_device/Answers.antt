@@ -5,7 +5,7 @@ use Rattle.iom_registers.specs.Queues.{directory_mode}
 use Rattle.iom_registers.specs.declared.directory.DirectoryMode.{DirectoryMode}
 use Rattle.iom_registers.specs.declared.directory.DirectoryMode.TheVariants.{Bare}
 use Rattle.iom_table_survey.specs.Reaches.{AddsReach}
-use Rattle.iom_table_survey.specs.Rows.{Adds}
+use Rattle.iom_table_survey.specs.Rows.{GrowsBy}
 use Rattle.iom_table_survey.proofs.AddLemmas.{reach_then}
 use Rattle.iom_way_survey.specs.Found.{cached_found, stored_found, ThroughFound, TablesFound, IsInFlight, IsModeBare, IsBeside}
 use Rattle.iom_way_survey.proofs.StepLemmas.{beside_adds, beside_reaches}
@@ -26,7 +26,7 @@ returns c =
     let is : IsBeside cached stored beside = subst (λ o. IsBeside o stored beside) c.cached_in-cached.ensures c.stored_beside-beside.ensures in
     record {
       tables = beside_adds (TablesFound parts) (TablesFound parts cached) cached stored beside c.args.tables.now c.survey_through.new.tables c.survey_through-2.new.tables (λ f never. never)
-          (λ f it. it) is (subst (λ o. Adds c.args.tables.now c.survey_through.new.tables (TablesFound parts o)) c.cached_in-cached.ensures c.survey_through.ensures.tables)
+          (λ f it. it) is (subst (λ o. GrowsBy c.args.tables.now c.survey_through.new.tables (TablesFound parts o)) c.cached_in-cached.ensures c.survey_through.ensures.tables)
           c.survey_through-2.ensures.tables;
       reached = beside_reaches (ThroughFound parts device) (λ kind f. (IsInFlight parts device.id kind f ⊎ IsModeBare parts) ⊎ ThroughFound parts device cached kind f) cached stored beside start three four
           (λ kind f never. never) (λ kind f it. inr it) is

@@ -4,7 +4,7 @@ use Rattle.iom_hardware_ways.specs.Scenes.{waiting_places}
 use Rattle.iom_hardware_ways.proofs.FetchLemmas.{apart}
 use Rattle.iom_registers.specs.Queues.{command_base, command_head, is_command_queue_on}
 use Rattle.iom_registers.specs.declared.registers.Registers.{Registers}
-use Rattle.iom_table_survey.specs.Rows.{Adds}
+use Rattle.iom_table_survey.specs.Rows.{GrowsBy}
 use Rattle.iom_way_survey.proofs.QueueLemmas.{IsLeft, IsFrameAt, IsWordAt, none_left, none_waits, frame_passed, word_passed, fewer_wait}
 use Rattle.iom_way_survey.proofs.queues.survey_queue.Goals as goal
 
@@ -24,8 +24,8 @@ loop-entry-preserved c =
     let before = c.loop-entry.invariant in
     let place : c.command_base.result + 16 * c.from.result ≡ place_of r (command_head r) =
     ap (λ base. base + 16 * c.from.result) c.command_base.ensures.value ∙ ap (λ index. command_base r + 16 * index) (c.from.ensures ∙ c.command_head.ensures.value) in
-    let inserted : Adds c.loop-entry.read c.insert.new.self (λ f. f ≡ place_of r (command_head r) / 4096) =
-    subst (λ a. Adds c.loop-entry.read c.insert.new.self (λ f. f ≡ a / 4096)) place c.insert.ensures in
+    let inserted : GrowsBy c.loop-entry.read c.insert.new.self (λ f. f ≡ place_of r (command_head r) / 4096) =
+    subst (λ a. GrowsBy c.loop-entry.read c.insert.new.self (λ f. f ≡ a / 4096)) place c.insert.ensures in
     record {
       on = ap is_command_queue_on c.advance.ensures.registers ∙ before.on;
       frames = subst (λ (left : Registers). IsLeft IsFrameAt c.args.read.now c.insert.new.self all (waiting_places left)) (sym c.advance.ensures.registers)

@@ -2,7 +2,7 @@ use Rattle.std.proofs.Common.{◌≡◌, ◌<◌, ℕ, length, slice_get, Some, 
 use Rattle.iom_device.specs.declared.device.Device.{Device}
 use Rattle.iom_hardware.specs.HardwareParts.{hardware_parts}
 use Rattle.iom_table_survey.specs.Reaches.{AddsReach}
-use Rattle.iom_table_survey.specs.Rows.{Adds}
+use Rattle.iom_table_survey.specs.Rows.{GrowsBy}
 use Rattle.iom_table_survey.proofs.AddLemmas.{adds_none_yet, adds_next, reach_none_yet, reach_next}
 use Rattle.iom_way_survey.specs.Found.{DeviceTable, DeviceLeaf}
 use Rattle.iom_way_survey.proofs.StepLemmas.{adds_there, reach_there}
@@ -33,7 +33,7 @@ returns c =
     let devices = c.args.hardware.now.devices.items in
     let last : c.loop-place.place ≡ length devices = omega arith in
     record {
-      tables = subst (λ (n : ℕ). Adds c.args.tables.now c.loop-place.tables (λ f. (k : ℕ) × (k < n) × ((device : Device) × (slice_get devices k ≡ Some device) × DeviceTable (hardware_parts c.args.hardware.now) c.args.space device.id f)))
+      tables = subst (λ (n : ℕ). GrowsBy c.args.tables.now c.loop-place.tables (λ f. (k : ℕ) × (k < n) × ((device : Device) × (slice_get devices k ≡ Some device) × DeviceTable (hardware_parts c.args.hardware.now) c.args.space device.id f)))
           last c.loop-place.invariant.tables;
       leaves = subst (λ (n : ℕ). AddsReach c.args.reach.now c.loop-place.reach (λ kind f. (k : ℕ) × (k < n) × ((device : Device) × (slice_get devices k ≡ Some device) × DeviceLeaf (hardware_parts c.args.hardware.now) c.args.space device.id kind f)))
           last c.loop-place.invariant.leaves;

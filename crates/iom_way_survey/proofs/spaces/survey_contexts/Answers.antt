@@ -2,7 +2,7 @@ use Rattle.std.proofs.Common.{Option, subst}
 use Rattle.iom_device_dir.specs.declared.context.Context.{Context as DeviceContext}
 use Rattle.iom_hardware.specs.HardwareParts.{hardware_parts}
 use Rattle.iom_table_survey.specs.Reaches.{AddsReach}
-use Rattle.iom_table_survey.specs.Rows.{Adds}
+use Rattle.iom_table_survey.specs.Rows.{GrowsBy}
 use Rattle.iom_way_survey.specs.Found.{FoundTable, FoundLeaf, IsBeside, cached_found, stored_found}
 use Rattle.iom_way_survey.proofs.StepLemmas.{beside_adds, beside_reaches}
 use Rattle.iom_way_survey.proofs.spaces.survey_contexts.Goals as goal
@@ -18,7 +18,7 @@ returns c =
     record {
       tables = beside_adds (FoundTable memory c.args.space) (FoundTable memory c.args.space cached) cached stored beside c.args.tables.now c.survey_found.new.tables c.survey_found-2.new.tables
           (λ f never. never) (λ f it. it) is
-          (subst (λ o. Adds c.args.tables.now c.survey_found.new.tables (FoundTable memory c.args.space o)) c.cached_in-cached.ensures c.survey_found.ensures.tables) c.survey_found-2.ensures.tables;
+          (subst (λ o. GrowsBy c.args.tables.now c.survey_found.new.tables (FoundTable memory c.args.space o)) c.cached_in-cached.ensures c.survey_found.ensures.tables) c.survey_found-2.ensures.tables;
       leaves = beside_reaches (FoundLeaf memory c.args.space) (FoundLeaf memory c.args.space cached) cached stored beside c.args.reach.now c.survey_found.new.reach c.survey_found-2.new.reach
           (λ kind f never. never) (λ kind f it. it) is
           (subst (λ o. AddsReach c.args.reach.now c.survey_found.new.reach (FoundLeaf memory c.args.space o)) c.cached_in-cached.ensures c.survey_found.ensures.leaves) c.survey_found-2.ensures.leaves;

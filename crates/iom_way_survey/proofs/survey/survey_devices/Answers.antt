@@ -1,7 +1,7 @@
 use Rattle.std.proofs.Common.{◌≡◌, ◌<◌, ℕ, length, slice_get, Some, subst, arith}
 use Rattle.iom_device.specs.declared.device.Device.{Device}
 use Rattle.iom_hardware.specs.HardwareParts.{hardware_parts}
-use Rattle.iom_table_survey.specs.Rows.{Adds}
+use Rattle.iom_table_survey.specs.Rows.{GrowsBy}
 use Rattle.iom_table_survey.proofs.AddLemmas.{adds_none_yet, adds_next}
 use Rattle.iom_way_survey.specs.Found.{TablesOfDevice}
 use Rattle.iom_way_survey.specs.Surveys.{HaveRows}
@@ -37,6 +37,6 @@ returns c =
     let last : c.loop-place.place ≡ length devices = omega arith in
     record {
       rows = subst (λ (n : ℕ). HaveRows parts c.args.trusted.now c.loop-place.rows.items n) last c.loop-place.invariant.rows;
-      tables = subst (λ (n : ℕ). Adds c.args.read.now c.loop-place.read (λ f. (k : ℕ) × (k < n) × ((device : Device) × (slice_get devices k ≡ Some device) × TablesOfDevice parts device.id f))) last c.loop-place.invariant.tables;
+      tables = subst (λ (n : ℕ). GrowsBy c.args.read.now c.loop-place.read (λ f. (k : ℕ) × (k < n) × ((device : Device) × (slice_get devices k ≡ Some device) × TablesOfDevice parts device.id f))) last c.loop-place.invariant.tables;
       room = c.loop-place.invariant.room;
     }

@@ -2,7 +2,7 @@ use Rattle.std.proofs.Common.{◌≡◌, ◌<◌, ◌≤◌, ℕ, slice_get, Som
 use Rattle.std.specs.Prelude.{vec_capacity}
 use Rattle.iom_device.specs.declared.device.Device.{Device}
 use Rattle.iom_hardware.specs.HardwareParts.{hardware_parts}
-use Rattle.iom_table_survey.specs.Rows.{Adds}
+use Rattle.iom_table_survey.specs.Rows.{GrowsBy}
 use Rattle.iom_way_survey.specs.Found.{TablesOfDevice}
 use Rattle.iom_way_survey.specs.Surveys.{HaveRows}
 use Rattle.iom_way_survey.proofs.survey.survey_devices.Given as goal
@@ -11,6 +11,6 @@ use Rattle.iom_way_survey.proofs.survey.survey_devices.Given as goal
 abbrev pub invariant-loop-place : goal.invariant-loop-place
 invariant-loop-place l = record {
   rows : HaveRows (hardware_parts l.hardware) l.trusted l.rows.items l.place;
-  tables : Adds l.fn.read l.read (λ f. (k : ℕ) × (k < l.place) × ((device : Device) × (slice_get l.hardware.devices.items k ≡ Some device) × TablesOfDevice (hardware_parts l.hardware) device.id f));
+  tables : GrowsBy l.fn.read l.read (λ f. (k : ℕ) × (k < l.place) × ((device : Device) × (slice_get l.hardware.devices.items k ≡ Some device) × TablesOfDevice (hardware_parts l.hardware) device.id f));
   room : 16 ≤ vec_capacity l.rows;
 }

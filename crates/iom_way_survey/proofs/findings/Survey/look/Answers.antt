@@ -2,7 +2,7 @@ use Rattle.std.proofs.Common.{subst}
 use Rattle.iom_hardware.specs.HardwareParts.{hardware_parts}
 use Rattle.iom_hardware_ways.specs.Scenes.{waiting_places}
 use Rattle.iom_registers.specs.declared.registers.Registers.{Registers}
-use Rattle.iom_table_survey.specs.Rows.{Adds}
+use Rattle.iom_table_survey.specs.Rows.{GrowsBy}
 use Rattle.iom_way_survey.specs.Queues.{IsFrameAmong, IsWordAmong, IsOfFaults}
 use Rattle.iom_way_survey.specs.Surveys.{is_among}
 use Rattle.iom_way_survey.proofs.LookLemmas.{ways_reached, rows_trust, all_read, all_stored}
@@ -16,9 +16,9 @@ returns-clause-missed c =
     let trusted = c.args.trusted.now in
     let rows = c.survey_devices.new.rows.items in
     let here = c.registers-registers.ensures in
-    let frames = subst (λ (r : Registers). Adds c.survey_directory.new.read c.survey_queue.new.read (IsFrameAmong (waiting_places r))) here c.survey_queue.ensures.frames in
-    let words = subst (λ (r : Registers). Adds c.clear-3.new.self c.survey_queue.new.stored (IsWordAmong hardware.memory (waiting_places r))) here c.survey_queue.ensures.words in
-    let faults = subst (λ (r : Registers). Adds c.survey_queue.new.stored c.survey_faults.new.stored (IsOfFaults r)) here c.survey_faults.ensures in
+    let frames = subst (λ (r : Registers). GrowsBy c.survey_directory.new.read c.survey_queue.new.read (IsFrameAmong (waiting_places r))) here c.survey_queue.ensures.frames in
+    let words = subst (λ (r : Registers). GrowsBy c.clear-3.new.self c.survey_queue.new.stored (IsWordAmong hardware.memory (waiting_places r))) here c.survey_queue.ensures.words in
+    let faults = subst (λ (r : Registers). GrowsBy c.survey_queue.new.stored c.survey_faults.new.stored (IsOfFaults r)) here c.survey_faults.ensures in
     record {
       reached = ways_reached parts trusted rows hardware.events c.requires.sound c.facts.ensures.flights c.survey_devices.ensures.rows;
       read = all_read (is_among trusted) parts c.clear-2.new.self c.survey_devices.new.read c.survey_directory.new.read c.survey_queue.new.read
@@ -34,9 +34,9 @@ returns-clause-invented c =
     let trusted = c.args.trusted.now in
     let rows = c.survey_devices.new.rows.items in
     let here = c.registers-registers.ensures in
-    let frames = subst (λ (r : Registers). Adds c.survey_directory.new.read c.survey_queue.new.read (IsFrameAmong (waiting_places r))) here c.survey_queue.ensures.frames in
-    let words = subst (λ (r : Registers). Adds c.clear-3.new.self c.survey_queue.new.stored (IsWordAmong hardware.memory (waiting_places r))) here c.survey_queue.ensures.words in
-    let faults = subst (λ (r : Registers). Adds c.survey_queue.new.stored c.survey_faults.new.stored (IsOfFaults r)) here c.survey_faults.ensures in
+    let frames = subst (λ (r : Registers). GrowsBy c.survey_directory.new.read c.survey_queue.new.read (IsFrameAmong (waiting_places r))) here c.survey_queue.ensures.frames in
+    let words = subst (λ (r : Registers). GrowsBy c.clear-3.new.self c.survey_queue.new.stored (IsWordAmong hardware.memory (waiting_places r))) here c.survey_queue.ensures.words in
+    let faults = subst (λ (r : Registers). GrowsBy c.survey_queue.new.stored c.survey_faults.new.stored (IsOfFaults r)) here c.survey_faults.ensures in
     record {
       reached = rows_back parts trusted rows c.requires.sound.own_ids c.survey_devices.ensures.rows;
       read = read_back (is_among trusted) parts c.clear-2.new.self c.survey_devices.new.read c.survey_directory.new.read c.survey_queue.new.read
