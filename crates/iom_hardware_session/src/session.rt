@@ -1,4 +1,4 @@
-ghost use Rattle.std.specs.Prelude.{◌≡◌, ◌↔◌, ◌+◌, ◌<◌, ◌^◌, ◌≤◌, [], ◌∷◌, Some, IfOk, IsTrue};
+ghost use Rattle.std.specs.Prelude.{◌≡◌, ◌↔◌, ◌+◌, ◌<◌, ◌^◌, ◌≤◌, [], ◌∷◌, Some, IfOk, IfSome, IfNone, IsTrue};
 ghost use Rattle.iom_claims.specs.Claimed.{Claimed, nothing_claimed};
 ghost use Rattle.iom_claims.specs.Shown.{ShowsClaimed};
 ghost use Rattle.iom_hardware.specs.PowerOn.{IsHardwareAtPowerOn};
@@ -7,6 +7,7 @@ ghost use Rattle.iom_hardware_session.specs.Good.{GoodMeans, scene_in};
 ghost use Rattle.iom_hardware_session.specs.Watching.{WatchesClaim};
 ghost use Rattle.iom_hardware_session.specs.Wrong.{IfWrong, WrongMeans};
 ghost use Rattle.iom_hardware_session.specs.Lines.{Trusts, LineDoes, TrustsBy, IsGoodLine, IsWrongLine, WatchesStep, WatchesBy, is_of_software, claimed_by, made_by, IsViolation};
+ghost use Rattle.iom_way_survey.specs.Surveys.{IsConflict, IsConflictFree};
 
 use crate::answer::{Answer, ClaimAnswer};
 use crate::state::Session;
@@ -67,7 +68,10 @@ impl Session {
     }
 
     /// Who can write what hardware reads, by what was last looked at: the first, if anybody can.
-    pub fn conflict(&self) -> Option<Conflict> {
+    pub fn conflict(&self) -> Option<Conflict>
+        ensures some { IfSome result (IsConflict self.now.survey) }
+        ensures none { IfNone result (IsConflictFree self.now.survey) }
+    {
         self.survey.first_conflict()
     }
 
