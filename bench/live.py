@@ -53,7 +53,7 @@ def seconds(program, lines):
     for line in lines:
         os.write(hw.stdin.fileno(), f"{line}\n".encode())
         answer = os.read(hw.stdout.fileno(), 16384)
-        if not answer.endswith(b"\n") or b"wrong" in answer:
+        if not answer.endswith(b"\n") or b"wrong" in answer or b"again" in answer:
             sys.exit(f"{line}: {answer}")
     hw.stdin.close()
     if hw.wait():

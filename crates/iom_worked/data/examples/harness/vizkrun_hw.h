@@ -81,10 +81,21 @@ static inline uint64_t hw_read(struct hw *hw, unsigned offset, unsigned width)
 	return value;
 }
 
+/* Whether the last line was done. Claims that were good and aren't any more are told on standard error. */
+static inline int hw_is_done(struct hw *hw)
+{
+	if (strncmp(hw->answer, "ok", 2))
+		return 0;
+	if (hw->answer[2])
+		fprintf(stderr, "vizkrun_hw: %s\n", hw->answer + 4);
+	return 1;
+}
+
 /* Writes the register at the offset. */
 static inline void hw_write(struct hw *hw, unsigned offset, unsigned width, uint64_t value)
 {
-	if (strcmp(hw_say(hw, "mmio-write %u %u 0x%llx", offset, width, (unsigned long long)value), "ok"))
+	hw_say(hw, "mmio-write %u %u 0x%llx", offset, width, (unsigned long long)value);
+	if (!hw_is_done(hw))
 		hw_fail("no such register", hw->answer);
 }
 
@@ -101,7 +112,8 @@ static inline uint64_t hw_load64(struct hw *hw, uint64_t address)
 static inline void hw_store64(struct hw *hw, uint64_t address, uint64_t value)
 {
 	unsigned long long at = address, swapped = __builtin_bswap64(value);
-	if (strcmp(hw_say(hw, "poke 0x%llx %016llx", at, swapped), "ok"))
+	hw_say(hw, "poke 0x%llx %016llx", at, swapped);
+	if (!hw_is_done(hw))
 		hw_fail("no such memory", hw->answer);
 }
 
