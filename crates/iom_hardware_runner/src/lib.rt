@@ -2,7 +2,8 @@
 //!
 //! Each line is answered by one of text. What hardware and devices answer is written as `iommu-run` writes it (`iom_script`).
 //! What is found of a claim, and whether an access is a violation, is the session's to say (`iom_hardware_session`); why, and
-//! since when, is told in words by `iom_chronicle`.
+//! since when, is told in words by `iom_chronicle`. Where a line asks hardware to act by itself, its steps are drawn here, and
+//! each is a line too.
 //!
 //! The layer above may rely on [`run`] and [`run_live`] telling whether anything was wrong, and on nothing being written by
 //! [`run`] of a script that isn't in the grammar. What both write to the log is a script that is answered alike.
