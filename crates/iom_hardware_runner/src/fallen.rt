@@ -1,7 +1,7 @@
 // The words behind `; again: `: which claims that were good aren't any more.
 use crate::words::why;
 use iom_chronicle::Chronicle;
-use iom_hardware_session::{GoodClaim, Session, Watched, Wrong};
+use iom_hardware_session::{GoodClaim, Session, Wrong};
 use std::alloc::{AllocError, Global};
 
 /// Which claim it is.
@@ -19,22 +19,20 @@ fn frame_of(claim: GoodClaim) -> u32 {
     }
 }
 
-/// What is told of one, if it isn't good any more.
+/// What is told of one that isn't good any more.
 fn fallen_one(
     alloc: Global,
     session: &Session,
     chronicle: &Chronicle,
-    own: Watched,
+    claim: GoodClaim,
+    wrong: Wrong,
 ) -> Result<String, AllocError> {
-    let Some(wrong) = own.why else {
-        return format!(in alloc; "");
-    };
-    let reason = why(alloc, session, chronicle, frame_of(own.claim), 0, wrong)?;
+    let reason = why(alloc, session, chronicle, frame_of(claim), 0, wrong)?;
     // Where nothing is certain that is told of no claim in particular.
     let name = if wrong == Wrong::Uncertain {
-        format!(in alloc; "")?
+        String::new(alloc)
     } else {
-        name_of(alloc, own.claim)?
+        name_of(alloc, claim)?
     };
     format!(in alloc; "; again: {name}{reason}")
 }
@@ -48,9 +46,11 @@ pub(crate) fn fallen(
 ) -> Result<String, AllocError> {
     let mut words = String::new(alloc);
     for own in session.watched() {
-        words.push_str(&fallen_one(alloc, session, chronicle, *own)?)?;
-        if own.why == Some(Wrong::Uncertain) {
-            break;
+        if let Some(wrong) = own.why {
+            words.push_str(&fallen_one(alloc, session, chronicle, own.claim, wrong)?)?;
+            if wrong == Wrong::Uncertain {
+                break;
+            }
         }
     }
     Ok(words)

@@ -255,7 +255,7 @@ impl Teller {
         let about = self.subject_of(claim);
         let stepped = self.step(line);
         let Answer::Claim(found) = stepped.answer else {
-            return format!(in self.alloc; "");
+            return Ok(String::new(self.alloc));
         };
         let words = match found {
             ClaimAnswer::Wrong(wrong) => {
@@ -269,7 +269,7 @@ impl Teller {
                     wrong,
                 )?
             }
-            _ => format!(in self.alloc; "")?,
+            _ => String::new(self.alloc),
         };
         self.remember_claim(claim, found, about)?;
         Ok(words)
@@ -286,7 +286,8 @@ impl Teller {
                 self.is_wrong = true;
                 violation(self.alloc, &self.chronicle, made, origin)
             }
-            _ => self.tell_fallen(),
+            Answer::Stored(_) | Answer::Plugged(_) => self.tell_fallen(),
+            _ => Ok(String::new(self.alloc)),
         }
     }
 
