@@ -1,0 +1,56 @@
+use iom_base::{AccessKind, DeviceId, Sequence};
+
+/// A cell of a test.
+#[derive(Clone, Copy, PartialEq, Eq, Debug)]
+pub struct Spot {
+    /// The place of the column, from 0.
+    pub column: usize,
+    /// The place of the cell in the column, from 0.
+    pub cell: usize,
+}
+
+/// An access that was made.
+#[derive(Clone, Copy, PartialEq, Eq, Debug)]
+pub struct Touch {
+    pub device: DeviceId,
+    pub kind: AccessKind,
+    pub frame: u64,
+}
+
+/// Accesses that a test asks for.
+#[derive(Clone, Copy, PartialEq, Eq, Debug)]
+pub struct Reach {
+    pub device: DeviceId,
+    pub frame: u64,
+    /// Those of this kind alone.
+    pub kind: Option<AccessKind>,
+    /// Those alone that are made after this cell was run.
+    pub after: Option<Spot>,
+}
+
+/// What a test looks at in a schedule.
+#[derive(Clone, Copy, PartialEq, Eq, Debug)]
+pub enum Observable {
+    /// What the cell was answered.
+    Answer(Spot),
+    /// That such an access was made.
+    Touched(Reach),
+    /// That both cells were run, in this order.
+    Before { first: Spot, then: Spot },
+    /// That the column didn't come to its end.
+    Stuck { column: usize },
+    /// That some answer said that a claim is wrong.
+    Wrong,
+    /// That some answer said that an access was made which no claim allows.
+    Violated,
+    /// So many bytes of memory at the end.
+    Memory { address: u64, length: usize },
+}
+
+/// What was seen of it.
+#[derive(Drop)]
+pub enum Value {
+    /// An answer, or bytes of memory in hexadecimal digits.
+    Text(Sequence<u8>),
+    Truth(bool),
+}
