@@ -1,6 +1,6 @@
 //! Globs, by which answers are asked for.
 ghost use Rattle.std.specs.Prelude.{◌≡◌, ◌↔◌, IsTrue};
-ghost use Rattle.iom_litmus_test.specs.Globs.{Matches};
+ghost use Rattle.iom_litmus_test.specs.Globs.{Matches, is_match};
 
 use iom_base::Sequence;
 
@@ -22,7 +22,8 @@ pub struct Glob {
 impl Glob {
     /// Whether the text is one of those that it stands for. It takes no memory.
     pub fn matches(&self, text: &[u8]) -> bool
-        ensures { IsTrue result ↔ Matches self.now.parts text.now }
+        ensures matches { IsTrue result ↔ Matches self.now.parts text.now }
+        ensures test { result ≡ is_match self.now.parts text.now }
     {
         parts_match(self.parts.as_slice(), text)
     }

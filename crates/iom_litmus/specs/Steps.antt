@@ -1,0 +1,85 @@
+-- The steps of a test: which can be taken at a place, and where they lead.
+use Rattle.std.specs.Prelude.{◌≡◌, ℕ, ◌<◌, Bool, true, false, ◌||◌, List, [], ◌∷◌, ◌++◌, Option, Some, None, IsTrue, MatchOption, count_by}
+use Rattle.iom_litmus_test.specs.declared.column.Cell.{Cell}
+use Rattle.iom_litmus_test.specs.declared.glob.Glob.{Glob}
+use Rattle.iom_litmus_test.specs.declared.observable.Spot.{Spot}
+use Rattle.iom_litmus_test.specs.declared.test.Test.{Test}
+use Rattle.iom_litmus_test.specs.Globs.{Matches}
+use Rattle.iom_litmus.specs.declared.place.Deed.{Deed}
+use Rattle.iom_litmus.specs.declared.place.Deed.TheVariants as Deeds
+use Rattle.iom_litmus.specs.declared.place.Happened.{Happened}
+use Rattle.iom_litmus.specs.declared.place.Place.{Place}
+use Rattle.iom_litmus.specs.declared.reply.Reply.{Reply}
+use Rattle.iom_litmus.specs.declared.step.HardwareStep.{HardwareStep}
+use Rattle.iom_litmus.specs.declared.step.HardwareStep.TheVariants as Acts
+use Rattle.iom_litmus.specs.declared.step.Step.{Step}
+use Rattle.iom_litmus.specs.declared.step.Step.TheVariants as Steps
+use Rattle.iom_litmus.specs.Behaviours.{Behaviour}
+use Rattle.iom_litmus.specs.Deeds.{is_drop, is_repeat, is_timeout}
+use Rattle.iom_litmus.specs.Happenings.{next_cell, times}
+use Rattle.iom_litmus.specs.Listed.{IsListed}
+use Rattle.iom_litmus.specs.Schedules.{IsSchedule, arrived}
+
+-- lines that are run at once: the system after them, and what is said to all of them. The text is the last one's.
+abbrev pub no_reply : Reply
+no_reply = record { text = []; touches = []; wrong = false; violated = false }
+
+abbrev pub joined : Reply → Reply → Reply
+joined earlier later = record { text = later.text; touches = earlier.touches ++ later.touches; wrong = earlier.wrong || later.wrong; violated = earlier.violated || later.violated }
+
+abbrev pub system_after : {S : Type 0} → Behaviour S → S → List (List ℕ) → S
+system_after b system [] = system
+system_after b system (line ∷ rest) = system_after b (b.after_line system line) rest
+
+abbrev pub reply_to_lines : {S : Type 0} → Behaviour S → S → Reply → List (List ℕ) → Reply
+reply_to_lines b system earlier [] = earlier
+reply_to_lines b system earlier (line ∷ rest) = reply_to_lines b (b.after_line system line) (joined earlier (b.reply_to_line system line)) rest
+
+abbrev pub reply_to_cell : {S : Type 0} → Behaviour S → S → Cell → Reply
+reply_to_cell b system cell = reply_to_lines b system no_reply cell.lines
+
+-- what hardware can do
+abbrev pub CanAct : {S : Type 0} → Behaviour S → Test → Place S → HardwareStep → Type 0
+CanAct b test place Acts.Fetch = IsTrue test.parts.fetch × IsTrue (b.fetches place.system)
+CanAct b test place (Acts.Commit device) = IsTrue test.parts.commit × IsListed (b.devices place.system) device × IsTrue (b.is_in_flight place.system device)
+CanAct b test place (Acts.Load device) = IsTrue test.parts.load × IsListed (b.devices place.system) device × IsTrue (b.is_in_walk place.system device)
+CanAct b test place (Acts.Deliver message) =
+    IsTrue test.parts.deliver
+    × (message < b.messages place.system)
+    × (IsTrue test.parts.in_order → message ≡ 0)
+    × ((earlier : ℕ) → earlier < message → b.is_same_message place.system earlier message ≡ false)
+CanAct b test place (Acts.Drop message) = (message < b.messages place.system) × (times is_drop place.happened < test.budgets.drops)
+CanAct b test place (Acts.Repeat message) = (message < b.messages place.system) × (times is_repeat place.happened < test.budgets.repeats)
+CanAct b test place Acts.Timeout = IsTrue (b.times_out place.system) × (times is_timeout place.happened < test.budgets.timeouts)
+
+-- a column has a next cell, and where an answer is awaited the cell is answered like that
+abbrev pub IsAnswered : Option Glob → List ℕ → Type 0
+IsAnswered None text = Unit {0}
+IsAnswered (Some glob) text = Matches glob.parts text
+
+abbrev pub CanTake : {S : Type 0} → Behaviour S → Test → Place S → Step → Type 0
+CanTake b test place (Steps.Column column) = MatchOption (next_cell test place.happened column) ⊥ (λ (_, cell). IsAnswered cell.awaited (reply_to_cell b place.system cell).text)
+CanTake b test place (Steps.Hardware act) = CanAct b test place act
+
+-- where a step leads
+abbrev pub ran : {S : Type 0} → Behaviour S → Place S → ℕ → Option (ℕ × Cell) → Place S
+ran b place column None = place
+ran b place column (Some (k, cell)) = record {
+  system = system_after b place.system cell.lines;
+  happened = place.happened ++ record { deed = Deeds.Cell (record { column = column; cell = k }); reply = reply_to_cell b place.system cell } ∷ []
+}
+
+abbrev pub taken : {S : Type 0} → Behaviour S → Test → Place S → Step → Place S
+taken b test place (Steps.Column column) = ran b place column (next_cell test place.happened column)
+taken b test place (Steps.Hardware act) = record {
+  system = b.after_act place.system act;
+  happened = place.happened ++ record { deed = Deeds.Hardware act; reply = b.reply_to_act place.system act } ∷ []
+}
+
+-- the place from which a test begins
+abbrev pub opening_place : {S : Type 0} → S → Place S
+opening_place system = record { system = system; happened = [] }
+
+-- a schedule of the test, from the system that was made
+abbrev pub IsScheduleOf : {S : Type 0} → Behaviour S → Test → S → List Step → Type 0
+IsScheduleOf b test system schedule = IsSchedule (CanTake b test) (taken b test) (opening_place system) schedule
