@@ -1,1 +1,3 @@
 pub mod WheelLemmas
+pub mod ListedLemmas
+pub mod CandidateLemmas

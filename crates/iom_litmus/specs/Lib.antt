@@ -4,5 +4,9 @@ pub mod Wheels
 pub mod Behaviours
 pub mod Deeds
 pub mod Happenings
+pub mod Replies
 pub mod Steps
+pub mod Candidates
 pub mod Seen
+pub mod Searches
+pub mod Histograms

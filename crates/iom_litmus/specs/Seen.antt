@@ -17,8 +17,7 @@ use Rattle.iom_litmus.specs.declared.step.Step.{Step}
 use Rattle.iom_litmus.specs.Behaviours.{Behaviour}
 use Rattle.iom_litmus.specs.Deeds.{is_run_of}
 use Rattle.iom_litmus.specs.Happenings.{answer_to, next_cell}
-use Rattle.iom_litmus.specs.Schedules.{arrived}
-use Rattle.iom_litmus.specs.Steps.{taken, opening_place}
+use Rattle.iom_litmus.specs.Steps.{place_after}
 
 -- what happened after the cell was run: nothing where it wasn't
 abbrev pub behind : Option ℕ → List Happened → List Happened
@@ -76,4 +75,4 @@ seen_at b test end = map (seen_of b test end) test.observables
 
 -- the outcome of a schedule
 abbrev pub outcome_after : {S : Type 0} → Behaviour S → Test → S → List Step → List Value
-outcome_after b test system schedule = seen_at b test (arrived (taken b test) (opening_place system) schedule)
+outcome_after b test system schedule = seen_at b test (place_after b test system schedule)

@@ -1,5 +1,5 @@
 -- The steps of a test: which can be taken at a place, and where they lead.
-use Rattle.std.specs.Prelude.{◌≡◌, ℕ, ◌<◌, Bool, true, false, ◌||◌, List, [], ◌∷◌, ◌++◌, Option, Some, None, IsTrue, MatchOption, count_by}
+use Rattle.std.specs.Prelude.{◌≡◌, ℕ, ◌<◌, Bool, false, List, [], ◌∷◌, ◌++◌, Option, Some, None, IsTrue, MatchOption}
 use Rattle.iom_litmus_test.specs.declared.column.Cell.{Cell}
 use Rattle.iom_litmus_test.specs.declared.glob.Glob.{Glob}
 use Rattle.iom_litmus_test.specs.declared.observable.Spot.{Spot}
@@ -9,7 +9,6 @@ use Rattle.iom_litmus.specs.declared.place.Deed.{Deed}
 use Rattle.iom_litmus.specs.declared.place.Deed.TheVariants as Deeds
 use Rattle.iom_litmus.specs.declared.place.Happened.{Happened}
 use Rattle.iom_litmus.specs.declared.place.Place.{Place}
-use Rattle.iom_litmus.specs.declared.reply.Reply.{Reply}
 use Rattle.iom_litmus.specs.declared.step.HardwareStep.{HardwareStep}
 use Rattle.iom_litmus.specs.declared.step.HardwareStep.TheVariants as Acts
 use Rattle.iom_litmus.specs.declared.step.Step.{Step}
@@ -18,39 +17,43 @@ use Rattle.iom_litmus.specs.Behaviours.{Behaviour}
 use Rattle.iom_litmus.specs.Deeds.{is_drop, is_repeat, is_timeout}
 use Rattle.iom_litmus.specs.Happenings.{next_cell, times}
 use Rattle.iom_litmus.specs.Listed.{IsListed}
+use Rattle.iom_litmus.specs.Replies.{system_after, reply_to_cell}
 use Rattle.iom_litmus.specs.Schedules.{IsSchedule, arrived}
 
--- lines that are run at once: the system after them, and what is said to all of them. The text is the last one's.
-abbrev pub no_reply : Reply
-no_reply = record { text = []; touches = []; wrong = false; violated = false }
+-- what hardware can do: no earlier message is equal to one that is delivered
+abbrev pub IsFirstSuch : {S : Type 0} → Behaviour S → S → ℕ → Type 0
+IsFirstSuch b system message = (earlier : ℕ) → earlier < message → b.is_same_message system earlier message ≡ false
 
-abbrev pub joined : Reply → Reply → Reply
-joined earlier later = record { text = later.text; touches = earlier.touches ++ later.touches; wrong = earlier.wrong || later.wrong; violated = earlier.violated || later.violated }
+abbrev pub CanCommit : {S : Type 0} → Behaviour S → Test → Place S → ℕ → Type 0
+CanCommit b test place device = IsTrue test.parts.commit × IsListed (b.devices place.system) device × IsTrue (b.is_in_flight place.system device)
 
-abbrev pub system_after : {S : Type 0} → Behaviour S → S → List (List ℕ) → S
-system_after b system [] = system
-system_after b system (line ∷ rest) = system_after b (b.after_line system line) rest
+abbrev pub CanLoad : {S : Type 0} → Behaviour S → Test → Place S → ℕ → Type 0
+CanLoad b test place device = IsTrue test.parts.load × IsListed (b.devices place.system) device × IsTrue (b.is_in_walk place.system device)
 
-abbrev pub reply_to_lines : {S : Type 0} → Behaviour S → S → Reply → List (List ℕ) → Reply
-reply_to_lines b system earlier [] = earlier
-reply_to_lines b system earlier (line ∷ rest) = reply_to_lines b (b.after_line system line) (joined earlier (b.reply_to_line system line)) rest
-
-abbrev pub reply_to_cell : {S : Type 0} → Behaviour S → S → Cell → Reply
-reply_to_cell b system cell = reply_to_lines b system no_reply cell.lines
-
--- what hardware can do
-abbrev pub CanAct : {S : Type 0} → Behaviour S → Test → Place S → HardwareStep → Type 0
-CanAct b test place Acts.Fetch = IsTrue test.parts.fetch × IsTrue (b.fetches place.system)
-CanAct b test place (Acts.Commit device) = IsTrue test.parts.commit × IsListed (b.devices place.system) device × IsTrue (b.is_in_flight place.system device)
-CanAct b test place (Acts.Load device) = IsTrue test.parts.load × IsListed (b.devices place.system) device × IsTrue (b.is_in_walk place.system device)
-CanAct b test place (Acts.Deliver message) =
+abbrev pub CanDeliver : {S : Type 0} → Behaviour S → Test → Place S → ℕ → Type 0
+CanDeliver b test place message =
     IsTrue test.parts.deliver
     × (message < b.messages place.system)
     × (IsTrue test.parts.in_order → message ≡ 0)
-    × ((earlier : ℕ) → earlier < message → b.is_same_message place.system earlier message ≡ false)
-CanAct b test place (Acts.Drop message) = (message < b.messages place.system) × (times is_drop place.happened < test.budgets.drops)
-CanAct b test place (Acts.Repeat message) = (message < b.messages place.system) × (times is_repeat place.happened < test.budgets.repeats)
-CanAct b test place Acts.Timeout = IsTrue (b.times_out place.system) × (times is_timeout place.happened < test.budgets.timeouts)
+    × IsFirstSuch b place.system message
+
+abbrev pub CanDrop : {S : Type 0} → Behaviour S → Test → Place S → ℕ → Type 0
+CanDrop b test place message = (message < b.messages place.system) × (times is_drop place.happened < test.budgets.drops)
+
+abbrev pub CanRepeat : {S : Type 0} → Behaviour S → Test → Place S → ℕ → Type 0
+CanRepeat b test place message = (message < b.messages place.system) × (times is_repeat place.happened < test.budgets.repeats)
+
+abbrev pub CanTimeOut : {S : Type 0} → Behaviour S → Test → Place S → Type 0
+CanTimeOut b test place = IsTrue (b.times_out place.system) × (times is_timeout place.happened < test.budgets.timeouts)
+
+abbrev pub CanAct : {S : Type 0} → Behaviour S → Test → Place S → HardwareStep → Type 0
+CanAct b test place Acts.Fetch = IsTrue test.parts.fetch × IsTrue (b.fetches place.system)
+CanAct b test place (Acts.Commit device) = CanCommit b test place device
+CanAct b test place (Acts.Load device) = CanLoad b test place device
+CanAct b test place (Acts.Deliver message) = CanDeliver b test place message
+CanAct b test place (Acts.Drop message) = CanDrop b test place message
+CanAct b test place (Acts.Repeat message) = CanRepeat b test place message
+CanAct b test place Acts.Timeout = CanTimeOut b test place
 
 -- a column has a next cell, and where an answer is awaited the cell is answered like that
 abbrev pub IsAnswered : Option Glob → List ℕ → Type 0
@@ -69,16 +72,23 @@ ran b place column (Some (k, cell)) = record {
   happened = place.happened ++ record { deed = Deeds.Cell (record { column = column; cell = k }); reply = reply_to_cell b place.system cell } ∷ []
 }
 
-abbrev pub taken : {S : Type 0} → Behaviour S → Test → Place S → Step → Place S
-taken b test place (Steps.Column column) = ran b place column (next_cell test place.happened column)
-taken b test place (Steps.Hardware act) = record {
+abbrev pub acted : {S : Type 0} → Behaviour S → Place S → HardwareStep → Place S
+acted b place act = record {
   system = b.after_act place.system act;
   happened = place.happened ++ record { deed = Deeds.Hardware act; reply = b.reply_to_act place.system act } ∷ []
 }
 
+abbrev pub taken : {S : Type 0} → Behaviour S → Test → Place S → Step → Place S
+taken b test place (Steps.Column column) = ran b place column (next_cell test place.happened column)
+taken b test place (Steps.Hardware act) = acted b place act
+
 -- the place from which a test begins
 abbrev pub opening_place : {S : Type 0} → S → Place S
 opening_place system = record { system = system; happened = [] }
+
+-- where steps lead from there
+abbrev pub place_after : {S : Type 0} → Behaviour S → Test → S → List Step → Place S
+place_after b test system steps = arrived (taken b test) (opening_place system) steps
 
 -- a schedule of the test, from the system that was made
 abbrev pub IsScheduleOf : {S : Type 0} → Behaviour S → Test → S → List Step → Type 0

@@ -1,15 +1,22 @@
 //! Goes through all interleavings of a litmus test, over any system that says what hardware can do next.
 #![tactic(auto)]
 
+mod candidates;
 mod happenings;
+mod histogram;
+mod listed;
 mod odometer;
 mod place;
 mod reply;
+mod search;
 mod seen;
 mod step;
+mod taking;
 mod system;
 
+pub use histogram::{Histogram, Row};
 pub use place::{Deed, Happened, Place};
 pub use reply::Reply;
+pub use search::{Search, SearchFault};
 pub use step::{HardwareStep, Step};
 pub use system::System;

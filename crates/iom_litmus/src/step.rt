@@ -1,3 +1,5 @@
+ghost use Rattle.std.specs.Prelude.{◌≡◌, ◌↔◌, IsTrue};
+
 use iom_base::DeviceId;
 
 /// What hardware does by itself.
@@ -25,4 +27,13 @@ pub enum Step {
     /// The column at this place, from 0, runs its next cell.
     Column(usize),
     Hardware(HardwareStep),
+}
+
+impl Step {
+    /// Whether they are the same step.
+    pub(crate) fn is_same(self, other: Step) -> bool
+        ensures { IsTrue result ↔ (self ≡ other) }
+    {
+        self == other
+    }
 }

@@ -1,3 +1,5 @@
+ghost use Rattle.std.specs.Prelude.{◌≡◌, ◌↔◌, IsTrue};
+
 use iom_base::{AccessKind, DeviceId, Sequence};
 
 /// A cell of a test.
@@ -53,4 +55,17 @@ pub enum Value {
     /// An answer, or bytes of memory in hexadecimal digits.
     Text(Sequence<u8>),
     Truth(bool),
+}
+
+impl Value {
+    /// Whether the same was seen.
+    pub fn is_same(&self, other: &Value) -> bool
+        ensures { IsTrue result ↔ (self.now ≡ other.now) }
+    {
+        match (self, other) {
+            (Value::Text(text), Value::Text(other)) => text.as_slice() == other.as_slice(),
+            (Value::Truth(truth), Value::Truth(other)) => *truth == *other,
+            (Value::Text(_), Value::Truth(_)) | (Value::Truth(_), Value::Text(_)) => false,
+        }
+    }
 }

@@ -1,0 +1,30 @@
+//! What stands in a list.
+ghost use Rattle.std.specs.Prelude.{◌≡◌, ◌↔◌, IsTrue};
+ghost use Rattle.iom_litmus.specs.Listed.{IsListed};
+
+use crate::step::Step;
+use iom_base::DeviceId;
+
+/// Whether the device is one of these.
+pub(crate) fn is_device_among(devices: &[DeviceId], device: DeviceId) -> bool
+    ensures { IsTrue result ↔ IsListed devices.now device }
+{
+    for other in devices {
+        if *other == device {
+            return true;
+        }
+    }
+    false
+}
+
+/// Whether the step is one of these.
+pub(crate) fn is_step_among(steps: &[Step], step: Step) -> bool
+    ensures { IsTrue result ↔ IsListed steps.now step }
+{
+    for other in steps {
+        if other.is_same(step) {
+            return true;
+        }
+    }
+    false
+}
