@@ -180,11 +180,11 @@ advanced-push_turned [] wheel step others some = ap turned some
 advanced-push_turned (first ∷ rest) wheel step others some =
     ap (carried first) (advanced-push_turned rest wheel step others some) ∙ carried-push first rest (record { current = step; others = others })
 
-wheel_turned : (next : Wheel) (others : List Step) → next ∷ [] ≡ turned others → others ≡ next.current ∷ next.others
+pub wheel_turned : (next : Wheel) (others : List Step) → next ∷ [] ≡ turned others → others ≡ next.current ∷ next.others
 wheel_turned next [] is = absurd cc
 wheel_turned next (step ∷ others) is = let same : next ≡ record { current = step; others = others } = cc in sym (ap (λ w. w.current ∷ w.others) same)
 
-none_turned : (others : List Step) → [] ≡ turned others → others ≡ []
+pub none_turned : (others : List Step) → [] ≡ turned others → others ≡ []
 none_turned [] is = refl
 none_turned (step ∷ others) is = absurd cc
 

@@ -17,6 +17,14 @@ AreSoMany b test system outcome count =
     × (length schedules ≡ count)
     × ((schedule : List Step) → IsListed schedules schedule ↔ (IsScheduleOf b test system schedule × (outcome_after b test system schedule ≡ outcome)))
 
+-- there are so many schedules, or more
+abbrev pub HasSchedules : {S : Type 0} → Behaviour S → Test → S → ℕ → Type 0
+HasSchedules b test system count =
+    (schedules : List (List Step))
+    × AreListedOnce schedules
+    × (length schedules ≡ count)
+    × ((schedule : List Step) → IsListed schedules schedule → IsScheduleOf b test system schedule)
+
 abbrev pub outcomes : List Row → List (List Value)
 outcomes [] = []
 outcomes (row ∷ rest) = row.outcome ∷ outcomes rest

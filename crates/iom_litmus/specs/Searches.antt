@@ -1,13 +1,20 @@
 -- How a search goes on.
-use Rattle.std.specs.Prelude.{◌≡◌, ℕ, List}
+use Rattle.std.specs.Prelude.{◌≡◌, ◌⊎◌, ℕ, ◌≤◌, List, [], ◌∷◌, ◌++◌, length}
 use Rattle.iom_litmus_test.specs.declared.test.Test.{Test}
 use Rattle.iom_litmus.specs.declared.odometer.Wheel.{Wheel}
 use Rattle.iom_litmus.specs.declared.place.Place.{Place}
 use Rattle.iom_litmus.specs.declared.step.Step.{Step}
 use Rattle.iom_litmus.specs.Behaviours.{Behaviour}
 use Rattle.iom_litmus.specs.Listed.{IsListed, AreListedOnce}
+use Rattle.iom_litmus.specs.Schedules.{IsWay}
 use Rattle.iom_litmus.specs.Steps.{CanTake, taken, opening_place, place_after}
 use Rattle.iom_litmus.specs.Wheels.{currents, AreSound, IsLeft}
+
+-- the step is put behind the others where it can be taken and isn't there
+abbrev pub AddsStep : {S : Type 0} → Behaviour S → Test → Place S → Step → List Step → List Step → Type 0
+AddsStep b test place step old new =
+    ((¬ IsListed old step) × CanTake b test place step × (new ≡ old ++ step ∷ []))
+    ⊎ ((CanTake b test place step → IsListed old step) × (new ≡ old))
 
 -- of the first steps those that can be taken at the place, each once
 pub record Lists {S : Type 0} (b : Behaviour S) (test : Test) (place : Place S) (first steps : List Step) : Type 0 where
@@ -40,3 +47,7 @@ IsEnd b test place = (step : Step) → ¬ CanTake b test place step
 
 abbrev pub RunsToEnd : {S : Type 0} → Behaviour S → Test → S → List Wheel → List Wheel → Place S → Type 0
 RunsToEnd b test system old new place = GoesOn b test system old new place × IsEnd b test place
+
+-- so many steps, or more, can be taken one after another
+abbrev pub HasWayOf : {S : Type 0} → Behaviour S → Test → S → ℕ → Type 0
+HasWayOf b test system count = (steps : List Step) × (count ≤ length steps) × IsWay (CanTake b test) (taken b test) (opening_place system) steps

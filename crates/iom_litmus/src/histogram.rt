@@ -37,15 +37,13 @@ impl Row {
 fn is_same_outcome(one: &[Value], other: &[Value]) -> bool
     ensures { IsTrue result ↔ (one.now ≡ other.now) }
 {
-    if one.len() != other.len() {
-        return false;
-    }
-    for (value, against) in one.iter().zip(other) {
-        if !value.is_same(against) {
-            return false;
+    match (one.split_first(), other.split_first()) {
+        (None, None) => true,
+        (Some((value, rest)), Some((against, others))) => {
+            value.is_same(against) && is_same_outcome(rest, others)
         }
+        (Some(_), None) | (None, Some(_)) => false,
     }
-    true
 }
 
 /// A row for each outcome, in the order in which they were found.
@@ -93,11 +91,14 @@ impl Histogram {
                 self.rows.item_mut(place).grow(schedule);
                 Ok(())
             }
-            None => self.rows.push(Row {
-                outcome,
-                count: 1,
-                schedule,
-            }),
+            None => {
+                self.rows.push(Row {
+                    outcome,
+                    count: 1,
+                    schedule,
+                })?;
+                Ok(())
+            }
         }
     }
 }

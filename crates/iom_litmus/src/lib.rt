@@ -2,6 +2,7 @@
 #![tactic(auto)]
 
 mod candidates;
+mod fault;
 mod happenings;
 mod histogram;
 mod listed;
@@ -14,9 +15,10 @@ mod step;
 mod taking;
 mod system;
 
+pub use fault::SearchFault;
 pub use histogram::{Histogram, Row};
 pub use place::{Deed, Happened, Place};
 pub use reply::Reply;
-pub use search::{Search, SearchFault};
+pub use search::Search;
 pub use step::{HardwareStep, Step};
 pub use system::System;

@@ -1,6 +1,6 @@
 //! The schedule in hand, and what is still to be tried besides it.
 ghost use Rattle.std.specs.Prelude.{◌≡◌, ◌↔◌, [], ◌∷◌, ◌++◌, true, false, IsTrue, IfOk, OnOk, OnErr, option_to_list, not};
-ghost use Rattle.iom_litmus.specs.Wheels.{turned, advanced, is_left_any};
+ghost use Rattle.iom_litmus.specs.Wheels.{currents, turned, advanced, is_left_any};
 
 use crate::step::Step;
 use iom_base::Sequence;
@@ -85,4 +85,15 @@ impl Odometer {
         }
         Ok(false)
     }
+}
+
+/// The steps that are taken.
+pub(crate) fn steps_of(alloc: Global, wheels: &[Wheel]) -> Result<Sequence<Step>, AllocError>
+    ensures { IfOk result (λ steps. steps ≡ currents wheels.now) }
+{
+    let mut steps = Sequence::new(alloc);
+    for wheel in wheels {
+        steps.push(wheel.current)?;
+    }
+    Ok(steps)
 }

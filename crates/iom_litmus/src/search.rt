@@ -1,16 +1,20 @@
 //! The search: each schedule is run from a system made anew.
-ghost use Rattle.std.specs.Prelude.{◌≡◌, ◌↔◌, IsTrue, IfOk};
-ghost use Rattle.iom_litmus.specs.Histograms.{IsHistogram};
+ghost use Rattle.std.specs.Prelude.{◌≡◌, ◌↔◌, ◌+◌, ◌<◌, ◌^◌, IsTrue, IfOk, OnOk, Err};
+ghost use Rattle.iom_litmus.specs.Histograms.{IsHistogram, HasSchedules, Adds};
 ghost use Rattle.iom_litmus.specs.Replies.{reply_to_cell};
-ghost use Rattle.iom_litmus.specs.Searches.{ListsAll, AreSoundFrom, RunsToEnd};
+ghost use Rattle.iom_litmus.specs.Searches.{AddsStep, ListsAll, AreSoundFrom, RunsToEnd, HasWayOf};
+ghost use Rattle.iom_litmus.specs.Listed.{IsListed};
+ghost use Rattle.iom_litmus.specs.Seen.{seen_at};
+ghost use Rattle.iom_litmus.specs.declared.histogram.Row.{Row};
 ghost use Rattle.iom_litmus.specs.Steps.{CanTake, IsAnswered, place_after};
 ghost use Rattle.iom_litmus.specs.Wheels.{currents};
 
 use crate::candidates::candidates;
+use crate::fault::SearchFault;
 use crate::happenings::next_cell;
 use crate::histogram::Histogram;
 use crate::listed::is_step_among;
-use crate::odometer::{Odometer, Wheel};
+use crate::odometer::{Odometer, Wheel, steps_of};
 use crate::place::Place;
 use crate::step::Step;
 use crate::system::System;
@@ -18,16 +22,6 @@ use crate::taking::run_lines;
 use iom_base::Sequence;
 use iom_litmus_test::{Cell, Test};
 use std::alloc::{AllocError, Global};
-
-/// Why a search ended before all was gone through.
-#[derive(Clone, Copy, PartialEq, Eq, Debug)]
-pub enum SearchFault {
-    Memory,
-    /// There are more schedules than it may go through.
-    TooMany,
-    /// A schedule has more steps than it may have.
-    TooLong,
-}
 
 /// A search through all schedules of a test.
 pub struct Search<'a, S: System> {
@@ -78,6 +72,27 @@ impl<S: System> Search<'_, S> {
         }
     }
 
+    /// Adds the step where it can be taken at the place and isn't there yet: a device may be there twice.
+    fn add_step(
+        &self,
+        place: &Place<S>,
+        wheels: &[Wheel],
+        steps: &mut Sequence<Step>,
+        step: Step,
+    ) -> Result<(), AllocError>
+        requires { place.now ≡ place_after S.behaviour self.now.test.now (S.opened self.now.opening.now) (currents wheels.now) }
+        ensures { OnOk result (AddsStep S.behaviour self.now.test.now place.now step steps.old steps.new) }
+    {
+        if is_step_among(steps.as_slice(), step) {
+            return Ok(());
+        }
+        if !self.can_take(place, wheels, step)? {
+            return Ok(());
+        }
+        steps.push(step)?;
+        Ok(())
+    }
+
     /// All steps that can be taken at the place, the columns' first.
     fn steps_from(&self, place: &Place<S>, wheels: &[Wheel]) -> Result<Sequence<Step>, AllocError>
         requires { place.now ≡ place_after S.behaviour self.now.test.now (S.opened self.now.opening.now) (currents wheels.now) }
@@ -86,10 +101,7 @@ impl<S: System> Search<'_, S> {
         let first = candidates(self.alloc, self.test, place)?;
         let mut steps = Sequence::new(self.alloc);
         for step in first.as_slice() {
-            // A device may be there twice, and each step is taken once.
-            if !is_step_among(steps.as_slice(), *step) && self.can_take(place, wheels, *step)? {
-                steps.push(*step)?;
-            }
+            self.add_step(place, wheels, &mut steps, *step)?;
         }
         Ok(steps)
     }
@@ -97,21 +109,56 @@ impl<S: System> Search<'_, S> {
     /// Goes on with the schedule in hand to its end, each time by the first step that can be taken.
     fn run_on(&self, odometer: &mut Odometer, longest: usize) -> Result<Place<S>, SearchFault>
         requires { AreSoundFrom S.behaviour self.now.test.now (S.opened self.now.opening.now) odometer.old }
-        ensures { IfOk result (RunsToEnd S.behaviour self.now.test.now (S.opened self.now.opening.now) odometer.old odometer.new) }
+        ensures end { IfOk result (RunsToEnd S.behaviour self.now.test.now (S.opened self.now.opening.now) odometer.old odometer.new) }
+        ensures long { result ≡ Err SearchFault.TooLong → HasWayOf S.behaviour self.now.test.now (S.opened self.now.opening.now) longest }
+        ensures few { ¬ (result ≡ Err SearchFault.TooMany) }
     {
-        let mut place = self.arrive(odometer.wheels()).map_err(|_| SearchFault::Memory)?;
+        let mut place = self.arrive(odometer.wheels())?;
         for _ in 0..longest {
-            let steps = self
-                .steps_from(&place, odometer.wheels())
-                .map_err(|_| SearchFault::Memory)?;
+            let steps = self.steps_from(&place, odometer.wheels())?;
             let Some(wheel) = Wheel::of(steps) else {
                 return Ok(place);
             };
-            place
-                .take(self.alloc, self.test, wheel.current)
-                .map_err(|_| SearchFault::Memory)?;
-            odometer.push(wheel).map_err(|_| SearchFault::Memory)?;
+            place.take(self.alloc, self.test, wheel.current)?;
+            odometer.push(wheel)?;
         }
         Err(SearchFault::TooLong)
+    }
+
+    /// Goes through all schedules, of which there may be so many, each of so many steps.
+    pub fn explore(&self, most: u64, longest: usize) -> Result<Histogram, SearchFault>
+        // Each schedule's outcome has a row, and each row's count is the number of its schedules.
+        ensures histogram { IfOk result (IsHistogram S.behaviour self.now.test.now (S.opened self.now.opening.now)) }
+
+        // It gives up only where there are so many, or where steps go on for so long.
+        ensures many { result ≡ Err SearchFault.TooMany → HasSchedules S.behaviour self.now.test.now (S.opened self.now.opening.now) most }
+        ensures long { result ≡ Err SearchFault.TooLong → HasWayOf S.behaviour self.now.test.now (S.opened self.now.opening.now) longest }
+    {
+        let mut histogram = Histogram::new(self.alloc);
+        let mut odometer = Odometer::new(self.alloc);
+        for _ in 0..most {
+            let end = self.run_on(&mut odometer, longest)?;
+            self.count(&mut histogram, &end, odometer.wheels())?;
+            let more = odometer.advance()?;
+            if !more {
+                return Ok(histogram);
+            }
+        }
+        Err(SearchFault::TooMany)
+    }
+
+    /// Counts the schedule in hand, which ends at the place.
+    fn count(
+        &self,
+        histogram: &mut Histogram,
+        end: &Place<S>,
+        wheels: &[Wheel],
+    ) -> Result<(), AllocError>
+        requires { (row : Row) → IsListed histogram.old row → row.count + 1 < 2 ^ 64 }
+        ensures { OnOk result (Adds (seen_at S.behaviour self.now.test.now end.now) (currents wheels.now) histogram.old histogram.new) }
+    {
+        let outcome = end.outcome(self.alloc, self.test)?;
+        let schedule = steps_of(self.alloc, wheels)?;
+        histogram.add(outcome, schedule)
     }
 }
