@@ -19,8 +19,8 @@ use Rattle.iom_litmus.proofs.ListedLemmas.{IsListed-push, pushed_is_listed, Keep
 pub columns_more : (old new : List Step) (k : ℕ) → ListsColumns k old → new ≡ old ++ Steps.Column k ∷ [] → ListsColumns (k + 1) new
 columns_more old new k lists is =
     below_more (λ column. IsListed new (Steps.Column column)) k
-      (λ column below. KeepsListed-push old old new (Steps.Column k) (λ x listed. listed) is (Steps.Column column) (lists column below))
-      (pushed_is_listed old new (Steps.Column k) is)
+    (λ column below. KeepsListed-push old old new (Steps.Column k) (λ x listed. listed) is (Steps.Column column) (lists column below))
+    (pushed_is_listed old new (Steps.Column k) is)
 
 pub devices_more : (old middle new : List Step) (devices : List ℕ) (k device : ℕ) → k < length devices → get_or devices k device ≡ device
     → ListsDeviceSteps (take k devices) old
@@ -41,8 +41,8 @@ messages_more old one two new k lists first second third =
     let later : KeepsListed one new = KeepsListed-push one two new _ (KeepsListed-push one one two _ (λ x there. there) second) third in
     let keeps : KeepsListed old new = λ x there. later x (KeepsListed-push old old one _ (λ y here. here) first x there) in
     below_more (λ m. IsListed new (Steps.Hardware (Acts.Deliver m)) × IsListed new (Steps.Hardware (Acts.Drop m)) × IsListed new (Steps.Hardware (Acts.Repeat m))) k
-      (λ m below. (keeps _ (lists m below).0, keeps _ (lists m below).1, keeps _ (lists m below).2))
-      (later _ (pushed_is_listed old one _ first), KeepsListed-push two two new _ (λ x there. there) third _ (pushed_is_listed one two _ second), pushed_is_listed two new _ third)
+    (λ m below. (keeps _ (lists m below).0, keeps _ (lists m below).1, keeps _ (lists m below).2))
+    (later _ (pushed_is_listed old one _ first), KeepsListed-push two two new _ (λ x there. there) third _ (pushed_is_listed one two _ second), pushed_is_listed two new _ third)
 
 -- a column that isn't there has no next cell
 pub next_is_within : {S : Type 0} (b : Behaviour S) (test : Test) (place : Place S) (column : ℕ) → CanTake b test place (Steps.Column column) → column < length test.columns

@@ -50,8 +50,8 @@ nothing_explored b test system = record {
     told = λ row listed. absurd listed;
     shortest = λ row listed. absurd listed;
     apart = tt;
-    bounded = λ row listed. absurd listed
-  }
+    bounded = λ row listed. absurd listed;
+  };
 }
 
 -- after a run to the end, with its schedule told
@@ -80,7 +80,7 @@ explored_more {S} b test system seen rows new old wheels place e (goes, ends) ad
             (subst (λ s. IsStillLeftFrom b test system (advanced wheels) s) (sym same) still)
         | inr there ↦ e.apart schedule there (goes.only schedule (still_left_was_left (CanTake b test) (taken b test) (opening_place system) wheels schedule goes.sound still))
       ];
-      tally = tally_more (outcome_after b test system) rows new seen hand e.tally unseen (subst (λ p. Adds (seen_at b test p) hand rows new) goes.at adds)
+      tally = tally_more (outcome_after b test system) rows new seen hand e.tally unseen (subst (λ p. Adds (seen_at b test p) hand rows new) goes.at adds);
     }
 
 pub explored_next : {S : Type 0} (b : Behaviour S) (test : Test) (system : S) (seen : List (List Step)) (rows new : List Row) (old wheels shown next : List Wheel) (place : Place S)
@@ -88,7 +88,7 @@ pub explored_next : {S : Type 0} (b : Behaviour S) (test : Test) (system : S) (s
     → Advanced b test system (currents wheels ∷ seen) new next
 explored_next b test system seen rows new old wheels shown next place e runs shows adds turns =
     subst (λ ws. Advanced b test system (currents wheels ∷ seen) new ws) (sym turns)
-      (explored_more b test system seen rows new old wheels place e runs (subst (λ ws. Adds (seen_at b test place) (currents ws) rows new) shows adds))
+    (explored_more b test system seen rows new old wheels place e runs (subst (λ ws. Adds (seen_at b test place) (currents ws) rows new) shows adds))
 
 pub more_to_explore : {S : Type 0} (b : Behaviour S) (test : Test) (system : S) (seen : List (List Step)) (rows : List Row) (wheels : List Wheel)
     → is_left_any wheels ≡ true → Advanced b test system seen rows wheels → Explored b test system seen rows wheels
@@ -103,13 +103,18 @@ all_explored b test system seen rows [] none a =
     record {
       complete = λ s is. a.tally.complete s (listed s is);
       counted = λ row there.
-        let (mine, once, many, are) = a.tally.counted row there in
-        (mine, once, many, λ s. (
-          (λ my. (a.are s ((are s).0 my).0, ((are s).0 my).1)),
-          (λ (is, like). (are s).1 (listed s is, like))));
+          let (mine, once, many, are) = a.tally.counted row there in (
+            mine,
+            once,
+            many,
+            λ s. (
+              (λ my. (a.are s ((are s).0 my).0, ((are s).0 my).1)),
+              (λ (is, like). (are s).1 (listed s is, like)),
+            ),
+          );
       told = λ row there. (a.are row.schedule (a.tally.told row there).0, (a.tally.told row there).1);
       shortest = λ row there s is like. a.tally.shortest row there s (listed s is) like;
-      apart = a.tally.apart
+      apart = a.tally.apart;
     }
 
 pub many_explored : {S : Type 0} (b : Behaviour S) (test : Test) (system : S) (seen : List (List Step)) (rows : List Row) (wheels : List Wheel) (n : ℕ)

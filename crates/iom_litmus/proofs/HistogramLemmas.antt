@@ -40,9 +40,12 @@ goes_past rows outcome k d within none other listed = passed_place rows outcome 
 
 pub finds_place : (rows : List Row) (outcome : List Value) (k : ℕ) (d : Row) → k < length rows → ¬ IsListed (outcomes (take k rows)) outcome → (get_or rows k d).outcome ≡ outcome
     → IsPlaceOf rows outcome (Some k)
-finds_place rows outcome k d within none same =
-    (within, none, λ row at. let here : Some (get_or rows k d) ≡ Some row = sym (slice_get-get_or rows k d within) ∙ at in
-      let is : get_or rows k d ≡ row = cc in ap (λ r. r.outcome) (sym is) ∙ same)
+finds_place rows outcome k d within none same = (
+  within,
+  none,
+  λ row at. let here : Some (get_or rows k d) ≡ Some row = sym (slice_get-get_or rows k d within) ∙ at in
+      let is : get_or rows k d ≡ row = cc in ap (λ r. r.outcome) (sym is) ∙ same,
+)
 
 -- the row at the place has one more
 pub adds_there : (rows : List Row) (outcome : List Value) (schedule : List Step) (k : ℕ) (row : Row) → IsPlaceOf rows outcome (Some k) → slice_get rows k ≡ Some row
@@ -66,7 +69,7 @@ pub adds_at : (old rows shown : List Row) (outcome told : List Value) (schedule 
 adds_at old rows shown outcome told schedule k row grew is shows tells place at grows =
     let p : IsPlaceOf rows outcome (Some k) = subst (λ xs. IsPlaceOf xs outcome (Some k)) shows (subst (λ o. IsPlaceOf shown o (Some k)) tells place) in
     subst (λ xs. Adds outcome schedule xs (set rows k grew)) is
-      (subst (λ r. Adds outcome schedule rows (set rows k r)) (sym grows) (adds_there rows outcome schedule k row p at))
+    (subst (λ r. Adds outcome schedule rows (set rows k r)) (sym grows) (adds_there rows outcome schedule k row p at))
 
 pub adds_new : (old rows shown new : List Row) (outcome told : List Value) (schedule : List Step) → rows ≡ old → shown ≡ rows → told ≡ outcome
     → IsPlaceOf shown told None → new ≡ rows ++ record { outcome = outcome; count = 1; schedule = schedule } ∷ [] → Adds outcome schedule old new
@@ -93,8 +96,8 @@ added_outcomes outcome schedule (row ∷ rest) new (inr (other, (later, is, adds
 -- each row was there and has another outcome, has one more, or is new
 added_cases : (outcome : List Value) (schedule : List Step) (rows new : List Row) → Adds outcome schedule rows new → AreListedOnce (outcomes rows) → (row : Row) → IsListed new row
     → ((¬ (row.outcome ≡ outcome)) × IsListed rows row)
-      ⊎ (((old : Row) × IsListed rows old × (old.outcome ≡ outcome) × (grown old schedule ≡ row))
-      ⊎ ((¬ IsListed (outcomes rows) outcome) × (record { outcome = outcome; count = 1; schedule = schedule } ≡ row)))
+    ⊎ (((old : Row) × IsListed rows old × (old.outcome ≡ outcome) × (grown old schedule ≡ row))
+    ⊎ ((¬ IsListed (outcomes rows) outcome) × (record { outcome = outcome; count = 1; schedule = schedule } ≡ row)))
 added_cases outcome schedule [] new is apart row listed =
     elim (subst (λ rs. IsListed rs row) is listed) [ inl same ↦ inr (inr ((λ none. none), same)) | inr none ↦ absurd none ]
 added_cases outcome schedule (first ∷ rest) new (inl (same, is)) (alone, apart) row listed =
@@ -129,7 +132,7 @@ tally_more outcome_of rows new seen schedule tally unseen adds = record {
   told = λ row listed. told row (added_cases (outcome_of schedule) schedule rows new adds tally.apart row listed);
   shortest = λ row listed. shortest row (added_cases (outcome_of schedule) schedule rows new adds tally.apart row listed);
   apart = apart (added_outcomes (outcome_of schedule) schedule rows new adds);
-  bounded = λ row listed. bounded row (added_cases (outcome_of schedule) schedule rows new adds tally.apart row listed)
+  bounded = λ row listed. bounded row (added_cases (outcome_of schedule) schedule rows new adds tally.apart row listed);
 }
   where
     complete : (s : List Step) → IsListed (schedule ∷ seen) s
@@ -140,49 +143,68 @@ tally_more outcome_of rows new seen schedule tally unseen adds = record {
         (subst (λ x. IsListed (outcomes rows ++ outcome_of schedule ∷ []) (outcome_of x)) same (last_is_listed (outcomes rows) (outcome_of schedule)))
     complete s (inr was) (inl (e, there)) = subst (λ os. IsListed os (outcome_of s)) (sym e) (tally.complete s was)
     complete s (inr was) (inr (e, none)) = subst (λ os. IsListed os (outcome_of s)) (sym e) (IsListed-push (outcomes rows) (outcome_of schedule) (outcome_of s) (tally.complete s was))
+
     apart : ((outcomes new ≡ outcomes rows) × IsListed (outcomes rows) (outcome_of schedule)) ⊎ ((outcomes new ≡ outcomes rows ++ outcome_of schedule ∷ []) × (¬ IsListed (outcomes rows) (outcome_of schedule)))
         → AreListedOnce (outcomes new)
     apart (inl (e, there)) = subst (λ os. AreListedOnce os) (sym e) tally.apart
     apart (inr (e, none)) = subst (λ os. AreListedOnce os) (sym e) (AreListedOnce-push (outcomes rows) (outcome_of schedule) tally.apart none)
+
     counted : (row : Row)
         → ((¬ (row.outcome ≡ outcome_of schedule)) × IsListed rows row)
-          ⊎ (((old : Row) × IsListed rows old × (old.outcome ≡ outcome_of schedule) × (grown old schedule ≡ row))
-          ⊎ ((¬ IsListed (outcomes rows) (outcome_of schedule)) × (record { outcome = outcome_of schedule; count = 1; schedule = schedule } ≡ row)))
+        ⊎ (((old : Row) × IsListed rows old × (old.outcome ≡ outcome_of schedule) × (grown old schedule ≡ row))
+        ⊎ ((¬ IsListed (outcomes rows) (outcome_of schedule)) × (record { outcome = outcome_of schedule; count = 1; schedule = schedule } ≡ row)))
         → (mine : List (List Step)) × AreListedOnce mine × (length mine ≡ row.count)
-          × ((s : List Step) → IsListed mine s ↔ (IsListed (schedule ∷ seen) s × (outcome_of s ≡ row.outcome)))
+        × ((s : List Step) → IsListed mine s ↔ (IsListed (schedule ∷ seen) s × (outcome_of s ≡ row.outcome)))
     counted row (inl (other, was)) =
-        let (mine, once, many, are) = tally.counted row was in
-        (mine, once, many, λ s. (
-          (λ listed. (inr ((are s).0 listed).0, ((are s).0 listed).1)),
-          (λ (listed, same). elim listed [ inl here ↦ absurd (other (sym same ∙ ap outcome_of (sym here))) | inr there ↦ (are s).1 (there, same) ])))
+        let (mine, once, many, are) = tally.counted row was in (
+          mine,
+          once,
+          many,
+          λ s. (
+            (λ listed. (inr ((are s).0 listed).0, ((are s).0 listed).1)),
+            (λ (listed, same). elim listed [ inl here ↦ absurd (other (sym same ∙ ap outcome_of (sym here))) | inr there ↦ (are s).1 (there, same) ]),
+          ),
+        )
     counted row (inr (inl (old, was, same, grew))) =
         let (mine, once, many, are) = tally.counted old was in
-        subst (λ r. (mine : List (List Step)) × AreListedOnce mine × (length mine ≡ r.count) × ((s : List Step) → IsListed mine s ↔ (IsListed (schedule ∷ seen) s × (outcome_of s ≡ r.outcome)))) grew
-          (schedule ∷ mine, ((λ listed. unseen ((are schedule).0 listed).0), once), omega (arith, many), λ s. (
+        subst (λ r. (mine : List (List Step)) × AreListedOnce mine × (length mine ≡ r.count) × ((s : List Step) → IsListed mine s ↔ (IsListed (schedule ∷ seen) s × (outcome_of s ≡ r.outcome)))) grew (
+          schedule ∷ mine,
+          ((λ listed. unseen ((are schedule).0 listed).0), once),
+          omega (arith, many),
+          λ s. (
             (λ listed. elim listed [ inl here ↦ (inl here, ap outcome_of (sym here) ∙ sym same) | inr there ↦ (inr ((are s).0 there).0, ((are s).0 there).1) ]),
-            (λ (listed, like). elim listed [ inl here ↦ inl here | inr there ↦ inr ((are s).1 (there, like)) ])))
+            (λ (listed, like). elim listed [ inl here ↦ inl here | inr there ↦ inr ((are s).1 (there, like)) ]),
+          ),
+        )
     counted row (inr (inr (none, fresh))) =
-        subst (λ r. (mine : List (List Step)) × AreListedOnce mine × (length mine ≡ r.count) × ((s : List Step) → IsListed mine s ↔ (IsListed (schedule ∷ seen) s × (outcome_of s ≡ r.outcome)))) fresh
-          (schedule ∷ [], ((λ listed. listed), tt), omega arith, λ s. (
+        subst (λ r. (mine : List (List Step)) × AreListedOnce mine × (length mine ≡ r.count) × ((s : List Step) → IsListed mine s ↔ (IsListed (schedule ∷ seen) s × (outcome_of s ≡ r.outcome)))) fresh (
+          schedule ∷ [],
+          ((λ listed. listed), tt),
+          omega arith,
+          λ s. (
             (λ listed. elim listed [ inl here ↦ (inl here, ap outcome_of (sym here)) | inr there ↦ absurd there ]),
-            (λ (listed, like). elim listed [ inl here ↦ inl here | inr there ↦ absurd (none (subst (λ o. IsListed (outcomes rows) o) like (tally.complete s there))) ])))
+            (λ (listed, like). elim listed [ inl here ↦ inl here | inr there ↦ absurd (none (subst (λ o. IsListed (outcomes rows) o) like (tally.complete s there))) ]),
+          ),
+        )
+
     told : (row : Row)
         → ((¬ (row.outcome ≡ outcome_of schedule)) × IsListed rows row)
-          ⊎ (((old : Row) × IsListed rows old × (old.outcome ≡ outcome_of schedule) × (grown old schedule ≡ row))
-          ⊎ ((¬ IsListed (outcomes rows) (outcome_of schedule)) × (record { outcome = outcome_of schedule; count = 1; schedule = schedule } ≡ row)))
+        ⊎ (((old : Row) × IsListed rows old × (old.outcome ≡ outcome_of schedule) × (grown old schedule ≡ row))
+        ⊎ ((¬ IsListed (outcomes rows) (outcome_of schedule)) × (record { outcome = outcome_of schedule; count = 1; schedule = schedule } ≡ row)))
         → IsListed (schedule ∷ seen) row.schedule × (outcome_of row.schedule ≡ row.outcome)
     told row (inl (other, was)) = (inr (tally.told row was).0, (tally.told row was).1)
     told row (inr (inl (old, was, same, grew))) =
         subst (λ r. IsListed (schedule ∷ seen) r.schedule × (outcome_of r.schedule ≡ r.outcome)) grew
-          (elim (shorter_cases old.schedule schedule).0 [
-            | inl is ↦ subst (λ s. IsListed (schedule ∷ seen) s × (outcome_of s ≡ old.outcome)) (sym is) (inr (tally.told old was).0, (tally.told old was).1)
-            | inr is ↦ subst (λ s. IsListed (schedule ∷ seen) s × (outcome_of s ≡ old.outcome)) (sym is) (inl refl, sym same)
-          ])
+        (elim (shorter_cases old.schedule schedule).0 [
+          | inl is ↦ subst (λ s. IsListed (schedule ∷ seen) s × (outcome_of s ≡ old.outcome)) (sym is) (inr (tally.told old was).0, (tally.told old was).1)
+          | inr is ↦ subst (λ s. IsListed (schedule ∷ seen) s × (outcome_of s ≡ old.outcome)) (sym is) (inl refl, sym same)
+        ])
     told row (inr (inr (none, fresh))) = subst (λ r. IsListed (schedule ∷ seen) r.schedule × (outcome_of r.schedule ≡ r.outcome)) fresh (inl refl, refl)
+
     shortest : (row : Row)
         → ((¬ (row.outcome ≡ outcome_of schedule)) × IsListed rows row)
-          ⊎ (((old : Row) × IsListed rows old × (old.outcome ≡ outcome_of schedule) × (grown old schedule ≡ row))
-          ⊎ ((¬ IsListed (outcomes rows) (outcome_of schedule)) × (record { outcome = outcome_of schedule; count = 1; schedule = schedule } ≡ row)))
+        ⊎ (((old : Row) × IsListed rows old × (old.outcome ≡ outcome_of schedule) × (grown old schedule ≡ row))
+        ⊎ ((¬ IsListed (outcomes rows) (outcome_of schedule)) × (record { outcome = outcome_of schedule; count = 1; schedule = schedule } ≡ row)))
         → (s : List Step) → IsListed (schedule ∷ seen) s → outcome_of s ≡ row.outcome → length row.schedule ≤ length s
     shortest row (inl (other, was)) s (inl here) like = absurd (other (sym like ∙ ap outcome_of (sym here)))
     shortest row (inl (other, was)) s (inr there) like = tally.shortest row was s there like
@@ -194,10 +216,11 @@ tally_more outcome_of rows new seen schedule tally unseen adds = record {
         subst (λ r. length r.schedule ≤ length s) grew (omega (arith, shown, short))
     shortest row (inr (inr (none, fresh))) s (inl here) like = subst (λ r. length r.schedule ≤ length s) fresh (subst (λ x. length schedule ≤ length x) here (omega arith))
     shortest row (inr (inr (none, fresh))) s (inr there) like = absurd (none (subst (λ o. IsListed (outcomes rows) o) (like ∙ ap (λ r. r.outcome) (sym fresh)) (tally.complete s there)))
+
     bounded : (row : Row)
         → ((¬ (row.outcome ≡ outcome_of schedule)) × IsListed rows row)
-          ⊎ (((old : Row) × IsListed rows old × (old.outcome ≡ outcome_of schedule) × (grown old schedule ≡ row))
-          ⊎ ((¬ IsListed (outcomes rows) (outcome_of schedule)) × (record { outcome = outcome_of schedule; count = 1; schedule = schedule } ≡ row)))
+        ⊎ (((old : Row) × IsListed rows old × (old.outcome ≡ outcome_of schedule) × (grown old schedule ≡ row))
+        ⊎ ((¬ IsListed (outcomes rows) (outcome_of schedule)) × (record { outcome = outcome_of schedule; count = 1; schedule = schedule } ≡ row)))
         → row.count ≤ length (schedule ∷ seen)
     bounded row (inl (other, was)) = let b = tally.bounded row was in omega (arith, b)
     bounded row (inr (inl (old, was, same, grew))) = let b = tally.bounded old was in subst (λ r. r.count ≤ length (schedule ∷ seen)) grew (omega (arith, b))

@@ -27,7 +27,7 @@ lists_more b test place first steps new k d step lists within at other can is = 
   all = λ s listed may. elim (more_taken_cases first k d s within listed) [
     | inl there ↦ IsListed-push steps step s (lists.all s there may)
     | inr same ↦ subst (λ x. IsListed (steps ++ step ∷ []) x) (sym at ∙ same) (last_is_listed steps step)
-  ]
+  ];
 })
 
 -- one that can't be, or is there, isn't
@@ -40,7 +40,7 @@ lists_same b test place first steps k d step lists within at there = record {
   all = λ s listed may. elim (more_taken_cases first k d s within listed) [
     | inl earlier ↦ lists.all s earlier may
     | inr same ↦ subst (λ x. IsListed steps x) (sym at ∙ same) (there (subst (λ x. CanTake b test place x) (sym (sym at ∙ same)) may))
-  ]
+  ];
 }
 
 pub lists_next : {S : Type 0} (b : Behaviour S) (test : Test) (place : Place S) (first steps new : List Step) (k : ℕ) (d : Step)
@@ -54,7 +54,7 @@ pub lists_all : {S : Type 0} (b : Behaviour S) (test : Test) (place : Place S) (
 lists_all b test place first steps n enough is lists = record {
   once = lists.once;
   can = lists.can;
-  all = λ step can. lists.all step (subst (λ k. IsListed (take k first) step) (sym is) (all_are_taken first step (enough step can))) can
+  all = λ step can. lists.all step (subst (λ k. IsListed (take k first) step) (sym is) (all_are_taken first step (enough step can))) can;
 }
 
 pub goes_on_here : {S : Type 0} (b : Behaviour S) (test : Test) (system : S) (wheels : List Wheel) (place : Place S)
@@ -68,17 +68,17 @@ pub goes_on_more : {S : Type 0} (b : Behaviour S) (test : Test) (system : S) (ol
 goes_on_more b test system old wheels new place next steps wheel g lists turns leads is =
     let steps_are : steps ≡ wheel.current ∷ wheel.others = wheel_turned wheel steps turns in
     let may : (s : Step) → IsListed (wheel.current ∷ wheel.others) s → CanTake b test (place_after b test system (currents wheels)) s =
-        λ s listed. subst (λ p. CanTake b test p s) g.at (lists.can s (subst (λ xs. IsListed xs s) (sym steps_are) listed)) in
+    λ s listed. subst (λ p. CanTake b test p s) g.at (lists.can s (subst (λ xs. IsListed xs s) (sym steps_are) listed)) in
     let whole : (s : Step) → CanTake b test (place_after b test system (currents wheels)) s → IsListed (wheel.current ∷ wheel.others) s =
-        λ s can. subst (λ xs. IsListed xs s) steps_are (lists.all s (subst (λ p. CanTake b test p s) (sym g.at) can)) in
+    λ s can. subst (λ xs. IsListed xs s) steps_are (lists.all s (subst (λ p. CanTake b test p s) (sym g.at) can)) in
     let once : AreListedOnce (wheel.current ∷ wheel.others) = subst (λ xs. AreListedOnce xs) steps_are lists.once in
     subst (λ ws. GoesOn b test system old ws next) (sym is) (record {
       at = leads ∙ ap (λ p. taken b test p wheel.current) g.at
-        ∙ sym (arrived-push (taken b test) (opening_place system) (currents wheels) wheel.current)
-        ∙ ap (place_after b test system) (sym (currents-push wheels wheel));
+          ∙ sym (arrived-push (taken b test) (opening_place system) (currents wheels) wheel.current)
+          ∙ ap (place_after b test system) (sym (currents-push wheels wheel));
       sound = pushed_is_sound (CanTake b test) (taken b test) (opening_place system) wheels wheel once may g.sound;
       kept = λ s left. whole_wheel_leaves (CanTake b test) (taken b test) (opening_place system) wheels wheel s whole (may wheel.current (inl refl)) (g.kept s left);
-      only = λ s left. g.only s (whole_wheel_was_left (CanTake b test) (taken b test) (opening_place system) wheels wheel s may left)
+      only = λ s left. g.only s (whole_wheel_was_left (CanTake b test) (taken b test) (opening_place system) wheels wheel s may left);
     })
 
 -- where no step can be taken it has come to its end

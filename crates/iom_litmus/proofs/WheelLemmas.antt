@@ -70,8 +70,8 @@ carried_was_left : {P : Type 0} (can : P → Step → Type 0) (after : P → Ste
     → ((step : Step) → IsListed (wheel.current ∷ wheel.others) step → can place step)
     → IsStillLeft can after place (carried wheel rest) schedule
     → (step : Step) × (later : List Step) × (schedule ≡ step ∷ later)
-      × (((wheel.current ≡ step) × IsStillLeft can after (after place wheel.current) rest later)
-        ⊎ (IsListed wheel.others step × IsSchedule can after place (step ∷ later)))
+    × (((wheel.current ≡ step) × IsStillLeft can after (after place wheel.current) rest later)
+    ⊎ (IsListed wheel.others step × IsSchedule can after place (step ∷ later)))
 carried_was_left can after place wheel [] [] may left = absurd (turned_ends can after place wheel.others left)
 carried_was_left can after place wheel [] (step ∷ schedule) may left =
     (step, schedule, refl, inr (turned_was_listed can after place wheel.others step schedule (λ other listed. may other (inr listed)) left))
@@ -84,10 +84,10 @@ still_left_was_left can after place [] schedule sound left = absurd left
 still_left_was_left can after place (wheel ∷ rest) schedule (once, may, sound) left =
     let (step, later, is, how) = carried_was_left can after place wheel (advanced rest) schedule may left in
     subst (λ s. IsLeft can after place (wheel ∷ rest) s) (sym is)
-      (elim how [
-        | inl (same, still) ↦ inl (same, still_left_was_left can after (after place wheel.current) rest later sound still)
-        | inr other ↦ inr other
-      ])
+    (elim how [
+      | inl (same, still) ↦ inl (same, still_left_was_left can after (after place wheel.current) rest later sound still)
+      | inr other ↦ inr other
+    ])
 
 -- and isn't the schedule in hand
 pub hand_is_done : {P : Type 0} (can : P → Step → Type 0) (after : P → Step → P) (place : P) (wheels : List Wheel)

@@ -20,8 +20,8 @@ ListsDeviceSteps devices steps = (device : ℕ) → IsListed devices device
 abbrev pub ListsMessageSteps : ℕ → List Step → Type 0
 ListsMessageSteps messages steps = (message : ℕ) → message < messages
     → IsListed steps (Steps.Hardware (Acts.Deliver message))
-      × IsListed steps (Steps.Hardware (Acts.Drop message))
-      × IsListed steps (Steps.Hardware (Acts.Repeat message))
+    × IsListed steps (Steps.Hardware (Acts.Drop message))
+    × IsListed steps (Steps.Hardware (Acts.Repeat message))
 
 abbrev pub ListsCandidates : {S : Type 0} → Behaviour S → Test → Place S → List Step → Type 0
 ListsCandidates b test place steps = (step : Step) → CanTake b test place step → IsListed steps step

@@ -21,4 +21,3 @@ reply_to_lines b system earlier (line ∷ rest) = reply_to_lines b (b.after_line
 
 abbrev pub reply_to_cell : {S : Type 0} → Behaviour S → S → Cell → Reply
 reply_to_cell b system cell = reply_to_lines b system no_reply cell.lines
-

@@ -69,13 +69,13 @@ abbrev pub ran : {S : Type 0} → Behaviour S → Place S → ℕ → Option (�
 ran b place column None = place
 ran b place column (Some (k, cell)) = record {
   system = system_after b place.system cell.lines;
-  happened = place.happened ++ record { deed = Deeds.Cell (record { column = column; cell = k }); reply = reply_to_cell b place.system cell } ∷ []
+  happened = place.happened ++ record { deed = Deeds.Cell (record { column = column; cell = k }); reply = reply_to_cell b place.system cell } ∷ [];
 }
 
 abbrev pub acted : {S : Type 0} → Behaviour S → Place S → HardwareStep → Place S
 acted b place act = record {
   system = b.after_act place.system act;
-  happened = place.happened ++ record { deed = Deeds.Hardware act; reply = b.reply_to_act place.system act } ∷ []
+  happened = place.happened ++ record { deed = Deeds.Hardware act; reply = b.reply_to_act place.system act } ∷ [];
 }
 
 abbrev pub taken : {S : Type 0} → Behaviour S → Test → Place S → Step → Place S

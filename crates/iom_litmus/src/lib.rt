@@ -12,8 +12,8 @@ mod reply;
 mod search;
 mod seen;
 mod step;
-mod taking;
 mod system;
+mod taking;
 
 pub use fault::SearchFault;
 pub use histogram::{Histogram, Row};

@@ -24,6 +24,7 @@ use iom_litmus_test::{Cell, Test};
 use std::alloc::{AllocError, Global};
 
 /// A search through all schedules of a test.
+#[derive(Drop)]
 pub struct Search<'a, S: System> {
     pub alloc: Global,
     pub test: &'a Test,

@@ -44,8 +44,8 @@ fn is_kind(asked: Option<AccessKind>, kind: AccessKind) -> bool
         (None, _)
         | (Some(AccessKind::Read), AccessKind::Read)
         | (Some(AccessKind::Write), AccessKind::Write) => true,
-        (Some(AccessKind::Read), AccessKind::Write)
-        | (Some(AccessKind::Write), AccessKind::Read) => false,
+        (Some(AccessKind::Read), AccessKind::Write) | (Some(AccessKind::Write), AccessKind::Read) =>
+            false,
     }
 }
 
@@ -130,11 +130,7 @@ impl<S: System> Place<S> {
     }
 
     /// The outcome, of a schedule that ends here.
-    pub(crate) fn outcome(
-        &self,
-        alloc: Global,
-        test: &Test,
-    ) -> Result<Sequence<Value>, AllocError>
+    pub(crate) fn outcome(&self, alloc: Global, test: &Test) -> Result<Sequence<Value>, AllocError>
         ensures { IfOk result (λ values. values ≡ seen_at S.behaviour test.now self.now) }
     {
         let mut values = Sequence::new(alloc);

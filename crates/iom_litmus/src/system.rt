@@ -22,12 +22,12 @@ pub trait System: Sized + Drop {
         ensures { IfOk result (λ system. system ≡ opened opening.now) };
 
     /// Runs a line of its language.
-    fn run(&mut self, line: &[u8]) -> Result<Reply, AllocError>
+    fn run(&mut self, alloc: Global, line: &[u8]) -> Result<Reply, AllocError>
         ensures left { OnOk result (self.new ≡ behaviour.after_line self.old line.now) }
         ensures reply { IfOk result (λ reply. reply ≡ behaviour.reply_to_line self.old line.now) };
 
     /// Lets hardware do this.
-    fn act(&mut self, step: HardwareStep) -> Result<Reply, AllocError>
+    fn act(&mut self, alloc: Global, step: HardwareStep) -> Result<Reply, AllocError>
         ensures left { OnOk result (self.new ≡ behaviour.after_act self.old step) }
         ensures reply { IfOk result (λ reply. reply ≡ behaviour.reply_to_act self.old step) };
 

@@ -25,7 +25,7 @@ pub(crate) fn run_lines<S: System>(
 {
     let mut reply = Reply::none(alloc);
     for line in lines {
-        let next = system.run(line.as_slice())?;
+        let next = system.run(alloc, line.as_slice())?;
         reply.join(next)?;
     }
     Ok(reply)
@@ -44,17 +44,12 @@ impl<S: System> Place<S> {
     }
 
     /// Goes on by one step.
-    pub(crate) fn take(
-        &mut self,
-        alloc: Global,
-        test: &Test,
-        step: Step,
-    ) -> Result<(), AllocError>
+    pub(crate) fn take(&mut self, alloc: Global, test: &Test, step: Step) -> Result<(), AllocError>
         ensures { OnOk result (self.new ≡ taken S.behaviour test.now self.old step) }
     {
         match step {
             Step::Column(column) => self.run_next(alloc, test, column),
-            Step::Hardware(act) => self.act(act),
+            Step::Hardware(act) => self.act(alloc, act),
         }
     }
 
@@ -73,10 +68,10 @@ impl<S: System> Place<S> {
         Ok(())
     }
 
-    fn act(&mut self, act: HardwareStep) -> Result<(), AllocError>
+    fn act(&mut self, alloc: Global, act: HardwareStep) -> Result<(), AllocError>
         ensures { OnOk result (self.new ≡ acted S.behaviour self.old act) }
     {
-        let reply = self.system.act(act)?;
+        let reply = self.system.act(alloc, act)?;
         self.happened.push(Happened {
             deed: Deed::Hardware(act),
             reply,

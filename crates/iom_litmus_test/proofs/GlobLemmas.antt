@@ -43,7 +43,7 @@ pub test_from_matches : (parts : List GlobPart) (text : List ℕ) → Matches pa
 test_from_matches [] text none = subst (λ t. is_match [] t ≡ true) (sym none) refl
 test_from_matches (Byte byte ∷ parts) text (others, is, rest) =
     subst (λ t. is_match (Byte byte ∷ parts) t ≡ true) (sym is)
-      (ap (λ b. b && is_match parts others) (eq-eqb byte byte refl) ∙ test_from_matches parts others rest)
+    (ap (λ b. b && is_match parts others) (eq-eqb byte byte refl) ∙ test_from_matches parts others rest)
 test_from_matches (Anything ∷ parts) text (count, within, rest) = test_from_end (is_match parts) text count within (test_from_matches parts (drop count text) rest)
 
 -- so a result that says what the definition says is the test

@@ -11,7 +11,7 @@ returns-in-Some-of-clause-turned c =
 pub returns-in-Some-of-clause-more : goal.returns-in-Some-of-clause-more
 returns-in-Some-of-clause-more c =
     let moved = turning_advances _ _ _ _ _ c.in-Some.ensures.items c.in-Some-of.ensures c.in_ok-push.ensures.items
-        ∙ sym c.loop-wheel.invariant ∙ ap advanced c.self.view_is in
+    ∙ sym c.loop-wheel.invariant ∙ ap advanced c.self.view_is in
     sym (more_is_left _ _ _ c.in_ok-push.ensures.items) ∙ ap is_left_any moved
 
 pub loop-wheel-preserved : goal.loop-wheel-preserved

@@ -5,11 +5,13 @@ use Rattle.iom_litmus.proofs.ExploreLemmas.{Explored, Advanced, nothing_explored
 use Rattle.iom_litmus.proofs.search.Search.explore.Goals as goal
 
 pub loop-init : goal.loop-init
-loop-init g c =
-    ([], refl,
-     subst (λ rows. Explored g.S.System.behaviour c.args.self.now.test.now (g.S.System.opened c.args.self.now.opening.now) [] rows c.new-odometer.result) (sym c.new-histogram.ensures)
-       (subst (λ wheels. Explored g.S.System.behaviour c.args.self.now.test.now (g.S.System.opened c.args.self.now.opening.now) [] [] wheels) (sym c.new-odometer.ensures)
-         (nothing_explored g.S.System.behaviour c.args.self.now.test.now (g.S.System.opened c.args.self.now.opening.now))))
+loop-init g c = (
+  [],
+  refl,
+  subst (λ rows. Explored g.S.System.behaviour c.args.self.now.test.now (g.S.System.opened c.args.self.now.opening.now) [] rows c.new-odometer.result) (sym c.new-histogram.ensures)
+      (subst (λ wheels. Explored g.S.System.behaviour c.args.self.now.test.now (g.S.System.opened c.args.self.now.opening.now) [] [] wheels) (sym c.new-odometer.ensures)
+      (nothing_explored g.S.System.behaviour c.args.self.now.test.now (g.S.System.opened c.args.self.now.opening.now))),
+)
 
 pub returns-in_err-end-clause-many : goal.returns-in_err-end-clause-many
 returns-in_err-end-clause-many g c is =
@@ -25,19 +27,21 @@ pub returns-then-not-more-clause-histogram : goal.returns-then-not-more-clause-h
 returns-then-not-more-clause-histogram g c =
     let (seen, many, e) = c.loop.invariant in
     all_explored g.S.System.behaviour c.args.self.now.test.now (g.S.System.opened c.args.self.now.opening.now)
-      (currents c.run_on.new.odometer ∷ seen) c.count.new.histogram c.advance.new.self
-      (ap is_left_any c.in_ok-more.ensures.turned ∙ sym c.in_ok-more.ensures.more ∙ c.if-not-more.true)
-      (explored_next g.S.System.behaviour c.args.self.now.test.now (g.S.System.opened c.args.self.now.opening.now) seen c.loop.histogram c.count.new.histogram
-        c.loop.odometer c.run_on.new.odometer c.wheels.result.now c.advance.new.self c.in_ok-end.end
-        e c.in_ok-end.ensures.end c.wheels.ensures c.in_ok-count.ensures c.in_ok-more.ensures.turned)
+    (currents c.run_on.new.odometer ∷ seen) c.count.new.histogram c.advance.new.self
+    (ap is_left_any c.in_ok-more.ensures.turned ∙ sym c.in_ok-more.ensures.more ∙ c.if-not-more.true)
+    (explored_next g.S.System.behaviour c.args.self.now.test.now (g.S.System.opened c.args.self.now.opening.now) seen c.loop.histogram c.count.new.histogram
+    c.loop.odometer c.run_on.new.odometer c.wheels.result.now c.advance.new.self c.in_ok-end.end
+    e c.in_ok-end.ensures.end c.wheels.ensures c.in_ok-count.ensures c.in_ok-more.ensures.turned)
 
 pub loop-preserved : goal.loop-preserved
 loop-preserved g c =
-    let (seen, many, e) = c.loop.invariant in
-    (currents c.run_on.new.odometer ∷ seen, omega (arith, many),
-     more_to_explore g.S.System.behaviour c.args.self.now.test.now (g.S.System.opened c.args.self.now.opening.now)
-      (currents c.run_on.new.odometer ∷ seen) c.count.new.histogram c.advance.new.self
-      (ap is_left_any c.in_ok-more.ensures.turned ∙ sym c.in_ok-more.ensures.more ∙ c.if-not-more.false)
-      (explored_next g.S.System.behaviour c.args.self.now.test.now (g.S.System.opened c.args.self.now.opening.now) seen c.loop.histogram c.count.new.histogram
-        c.loop.odometer c.run_on.new.odometer c.wheels.result.now c.advance.new.self c.in_ok-end.end
-        e c.in_ok-end.ensures.end c.wheels.ensures c.in_ok-count.ensures c.in_ok-more.ensures.turned))
+    let (seen, many, e) = c.loop.invariant in (
+      currents c.run_on.new.odometer ∷ seen,
+      omega (arith, many),
+      more_to_explore g.S.System.behaviour c.args.self.now.test.now (g.S.System.opened c.args.self.now.opening.now)
+          (currents c.run_on.new.odometer ∷ seen) c.count.new.histogram c.advance.new.self
+          (ap is_left_any c.in_ok-more.ensures.turned ∙ sym c.in_ok-more.ensures.more ∙ c.if-not-more.false)
+          (explored_next g.S.System.behaviour c.args.self.now.test.now (g.S.System.opened c.args.self.now.opening.now) seen c.loop.histogram c.count.new.histogram
+          c.loop.odometer c.run_on.new.odometer c.wheels.result.now c.advance.new.self c.in_ok-end.end
+          e c.in_ok-end.ensures.end c.wheels.ensures c.in_ok-count.ensures c.in_ok-more.ensures.turned),
+    )

@@ -1,0 +1,16 @@
+//! Tests of litmus tests and of the search through them, over a mailbox.
+//!
+//! The crate has tests alone, and nothing stands on it. It stands apart from the crates that it calls because a crate
+//! with tests of its own is proved twice, without them and with them.
+#![tactic(auto)]
+
+#[cfg(test)]
+mod globs;
+#[cfg(test)]
+mod mailbox;
+#[cfg(test)]
+mod making;
+#[cfg(test)]
+mod reading;
+#[cfg(test)]
+mod searches;
