@@ -6,7 +6,7 @@ use Rattle.std.proofs.lemmas.Bool.{ltb-true, ltb-false}
 use Rattle.iom_litmus_test.specs.declared.observable.Value.{Value}
 use Rattle.iom_litmus.specs.declared.histogram.Row.{Row}
 use Rattle.iom_litmus.specs.declared.step.Step.{Step}
-use Rattle.iom_litmus.specs.Histograms.{Adds, IsPlaceOf, grown, shorter, outcomes}
+use Rattle.iom_litmus.specs.Histograms.{CountsOneMore, IsFirstRowOf, grown, shorter, outcomes}
 use Rattle.iom_litmus.specs.Listed.{IsListed, AreListedOnce}
 use Rattle.iom_litmus.proofs.ListedLemmas.{IsListed-push, IsListed-push_cases, AreListedOnce-push, last_is_listed}
 
@@ -39,7 +39,7 @@ pub goes_past : (rows : List Row) (outcome : List Value) (k : ℕ) (d : Row) →
 goes_past rows outcome k d within none other listed = passed_place rows outcome k d within none other (subst (λ n. IsListed (outcomes (take n rows)) outcome) (add-one k) listed)
 
 pub finds_place : (rows : List Row) (outcome : List Value) (k : ℕ) (d : Row) → k < length rows → ¬ IsListed (outcomes (take k rows)) outcome → (get_or rows k d).outcome ≡ outcome
-    → IsPlaceOf rows outcome (Some k)
+    → IsFirstRowOf rows outcome (Some k)
 finds_place rows outcome k d within none same = (
   within,
   none,
@@ -48,8 +48,8 @@ finds_place rows outcome k d within none same = (
 )
 
 -- the row at the place has one more
-pub adds_there : (rows : List Row) (outcome : List Value) (schedule : List Step) (k : ℕ) (row : Row) → IsPlaceOf rows outcome (Some k) → slice_get rows k ≡ Some row
-    → Adds outcome schedule rows (set rows k (grown row schedule))
+pub adds_there : (rows : List Row) (outcome : List Value) (schedule : List Step) (k : ℕ) (row : Row) → IsFirstRowOf rows outcome (Some k) → slice_get rows k ≡ Some row
+    → CountsOneMore outcome schedule rows (set rows k (grown row schedule))
 adds_there [] outcome schedule k row (within, none, same) at = absurd (omega arith)
 adds_there (first ∷ rest) outcome schedule zero row (within, none, same) at =
     let is : first ≡ row = cc in inl (same first refl, ap (λ r. grown r schedule ∷ rest) (sym is))
@@ -58,24 +58,24 @@ adds_there (first ∷ rest) outcome schedule (suc k) row (within, none, same) at
 
 -- or there is a new one
 pub adds_behind : (rows : List Row) (outcome : List Value) (schedule : List Step) → ¬ IsListed (outcomes rows) outcome
-    → Adds outcome schedule rows (rows ++ record { outcome = outcome; count = 1; schedule = schedule } ∷ [])
+    → CountsOneMore outcome schedule rows (rows ++ record { outcome = outcome; count = 1; schedule = schedule } ∷ [])
 adds_behind [] outcome schedule none = refl
 adds_behind (first ∷ rest) outcome schedule none =
     inr ((λ here. none (inl here)), (rest ++ record { outcome = outcome; count = 1; schedule = schedule } ∷ [], refl, adds_behind rest outcome schedule (λ there. none (inr there))))
 
 -- the same of what a place was looked for in
 pub adds_at : (old rows shown : List Row) (outcome told : List Value) (schedule : List Step) (k : ℕ) (row grew : Row) → rows ≡ old → shown ≡ rows → told ≡ outcome
-    → IsPlaceOf shown told (Some k) → slice_get rows k ≡ Some row → grew ≡ grown row schedule → Adds outcome schedule old (set rows k grew)
+    → IsFirstRowOf shown told (Some k) → slice_get rows k ≡ Some row → grew ≡ grown row schedule → CountsOneMore outcome schedule old (set rows k grew)
 adds_at old rows shown outcome told schedule k row grew is shows tells place at grows =
-    let p : IsPlaceOf rows outcome (Some k) = subst (λ xs. IsPlaceOf xs outcome (Some k)) shows (subst (λ o. IsPlaceOf shown o (Some k)) tells place) in
-    subst (λ xs. Adds outcome schedule xs (set rows k grew)) is
-    (subst (λ r. Adds outcome schedule rows (set rows k r)) (sym grows) (adds_there rows outcome schedule k row p at))
+    let p : IsFirstRowOf rows outcome (Some k) = subst (λ xs. IsFirstRowOf xs outcome (Some k)) shows (subst (λ o. IsFirstRowOf shown o (Some k)) tells place) in
+    subst (λ xs. CountsOneMore outcome schedule xs (set rows k grew)) is
+    (subst (λ r. CountsOneMore outcome schedule rows (set rows k r)) (sym grows) (adds_there rows outcome schedule k row p at))
 
 pub adds_new : (old rows shown new : List Row) (outcome told : List Value) (schedule : List Step) → rows ≡ old → shown ≡ rows → told ≡ outcome
-    → IsPlaceOf shown told None → new ≡ rows ++ record { outcome = outcome; count = 1; schedule = schedule } ∷ [] → Adds outcome schedule old new
+    → IsFirstRowOf shown told None → new ≡ rows ++ record { outcome = outcome; count = 1; schedule = schedule } ∷ [] → CountsOneMore outcome schedule old new
 adds_new old rows shown new outcome told schedule is shows tells none ends =
     let p : ¬ IsListed (outcomes rows) outcome = subst (λ xs. ¬ IsListed (outcomes xs) outcome) shows (subst (λ o. ¬ IsListed (outcomes shown) o) tells none) in
-    subst (λ xs. Adds outcome schedule xs new) is (subst (λ xs. Adds outcome schedule rows xs) (sym ends) (adds_behind rows outcome schedule p))
+    subst (λ xs. CountsOneMore outcome schedule xs new) is (subst (λ xs. CountsOneMore outcome schedule rows xs) (sym ends) (adds_behind rows outcome schedule p))
 
 pub got_is_listed : {X : Type 0} (xs : List X) (k : ℕ) (x : X) → slice_get xs k ≡ Some x → IsListed xs x
 got_is_listed [] k x at = absurd cc
@@ -83,7 +83,7 @@ got_is_listed (first ∷ rest) zero x at = inl cc
 got_is_listed (first ∷ rest) (suc k) x at = inr (got_is_listed rest k x at)
 
 -- the outcomes are the same, or there is one more
-added_outcomes : (outcome : List Value) (schedule : List Step) (rows new : List Row) → Adds outcome schedule rows new
+added_outcomes : (outcome : List Value) (schedule : List Step) (rows new : List Row) → CountsOneMore outcome schedule rows new
     → ((outcomes new ≡ outcomes rows) × IsListed (outcomes rows) outcome) ⊎ ((outcomes new ≡ outcomes rows ++ outcome ∷ []) × (¬ IsListed (outcomes rows) outcome))
 added_outcomes outcome schedule [] new is = inr (ap outcomes is, λ none. none)
 added_outcomes outcome schedule (row ∷ rest) new (inl (same, is)) = inl (ap outcomes is, inl same)
@@ -94,7 +94,7 @@ added_outcomes outcome schedule (row ∷ rest) new (inr (other, (later, is, adds
     ]
 
 -- each row was there and has another outcome, has one more, or is new
-added_cases : (outcome : List Value) (schedule : List Step) (rows new : List Row) → Adds outcome schedule rows new → AreListedOnce (outcomes rows) → (row : Row) → IsListed new row
+added_cases : (outcome : List Value) (schedule : List Step) (rows new : List Row) → CountsOneMore outcome schedule rows new → AreListedOnce (outcomes rows) → (row : Row) → IsListed new row
     → ((¬ (row.outcome ≡ outcome)) × IsListed rows row)
     ⊎ (((old : Row) × IsListed rows old × (old.outcome ≡ outcome) × (grown old schedule ≡ row))
     ⊎ ((¬ IsListed (outcomes rows) outcome) × (record { outcome = outcome; count = 1; schedule = schedule } ≡ row)))
@@ -125,7 +125,7 @@ shorter_cases old new = by (nat_lt (length new) (length old)) refl
 
 -- one more schedule is told
 pub tally_more : (outcome_of : List Step → List Value) (rows new : List Row) (seen : List (List Step)) (schedule : List Step)
-    → IsTally outcome_of rows seen → ¬ IsListed seen schedule → Adds (outcome_of schedule) schedule rows new → IsTally outcome_of new (schedule ∷ seen)
+    → IsTally outcome_of rows seen → ¬ IsListed seen schedule → CountsOneMore (outcome_of schedule) schedule rows new → IsTally outcome_of new (schedule ∷ seen)
 tally_more outcome_of rows new seen schedule tally unseen adds = record {
   complete = λ s listed. complete s listed (added_outcomes (outcome_of schedule) schedule rows new adds);
   counted = λ row listed. counted row (added_cases (outcome_of schedule) schedule rows new adds tally.apart row listed);

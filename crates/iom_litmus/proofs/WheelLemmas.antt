@@ -4,11 +4,11 @@ use Rattle.iom_litmus.specs.declared.step.Step.{Step}
 use Rattle.iom_litmus.specs.declared.odometer.Wheel.{Wheel}
 use Rattle.iom_litmus.specs.Listed.{IsListed, AreListedOnce}
 use Rattle.iom_litmus.specs.Schedules.{IsSchedule, IsWay, arrived}
-use Rattle.iom_litmus.specs.Wheels.{currents, AreSound, IsLeft, IsStillLeft, turned, carried, advanced, is_left_any}
+use Rattle.iom_litmus.specs.Wheels.{currents, AreSoundWheels, IsToCome, IsStillLeft, turned, carried, advanced, is_left_any}
 
 -- what is left is a schedule
 pub left_is_schedule : {P : Type 0} (can : P → Step → Type 0) (after : P → Step → P) (place : P) (wheels : List Wheel) (schedule : List Step)
-    → AreSound can after place wheels → IsLeft can after place wheels schedule → IsSchedule can after place schedule
+    → AreSoundWheels can after place wheels → IsToCome can after place wheels schedule → IsSchedule can after place schedule
 left_is_schedule can after place [] schedule sound left = left
 left_is_schedule can after place (wheel ∷ rest) [] sound left = absurd left
 left_is_schedule can after place (wheel ∷ rest) (step ∷ schedule) (once, may, sound) (inr (listed, is)) = is
@@ -17,7 +17,7 @@ left_is_schedule can after place (wheel ∷ rest) (step ∷ schedule) (once, may
 
 -- the schedule in hand is left, once it has come to its end
 pub hand_is_left : {P : Type 0} (can : P → Step → Type 0) (after : P → Step → P) (place : P) (wheels : List Wheel)
-    → ((step : Step) → ¬ can (arrived after place (currents wheels)) step) → IsLeft can after place wheels (currents wheels)
+    → ((step : Step) → ¬ can (arrived after place (currents wheels)) step) → IsToCome can after place wheels (currents wheels)
 hand_is_left can after place [] end = end
 hand_is_left can after place (wheel ∷ rest) end = inl (refl, hand_is_left can after (after place wheel.current) rest end)
 
@@ -41,7 +41,7 @@ carried_has_others can after place wheel (next ∷ rest) step schedule listed is
 -- what was left is the schedule in hand, or still left
 pub left_is_hand_or_still_left : {P : Type 0} (can : P → Step → Type 0) (after : P → Step → P) (place : P) (wheels : List Wheel) (schedule : List Step)
     → ((step : Step) → ¬ can (arrived after place (currents wheels)) step)
-    → IsLeft can after place wheels schedule → (currents wheels ≡ schedule) ⊎ IsStillLeft can after place (advanced wheels) schedule
+    → IsToCome can after place wheels schedule → (currents wheels ≡ schedule) ⊎ IsStillLeft can after place (advanced wheels) schedule
 left_is_hand_or_still_left can after place [] [] end left = inl refl
 left_is_hand_or_still_left can after place [] (step ∷ schedule) end (may, left) = absurd (end step may)
 left_is_hand_or_still_left can after place (wheel ∷ rest) [] end left = absurd left
@@ -79,11 +79,11 @@ carried_was_left can after place wheel (next ∷ rest) [] may left = absurd left
 carried_was_left can after place wheel (next ∷ rest) (step ∷ schedule) may left = (step, schedule, refl, left)
 
 pub still_left_was_left : {P : Type 0} (can : P → Step → Type 0) (after : P → Step → P) (place : P) (wheels : List Wheel) (schedule : List Step)
-    → AreSound can after place wheels → IsStillLeft can after place (advanced wheels) schedule → IsLeft can after place wheels schedule
+    → AreSoundWheels can after place wheels → IsStillLeft can after place (advanced wheels) schedule → IsToCome can after place wheels schedule
 still_left_was_left can after place [] schedule sound left = absurd left
 still_left_was_left can after place (wheel ∷ rest) schedule (once, may, sound) left =
     let (step, later, is, how) = carried_was_left can after place wheel (advanced rest) schedule may left in
-    subst (λ s. IsLeft can after place (wheel ∷ rest) s) (sym is)
+    subst (λ s. IsToCome can after place (wheel ∷ rest) s) (sym is)
     (elim how [
       | inl (same, still) ↦ inl (same, still_left_was_left can after (after place wheel.current) rest later sound still)
       | inr other ↦ inr other
@@ -91,7 +91,7 @@ still_left_was_left can after place (wheel ∷ rest) schedule (once, may, sound)
 
 -- and isn't the schedule in hand
 pub hand_is_done : {P : Type 0} (can : P → Step → Type 0) (after : P → Step → P) (place : P) (wheels : List Wheel)
-    → AreSound can after place wheels → ¬ IsStillLeft can after place (advanced wheels) (currents wheels)
+    → AreSoundWheels can after place wheels → ¬ IsStillLeft can after place (advanced wheels) (currents wheels)
 hand_is_done can after place [] sound left = left
 hand_is_done can after place (wheel ∷ rest) (once, may, sound) left =
     let (step, later, is, how) = carried_was_left can after place wheel (advanced rest) (wheel.current ∷ currents rest) may left in
@@ -104,17 +104,17 @@ hand_is_done can after place (wheel ∷ rest) (once, may, sound) left =
     ]
 
 turned_is_sound : {P : Type 0} (can : P → Step → Type 0) (after : P → Step → P) (place : P) (others : List Step)
-    → AreListedOnce others → ((step : Step) → IsListed others step → can place step) → AreSound can after place (turned others)
+    → AreListedOnce others → ((step : Step) → IsListed others step → can place step) → AreSoundWheels can after place (turned others)
 turned_is_sound can after place [] once may = tt
 turned_is_sound can after place (first ∷ others) once may = (once, may, tt)
 
 carried_is_sound : {P : Type 0} (can : P → Step → Type 0) (after : P → Step → P) (place : P) (wheel : Wheel) (rest : List Wheel)
-    → AreSound can after place (wheel ∷ []) → AreSound can after (after place wheel.current) rest → AreSound can after place (carried wheel rest)
+    → AreSoundWheels can after place (wheel ∷ []) → AreSoundWheels can after (after place wheel.current) rest → AreSoundWheels can after place (carried wheel rest)
 carried_is_sound can after place wheel [] (once, may, _) sound = turned_is_sound can after place wheel.others once.1 (λ step listed. may step (inr listed))
 carried_is_sound can after place wheel (next ∷ rest) (once, may, _) sound = (once, may, sound)
 
 pub advanced_is_sound : {P : Type 0} (can : P → Step → Type 0) (after : P → Step → P) (place : P) (wheels : List Wheel)
-    → AreSound can after place wheels → AreSound can after place (advanced wheels)
+    → AreSoundWheels can after place wheels → AreSoundWheels can after place (advanced wheels)
 advanced_is_sound can after place [] sound = tt
 advanced_is_sound can after place (wheel ∷ rest) (once, may, sound) =
     carried_is_sound can after place wheel (advanced rest) (once, may, tt) (advanced_is_sound can after (after place wheel.current) rest sound)
@@ -123,11 +123,11 @@ advanced_is_sound can after place (wheel ∷ rest) (once, may, sound) =
 pub whole_wheel_leaves : {P : Type 0} (can : P → Step → Type 0) (after : P → Step → P) (place : P) (wheels : List Wheel) (wheel : Wheel) (schedule : List Step)
     → ((step : Step) → can (arrived after place (currents wheels)) step → IsListed (wheel.current ∷ wheel.others) step)
     → can (arrived after place (currents wheels)) wheel.current
-    → IsLeft can after place wheels schedule → IsLeft can after place (wheels ++ wheel ∷ []) schedule
+    → IsToCome can after place wheels schedule → IsToCome can after place (wheels ++ wheel ∷ []) schedule
 whole_wheel_leaves can after place [] wheel [] whole some is = absurd (is wheel.current some)
 whole_wheel_leaves can after place [] wheel (step ∷ schedule) whole some (may, is) = by (whole step may)
   where
-    by : IsListed (wheel.current ∷ wheel.others) step → IsLeft can after place (wheel ∷ []) (step ∷ schedule)
+    by : IsListed (wheel.current ∷ wheel.others) step → IsToCome can after place (wheel ∷ []) (step ∷ schedule)
     by (inl same) = inl (same, subst (λ c. IsSchedule can after (after place c) schedule) (sym same) is)
     by (inr listed) = inr (listed, (may, is))
 whole_wheel_leaves can after place (first ∷ rest) wheel [] whole some left = absurd left
@@ -137,7 +137,7 @@ whole_wheel_leaves can after place (first ∷ rest) wheel (step ∷ schedule) wh
 
 pub whole_wheel_was_left : {P : Type 0} (can : P → Step → Type 0) (after : P → Step → P) (place : P) (wheels : List Wheel) (wheel : Wheel) (schedule : List Step)
     → ((step : Step) → IsListed (wheel.current ∷ wheel.others) step → can (arrived after place (currents wheels)) step)
-    → IsLeft can after place (wheels ++ wheel ∷ []) schedule → IsLeft can after place wheels schedule
+    → IsToCome can after place (wheels ++ wheel ∷ []) schedule → IsToCome can after place wheels schedule
 whole_wheel_was_left can after place [] wheel [] may left = absurd left
 whole_wheel_was_left can after place [] wheel (step ∷ schedule) may (inl (same, left)) =
     subst (λ c. IsSchedule can after place (c ∷ schedule)) same (may wheel.current (inl refl), left)
@@ -151,7 +151,7 @@ whole_wheel_was_left can after place (first ∷ rest) wheel (step ∷ schedule) 
 pub pushed_is_sound : {P : Type 0} (can : P → Step → Type 0) (after : P → Step → P) (place : P) (wheels : List Wheel) (wheel : Wheel)
     → AreListedOnce (wheel.current ∷ wheel.others)
     → ((step : Step) → IsListed (wheel.current ∷ wheel.others) step → can (arrived after place (currents wheels)) step)
-    → AreSound can after place wheels → AreSound can after place (wheels ++ wheel ∷ [])
+    → AreSoundWheels can after place wheels → AreSoundWheels can after place (wheels ++ wheel ∷ [])
 pushed_is_sound can after place [] wheel once may sound = (once, may, tt)
 pushed_is_sound can after place (first ∷ rest) wheel once may (first_once, first_may, sound) =
     (first_once, first_may, pushed_is_sound can after (after place first.current) rest wheel once may sound)

@@ -11,25 +11,25 @@ currents [] = []
 currents (wheel ∷ rest) = wheel.current ∷ currents rest
 
 -- each can be taken where it is tried, and none is tried twice there
-abbrev pub AreSound : {P : Type 0} → (P → Step → Type 0) → (P → Step → P) → P → List Wheel → Type 0
-AreSound can after place [] = Unit {0}
-AreSound can after place (wheel ∷ rest) =
+abbrev pub AreSoundWheels : {P : Type 0} → (P → Step → Type 0) → (P → Step → P) → P → List Wheel → Type 0
+AreSoundWheels can after place [] = Unit {0}
+AreSoundWheels can after place (wheel ∷ rest) =
     AreListedOnce (wheel.current ∷ wheel.others)
     × ((step : Step) → IsListed (wheel.current ∷ wheel.others) step → can place step)
-    × AreSound can after (after place wheel.current) rest
+    × AreSoundWheels can after (after place wheel.current) rest
 
 -- the schedules that are left to go through: those that go on from what is taken, and those that take another step
-abbrev pub IsLeft : {P : Type 0} → (P → Step → Type 0) → (P → Step → P) → P → List Wheel → List Step → Type 0
-IsLeft can after place [] schedule = IsSchedule can after place schedule
-IsLeft can after place (wheel ∷ rest) [] = ⊥
-IsLeft can after place (wheel ∷ rest) (step ∷ schedule) =
-    ((wheel.current ≡ step) × IsLeft can after (after place wheel.current) rest schedule)
+abbrev pub IsToCome : {P : Type 0} → (P → Step → Type 0) → (P → Step → P) → P → List Wheel → List Step → Type 0
+IsToCome can after place [] schedule = IsSchedule can after place schedule
+IsToCome can after place (wheel ∷ rest) [] = ⊥
+IsToCome can after place (wheel ∷ rest) (step ∷ schedule) =
+    ((wheel.current ≡ step) × IsToCome can after (after place wheel.current) rest schedule)
     ⊎ (IsListed wheel.others step × IsSchedule can after place (step ∷ schedule))
 
 -- the same, where no wheel means that nothing is left
 abbrev pub IsStillLeft : {P : Type 0} → (P → Step → Type 0) → (P → Step → P) → P → List Wheel → List Step → Type 0
 IsStillLeft can after place [] schedule = ⊥
-IsStillLeft can after place (wheel ∷ rest) schedule = IsLeft can after place (wheel ∷ rest) schedule
+IsStillLeft can after place (wheel ∷ rest) schedule = IsToCome can after place (wheel ∷ rest) schedule
 
 -- a wheel for the next of the steps, where there is one
 abbrev pub turned : List Step → List Wheel

@@ -1,6 +1,6 @@
 //! How many schedules have each outcome.
 ghost use Rattle.std.specs.Prelude.{◌≡◌, ◌↔◌, ℕ, ◌+◌, ◌<◌, ◌≤◌, ◌^◌, [], length, IsTrue, OnOk, IfOk, IfSome, IfNone, slice_get, Some, None, MatchOption};
-ghost use Rattle.iom_litmus.specs.Histograms.{Adds, grown, IsPlaceOf};
+ghost use Rattle.iom_litmus.specs.Histograms.{CountsOneMore, grown, IsFirstRowOf};
 ghost use Rattle.iom_litmus.specs.Listed.{IsListed};
 
 use crate::step::Step;
@@ -84,7 +84,7 @@ impl Histogram {
         schedule: Sequence<Step>,
     ) -> Result<(), AllocError>
         requires { (row : Row) → IsListed self.old row → row.count + 1 < 2 ^ 64 }
-        ensures { OnOk result (Adds outcome schedule self.old self.new) }
+        ensures { OnOk result (CountsOneMore outcome schedule self.old self.new) }
     {
         match place_of(self.rows.as_slice(), outcome.as_slice()) {
             Some(place) => {
@@ -105,7 +105,7 @@ impl Histogram {
 
 /// The place of the row with this outcome.
 fn place_of(rows: &[Row], outcome: &[Value]) -> Option<usize>
-    ensures { IsPlaceOf rows.now outcome.now result }
+    ensures { IsFirstRowOf rows.now outcome.now result }
 {
     for (place, row) in rows.iter().enumerate() {
         if is_same_outcome(row.outcome.as_slice(), outcome) {

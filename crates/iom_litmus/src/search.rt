@@ -1,12 +1,12 @@
 //! The search: each schedule is run from a system made anew.
 ghost use Rattle.std.specs.Prelude.{◌≡◌, ◌↔◌, ◌+◌, ◌<◌, ◌^◌, IsTrue, IfOk, OnOk, Err};
-ghost use Rattle.iom_litmus.specs.Histograms.{IsHistogram, HasSchedules, Adds};
+ghost use Rattle.iom_litmus.specs.Histograms.{IsHistogram, HasSchedules, CountsOneMore};
 ghost use Rattle.iom_litmus.specs.Replies.{reply_to_cell};
-ghost use Rattle.iom_litmus.specs.Searches.{AddsStep, ListsAll, AreSoundFrom, RunsToEnd, HasWayOf};
+ghost use Rattle.iom_litmus.specs.Searches.{PutsStep, ListsAllSteps, AreSoundFrom, RunsToEnd, HasWayOf};
 ghost use Rattle.iom_litmus.specs.Listed.{IsListed};
 ghost use Rattle.iom_litmus.specs.Seen.{seen_at};
 ghost use Rattle.iom_litmus.specs.declared.histogram.Row.{Row};
-ghost use Rattle.iom_litmus.specs.Steps.{CanTake, IsAnswered, place_after};
+ghost use Rattle.iom_litmus.specs.Steps.{CanBeTaken, IsAnsweredAs, place_after};
 ghost use Rattle.iom_litmus.specs.Wheels.{currents};
 
 use crate::candidates::candidates;
@@ -47,7 +47,7 @@ impl<S: System> Search<'_, S> {
     /// Whether the cell, run where the steps lead, is answered as it is to be.
     fn is_answered(&self, wheels: &[Wheel], cell: &Cell) -> Result<bool, AllocError>
         ensures { let place = place_after S.behaviour self.now.test.now (S.opened self.now.opening.now) (currents wheels.now) in
-            IfOk result (λ answered. IsTrue answered ↔ IsAnswered cell.now.awaited (reply_to_cell S.behaviour place.system cell.now).text) }
+            IfOk result (λ answered. IsTrue answered ↔ IsAnsweredAs cell.now.awaited (reply_to_cell S.behaviour place.system cell.now).text) }
     {
         let Some(awaited) = &cell.awaited else {
             return Ok(true);
@@ -60,7 +60,7 @@ impl<S: System> Search<'_, S> {
     /// Whether the step can be taken at the place, to which the steps that are taken lead.
     fn can_take(&self, place: &Place<S>, wheels: &[Wheel], step: Step) -> Result<bool, AllocError>
         requires { place.now ≡ place_after S.behaviour self.now.test.now (S.opened self.now.opening.now) (currents wheels.now) }
-        ensures { IfOk result (λ can. IsTrue can ↔ CanTake S.behaviour self.now.test.now place.now step) }
+        ensures { IfOk result (λ can. IsTrue can ↔ CanBeTaken S.behaviour self.now.test.now place.now step) }
     {
         match step {
             Step::Hardware(act) => Ok(place.can_act(self.test, act)),
@@ -73,7 +73,7 @@ impl<S: System> Search<'_, S> {
         }
     }
 
-    /// Adds the step where it can be taken at the place and isn't there yet: a device may be there twice.
+    /// CountsOneMore the step where it can be taken at the place and isn't there yet: a device may be there twice.
     fn add_step(
         &self,
         place: &Place<S>,
@@ -82,7 +82,7 @@ impl<S: System> Search<'_, S> {
         step: Step,
     ) -> Result<(), AllocError>
         requires { place.now ≡ place_after S.behaviour self.now.test.now (S.opened self.now.opening.now) (currents wheels.now) }
-        ensures { OnOk result (AddsStep S.behaviour self.now.test.now place.now step steps.old steps.new) }
+        ensures { OnOk result (PutsStep S.behaviour self.now.test.now place.now step steps.old steps.new) }
     {
         if is_step_among(steps.as_slice(), step) {
             return Ok(());
@@ -97,7 +97,7 @@ impl<S: System> Search<'_, S> {
     /// All steps that can be taken at the place, the columns' first.
     fn steps_from(&self, place: &Place<S>, wheels: &[Wheel]) -> Result<Sequence<Step>, AllocError>
         requires { place.now ≡ place_after S.behaviour self.now.test.now (S.opened self.now.opening.now) (currents wheels.now) }
-        ensures { IfOk result (ListsAll S.behaviour self.now.test.now place.now) }
+        ensures { IfOk result (ListsAllSteps S.behaviour self.now.test.now place.now) }
     {
         let first = candidates(self.alloc, self.test, place)?;
         let mut steps = Sequence::new(self.alloc);
@@ -156,7 +156,7 @@ impl<S: System> Search<'_, S> {
         wheels: &[Wheel],
     ) -> Result<(), AllocError>
         requires { (row : Row) → IsListed histogram.old row → row.count + 1 < 2 ^ 64 }
-        ensures { OnOk result (Adds (seen_at S.behaviour self.now.test.now end.now) (currents wheels.now) histogram.old histogram.new) }
+        ensures { OnOk result (CountsOneMore (seen_at S.behaviour self.now.test.now end.now) (currents wheels.now) histogram.old histogram.new) }
     {
         let outcome = end.outcome(self.alloc, self.test)?;
         let schedule = steps_of(self.alloc, wheels)?;

@@ -20,8 +20,8 @@ abbrev pub HoldsAt : Atom → List Value → Type 0
 HoldsAt atom outcome = MatchOption (slice_get outcome atom.place) ⊥ (HoldsOf atom.wanted)
 
 -- the connectives are those of logic
-abbrev pub Holds : Proposition → List Value → Type 0
-Holds (Seen atom) outcome = HoldsAt atom outcome
-Holds (Not' _ inner) outcome = ¬ Holds inner outcome
-Holds (And' _ left _ right) outcome = Holds left outcome × Holds right outcome
-Holds (Or' _ left _ right) outcome = Holds left outcome ⊎ Holds right outcome
+abbrev pub IsSatisfiedBy : Proposition → List Value → Type 0
+IsSatisfiedBy (Seen atom) outcome = HoldsAt atom outcome
+IsSatisfiedBy (Not' _ inner) outcome = ¬ IsSatisfiedBy inner outcome
+IsSatisfiedBy (And' _ left _ right) outcome = IsSatisfiedBy left outcome × IsSatisfiedBy right outcome
+IsSatisfiedBy (Or' _ left _ right) outcome = IsSatisfiedBy left outcome ⊎ IsSatisfiedBy right outcome
