@@ -12,7 +12,7 @@ use Rattle.iom_litmus.specs.Behaviours.{Behaviour}
 use Rattle.iom_litmus.specs.Candidates.{ListsColumns, ListsDeviceSteps, ListsMessageSteps, ListsCandidates}
 use Rattle.iom_litmus.specs.Happenings.{next_cell, first_from, cells_of, cells_in}
 use Rattle.iom_litmus.specs.Listed.{IsListed, KeepsListed}
-use Rattle.iom_litmus.specs.Steps.{CanBeTaken, IsAnsweredAs}
+use Rattle.iom_litmus.specs.Steps.{CanStep, IsAnsweredLike}
 use Rattle.iom_litmus.specs.Replies.{reply_to_cell}
 use Rattle.iom_litmus.proofs.ListedLemmas.{IsListed-push, pushed_is_listed, KeepsListed-push, more_taken_cases}
 
@@ -45,13 +45,13 @@ messages_more old one two new k lists first second third =
     (later _ (pushed_is_listed old one _ first), KeepsListed-push two two new _ (λ x there. there) third _ (pushed_is_listed one two _ second), pushed_is_listed two new _ third)
 
 -- a column that isn't there has no next cell
-pub next_is_within : {S : Type 0} (b : Behaviour S) (test : Test) (place : Place S) (column : ℕ) → CanBeTaken b test place (Steps.Column column) → column < length test.columns
+pub next_is_within : {S : Type 0} (b : Behaviour S) (test : Test) (place : Place S) (column : ℕ) → CanStep b test place (Steps.Column column) → column < length test.columns
 next_is_within b test place column can = by (slice_get_cases test.columns column).1
   where
     by : ((x : _) × (column < length test.columns) × (slice_get test.columns column ≡ Some x) × (get_or test.columns column x ≡ x)) ⊎ ((length test.columns ≤ column) × (slice_get test.columns column ≡ None))
         → column < length test.columns
     by (inl (x, within, _, _)) = within
-    by (inr (_, none)) = absurd (subst (λ o. MatchOption (first_from place.happened column 0 (cells_in o)) ⊥ (λ (_, cell). IsAnsweredAs cell.awaited (reply_to_cell b place.system cell).text)) none can)
+    by (inr (_, none)) = absurd (subst (λ o. MatchOption (first_from place.happened column 0 (cells_in o)) ⊥ (λ (_, cell). IsAnsweredLike cell.awaited (reply_to_cell b place.system cell).text)) none can)
 
 pub candidates_are_enough : {S : Type 0} (b : Behaviour S) (test : Test) (place : Place S) (steps : List Step)
     → ListsColumns (length test.columns) steps → IsListed steps (Steps.Hardware Acts.Fetch) → IsListed steps (Steps.Hardware Acts.Timeout)

@@ -7,17 +7,17 @@ use Rattle.iom_litmus.specs.declared.odometer.Wheel.{Wheel}
 use Rattle.iom_litmus.specs.declared.place.Place.{Place}
 use Rattle.iom_litmus.specs.declared.step.Step.{Step}
 use Rattle.iom_litmus.specs.Behaviours.{Behaviour}
-use Rattle.iom_litmus.specs.Histograms.{IsHistogram, HasSchedules, CountsSchedules, CountsOneMore, outcomes}
+use Rattle.iom_litmus.specs.Histograms.{IsHistogram, HasSchedules, IsScheduleCount, CountsOneMore, outcomes}
 use Rattle.iom_litmus.specs.Listed.{IsListed, AreListedOnce}
-use Rattle.iom_litmus.specs.Searches.{GoesFurther, IsEnd, RunsToEnd, AreSoundFrom, IsLeftFrom}
+use Rattle.iom_litmus.specs.Searches.{GoesOnWith, IsEnd, RunsToEnd, AreSoundFrom, IsLeftFrom}
 use Rattle.iom_litmus.specs.Seen.{outcome_after, seen_at}
-use Rattle.iom_litmus.specs.Steps.{CanBeTaken, taken, opening_place, place_after, IsScheduleOf}
-use Rattle.iom_litmus.specs.Wheels.{currents, IsToCome, IsStillLeft, advanced, is_left_any}
+use Rattle.iom_litmus.specs.Steps.{CanStep, taken, opening_place, place_after, IsScheduleOf}
+use Rattle.iom_litmus.specs.Wheels.{currents, IsLeftBy, IsStillLeft, advanced, is_left_any}
 use Rattle.iom_litmus.proofs.HistogramLemmas.{IsTally, tally_more}
 use Rattle.iom_litmus.proofs.WheelLemmas.{left_is_schedule, hand_is_left, left_is_hand_or_still_left, still_left_was_left, hand_is_done, advanced_is_sound}
 
 abbrev pub IsStillLeftFrom : {S : Type 0} → Behaviour S → Test → S → List Wheel → List Step → Type 0
-IsStillLeftFrom b test system wheels schedule = IsStillLeft (CanBeTaken b test) (taken b test) (opening_place system) wheels schedule
+IsStillLeftFrom b test system wheels schedule = IsStillLeft (CanStep b test) (taken b test) (opening_place system) wheels schedule
 
 -- these schedules are gone through and told in the rows, and the others are left
 pub record Explored {S : Type 0} (b : Behaviour S) (test : Test) (system : S) (seen : List (List Step)) (rows : List Row) (wheels : List Wheel) : Type 0 where
@@ -60,25 +60,25 @@ pub explored_more : {S : Type 0} (b : Behaviour S) (test : Test) (system : S) (s
     → Advanced b test system (currents wheels ∷ seen) new (advanced wheels)
 explored_more {S} b test system seen rows new old wheels place e (goes, ends) adds =
     let hand : List Step = currents wheels in
-    let end : (step : Step) → ¬ CanBeTaken b test (place_after b test system hand) step = subst (λ p. IsEnd b test p) goes.at ends in
-    let left : IsLeftFrom b test system wheels hand = hand_is_left (CanBeTaken b test) (taken b test) (opening_place system) wheels end in
+    let end : (step : Step) → ¬ CanStep b test (place_after b test system hand) step = subst (λ p. IsEnd b test p) goes.at ends in
+    let left : IsLeftFrom b test system wheels hand = hand_is_left (CanStep b test) (taken b test) (opening_place system) wheels end in
     let unseen : ¬ IsListed seen hand = λ listed. e.apart hand listed (goes.only hand left) in
-    let is : IsScheduleOf b test system hand = left_is_schedule (CanBeTaken b test) (taken b test) (opening_place system) wheels hand goes.sound left in
+    let is : IsScheduleOf b test system hand = left_is_schedule (CanStep b test) (taken b test) (opening_place system) wheels hand goes.sound left in
     record {
-      sound = advanced_is_sound (CanBeTaken b test) (taken b test) (opening_place system) wheels goes.sound;
+      sound = advanced_is_sound (CanStep b test) (taken b test) (opening_place system) wheels goes.sound;
       once = (unseen, e.once);
       are = λ schedule listed. elim listed [ inl same ↦ subst (λ s. IsScheduleOf b test system s) same is | inr there ↦ e.are schedule there ];
       all = λ schedule it_is. elim (e.all schedule it_is) [
         | inl there ↦ inl (inr there)
-        | inr was_left ↦ elim (left_is_hand_or_still_left (CanBeTaken b test) (taken b test) (opening_place system) wheels schedule end (goes.kept schedule was_left)) [
+        | inr was_left ↦ elim (left_is_hand_or_still_left (CanStep b test) (taken b test) (opening_place system) wheels schedule end (goes.kept schedule was_left)) [
           | inl same ↦ inl (inl same)
           | inr still ↦ inr still
         ]
       ];
       apart = λ schedule listed still. elim listed [
-        | inl same ↦ hand_is_done (CanBeTaken b test) (taken b test) (opening_place system) wheels goes.sound
+        | inl same ↦ hand_is_done (CanStep b test) (taken b test) (opening_place system) wheels goes.sound
             (subst (λ s. IsStillLeftFrom b test system (advanced wheels) s) (sym same) still)
-        | inr there ↦ e.apart schedule there (goes.only schedule (still_left_was_left (CanBeTaken b test) (taken b test) (opening_place system) wheels schedule goes.sound still))
+        | inr there ↦ e.apart schedule there (goes.only schedule (still_left_was_left (CanStep b test) (taken b test) (opening_place system) wheels schedule goes.sound still))
       ];
       tally = tally_more (outcome_after b test system) rows new seen hand e.tally unseen (subst (λ p. CountsOneMore (seen_at b test p) hand rows new) goes.at adds);
     }

@@ -6,7 +6,7 @@ use Rattle.std.proofs.lemmas.Bool.{ltb-true, ltb-false}
 use Rattle.iom_litmus_test.specs.declared.observable.Value.{Value}
 use Rattle.iom_litmus.specs.declared.histogram.Row.{Row}
 use Rattle.iom_litmus.specs.declared.step.Step.{Step}
-use Rattle.iom_litmus.specs.Histograms.{CountsOneMore, IsFirstRowOf, grown, shorter, outcomes}
+use Rattle.iom_litmus.specs.Histograms.{CountsOneMore, IsPlaceOfOutcome, grown, shorter, outcomes}
 use Rattle.iom_litmus.specs.Listed.{IsListed, AreListedOnce}
 use Rattle.iom_litmus.proofs.ListedLemmas.{IsListed-push, IsListed-push_cases, AreListedOnce-push, last_is_listed}
 
@@ -39,7 +39,7 @@ pub goes_past : (rows : List Row) (outcome : List Value) (k : ℕ) (d : Row) →
 goes_past rows outcome k d within none other listed = passed_place rows outcome k d within none other (subst (λ n. IsListed (outcomes (take n rows)) outcome) (add-one k) listed)
 
 pub finds_place : (rows : List Row) (outcome : List Value) (k : ℕ) (d : Row) → k < length rows → ¬ IsListed (outcomes (take k rows)) outcome → (get_or rows k d).outcome ≡ outcome
-    → IsFirstRowOf rows outcome (Some k)
+    → IsPlaceOfOutcome rows outcome (Some k)
 finds_place rows outcome k d within none same = (
   within,
   none,
@@ -48,7 +48,7 @@ finds_place rows outcome k d within none same = (
 )
 
 -- the row at the place has one more
-pub adds_there : (rows : List Row) (outcome : List Value) (schedule : List Step) (k : ℕ) (row : Row) → IsFirstRowOf rows outcome (Some k) → slice_get rows k ≡ Some row
+pub adds_there : (rows : List Row) (outcome : List Value) (schedule : List Step) (k : ℕ) (row : Row) → IsPlaceOfOutcome rows outcome (Some k) → slice_get rows k ≡ Some row
     → CountsOneMore outcome schedule rows (set rows k (grown row schedule))
 adds_there [] outcome schedule k row (within, none, same) at = absurd (omega arith)
 adds_there (first ∷ rest) outcome schedule zero row (within, none, same) at =
@@ -65,14 +65,14 @@ adds_behind (first ∷ rest) outcome schedule none =
 
 -- the same of what a place was looked for in
 pub adds_at : (old rows shown : List Row) (outcome told : List Value) (schedule : List Step) (k : ℕ) (row grew : Row) → rows ≡ old → shown ≡ rows → told ≡ outcome
-    → IsFirstRowOf shown told (Some k) → slice_get rows k ≡ Some row → grew ≡ grown row schedule → CountsOneMore outcome schedule old (set rows k grew)
+    → IsPlaceOfOutcome shown told (Some k) → slice_get rows k ≡ Some row → grew ≡ grown row schedule → CountsOneMore outcome schedule old (set rows k grew)
 adds_at old rows shown outcome told schedule k row grew is shows tells place at grows =
-    let p : IsFirstRowOf rows outcome (Some k) = subst (λ xs. IsFirstRowOf xs outcome (Some k)) shows (subst (λ o. IsFirstRowOf shown o (Some k)) tells place) in
+    let p : IsPlaceOfOutcome rows outcome (Some k) = subst (λ xs. IsPlaceOfOutcome xs outcome (Some k)) shows (subst (λ o. IsPlaceOfOutcome shown o (Some k)) tells place) in
     subst (λ xs. CountsOneMore outcome schedule xs (set rows k grew)) is
     (subst (λ r. CountsOneMore outcome schedule rows (set rows k r)) (sym grows) (adds_there rows outcome schedule k row p at))
 
 pub adds_new : (old rows shown new : List Row) (outcome told : List Value) (schedule : List Step) → rows ≡ old → shown ≡ rows → told ≡ outcome
-    → IsFirstRowOf shown told None → new ≡ rows ++ record { outcome = outcome; count = 1; schedule = schedule } ∷ [] → CountsOneMore outcome schedule old new
+    → IsPlaceOfOutcome shown told None → new ≡ rows ++ record { outcome = outcome; count = 1; schedule = schedule } ∷ [] → CountsOneMore outcome schedule old new
 adds_new old rows shown new outcome told schedule is shows tells none ends =
     let p : ¬ IsListed (outcomes rows) outcome = subst (λ xs. ¬ IsListed (outcomes xs) outcome) shows (subst (λ o. ¬ IsListed (outcomes shown) o) tells none) in
     subst (λ xs. CountsOneMore outcome schedule xs new) is (subst (λ xs. CountsOneMore outcome schedule rows xs) (sym ends) (adds_behind rows outcome schedule p))

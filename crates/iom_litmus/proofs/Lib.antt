@@ -4,3 +4,4 @@ pub mod CandidateLemmas
 pub mod SearchLemmas
 pub mod HistogramLemmas
 pub mod ExploreLemmas
+pub mod QuestionLemmas

@@ -4,11 +4,11 @@ use Rattle.iom_litmus.specs.declared.step.Step.{Step}
 use Rattle.iom_litmus.specs.declared.odometer.Wheel.{Wheel}
 use Rattle.iom_litmus.specs.Listed.{IsListed, AreListedOnce}
 use Rattle.iom_litmus.specs.Schedules.{IsSchedule, IsWay, arrived}
-use Rattle.iom_litmus.specs.Wheels.{currents, AreSoundWheels, IsToCome, IsStillLeft, turned, carried, advanced, is_left_any}
+use Rattle.iom_litmus.specs.Wheels.{currents, AreSoundWheels, IsLeftBy, IsStillLeft, turned, carried, advanced, is_left_any}
 
 -- what is left is a schedule
 pub left_is_schedule : {P : Type 0} (can : P → Step → Type 0) (after : P → Step → P) (place : P) (wheels : List Wheel) (schedule : List Step)
-    → AreSoundWheels can after place wheels → IsToCome can after place wheels schedule → IsSchedule can after place schedule
+    → AreSoundWheels can after place wheels → IsLeftBy can after place wheels schedule → IsSchedule can after place schedule
 left_is_schedule can after place [] schedule sound left = left
 left_is_schedule can after place (wheel ∷ rest) [] sound left = absurd left
 left_is_schedule can after place (wheel ∷ rest) (step ∷ schedule) (once, may, sound) (inr (listed, is)) = is
@@ -17,7 +17,7 @@ left_is_schedule can after place (wheel ∷ rest) (step ∷ schedule) (once, may
 
 -- the schedule in hand is left, once it has come to its end
 pub hand_is_left : {P : Type 0} (can : P → Step → Type 0) (after : P → Step → P) (place : P) (wheels : List Wheel)
-    → ((step : Step) → ¬ can (arrived after place (currents wheels)) step) → IsToCome can after place wheels (currents wheels)
+    → ((step : Step) → ¬ can (arrived after place (currents wheels)) step) → IsLeftBy can after place wheels (currents wheels)
 hand_is_left can after place [] end = end
 hand_is_left can after place (wheel ∷ rest) end = inl (refl, hand_is_left can after (after place wheel.current) rest end)
 
@@ -41,7 +41,7 @@ carried_has_others can after place wheel (next ∷ rest) step schedule listed is
 -- what was left is the schedule in hand, or still left
 pub left_is_hand_or_still_left : {P : Type 0} (can : P → Step → Type 0) (after : P → Step → P) (place : P) (wheels : List Wheel) (schedule : List Step)
     → ((step : Step) → ¬ can (arrived after place (currents wheels)) step)
-    → IsToCome can after place wheels schedule → (currents wheels ≡ schedule) ⊎ IsStillLeft can after place (advanced wheels) schedule
+    → IsLeftBy can after place wheels schedule → (currents wheels ≡ schedule) ⊎ IsStillLeft can after place (advanced wheels) schedule
 left_is_hand_or_still_left can after place [] [] end left = inl refl
 left_is_hand_or_still_left can after place [] (step ∷ schedule) end (may, left) = absurd (end step may)
 left_is_hand_or_still_left can after place (wheel ∷ rest) [] end left = absurd left
@@ -79,11 +79,11 @@ carried_was_left can after place wheel (next ∷ rest) [] may left = absurd left
 carried_was_left can after place wheel (next ∷ rest) (step ∷ schedule) may left = (step, schedule, refl, left)
 
 pub still_left_was_left : {P : Type 0} (can : P → Step → Type 0) (after : P → Step → P) (place : P) (wheels : List Wheel) (schedule : List Step)
-    → AreSoundWheels can after place wheels → IsStillLeft can after place (advanced wheels) schedule → IsToCome can after place wheels schedule
+    → AreSoundWheels can after place wheels → IsStillLeft can after place (advanced wheels) schedule → IsLeftBy can after place wheels schedule
 still_left_was_left can after place [] schedule sound left = absurd left
 still_left_was_left can after place (wheel ∷ rest) schedule (once, may, sound) left =
     let (step, later, is, how) = carried_was_left can after place wheel (advanced rest) schedule may left in
-    subst (λ s. IsToCome can after place (wheel ∷ rest) s) (sym is)
+    subst (λ s. IsLeftBy can after place (wheel ∷ rest) s) (sym is)
     (elim how [
       | inl (same, still) ↦ inl (same, still_left_was_left can after (after place wheel.current) rest later sound still)
       | inr other ↦ inr other
@@ -123,11 +123,11 @@ advanced_is_sound can after place (wheel ∷ rest) (once, may, sound) =
 pub whole_wheel_leaves : {P : Type 0} (can : P → Step → Type 0) (after : P → Step → P) (place : P) (wheels : List Wheel) (wheel : Wheel) (schedule : List Step)
     → ((step : Step) → can (arrived after place (currents wheels)) step → IsListed (wheel.current ∷ wheel.others) step)
     → can (arrived after place (currents wheels)) wheel.current
-    → IsToCome can after place wheels schedule → IsToCome can after place (wheels ++ wheel ∷ []) schedule
+    → IsLeftBy can after place wheels schedule → IsLeftBy can after place (wheels ++ wheel ∷ []) schedule
 whole_wheel_leaves can after place [] wheel [] whole some is = absurd (is wheel.current some)
 whole_wheel_leaves can after place [] wheel (step ∷ schedule) whole some (may, is) = by (whole step may)
   where
-    by : IsListed (wheel.current ∷ wheel.others) step → IsToCome can after place (wheel ∷ []) (step ∷ schedule)
+    by : IsListed (wheel.current ∷ wheel.others) step → IsLeftBy can after place (wheel ∷ []) (step ∷ schedule)
     by (inl same) = inl (same, subst (λ c. IsSchedule can after (after place c) schedule) (sym same) is)
     by (inr listed) = inr (listed, (may, is))
 whole_wheel_leaves can after place (first ∷ rest) wheel [] whole some left = absurd left
@@ -137,7 +137,7 @@ whole_wheel_leaves can after place (first ∷ rest) wheel (step ∷ schedule) wh
 
 pub whole_wheel_was_left : {P : Type 0} (can : P → Step → Type 0) (after : P → Step → P) (place : P) (wheels : List Wheel) (wheel : Wheel) (schedule : List Step)
     → ((step : Step) → IsListed (wheel.current ∷ wheel.others) step → can (arrived after place (currents wheels)) step)
-    → IsToCome can after place (wheels ++ wheel ∷ []) schedule → IsToCome can after place wheels schedule
+    → IsLeftBy can after place (wheels ++ wheel ∷ []) schedule → IsLeftBy can after place wheels schedule
 whole_wheel_was_left can after place [] wheel [] may left = absurd left
 whole_wheel_was_left can after place [] wheel (step ∷ schedule) may (inl (same, left)) =
     subst (λ c. IsSchedule can after place (c ∷ schedule)) same (may wheel.current (inl refl), left)

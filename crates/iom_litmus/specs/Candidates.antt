@@ -8,7 +8,7 @@ use Rattle.iom_litmus.specs.declared.step.Step.{Step}
 use Rattle.iom_litmus.specs.declared.step.Step.TheVariants as Steps
 use Rattle.iom_litmus.specs.Behaviours.{Behaviour}
 use Rattle.iom_litmus.specs.Listed.{IsListed}
-use Rattle.iom_litmus.specs.Steps.{CanBeTaken}
+use Rattle.iom_litmus.specs.Steps.{CanStep}
 
 abbrev pub ListsColumns : ℕ → List Step → Type 0
 ListsColumns columns steps = (column : ℕ) → column < columns → IsListed steps (Steps.Column column)
@@ -24,4 +24,4 @@ ListsMessageSteps messages steps = (message : ℕ) → message < messages
     × IsListed steps (Steps.Hardware (Acts.Repeat message))
 
 abbrev pub ListsCandidates : {S : Type 0} → Behaviour S → Test → Place S → List Step → Type 0
-ListsCandidates b test place steps = (step : Step) → CanBeTaken b test place step → IsListed steps step
+ListsCandidates b test place steps = (step : Step) → CanStep b test place step → IsListed steps step

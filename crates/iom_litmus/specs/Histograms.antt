@@ -10,8 +10,8 @@ use Rattle.iom_litmus.specs.Seen.{outcome_after}
 use Rattle.iom_litmus.specs.Steps.{IsScheduleOf}
 
 -- so many schedules have the outcome: they can be listed, each once
-abbrev pub CountsSchedules : {S : Type 0} → Behaviour S → Test → S → List Value → ℕ → Type 0
-CountsSchedules b test system outcome count =
+abbrev pub IsScheduleCount : {S : Type 0} → Behaviour S → Test → S → List Value → ℕ → Type 0
+IsScheduleCount b test system outcome count =
     (schedules : List (List Step))
     × AreListedOnce schedules
     × (length schedules ≡ count)
@@ -32,7 +32,7 @@ outcomes (row ∷ rest) = row.outcome ∷ outcomes rest
 -- a row for each outcome that some schedule has, with how many have it and one of the shortest of them, and no other row
 pub record IsHistogram {S : Type 0} (b : Behaviour S) (test : Test) (system : S) (rows : List Row) : Type 0 where
   pub complete : (schedule : List Step) → IsScheduleOf b test system schedule → IsListed (outcomes rows) (outcome_after b test system schedule)
-  pub counted : (row : Row) → IsListed rows row → CountsSchedules b test system row.outcome row.count
+  pub counted : (row : Row) → IsListed rows row → IsScheduleCount b test system row.outcome row.count
   pub told : (row : Row) → IsListed rows row → IsScheduleOf b test system row.schedule × (outcome_after b test system row.schedule ≡ row.outcome)
   pub shortest : (row : Row) → IsListed rows row → (schedule : List Step) → IsScheduleOf b test system schedule → outcome_after b test system schedule ≡ row.outcome
       → length row.schedule ≤ length schedule
@@ -52,6 +52,6 @@ CountsOneMore outcome schedule (row ∷ rest) new =
     ⊎ ((¬ (row.outcome ≡ outcome)) × ((later : List Row) × (new ≡ row ∷ later) × CountsOneMore outcome schedule rest later))
 
 -- the place of the first row with the outcome, where there is one
-abbrev pub IsFirstRowOf : List Row → List Value → Option ℕ → Type 0
-IsFirstRowOf rows outcome None = ¬ IsListed (outcomes rows) outcome
-IsFirstRowOf rows outcome (Some place) = (place < length rows) × (¬ IsListed (outcomes (take place rows)) outcome) × ((row : Row) → slice_get rows place ≡ Some row → row.outcome ≡ outcome)
+abbrev pub IsPlaceOfOutcome : List Row → List Value → Option ℕ → Type 0
+IsPlaceOfOutcome rows outcome None = ¬ IsListed (outcomes rows) outcome
+IsPlaceOfOutcome rows outcome (Some place) = (place < length rows) × (¬ IsListed (outcomes (take place rows)) outcome) × ((row : Row) → slice_get rows place ≡ Some row → row.outcome ≡ outcome)

@@ -10,3 +10,4 @@ pub mod Candidates
 pub mod Seen
 pub mod Searches
 pub mod Histograms
+pub mod Questions

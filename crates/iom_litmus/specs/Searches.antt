@@ -7,35 +7,35 @@ use Rattle.iom_litmus.specs.declared.step.Step.{Step}
 use Rattle.iom_litmus.specs.Behaviours.{Behaviour}
 use Rattle.iom_litmus.specs.Listed.{IsListed, AreListedOnce}
 use Rattle.iom_litmus.specs.Schedules.{IsWay}
-use Rattle.iom_litmus.specs.Steps.{CanBeTaken, taken, opening_place, place_after}
-use Rattle.iom_litmus.specs.Wheels.{currents, AreSoundWheels, IsToCome}
+use Rattle.iom_litmus.specs.Steps.{CanStep, taken, opening_place, place_after}
+use Rattle.iom_litmus.specs.Wheels.{currents, AreSoundWheels, IsLeftBy}
 
 -- the step is put behind the others where it can be taken and isn't there
 abbrev pub PutsStep : {S : Type 0} → Behaviour S → Test → Place S → Step → List Step → List Step → Type 0
 PutsStep b test place step old new =
-    ((¬ IsListed old step) × CanBeTaken b test place step × (new ≡ old ++ step ∷ []))
-    ⊎ ((CanBeTaken b test place step → IsListed old step) × (new ≡ old))
+    ((¬ IsListed old step) × CanStep b test place step × (new ≡ old ++ step ∷ []))
+    ⊎ ((CanStep b test place step → IsListed old step) × (new ≡ old))
 
 -- of the first steps those that can be taken at the place, each once
 pub record Lists {S : Type 0} (b : Behaviour S) (test : Test) (place : Place S) (first steps : List Step) : Type 0 where
   pub once : AreListedOnce steps
-  pub can : (step : Step) → IsListed steps step → CanBeTaken b test place step
-  pub all : (step : Step) → IsListed first step → CanBeTaken b test place step → IsListed steps step
+  pub can : (step : Step) → IsListed steps step → CanStep b test place step
+  pub all : (step : Step) → IsListed first step → CanStep b test place step → IsListed steps step
 
 -- all steps that can be taken at the place, each once
 pub record ListsAllSteps {S : Type 0} (b : Behaviour S) (test : Test) (place : Place S) (steps : List Step) : Type 0 where
   pub once : AreListedOnce steps
-  pub can : (step : Step) → IsListed steps step → CanBeTaken b test place step
-  pub all : (step : Step) → CanBeTaken b test place step → IsListed steps step
+  pub can : (step : Step) → IsListed steps step → CanStep b test place step
+  pub all : (step : Step) → CanStep b test place step → IsListed steps step
 
 abbrev pub AreSoundFrom : {S : Type 0} → Behaviour S → Test → S → List Wheel → Type 0
-AreSoundFrom b test system wheels = AreSoundWheels (CanBeTaken b test) (taken b test) (opening_place system) wheels
+AreSoundFrom b test system wheels = AreSoundWheels (CanStep b test) (taken b test) (opening_place system) wheels
 
 abbrev pub IsLeftFrom : {S : Type 0} → Behaviour S → Test → S → List Wheel → List Step → Type 0
-IsLeftFrom b test system wheels schedule = IsToCome (CanBeTaken b test) (taken b test) (opening_place system) wheels schedule
+IsLeftFrom b test system wheels schedule = IsLeftBy (CanStep b test) (taken b test) (opening_place system) wheels schedule
 
 -- the schedule in hand was gone on with, and what is left is the same
-pub record GoesFurther {S : Type 0} (b : Behaviour S) (test : Test) (system : S) (old new : List Wheel) (place : Place S) : Type 0 where
+pub record GoesOnWith {S : Type 0} (b : Behaviour S) (test : Test) (system : S) (old new : List Wheel) (place : Place S) : Type 0 where
   pub at : place ≡ place_after b test system (currents new)
   pub sound : AreSoundFrom b test system new
   pub kept : (schedule : List Step) → IsLeftFrom b test system old schedule → IsLeftFrom b test system new schedule
@@ -43,11 +43,11 @@ pub record GoesFurther {S : Type 0} (b : Behaviour S) (test : Test) (system : S)
 
 -- it has come to its end
 abbrev pub IsEnd : {S : Type 0} → Behaviour S → Test → Place S → Type 0
-IsEnd b test place = (step : Step) → ¬ CanBeTaken b test place step
+IsEnd b test place = (step : Step) → ¬ CanStep b test place step
 
 abbrev pub RunsToEnd : {S : Type 0} → Behaviour S → Test → S → List Wheel → List Wheel → Place S → Type 0
-RunsToEnd b test system old new place = GoesFurther b test system old new place × IsEnd b test place
+RunsToEnd b test system old new place = GoesOnWith b test system old new place × IsEnd b test place
 
 -- so many steps, or more, can be taken one after another
 abbrev pub HasWayOf : {S : Type 0} → Behaviour S → Test → S → ℕ → Type 0
-HasWayOf b test system count = (steps : List Step) × (count ≤ length steps) × IsWay (CanBeTaken b test) (taken b test) (opening_place system) steps
+HasWayOf b test system count = (steps : List Step) × (count ≤ length steps) × IsWay (CanStep b test) (taken b test) (opening_place system) steps

@@ -56,13 +56,13 @@ CanAct b test place (Acts.Repeat message) = CanRepeat b test place message
 CanAct b test place Acts.Timeout = CanTimeOut b test place
 
 -- a column has a next cell, and where an answer is awaited the cell is answered like that
-abbrev pub IsAnsweredAs : Option Glob → List ℕ → Type 0
-IsAnsweredAs None text = Unit {0}
-IsAnsweredAs (Some glob) text = Matches glob.parts text
+abbrev pub IsAnsweredLike : Option Glob → List ℕ → Type 0
+IsAnsweredLike None text = Unit {0}
+IsAnsweredLike (Some glob) text = Matches glob.parts text
 
-abbrev pub CanBeTaken : {S : Type 0} → Behaviour S → Test → Place S → Step → Type 0
-CanBeTaken b test place (Steps.Column column) = MatchOption (next_cell test place.happened column) ⊥ (λ (_, cell). IsAnsweredAs cell.awaited (reply_to_cell b place.system cell).text)
-CanBeTaken b test place (Steps.Hardware act) = CanAct b test place act
+abbrev pub CanStep : {S : Type 0} → Behaviour S → Test → Place S → Step → Type 0
+CanStep b test place (Steps.Column column) = MatchOption (next_cell test place.happened column) ⊥ (λ (_, cell). IsAnsweredLike cell.awaited (reply_to_cell b place.system cell).text)
+CanStep b test place (Steps.Hardware act) = CanAct b test place act
 
 -- where a step leads
 abbrev pub ran : {S : Type 0} → Behaviour S → Place S → ℕ → Option (ℕ × Cell) → Place S
@@ -92,4 +92,4 @@ place_after b test system steps = arrived (taken b test) (opening_place system) 
 
 -- a schedule of the test, from the system that was made
 abbrev pub IsScheduleOf : {S : Type 0} → Behaviour S → Test → S → List Step → Type 0
-IsScheduleOf b test system schedule = IsSchedule (CanBeTaken b test) (taken b test) (opening_place system) schedule
+IsScheduleOf b test system schedule = IsSchedule (CanStep b test) (taken b test) (opening_place system) schedule

@@ -19,17 +19,17 @@ AreSoundWheels can after place (wheel ∷ rest) =
     × AreSoundWheels can after (after place wheel.current) rest
 
 -- the schedules that are left to go through: those that go on from what is taken, and those that take another step
-abbrev pub IsToCome : {P : Type 0} → (P → Step → Type 0) → (P → Step → P) → P → List Wheel → List Step → Type 0
-IsToCome can after place [] schedule = IsSchedule can after place schedule
-IsToCome can after place (wheel ∷ rest) [] = ⊥
-IsToCome can after place (wheel ∷ rest) (step ∷ schedule) =
-    ((wheel.current ≡ step) × IsToCome can after (after place wheel.current) rest schedule)
+abbrev pub IsLeftBy : {P : Type 0} → (P → Step → Type 0) → (P → Step → P) → P → List Wheel → List Step → Type 0
+IsLeftBy can after place [] schedule = IsSchedule can after place schedule
+IsLeftBy can after place (wheel ∷ rest) [] = ⊥
+IsLeftBy can after place (wheel ∷ rest) (step ∷ schedule) =
+    ((wheel.current ≡ step) × IsLeftBy can after (after place wheel.current) rest schedule)
     ⊎ (IsListed wheel.others step × IsSchedule can after place (step ∷ schedule))
 
 -- the same, where no wheel means that nothing is left
 abbrev pub IsStillLeft : {P : Type 0} → (P → Step → Type 0) → (P → Step → P) → P → List Wheel → List Step → Type 0
 IsStillLeft can after place [] schedule = ⊥
-IsStillLeft can after place (wheel ∷ rest) schedule = IsToCome can after place (wheel ∷ rest) schedule
+IsStillLeft can after place (wheel ∷ rest) schedule = IsLeftBy can after place (wheel ∷ rest) schedule
 
 -- a wheel for the next of the steps, where there is one
 abbrev pub turned : List Step → List Wheel

@@ -1,6 +1,7 @@
 //! How many schedules have each outcome.
-ghost use Rattle.std.specs.Prelude.{◌≡◌, ◌↔◌, ℕ, ◌+◌, ◌<◌, ◌≤◌, ◌^◌, [], length, IsTrue, OnOk, IfOk, IfSome, IfNone, slice_get, Some, None, MatchOption};
-ghost use Rattle.iom_litmus.specs.Histograms.{CountsOneMore, grown, IsFirstRowOf};
+ghost use Rattle.std.specs.Prelude.{◌≡◌, ◌↔◌, ℕ, ◌+◌, ◌<◌, ◌≤◌, ◌^◌, [], length};
+ghost use Rattle.std.specs.Prelude.{IsTrue, OnOk, IfOk, IfSome, IfNone, slice_get, Some, None, MatchOption};
+ghost use Rattle.iom_litmus.specs.Histograms.{CountsOneMore, grown, IsPlaceOfOutcome};
 ghost use Rattle.iom_litmus.specs.Listed.{IsListed};
 
 use crate::step::Step;
@@ -105,7 +106,7 @@ impl Histogram {
 
 /// The place of the row with this outcome.
 fn place_of(rows: &[Row], outcome: &[Value]) -> Option<usize>
-    ensures { IsFirstRowOf rows.now outcome.now result }
+    ensures { IsPlaceOfOutcome rows.now outcome.now result }
 {
     for (place, row) in rows.iter().enumerate() {
         if is_same_outcome(row.outcome.as_slice(), outcome) {

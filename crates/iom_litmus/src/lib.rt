@@ -1,4 +1,13 @@
-//! Goes through all interleavings of a litmus test, over any system that says what hardware can do next.
+//! Goes through all interleavings of a litmus test, and counts how many have each outcome.
+//!
+//! The system under test is any that implements [`System`]. A schedule is a list of steps from the opening place
+//! that can't go on: `specs/Steps.antt` says which steps can be taken at a place and where they lead, apart from the
+//! search, and `specs/Seen.antt` what the outcome of a schedule is.
+//!
+//! The layer above may rely on this: [`Search::explore`] gives the histogram of all schedules, in which each row's
+//! count is the number of schedules with its outcome, and gives up only where there are too many or one is too long;
+//! [`Search::is_validated`] tells by it whether the test's question is answered as the test says;
+//! [`Search::replay`] runs a schedule once more.
 #![tactic(auto)]
 
 mod candidates;
@@ -8,6 +17,7 @@ mod histogram;
 mod listed;
 mod odometer;
 mod place;
+mod question;
 mod reply;
 mod search;
 mod seen;

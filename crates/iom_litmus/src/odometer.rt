@@ -1,5 +1,5 @@
 //! The schedule in hand, and what is still to be tried besides it.
-ghost use Rattle.std.specs.Prelude.{◌≡◌, ◌↔◌, [], ◌∷◌, ◌++◌, true, false, IsTrue, IfOk, OnOk, OnErr, option_to_list, not};
+ghost use Rattle.std.specs.Prelude.{◌≡◌, [], ◌∷◌, ◌++◌, IfOk, OnOk, option_to_list};
 ghost use Rattle.iom_litmus.specs.Wheels.{currents, turned, advanced, is_left_any};
 
 use crate::step::Step;

@@ -31,7 +31,7 @@ impl Reply {
         }
     }
 
-    /// CountsOneMore what was said to a later line.
+    /// Adds what was said to a later line.
     pub(crate) fn join(&mut self, later: Reply) -> Result<(), AllocError>
         ensures { OnOk result (self.new ≡ joined self.old later) }
     {

@@ -6,7 +6,7 @@ ghost use Rattle.iom_litmus.specs.Searches.{PutsStep, ListsAllSteps, AreSoundFro
 ghost use Rattle.iom_litmus.specs.Listed.{IsListed};
 ghost use Rattle.iom_litmus.specs.Seen.{seen_at};
 ghost use Rattle.iom_litmus.specs.declared.histogram.Row.{Row};
-ghost use Rattle.iom_litmus.specs.Steps.{CanBeTaken, IsAnsweredAs, place_after};
+ghost use Rattle.iom_litmus.specs.Steps.{CanStep, IsAnsweredLike, place_after};
 ghost use Rattle.iom_litmus.specs.Wheels.{currents};
 
 use crate::candidates::candidates;
@@ -35,7 +35,8 @@ pub struct Search<'a, S: System> {
 impl<S: System> Search<'_, S> {
     /// The place to which the steps that are taken lead, with a system made anew.
     fn arrive(&self, wheels: &[Wheel]) -> Result<Place<S>, AllocError>
-        ensures { IfOk result (λ place. place ≡ place_after S.behaviour self.now.test.now (S.opened self.now.opening.now) (currents wheels.now)) }
+        ensures { let system = S.opened self.now.opening.now in
+            IfOk result (λ place. place ≡ place_after S.behaviour self.now.test.now system (currents wheels.now)) }
     {
         let mut place = Place::opening(self.alloc, self.opening)?;
         for wheel in wheels {
@@ -44,10 +45,24 @@ impl<S: System> Search<'_, S> {
         Ok(place)
     }
 
+    /// Where the steps lead, with a system made anew.
+    pub fn replay(&self, steps: &[Step]) -> Result<Place<S>, AllocError>
+        ensures { let system = S.opened self.now.opening.now in
+            IfOk result (λ place. place ≡ place_after S.behaviour self.now.test.now system steps.now) }
+    {
+        let mut place = Place::opening(self.alloc, self.opening)?;
+        for step in steps {
+            place.take(self.alloc, self.test, *step)?;
+        }
+        Ok(place)
+    }
+
     /// Whether the cell, run where the steps lead, is answered as it is to be.
     fn is_answered(&self, wheels: &[Wheel], cell: &Cell) -> Result<bool, AllocError>
-        ensures { let place = place_after S.behaviour self.now.test.now (S.opened self.now.opening.now) (currents wheels.now) in
-            IfOk result (λ answered. IsTrue answered ↔ IsAnsweredAs cell.now.awaited (reply_to_cell S.behaviour place.system cell.now).text) }
+        ensures { let system = S.opened self.now.opening.now in
+            let place = place_after S.behaviour self.now.test.now system (currents wheels.now) in
+            let reply = reply_to_cell S.behaviour place.system cell.now in
+            IfOk result (λ answered. IsTrue answered ↔ IsAnsweredLike cell.now.awaited reply.text) }
     {
         let Some(awaited) = &cell.awaited else {
             return Ok(true);
@@ -59,8 +74,9 @@ impl<S: System> Search<'_, S> {
 
     /// Whether the step can be taken at the place, to which the steps that are taken lead.
     fn can_take(&self, place: &Place<S>, wheels: &[Wheel], step: Step) -> Result<bool, AllocError>
-        requires { place.now ≡ place_after S.behaviour self.now.test.now (S.opened self.now.opening.now) (currents wheels.now) }
-        ensures { IfOk result (λ can. IsTrue can ↔ CanBeTaken S.behaviour self.now.test.now place.now step) }
+        requires { let system = S.opened self.now.opening.now in
+            place.now ≡ place_after S.behaviour self.now.test.now system (currents wheels.now) }
+        ensures { IfOk result (λ can. IsTrue can ↔ CanStep S.behaviour self.now.test.now place.now step) }
     {
         match step {
             Step::Hardware(act) => Ok(place.can_act(self.test, act)),
@@ -73,7 +89,7 @@ impl<S: System> Search<'_, S> {
         }
     }
 
-    /// CountsOneMore the step where it can be taken at the place and isn't there yet: a device may be there twice.
+    /// Adds the step where it can be taken at the place and isn't there yet: a device may be there twice.
     fn add_step(
         &self,
         place: &Place<S>,
@@ -81,7 +97,8 @@ impl<S: System> Search<'_, S> {
         steps: &mut Sequence<Step>,
         step: Step,
     ) -> Result<(), AllocError>
-        requires { place.now ≡ place_after S.behaviour self.now.test.now (S.opened self.now.opening.now) (currents wheels.now) }
+        requires { let system = S.opened self.now.opening.now in
+            place.now ≡ place_after S.behaviour self.now.test.now system (currents wheels.now) }
         ensures { OnOk result (PutsStep S.behaviour self.now.test.now place.now step steps.old steps.new) }
     {
         if is_step_among(steps.as_slice(), step) {
@@ -96,7 +113,8 @@ impl<S: System> Search<'_, S> {
 
     /// All steps that can be taken at the place, the columns' first.
     fn steps_from(&self, place: &Place<S>, wheels: &[Wheel]) -> Result<Sequence<Step>, AllocError>
-        requires { place.now ≡ place_after S.behaviour self.now.test.now (S.opened self.now.opening.now) (currents wheels.now) }
+        requires { let system = S.opened self.now.opening.now in
+            place.now ≡ place_after S.behaviour self.now.test.now system (currents wheels.now) }
         ensures { IfOk result (ListsAllSteps S.behaviour self.now.test.now place.now) }
     {
         let first = candidates(self.alloc, self.test, place)?;
@@ -110,8 +128,10 @@ impl<S: System> Search<'_, S> {
     /// Goes on with the schedule in hand to its end, each time by the first step that can be taken.
     fn run_on(&self, odometer: &mut Odometer, longest: usize) -> Result<Place<S>, SearchFault>
         requires { AreSoundFrom S.behaviour self.now.test.now (S.opened self.now.opening.now) odometer.old }
-        ensures end { IfOk result (RunsToEnd S.behaviour self.now.test.now (S.opened self.now.opening.now) odometer.old odometer.new) }
-        ensures long { result ≡ Err SearchFault.TooLong → HasWayOf S.behaviour self.now.test.now (S.opened self.now.opening.now) longest }
+        ensures end { let system = S.opened self.now.opening.now in
+            IfOk result (RunsToEnd S.behaviour self.now.test.now system odometer.old odometer.new) }
+        ensures long { let system = S.opened self.now.opening.now in
+            result ≡ Err SearchFault.TooLong → HasWayOf S.behaviour self.now.test.now system longest }
         ensures few { ¬ (result ≡ Err SearchFault.TooMany) }
     {
         let mut place = self.arrive(odometer.wheels())?;
@@ -132,8 +152,10 @@ impl<S: System> Search<'_, S> {
         ensures histogram { IfOk result (IsHistogram S.behaviour self.now.test.now (S.opened self.now.opening.now)) }
 
         // It gives up only where there are so many, or where steps go on for so long.
-        ensures many { result ≡ Err SearchFault.TooMany → HasSchedules S.behaviour self.now.test.now (S.opened self.now.opening.now) most }
-        ensures long { result ≡ Err SearchFault.TooLong → HasWayOf S.behaviour self.now.test.now (S.opened self.now.opening.now) longest }
+        ensures many { let system = S.opened self.now.opening.now in
+            result ≡ Err SearchFault.TooMany → HasSchedules S.behaviour self.now.test.now system most }
+        ensures long { let system = S.opened self.now.opening.now in
+            result ≡ Err SearchFault.TooLong → HasWayOf S.behaviour self.now.test.now system longest }
     {
         let mut histogram = Histogram::new(self.alloc);
         let mut odometer = Odometer::new(self.alloc);
@@ -156,7 +178,8 @@ impl<S: System> Search<'_, S> {
         wheels: &[Wheel],
     ) -> Result<(), AllocError>
         requires { (row : Row) → IsListed histogram.old row → row.count + 1 < 2 ^ 64 }
-        ensures { OnOk result (CountsOneMore (seen_at S.behaviour self.now.test.now end.now) (currents wheels.now) histogram.old histogram.new) }
+        ensures { let outcome = seen_at S.behaviour self.now.test.now end.now in
+            OnOk result (CountsOneMore outcome (currents wheels.now) histogram.old histogram.new) }
     {
         let outcome = end.outcome(self.alloc, self.test)?;
         let schedule = steps_of(self.alloc, wheels)?;

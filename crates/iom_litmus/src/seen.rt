@@ -1,6 +1,7 @@
 //! What a test sees of a schedule.
 ghost use Rattle.std.specs.Prelude.{◌≡◌, ◌<◌, length, position, IfOk, IfSome};
-ghost use Rattle.iom_litmus.specs.Seen.{after_run, after_any, is_kind, is_reach, touches, is_touched, is_before, is_any_wrong, is_any_violated, seen_of, seen_at};
+ghost use Rattle.iom_litmus.specs.Seen.{after_run, after_any, is_kind, is_reach, touches};
+ghost use Rattle.iom_litmus.specs.Seen.{is_touched, is_before, is_any_wrong, is_any_violated, seen_of, seen_at};
 ghost use Rattle.iom_litmus.specs.Deeds.{is_run_of};
 
 use crate::happenings::{answer_to, next_cell};

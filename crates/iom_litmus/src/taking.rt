@@ -1,7 +1,8 @@
 //! Which steps can be taken at a place, as far as the place alone tells, and where they lead.
 ghost use Rattle.std.specs.Prelude.{◌≡◌, ◌↔◌, ℕ, ◌<◌, false, IsTrue, IfOk, OnOk};
 ghost use Rattle.iom_litmus.specs.Replies.{system_after, reply_to_lines, no_reply};
-ghost use Rattle.iom_litmus.specs.Steps.{CanAct, CanCommit, CanLoad, CanDeliver, CanDrop, CanRepeat, CanTimeOut, IsFirstSuch, taken, acted, opening_place};
+ghost use Rattle.iom_litmus.specs.Steps.{CanAct, CanCommit, CanLoad, CanDeliver, CanDrop};
+ghost use Rattle.iom_litmus.specs.Steps.{CanRepeat, CanTimeOut, IsFirstSuch, taken, acted, opening_place};
 ghost use Rattle.iom_litmus.specs.declared.step.Step.TheVariants as Steps;
 
 use crate::happenings::{drops, next_cell, repeats, timeouts};

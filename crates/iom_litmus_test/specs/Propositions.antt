@@ -20,8 +20,8 @@ abbrev pub HoldsAt : Atom → List Value → Type 0
 HoldsAt atom outcome = MatchOption (slice_get outcome atom.place) ⊥ (HoldsOf atom.wanted)
 
 -- the connectives are those of logic
-abbrev pub IsSatisfiedBy : Proposition → List Value → Type 0
-IsSatisfiedBy (Seen atom) outcome = HoldsAt atom outcome
-IsSatisfiedBy (Not' _ inner) outcome = ¬ IsSatisfiedBy inner outcome
-IsSatisfiedBy (And' _ left _ right) outcome = IsSatisfiedBy left outcome × IsSatisfiedBy right outcome
-IsSatisfiedBy (Or' _ left _ right) outcome = IsSatisfiedBy left outcome ⊎ IsSatisfiedBy right outcome
+abbrev pub HoldsOfOutcome : Proposition → List Value → Type 0
+HoldsOfOutcome (Seen atom) outcome = HoldsAt atom outcome
+HoldsOfOutcome (Not' _ inner) outcome = ¬ HoldsOfOutcome inner outcome
+HoldsOfOutcome (And' _ left _ right) outcome = HoldsOfOutcome left outcome × HoldsOfOutcome right outcome
+HoldsOfOutcome (Or' _ left _ right) outcome = HoldsOfOutcome left outcome ⊎ HoldsOfOutcome right outcome

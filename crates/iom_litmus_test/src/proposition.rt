@@ -1,6 +1,6 @@
 //! What a test asks of an outcome.
 ghost use Rattle.std.specs.Prelude.{◌≡◌, ◌↔◌, IsTrue};
-ghost use Rattle.iom_litmus_test.specs.Propositions.{IsSatisfiedBy, HoldsAt, HoldsOf};
+ghost use Rattle.iom_litmus_test.specs.Propositions.{HoldsOfOutcome, HoldsAt, HoldsOf};
 
 use crate::glob::Glob;
 use crate::observable::Value;
@@ -26,7 +26,7 @@ pub enum Proposition {
 impl Proposition {
     /// Whether it holds of an outcome: the values of what the test looks at, in their order.
     pub fn holds(&self, outcome: &[Value]) -> bool
-        ensures { IsTrue result ↔ IsSatisfiedBy self.now outcome.now }
+        ensures { IsTrue result ↔ HoldsOfOutcome self.now outcome.now }
     {
         match self {
             Proposition::Seen(atom) => atom.holds(outcome),

@@ -13,4 +13,6 @@ mod making;
 #[cfg(test)]
 mod reading;
 #[cfg(test)]
+mod reports;
+#[cfg(test)]
 mod searches;

@@ -1,6 +1,6 @@
 use Rattle.std.proofs.Common.{rules, subst}
 use Rattle.iom_litmus.specs.Candidates.{ListsColumns, ListsDeviceSteps, ListsMessageSteps}
-use Rattle.iom_litmus.specs.Listed.{IsListed, KeepsListed}
+use Rattle.iom_litmus.specs.Listed.{KeepsListed}
 use Rattle.iom_litmus.proofs.CandidateLemmas.{candidates_are_enough}
 use Rattle.iom_litmus.proofs.ListedLemmas.{KeepsListed-push, pushed_is_listed}
 use Rattle.iom_litmus.proofs.candidates.candidates.Goals as goal

@@ -1,4 +1,4 @@
-use Rattle.std.proofs.Common.{sym, ap, ◌∙◌, subst}
+use Rattle.std.proofs.Common.{subst}
 use Rattle.iom_litmus.specs.Listed.{IsListed}
 use Rattle.iom_litmus.proofs.HistogramLemmas.{adds_at, adds_new, got_is_listed}
 use Rattle.iom_litmus.proofs.histogram.Histogram.add.Goals as goal

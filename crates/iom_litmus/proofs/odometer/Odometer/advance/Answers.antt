@@ -1,4 +1,4 @@
-use Rattle.std.proofs.Common.{rules, ◌≡◌, ◌∙◌, sym, ap, ◌++◌, ◌∷◌, []}
+use Rattle.std.proofs.Common.{◌∙◌, sym, ap}
 use Rattle.iom_litmus.specs.Wheels.{advanced, is_left_any}
 use Rattle.iom_litmus.proofs.WheelLemmas.{turning_advances, taking_off_advances, more_is_left}
 use Rattle.iom_litmus.proofs.odometer.Odometer.advance.Goals as goal

@@ -1,4 +1,3 @@
-use Rattle.iom_litmus.specs.Steps.{IsFirstSuch}
 use Rattle.std.proofs.Common.{◌≡◌, ℕ, ◌<◌, false}
 use Rattle.iom_litmus.proofs.place.Place.is_first_such.Given as goal
 

@@ -1,7 +1,7 @@
-use Rattle.std.proofs.Common.{arith, ◌≤◌, ◌+◌, ◌<◌, ◌≡◌, length, [], ◌∷◌, refl, sym, ap, ◌∙◌, subst, Err, rules}
+use Rattle.std.proofs.Common.{arith, ◌≡◌, [], ◌∷◌, refl, sym, ap, ◌∙◌, subst, Err, rules}
 use Rattle.iom_litmus.specs.Wheels.{currents, is_left_any}
 use Rattle.iom_litmus.specs.declared.fault.SearchFault.TheVariants as SearchFault
-use Rattle.iom_litmus.proofs.ExploreLemmas.{Explored, Advanced, nothing_explored, explored_next, more_to_explore, all_explored}
+use Rattle.iom_litmus.proofs.ExploreLemmas.{Explored, nothing_explored, explored_next, more_to_explore, all_explored}
 use Rattle.iom_litmus.proofs.search.Search.explore.Goals as goal
 
 pub loop-init : goal.loop-init

@@ -1,4 +1,4 @@
-use Rattle.std.proofs.Common.{arith, ◌≤◌, ◌+◌, length, length-append, ap, ◌≡◌, ◌++◌, ◌∷◌, []}
+use Rattle.std.proofs.Common.{arith, length, length-append, ap, ◌≡◌, ◌++◌, ◌∷◌, []}
 use Rattle.iom_litmus.specs.declared.odometer.Wheel.{Wheel}
 use Rattle.iom_litmus.proofs.SearchLemmas.{goes_on_more, has_way}
 use Rattle.iom_litmus.proofs.search.Search.run_on.Goals as goal

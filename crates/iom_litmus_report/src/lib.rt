@@ -1,0 +1,13 @@
+//! The text that a litmus test is answered with: its histogram, witnesses, whether its question is answered as the
+//! test says, and a shortest schedule of what was asked, as a script.
+//!
+//! Form and words are those of herd7, where they fit.
+#![tactic(auto)]
+
+mod answer;
+mod page;
+mod script;
+mod values;
+
+pub use answer::{Verdict, report, verdict_on};
+pub use script::schedule;
