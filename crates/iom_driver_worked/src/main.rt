@@ -11,7 +11,7 @@ use iom_hardware_runner::run;
 use std::{fs, io};
 
 /// The scripts of `data/drivers`. A new one is its two files and a line here.
-static DRIVERS: [&str; 40] = [
+static DRIVERS: [&str; 42] = [
     "correct-first",
     "correct-second",
     "correct-ats",
@@ -45,6 +45,8 @@ static DRIVERS: [&str; 40] = [
     "dormant-translation",
     "dormant-entry",
     "plug-later",
+    "frame-used-later",
+    "certain-no-more",
     "block-forges",
     "large-leaf",
     "auto-correct-first",
