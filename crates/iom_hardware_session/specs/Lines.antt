@@ -1,5 +1,5 @@
 -- What a line does to a session, and what stays.
-use Rattle.std.specs.Prelude.{◌≡◌, ◌-◌, ◌^◌, ◌++◌, [], ◌∷◌, ℕ, Bool, true, false, List, nat_lt, Option, Some, None, Ok, ⊤, if◌then◌else◌}
+use Rattle.std.specs.Prelude.{◌≡◌, ◌-◌, ◌^◌, ◌++◌, [], ◌∷◌, ℕ, ◌==◌, ◌&&◌, ◌||◌, Bool, true, false, List, nat_lt, Option, Some, None, Result, Ok, ⊤, if◌then◌else◌}
 use Rattle.iom_claims.specs.Claimed.{Claimed}
 use Rattle.iom_hardware.specs.HardwareParts.{hardware_parts, disks_at_hand}
 use Rattle.iom_hardware.specs.declared.hardware.Hardware.{Hardware}
@@ -25,6 +25,7 @@ use Rattle.iom_iommu.specs.Parts.{registers_of, after_write}
 use Rattle.iom_ledger.specs.History.{May}
 use Rattle.iom_registers.specs.Places.{register_at, answer_of, done_of, changed_by}
 use Rattle.iom_registers.specs.Table.{value_of}
+use Rattle.iom_registers.specs.declared.register.RegFault.{RegFault}
 
 -- what is claimed, who is trusted, and what is watched, stay
 abbrev pub KeepsClaims : Session → Session → Type 0
@@ -42,16 +43,31 @@ KeepsAll old new = KeepsHardware old new × (new.claims ≡ old.claims) × (new.
 abbrev pub short_width : ℕ → ℕ
 short_width width = if nat_lt width (2 ^ 32) then width else 2 ^ 32 - 1
 
+-- Registers of capabilities that this IOMMU hasn't, and that drivers touch all the same, are 0 and stay so: pqcsr (page requests), icvec (interrupts by message;
+-- IOMMU specification, chapter 5)
+abbrev pub is_hardwired : (offset width : ℕ) → Bool
+is_hardwired offset width = ((offset == 80) && (width == 4)) || ((offset == 760) && (width == 8))
+
+-- the value of the register at the offset, or why there is none
+abbrev pub value_at : Bool → (offset width : ℕ) → Hardware → Result ℕ RegFault
+value_at true offset width old = Ok 0
+value_at false offset width old = answer_of (value_of (registers_of old.iommu)) (register_at offset (short_width width))
+
 -- THE DRIVER READS a register
 abbrev pub ReadsRegister : (offset width : ℕ) → Hardware → Answer → Type 0
-ReadsRegister offset width old answer = answer ≡ answered.Value (answer_of (value_of (registers_of old.iommu)) (register_at offset (short_width width)))
+ReadsRegister offset width old answer = answer ≡ answered.Value (value_at (is_hardwired offset width) offset width old)
 
--- THE DRIVER WRITES a register
-abbrev pub WritesRegister : (offset width value : ℕ) → Hardware → Answer → Hardware → Type 0
-WritesRegister offset width value old answer new =
+-- what a write of a register does, by whether it is one of those
+abbrev pub WritesWhere : Bool → (offset width value : ℕ) → Hardware → Answer → Hardware → Type 0
+WritesWhere true offset width value old answer new = (answer ≡ answered.Written (Ok tt)) × Stays old new
+WritesWhere false offset width value old answer new =
     (answer ≡ answered.Written (done_of (register_at offset (short_width width))))
     × (hardware_parts new ≡ record (hardware_parts old) { iommu = changed_by (after_write old.iommu) old.iommu value (register_at offset (short_width width)) })
     × (disks_at_hand new ≡ disks_at_hand old)
+
+-- THE DRIVER WRITES a register
+abbrev pub WritesRegister : (offset width value : ℕ) → Hardware → Answer → Hardware → Type 0
+WritesRegister offset width value old answer new = WritesWhere (is_hardwired offset width) offset width value old answer new
 
 -- the device is trusted, besides those that are
 abbrev pub TrustsAlso : ℕ → ClaimAnswer → List ℕ → List ℕ → Type 0
