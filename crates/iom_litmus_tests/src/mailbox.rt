@@ -1,6 +1,6 @@
 //! A system that is small enough to count its schedules by hand: messages are sent, come or are lost.
 ghost use Rattle.std.specs.Prelude.{◌≡◌, IfOk, OnOk};
-ghost use Rattle.iom_litmus_tests.specs.Mailboxes.{is_sending, mailbox_behaviour, empty_mailbox};
+ghost use Rattle.iom_litmus_tests.specs.Mailboxes.{is_sending, saying, mailbox_behaviour, empty_mailbox};
 
 use iom_base::{DeviceId, Sequence};
 use iom_litmus::{HardwareStep, Reply, System};
@@ -28,7 +28,7 @@ fn is_sending(line: &[u8]) -> bool
 }
 
 fn replied(alloc: Global, text: &[u8]) -> Result<Reply, AllocError>
-    ensures { IfOk result (λ reply. reply ≡ record { text = text.now; touches = []; wrong = false; violated = false }) }
+    ensures { IfOk result (λ reply. reply ≡ saying text.now) }
 {
     Ok(Reply {
         text: Sequence::from_vec(Vec::from_slice(alloc, text)?),
