@@ -11,7 +11,7 @@ const MOST: usize = 4;
 
 /// Messages without contents.
 #[derive(Clone, Copy, Drop)]
-pub(crate) struct Mailbox {
+pub struct Mailbox {
     pub(crate) under_way: usize,
     /// One came.
     pub(crate) any_came: bool,
