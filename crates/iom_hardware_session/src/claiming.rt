@@ -53,11 +53,15 @@ impl Session {
         frame: u64,
         rights: GrantRights,
     ) -> ClaimAnswer
-        ensures claimed { (c : Claimed) → ShowsClaimed self.old.claims c → ShowsClaimed self.new.claims (claimed_after (said.Grant device page frame rights) result c) }
+        ensures claimed { (c : Claimed) → ShowsClaimed self.old.claims c
+            → ShowsClaimed self.new.claims (claimed_after (said.Grant device page frame rights) result c) }
         ensures good { (c : Claimed) → ShowsClaimed self.old.claims c → result ≡ ClaimAnswer.Good
             → GoodMeans (said.Grant device page frame rights) (scene_in self.new) c (claimed_after (said.Grant device page frame rights) result c) }
-        ensures wrong { (c : Claimed) → ShowsClaimed self.old.claims c → IfWrong result (λ why. WrongMeans (said.Grant device page frame rights) why self.new.hardware self.new.trusted.items c (claimed_after (said.Grant device page frame rights) result c)) }
-        ensures watched { (c : Claimed) → ShowsClaimed self.old.claims c → WatchesClaim (said.Grant device page frame rights) result c self.old.watched.items self.new.watched.items }
+        ensures wrong { (c : Claimed) → ShowsClaimed self.old.claims c
+            → IfWrong result
+            (λ why. WrongMeans (said.Grant device page frame rights) why self.new.hardware self.new.trusted.items c (claimed_after (said.Grant device page frame rights) result c)) }
+        ensures watched { (c : Claimed) → ShowsClaimed self.old.claims c
+            → WatchesClaim (said.Grant device page frame rights) result c self.old.watched.items self.new.watched.items }
         ensures hardware { KeepsHardware self.old self.new }
     {
         let number = match self.grantable(device, page, frame) {
@@ -85,7 +89,8 @@ impl Session {
 
     /// What the device holds at the page is withdrawn.
     pub(crate) fn claim_release(&mut self, device: DeviceId, page: u64) -> ClaimAnswer
-        ensures claimed { (c : Claimed) → ShowsClaimed self.old.claims c → ShowsClaimed self.new.claims (claimed_after (said.Release device page) result c) }
+        ensures claimed { (c : Claimed) → ShowsClaimed self.old.claims c
+            → ShowsClaimed self.new.claims (claimed_after (said.Release device page) result c) }
         ensures wrong { IfWrong result (λ why. ⊥) }
         ensures watched { self.new.watched ≡ self.old.watched }
         ensures hardware { KeepsHardware self.old self.new }
@@ -101,11 +106,15 @@ impl Session {
 
     /// No way is left to what was withdrawn under the number.
     pub(crate) fn claim_done(&mut self, number: u64) -> ClaimAnswer
-        ensures claimed { (c : Claimed) → ShowsClaimed self.old.claims c → ShowsClaimed self.new.claims (claimed_after (said.Done number) result c) }
+        ensures claimed { (c : Claimed) → ShowsClaimed self.old.claims c
+            → ShowsClaimed self.new.claims (claimed_after (said.Done number) result c) }
         ensures good { (c : Claimed) → ShowsClaimed self.old.claims c → result ≡ ClaimAnswer.Good
             → GoodMeans (said.Done number) (scene_in self.new) c (claimed_after (said.Done number) result c) }
-        ensures wrong { (c : Claimed) → ShowsClaimed self.old.claims c → IfWrong result (λ why. WrongMeans (said.Done number) why self.new.hardware self.new.trusted.items c (claimed_after (said.Done number) result c)) }
-        ensures watched { (c : Claimed) → ShowsClaimed self.old.claims c → WatchesClaim (said.Done number) result c self.old.watched.items self.new.watched.items }
+        ensures wrong { (c : Claimed) → ShowsClaimed self.old.claims c
+            → IfWrong result
+            (λ why. WrongMeans (said.Done number) why self.new.hardware self.new.trusted.items c (claimed_after (said.Done number) result c)) }
+        ensures watched { (c : Claimed) → ShowsClaimed self.old.claims c
+            → WatchesClaim (said.Done number) result c self.old.watched.items self.new.watched.items }
         ensures hardware { KeepsHardware self.old self.new }
     {
         let Ok(short) = u32::try_from(number) else {
@@ -135,11 +144,15 @@ impl Session {
 
     /// Nobody uses the frame, and it goes to somebody else.
     pub(crate) fn claim_hand_off(&mut self, frame: u64) -> ClaimAnswer
-        ensures claimed { (c : Claimed) → ShowsClaimed self.old.claims c → ShowsClaimed self.new.claims (claimed_after (said.HandOff frame) result c) }
+        ensures claimed { (c : Claimed) → ShowsClaimed self.old.claims c
+            → ShowsClaimed self.new.claims (claimed_after (said.HandOff frame) result c) }
         ensures good { (c : Claimed) → ShowsClaimed self.old.claims c → result ≡ ClaimAnswer.Good
             → GoodMeans (said.HandOff frame) (scene_in self.new) c (claimed_after (said.HandOff frame) result c) }
-        ensures wrong { (c : Claimed) → ShowsClaimed self.old.claims c → IfWrong result (λ why. WrongMeans (said.HandOff frame) why self.new.hardware self.new.trusted.items c (claimed_after (said.HandOff frame) result c)) }
-        ensures watched { (c : Claimed) → ShowsClaimed self.old.claims c → WatchesClaim (said.HandOff frame) result c self.old.watched.items self.new.watched.items }
+        ensures wrong { (c : Claimed) → ShowsClaimed self.old.claims c
+            → IfWrong result
+            (λ why. WrongMeans (said.HandOff frame) why self.new.hardware self.new.trusted.items c (claimed_after (said.HandOff frame) result c)) }
+        ensures watched { (c : Claimed) → ShowsClaimed self.old.claims c
+            → WatchesClaim (said.HandOff frame) result c self.old.watched.items self.new.watched.items }
         ensures hardware { KeepsHardware self.old self.new }
     {
         let number = match self.frame_of(frame) {
@@ -170,11 +183,15 @@ impl Session {
 
     /// The frame comes from whoever gives frames out.
     pub(crate) fn claim_take(&mut self, frame: u64) -> ClaimAnswer
-        ensures claimed { (c : Claimed) → ShowsClaimed self.old.claims c → ShowsClaimed self.new.claims (claimed_after (said.Take frame) result c) }
+        ensures claimed { (c : Claimed) → ShowsClaimed self.old.claims c
+            → ShowsClaimed self.new.claims (claimed_after (said.Take frame) result c) }
         ensures good { (c : Claimed) → ShowsClaimed self.old.claims c → result ≡ ClaimAnswer.Good
             → GoodMeans (said.Take frame) (scene_in self.new) c (claimed_after (said.Take frame) result c) }
-        ensures wrong { (c : Claimed) → ShowsClaimed self.old.claims c → IfWrong result (λ why. WrongMeans (said.Take frame) why self.new.hardware self.new.trusted.items c (claimed_after (said.Take frame) result c)) }
-        ensures watched { (c : Claimed) → ShowsClaimed self.old.claims c → WatchesClaim (said.Take frame) result c self.old.watched.items self.new.watched.items }
+        ensures wrong { (c : Claimed) → ShowsClaimed self.old.claims c
+            → IfWrong result
+            (λ why. WrongMeans (said.Take frame) why self.new.hardware self.new.trusted.items c (claimed_after (said.Take frame) result c)) }
+        ensures watched { (c : Claimed) → ShowsClaimed self.old.claims c
+            → WatchesClaim (said.Take frame) result c self.old.watched.items self.new.watched.items }
         ensures hardware { KeepsHardware self.old self.new }
     {
         let number = match self.frame_of(frame) {

@@ -166,8 +166,10 @@ impl Session {
     /// Why it isn't so that the device has no way to the frame but those that are claimed, if it has another.
     pub(crate) fn left_of_done(&self, device: DeviceId, frame: u32) -> Option<Wrong>
         requires looked { IsSurveyOf self.now.survey (scene_in self.now) }
-        ensures none { (c : Claimed) → ShowsClaimed self.now.claims c → result ≡ None → HasClaimedWaysAlone (scene_in self.now) c device frame }
-        ensures some { (c : Claimed) → ShowsClaimed self.now.claims c → IfSome result (λ why. DoneIsWrong why self.now.hardware self.now.trusted.items c device frame) }
+        ensures none { (c : Claimed) → ShowsClaimed self.now.claims c
+            → result ≡ None → HasClaimedWaysAlone (scene_in self.now) c device frame }
+        ensures some { (c : Claimed) → ShowsClaimed self.now.claims c
+            → IfSome result (λ why. DoneIsWrong why self.now.hardware self.now.trusted.items c device frame) }
     {
         match self.way_beyond(device, frame) {
             Some(kind) => Some(Wrong::Reached(device, kind)),
@@ -195,7 +197,8 @@ impl Session {
         requires looked { IsSurveyOf self.now.survey (scene_in self.now) }
         ensures good { (c : Claimed) → ShowsClaimed self.now.claims c → result ≡ ClaimAnswer.Good
             → IsCertain (scene_in self.now) × HasClaimedWaysAlone (scene_in self.now) c device frame }
-        ensures wrong { (c : Claimed) → ShowsClaimed self.now.claims c → IfWrong result (λ why. DoneIsWrong why self.now.hardware self.now.trusted.items c device frame) }
+        ensures wrong { (c : Claimed) → ShowsClaimed self.now.claims c
+            → IfWrong result (λ why. DoneIsWrong why self.now.hardware self.now.trusted.items c device frame) }
         ensures made { is_made result ≡ true }
     {
         if let Some(why) = self.left_of_done(device, frame) {

@@ -77,9 +77,12 @@ impl Session {
 
     fn claim(&mut self, claim: Claim) -> ClaimAnswer
         ensures claimed { (c : Claimed) → ShowsClaimed self.old.claims c → ShowsClaimed self.new.claims (claimed_after claim result c) }
-        ensures good { (c : Claimed) → ShowsClaimed self.old.claims c → result ≡ ClaimAnswer.Good → GoodMeans claim (scene_in self.new) c (claimed_after claim result c) }
-        ensures wrong { (c : Claimed) → ShowsClaimed self.old.claims c → IfWrong result (λ why. WrongMeans claim why self.new.hardware self.new.trusted.items c (claimed_after claim result c)) }
-        ensures watched { (c : Claimed) → ShowsClaimed self.old.claims c → WatchesClaim claim result c self.old.watched.items self.new.watched.items }
+        ensures good { (c : Claimed) → ShowsClaimed self.old.claims c
+            → result ≡ ClaimAnswer.Good → GoodMeans claim (scene_in self.new) c (claimed_after claim result c) }
+        ensures wrong { (c : Claimed) → ShowsClaimed self.old.claims c
+            → IfWrong result (λ why. WrongMeans claim why self.new.hardware self.new.trusted.items c (claimed_after claim result c)) }
+        ensures watched { (c : Claimed) → ShowsClaimed self.old.claims c
+            → WatchesClaim claim result c self.old.watched.items self.new.watched.items }
         ensures trusts { Trusts claim result self.old.trusted.items self.new.trusted.items }
         ensures hardware { self.new.hardware ≡ self.old.hardware }
     {
@@ -123,8 +126,10 @@ impl Session {
         ensures claimed { (c : Claimed) → ShowsClaimed self.old.claims c → ShowsClaimed self.new.claims (claimed_by line.now result c) }
         ensures trusted { TrustsBy line.now result self.old.trusted.items self.new.trusted.items }
         ensures good { (c : Claimed) → ShowsClaimed self.old.claims c → IsGoodLine line.now result (scene_in self.new) c }
-        ensures wrong { (c : Claimed) → ShowsClaimed self.old.claims c → IsWrongLine line.now result self.new.hardware self.new.trusted.items c }
-        ensures watched { (c : Claimed) → ShowsClaimed self.old.claims c → WatchesStep line.now result c self.old.watched.items self.new.watched.items }
+        ensures wrong { (c : Claimed) → ShowsClaimed self.old.claims c
+            → IsWrongLine line.now result self.new.hardware self.new.trusted.items c }
+        ensures watched { (c : Claimed) → ShowsClaimed self.old.claims c
+            → WatchesStep line.now result c self.old.watched.items self.new.watched.items }
         ensures counted { self.new.hardware.events ≤ self.old.hardware.events + 1 }
     {
         match line {
@@ -145,10 +150,12 @@ impl Session {
     pub fn line(&mut self, line: &HardwareLine) -> Stepped
         requires count { self.old.hardware.events + 1 < 2 ^ 64 }
         ensures does { LineDoes line.now result.answer self.old.hardware self.new.hardware }
-        ensures claimed { (c : Claimed) → ShowsClaimed self.old.claims c → ShowsClaimed self.new.claims (claimed_by line.now result.answer c) }
+        ensures claimed { (c : Claimed) → ShowsClaimed self.old.claims c
+            → ShowsClaimed self.new.claims (claimed_by line.now result.answer c) }
         ensures trusted { TrustsBy line.now result.answer self.old.trusted.items self.new.trusted.items }
         ensures good { (c : Claimed) → ShowsClaimed self.old.claims c → IsGoodLine line.now result.answer (scene_in self.new) c }
-        ensures wrong { (c : Claimed) → ShowsClaimed self.old.claims c → IsWrongLine line.now result.answer self.new.hardware self.new.trusted.items c }
+        ensures wrong { (c : Claimed) → ShowsClaimed self.old.claims c
+            → IsWrongLine line.now result.answer self.new.hardware self.new.trusted.items c }
         ensures watched { (c : Claimed) → ShowsClaimed self.old.claims c → WatchesBy line.now result.answer c self.old self.new }
         ensures violated { (c : Claimed) → ShowsClaimed self.old.claims c → IsTrue result.violated ↔ IsViolation c (made_by result.answer) }
         ensures counted { self.new.hardware.events ≤ self.old.hardware.events + 1 }

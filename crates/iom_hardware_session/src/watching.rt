@@ -18,7 +18,8 @@ impl Session {
     fn fallen_by_survey(&self, claim: GoodClaim) -> Option<Wrong>
         requires looked { IsSurveyOf self.now.survey (scene_in self.now) }
         ensures so { (c : Claimed) → ShowsClaimed self.now.claims c → result ≡ None → IsStillSo claim (scene_in self.now) c }
-        ensures no_more { (c : Claimed) → ShowsClaimed self.now.claims c → IfSome result (λ why. IsNoMore why claim self.now.hardware self.now.trusted.items c) }
+        ensures no_more { (c : Claimed) → ShowsClaimed self.now.claims c
+            → IfSome result (λ why. IsNoMore why claim self.now.hardware self.now.trusted.items c) }
     {
         match claim {
             GoodClaim::Done {
@@ -59,7 +60,8 @@ impl Session {
     fn judge_each(&self, is_certain: bool, watched: &mut Vec<Watched>)
         requires looked { IsTrue is_certain → IsSurveyOf self.now.survey (scene_in self.now) × IsCertain (scene_in self.now) }
         requires uncertain { is_certain ≡ false → IsUncertain self.now.hardware self.now.trusted.items }
-        ensures { (c : Claimed) → ShowsClaimed self.now.claims c → AreJudgedAgain watched.old.items watched.new.items self.now.hardware self.now.trusted.items c }
+        ensures { (c : Claimed) → ShowsClaimed self.now.claims c
+            → AreJudgedAgain watched.old.items watched.new.items self.now.hardware self.now.trusted.items c }
     {
         for place in 0..watched.len() {
             let claim = watched[place].claim;
