@@ -11,7 +11,7 @@ use Rattle.std.proofs.lemmas.Grind.{common_steps}
 use Rattle.iom_fabric.specs.declared.message.Range.{Range}
 use Rattle.iom_fabric.specs.declared.message.Range.TheVariants as range
 use Rattle.iom_ats_cache.specs.declared.entry.Entry.{Entry}
-use Rattle.iom_ats_cache.specs.Cache.{covers, outside, with_room, with_entry, entry_of, AreOfDistinctPages, AreEntries}
+use Rattle.iom_ats_cache.specs.Cache.{range_covers, outside, with_room, with_entry, entry_for_page, AreOfDistinctPages, AreEntries}
 
 not_true : (b : Bool) → not b ≡ true → b ≡ false
 not_true true e = absurd cc
@@ -19,10 +19,10 @@ not_true false e = refl
 
 -- what is left outside of a range was there, and isn't covered
 pub all_outside : (P : Entry → Type 0) (dropped : Range) (entries : List Entry) → All P entries
-    → All (λ entry. (covers dropped entry.page ≡ false) × P entry) (outside dropped entries)
+    → All (λ entry. (range_covers dropped entry.page ≡ false) × P entry) (outside dropped entries)
 all_outside P dropped entries all k d below = (
-  not_true _ (filter_passes (λ entry. not (covers dropped entry.page)) entries k d below),
-  All-filter (λ entry. not (covers dropped entry.page)) P entries all k d below,
+  not_true _ (filter_passes (λ entry. not (range_covers dropped entry.page)) entries k d below),
+  All-filter (λ entry. not (range_covers dropped entry.page)) P entries all k d below,
 )
 
 all_with_room : (P : Entry → Type 0) (entries : List Entry) → All P entries → All P (with_room entries)
@@ -50,7 +50,7 @@ abbrev AreTwo : Entry → Entry → Type 0
 AreTwo entry later = entry.page ≢ later.page
 
 pub distinct_outside : (dropped : Range) (entries : List Entry) → AreOfDistinctPages entries → AreOfDistinctPages (outside dropped entries)
-distinct_outside dropped entries distinct = AllPairs-filter AreTwo (λ entry. not (covers dropped entry.page)) entries distinct
+distinct_outside dropped entries distinct = AllPairs-filter AreTwo (λ entry. not (range_covers dropped entry.page)) entries distinct
 
 distinct_without_first : (entries : List Entry) → AreOfDistinctPages entries → AreOfDistinctPages (drop 1 entries)
 distinct_without_first [] distinct = distinct
@@ -108,7 +108,7 @@ one_goes_out page (entry ∷ entries) (suc place) d distinct inside own =
 
 -- whether an entry is of the page
 abbrev pub IsOf : ℕ → Entry → Bool
-IsOf page entry = covers (range.Page page) entry.page
+IsOf page entry = range_covers (range.Page page) entry.page
 
 -- where no place is found, nothing goes out
 pub outside_without_place : (page : ℕ) (entries : List Entry) → position (IsOf page) entries ≡ None → outside (range.Page page) entries ≡ entries
@@ -138,7 +138,7 @@ few_with_room entries few = by (nat_lt (length entries) 32) refl
 pub entries_outside : (dropped : Range) (entries : List Entry) → AreEntries entries → AreEntries (outside dropped entries)
 entries_outside dropped entries are = record {
   few =
-      let both = length-filter_both (λ entry. not (covers dropped entry.page)) (λ entry. not (not (covers dropped entry.page))) (λ entry. refl) entries in
+      let both = length-filter_both (λ entry. not (range_covers dropped entry.page)) (λ entry. not (not (range_covers dropped entry.page))) (λ entry. refl) entries in
       omega (arith, both, are.few);
   distinct = distinct_outside dropped entries are.distinct;
 }
@@ -154,7 +154,7 @@ pub no_entries : AreEntries []
 no_entries = record { few = omega arith; distinct = λ i j d before below. absurd (omega arith) }
 
 -- where no entry is of the page, none is found
-pub finds_none : (page : ℕ) (entries : List Entry) → ((k : ℕ) (d : Entry) → k < length entries → nat_eq (get_or entries k d).page page ≡ false) → entry_of entries page ≡ None
+pub finds_none : (page : ℕ) (entries : List Entry) → ((k : ℕ) (d : Entry) → k < length entries → nat_eq (get_or entries k d).page page ≡ false) → entry_for_page entries page ≡ None
 finds_none page [] others = refl
 finds_none page (entry ∷ entries) others =
     let other : nat_eq entry.page page ≡ false = others 0 entry (omega arith) in
@@ -162,7 +162,7 @@ finds_none page (entry ∷ entries) others =
 
 -- where no page has two entries, the one that is of the page is found
 pub finds_one : (page : ℕ) (entries : List Entry) (place : ℕ) (d : Entry) → AreOfDistinctPages entries → place < length entries
-    → nat_eq (get_or entries place d).page page ≡ true → entry_of entries page ≡ Some (get_or entries place d)
+    → nat_eq (get_or entries place d).page page ≡ true → entry_for_page entries page ≡ Some (get_or entries place d)
 finds_one page [] place d distinct inside own = absurd (omega arith)
 finds_one page (entry ∷ entries) zero d distinct inside own = rw own refl
 finds_one page (entry ∷ entries) (suc place) d distinct inside own =

@@ -7,7 +7,7 @@ use Rattle.iom_base.specs.declared.access.AccessKind.{AccessKind}
 use Rattle.iom_base.specs.declared.rights.Rights.{Rights}
 use Rattle.iom_base.specs.Rights.{allows}
 use Rattle.iom_ats_cache.specs.declared.entry.Entry.{Entry}
-use Rattle.iom_ats_cache.specs.Cache.{Cache, entry_of, frame_if_allowed, frame_for, AreOfDistinctPages, AreEntries}
+use Rattle.iom_ats_cache.specs.Cache.{Cache, entry_for_page, frame_if_allowed, frame_for, AreOfDistinctPages, AreEntries}
 
 -- what a look finds is one of the entries
 module _ (P : Entry → Type 0) (page : ℕ) (kind : AccessKind) (frame : ℕ) where
@@ -18,13 +18,13 @@ module _ (P : Entry → Type 0) (page : ℕ) (kind : AccessKind) (frame : ℕ) w
   allowed entry same holds true allow found = (entry, same, cc, allow, holds)
   allowed entry same holds false allow found = absurd cc
 
-  pub found_is : (entries : List Entry) → All P entries → frame_if_allowed (entry_of entries page) kind ≡ Some frame → IsFound
+  pub found_is : (entries : List Entry) → All P entries → frame_if_allowed (entry_for_page entries page) kind ≡ Some frame → IsFound
   found_is [] all found = absurd cc
   found_is (entry ∷ entries) all found = by (nat_eq entry.page page) refl found (found_is entries (All-tail P entry entries all))
     where
       by : (b : Bool) → nat_eq entry.page page ≡ b
-          → frame_if_allowed (if b then Some entry else entry_of entries page) kind ≡ Some frame
-          → (frame_if_allowed (entry_of entries page) kind ≡ Some frame → IsFound)
+          → frame_if_allowed (if b then Some entry else entry_for_page entries page) kind ≡ Some frame
+          → (frame_if_allowed (entry_for_page entries page) kind ≡ Some frame → IsFound)
           → IsFound
       by true same found later = allowed entry (eqb-true entry.page page same) (All-head P entry entries all) (allows entry.rights kind) refl found
       by false other found later = later found
@@ -46,13 +46,13 @@ first_or_rest first rest entry at = elim (Contains-append_cases (first ∷ []) r
 ]
 
 -- where no page has two entries, each is its page's
-entry_is_found : (entries : List Entry) → AreOfDistinctPages entries → (entry : Entry) → Contains entries entry → entry_of entries entry.page ≡ Some entry
+entry_is_found : (entries : List Entry) → AreOfDistinctPages entries → (entry : Entry) → Contains entries entry → entry_for_page entries entry.page ≡ Some entry
 entry_is_found [] distinct entry at = absurd (let below = at.1 in omega arith)
 entry_is_found (first ∷ rest) distinct entry at =
     by (nat_eq first.page entry.page) refl (first_or_rest first rest entry at) (entry_is_found rest (distinct_tail first rest distinct) entry)
   where
-    by : (b : Bool) → nat_eq first.page entry.page ≡ b → (first ≡ entry) ⊎ Contains rest entry → (Contains rest entry → entry_of rest entry.page ≡ Some entry)
-        → (if b then Some first else entry_of rest entry.page) ≡ Some entry
+    by : (b : Bool) → nat_eq first.page entry.page ≡ b → (first ≡ entry) ⊎ Contains rest entry → (Contains rest entry → entry_for_page rest entry.page ≡ Some entry)
+        → (if b then Some first else entry_for_page rest entry.page) ≡ Some entry
     by true same (inl one) later = ap Some one
     by true same (inr at) later = absurd (other_than_first first rest entry distinct at (eqb-true first.page entry.page same))
     by false other (inl one) later = absurd (let e : nat_eq first.page entry.page ≡ true = eq-eqb first.page entry.page (ap (λ e. e.page) one) in cc)

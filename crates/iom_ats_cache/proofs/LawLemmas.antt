@@ -7,7 +7,7 @@ use Rattle.iom_fabric.specs.declared.message.Translation.{Translation}
 use Rattle.iom_fabric.specs.declared.message.Translation.TheVariants as translation
 use Rattle.iom_ats_cache.specs.declared.entry.Entry.{Entry}
 use Rattle.iom_ats_cache.specs.declared.taken.Taken.TheVariants.{Kept, Stale, Refused}
-use Rattle.iom_ats_cache.specs.Cache.{Cache, covers, outside, with_entry, AreEntries}
+use Rattle.iom_ats_cache.specs.Cache.{Cache, range_covers, outside, with_entry, AreEntries}
 use Rattle.iom_ats_cache.specs.Calls.{TakesAnswer}
 use Rattle.iom_ats_cache.specs.Laws.{AtcCall, look, ask, answer, invalidate, reset, RunsAtc, rises_in, WasAnswered}
 use Rattle.iom_ats_cache.proofs.EntryLemmas.{all_outside, all_with_entry, entries_outside, entries_with_entry, no_entries}
@@ -33,7 +33,7 @@ after_kept earlier old epoch entry present before =
 
 after_invalidation : (earlier : List AtcCall) (old : Cache) (dropped : Range) → AreTrue earlier old
     → (old.epoch + 1 ≡ rises_in earlier + 1)
-    × All (λ entry. (covers dropped entry.page ≡ false) × WasAnswered entry earlier) (outside dropped old.entries)
+    × All (λ entry. (range_covers dropped entry.page ≡ false) × WasAnswered entry earlier) (outside dropped old.entries)
     × AreEntries (outside dropped old.entries)
 after_invalidation earlier old dropped before = (
   ap (λ n. n + 1) before.0,

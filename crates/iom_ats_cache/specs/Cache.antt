@@ -17,13 +17,13 @@ abbrev pub empty_cache : Cache
 empty_cache = record { epoch = 0; entries = [] }
 
 -- whether a range, of one page or of everything, covers a page
-abbrev pub covers : Range → ℕ → Bool
-covers (range.Page own) page = own == page
-covers range.Everything page = true
+abbrev pub range_covers : Range → ℕ → Bool
+range_covers (range.Page own) page = own == page
+range_covers range.Everything page = true
 
 -- the entries of the pages that a range doesn't cover, in their order
 abbrev pub outside : Range → List Entry → List Entry
-outside dropped entries = filter (λ entry. not (covers dropped entry.page)) entries
+outside dropped entries = filter (λ entry. not (range_covers dropped entry.page)) entries
 
 -- with room for one more: where there are 32 the oldest goes out
 abbrev pub with_room : List Entry → List Entry
@@ -34,8 +34,8 @@ abbrev pub with_entry : List Entry → Entry → List Entry
 with_entry entries entry = with_room (outside (range.Page entry.page) entries) ++ entry ∷ []
 
 -- the entry of a page
-abbrev pub entry_of : List Entry → ℕ → Option Entry
-entry_of entries page = find (λ entry. entry.page == page) entries
+abbrev pub entry_for_page : List Entry → ℕ → Option Entry
+entry_for_page entries page = find (λ entry. entry.page == page) entries
 
 -- its frame, where its right allows an access of this kind
 abbrev pub frame_if_allowed : Option Entry → AccessKind → Option ℕ
@@ -44,7 +44,7 @@ frame_if_allowed (Some entry) kind = if allows entry.rights kind then Some entry
 
 -- the frame that an access of this kind to a page has from the cache, if it has one
 abbrev pub frame_for : Cache → ℕ → AccessKind → Option ℕ
-frame_for cache page kind = frame_if_allowed (entry_of cache.entries page) kind
+frame_for cache page kind = frame_if_allowed (entry_for_page cache.entries page) kind
 
 -- no page has two entries
 abbrev pub AreOfDistinctPages : List Entry → Type 0

@@ -10,8 +10,8 @@ use Rattle.iom_ats_cache.specs.declared.taken.Taken.TheVariants as taken
 use Rattle.iom_ats_cache.specs.Cache.{Cache, outside, with_entry}
 
 -- THE RELATION of a question (Translation Request): it is for the page, in the cache's epoch
-abbrev pub Asks : Cache → ℕ → Message → Type 0
-Asks cache page message = message ≡ Ask cache.epoch page
+abbrev pub AsksInEpoch : Cache → ℕ → Message → Type 0
+AsksInEpoch cache page message = message ≡ Ask cache.epoch page
 
 -- THE RELATION of an answer (Translation Completion), with the epoch of its question. It is stale exactly where that isn't the cache's epoch, refused exactly where
 -- it is and the answer is a refusal, and else kept. Only what is kept changes something: the page's entry, and not the epoch
@@ -31,5 +31,5 @@ pub record Invalidates (old : Cache) (serial : ℕ) (range : Range) (message : M
   pub left : new ≡ record { epoch = old.epoch + 1; entries = outside range old.entries }
 
 -- THE RELATION of a reset: everything goes out, and the epoch rises by one
-abbrev pub Resets : Cache → Cache → Type 0
-Resets old new = new ≡ record { epoch = old.epoch + 1; entries = [] }
+abbrev pub ResetsCache : Cache → Cache → Type 0
+ResetsCache old new = new ≡ record { epoch = old.epoch + 1; entries = [] }

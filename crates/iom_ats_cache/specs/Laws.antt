@@ -10,8 +10,8 @@ use Rattle.iom_fabric.specs.declared.message.Message.{Message}
 use Rattle.iom_ats_cache.specs.declared.entry.Entry.{Entry}
 use Rattle.iom_ats_cache.specs.declared.taken.Taken.{Taken}
 use Rattle.iom_ats_cache.specs.declared.taken.Taken.TheVariants.{Kept, Stale, Refused}
-use Rattle.iom_ats_cache.specs.Cache.{Cache, empty_cache, covers, frame_for, AreEntries}
-use Rattle.iom_ats_cache.specs.Calls.{Asks, TakesAnswer, Invalidates, Resets}
+use Rattle.iom_ats_cache.specs.Cache.{Cache, empty_cache, range_covers, frame_for, AreEntries}
+use Rattle.iom_ats_cache.specs.Calls.{AsksInEpoch, TakesAnswer, Invalidates, ResetsCache}
 
 -- a call of a device's cache, with what it answers
 pub data AtcCall : Type 0 where
@@ -24,10 +24,10 @@ pub data AtcCall : Type 0 where
 -- what the call does
 abbrev pub CallsAtc : Cache → AtcCall → Cache → Type 0
 CallsAtc old (look page kind found) new = (found ≡ frame_for old page kind) × (new ≡ old)
-CallsAtc old (ask page message) new = Asks old page message × (new ≡ old)
+CallsAtc old (ask page message) new = AsksInEpoch old page message × (new ≡ old)
 CallsAtc old (answer epoch page translation taken) new = TakesAnswer old epoch page translation taken new
 CallsAtc old (invalidate serial range message) new = Invalidates old serial range message new
-CallsAtc old reset new = Resets old new
+CallsAtc old reset new = ResetsCache old new
 
 -- the calls of a new cache one after the other, the newest first, and the cache after them
 abbrev pub RunsAtc : List AtcCall → Cache → Type 0
@@ -54,7 +54,7 @@ WasAnswered entry (answer epoch page translation Kept ∷ earlier) =
     ⊎ ((page ≢ entry.page) × WasAnswered entry earlier)
 WasAnswered entry (answer epoch page translation Stale ∷ earlier) = WasAnswered entry earlier
 WasAnswered entry (answer epoch page translation Refused ∷ earlier) = WasAnswered entry earlier
-WasAnswered entry (invalidate serial range message ∷ earlier) = (covers range entry.page ≡ false) × WasAnswered entry earlier
+WasAnswered entry (invalidate serial range message ∷ earlier) = (range_covers range entry.page ≡ false) × WasAnswered entry earlier
 WasAnswered entry (reset ∷ earlier) = ⊥
 
 -- THE LAW on what is found

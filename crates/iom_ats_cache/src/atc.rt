@@ -1,8 +1,8 @@
 ghost use Rattle.std.specs.Prelude.{◌≡◌, ◌+◌, ◌<◌, ◌^◌, option_map};
 ghost use Rattle.std.specs.List.{position};
 ghost use Rattle.iom_fabric.specs.declared.message.Range.TheVariants.{Page};
-ghost use Rattle.iom_ats_cache.specs.Cache.{empty_cache, covers, entry_of, outside, with_entry, frame_for, AreOfDistinctPages, AreEntries};
-ghost use Rattle.iom_ats_cache.specs.Calls.{Asks, TakesAnswer, Invalidates, Resets};
+ghost use Rattle.iom_ats_cache.specs.Cache.{empty_cache, range_covers, entry_for_page, outside, with_entry, frame_for, AreOfDistinctPages, AreEntries};
+ghost use Rattle.iom_ats_cache.specs.Calls.{AsksInEpoch, TakesAnswer, Invalidates, ResetsCache};
 
 use crate::entry::Entry;
 use crate::taken::Taken;
@@ -34,7 +34,7 @@ impl Model for Atc {
 // The entry of the page. The newest are looked at first: what was just answered is what is used next.
 fn entry_of(entries: &[Entry], page: PageNumber) -> Option<&Entry>
     requires { AreOfDistinctPages entries.now }
-    ensures { option_map (λ entry. entry.now) result ≡ entry_of entries.now page }
+    ensures { option_map (λ entry. entry.now) result ≡ entry_for_page entries.now page }
 {
     for place in (0..entries.len()).rev() {
         if entries[place].page == page {
@@ -46,7 +46,7 @@ fn entry_of(entries: &[Entry], page: PageNumber) -> Option<&Entry>
 
 // The place of the page's entry.
 fn place_of(entries: &[Entry], page: PageNumber) -> Option<usize>
-    ensures { result ≡ position (λ entry. covers (Page page) entry.page) entries.now }
+    ensures { result ≡ position (λ entry. range_covers (Page page) entry.page) entries.now }
 {
     entries.iter().position(|entry| page == entry.page)
 }
@@ -128,7 +128,7 @@ impl Atc {
     /// The question for the translation of a page (section 10.2, Translation Request). It carries the epoch. Its
     /// answer is for [`Atc::answer`].
     pub fn ask(&self, page: PageNumber) -> Message
-        ensures { Asks self.now page result }
+        ensures { AsksInEpoch self.now page result }
     {
         Message::Ask {
             epoch: self.epoch,
@@ -180,7 +180,7 @@ impl Atc {
     /// questions of before the reset may be under way. It has to be below its last value, 2^64 - 1.
     pub fn reset(&mut self)
         requires { self.old.epoch + 1 < 2 ^ 64 }
-        ensures { Resets self.old self.new }
+        ensures { ResetsCache self.old self.new }
     {
         self.entries.clear();
         self.epoch += 1;

@@ -6,7 +6,7 @@ use Rattle.iom_virtqueue.specs.declared.phase.Phase.TheVariants.{AvailableIndex,
 use Rattle.iom_virtqueue.specs.Descriptors.{number_at, descriptor_of, next_of}
 use Rattle.iom_virtqueue.specs.declared.layout.Layout.{Layout}
 use Rattle.iom_virtqueue.specs.Accesses.{reads}
-use Rattle.iom_virtqueue.specs.Queues.{QueueState, ring_entry, wanted_in, after, after_in, after_fault, fault_of, goes_on_at, new_requests, element_piece}
+use Rattle.iom_virtqueue.specs.Queues.{QueueState, ring_entry, wanted_in, after, after_in, after_fault, chain_fault_of, goes_on_at, new_requests, element_piece}
 use Rattle.iom_virtio_blk.specs.declared.front.Front.{Front}
 use Rattle.iom_virtio_blk.specs.declared.serving.Job.{Job}
 use Rattle.iom_virtio_blk.specs.declared.serving.Job.TheVariants.{Header, Reading, Writing, Ending}
@@ -17,7 +17,7 @@ use Rattle.iom_virtio_blk.specs.declared.step.Reply.TheVariants.{Accepted, Busy,
 use Rattle.iom_virtio_blk.specs.declared.step.Step.{Step}
 use Rattle.iom_virtio_blk.specs.declared.step.Step.TheVariants.{Idle, Waiting, Down, Chain, Finished, Wants}
 use Rattle.iom_virtio_blk.specs.Blocks.{IsTaking, EndsWaiting, TakesBytes, wants_in, wanted_by, replied, down, queue_in}
-use Rattle.iom_virtio_blk.specs.Steps.{Device, Steps, GoesOnIn, UsesIn, TakesQueue, Serves}
+use Rattle.iom_virtio_blk.specs.Steps.{Device, BlockDeviceSteps, GoesOnIn, UsesIn, TakesQueue, ServesWithDisk}
 use Rattle.iom_block_life.specs.Lives.{Turn, Turns, Taken, entry_in, taken_at, finished_at}
 use Rattle.iom_block_life.specs.Lives.{TakesStep, HearsMade, HearsReply, HearsRefusal, ChangesDisk}
 use Rattle.iom_block_life.proofs.QueueTurns.{in_work, in_work_in, sound, GoesOn, stays, takes, finishes}
@@ -121,7 +121,7 @@ taking layout d works UsedIndex is =
 taking layout d works Faulted is = tt
 
 -- the queue after its access, by what it did
-after_at : (q : QueueState) (bytes : List ℕ) (phase : Phase) → q.phase ≡ phase → fault_of q bytes ≡ None → after q bytes ≡ after_in phase q bytes
+after_at : (q : QueueState) (bytes : List ℕ) (phase : Phase) → q.phase ≡ phase → chain_fault_of q bytes ≡ None → after q bytes ≡ after_in phase q bytes
 after_at q bytes phase is fine = ap (λ fault. after_fault fault q bytes) fine ∙ ap (λ p. after_in p q bytes) is
 
 queue_then : (old new : Device) (phase : Phase) → old.front.queue.phase ≡ phase → TakesQueue old new
@@ -153,7 +153,7 @@ served_sound Reading b is = is
 served_sound Writing b is = is
 served_sound (Ending end) b is = sound (UsedElement 0) tt
 
-serves : (layout : Layout) (old new : Device) → Works layout old → old.front.queue.phase ≡ Served → Serves old new → Follows layout old new [] []
+serves : (layout : Layout) (old new : Device) → Works layout old → old.front.queue.phase ≡ Served → ServesWithDisk old new → Follows layout old new [] []
 serves layout old new works is (done, called, front) =
     let job = old.front.serving.job in
     let queue : new.front.queue ≡ queue_in job old.front = ap (λ b. b.queue) front in
@@ -181,7 +181,7 @@ goes_on : (layout : Layout) (old new : Device) → Works layout old → (old.fro
 goes_on layout old new works moved false is same = stands layout old new works (ap (λ d. d.front.queue) same) (ap (λ d. d.front.stage) same)
 goes_on layout old new works moved true is used = uses layout old new works (moved is) old.front.queue.phase refl used
 
-pub steps_on : (layout : Layout) (old new : Device) → Works layout old → (outcome : Step) → Steps old outcome new
+pub steps_on : (layout : Layout) (old new : Device) → Works layout old → (outcome : Step) → BlockDeviceSteps old outcome new
     → Follows layout old new (taken_at old (TakesStep outcome)) (finished_at (TakesStep outcome))
 steps_on layout old new works Down happens = absurd (not_both old.front.stage works.stage happens.0)
 steps_on layout old new works Idle (inl happens) = absurd (happens.0 works.stage)
@@ -275,7 +275,7 @@ keeps_stage : (old new : Device) (made : Bool) → GoesOnIn made old new → new
 keeps_stage old new false same = ap (λ d. d.front.stage) same
 keeps_stage old new true used = uses_keep old new old.front.queue.phase used
 
-stopped_steps : (old new : Device) → old.front.stage ≡ NeedsReset → (outcome : Step) → Steps old outcome new
+stopped_steps : (old new : Device) → old.front.stage ≡ NeedsReset → (outcome : Step) → BlockDeviceSteps old outcome new
     → Stops old new (taken_at old (TakesStep outcome)) (finished_at (TakesStep outcome))
 stopped_steps old new is Down happens = still old new is (ap (λ d. d.front.queue) happens.1) (ap (λ d. d.front.stage) happens.1)
 stopped_steps old new is Idle (inl happens) = absurd (happens.1 is)

@@ -18,15 +18,15 @@ use Rattle.iom_coherence.specs.Attachments.{caches_translations}
 use Rattle.iom_world_effects.specs.BlockDevices.{GoesToMemory, AsksIfMissed}
 use Rattle.iom_world_effects.specs.Parts.{Parts}
 use Rattle.iom_world_effects.specs.Requests.{reply_told_of}
-use Rattle.iom_world_effects.specs.ThroughCache.{AsksThroughCache, cached_frame, FindsFrame}
+use Rattle.iom_world_effects.specs.ThroughCache.{DeviceAsksThroughCache, cached_frame, FindsFrame}
 use Rattle.iom_world.specs.Seen.{parts_of}
 use Rattle.iom_virtio_blk.specs.declared.step.Step.{Step}
 use Rattle.iom_virtio_blk.specs.declared.step.Step.TheVariants as step
-use Rattle.iom_virtio_blk.specs.Steps.{Device, Steps}
+use Rattle.iom_virtio_blk.specs.Steps.{Device, BlockDeviceSteps}
 use Rattle.iom_virtqueue.specs.declared.layout.Layout.{Layout}
 use Rattle.iom_virtqueue.specs.Layouts.{layout_of}
 use Rattle.iom_platform.specs.Blocks as model
-use Rattle.iom_platform.specs.Blocks.{block_with, Changes, Stay, StepsOnce, EndsStep, HasDisk, IsLeft, IsReset, SetsUp, DoesToBlocks, HearsOldest, BringsRefusal, HearsAnswer, PlugsBlock, refused_page, reply_of}
+use Rattle.iom_platform.specs.Blocks.{block_with, Changes, Stay, StepsOnce, EndsStep, HasDisk, IsGivenUp, IsReset, SetsUp, DoesToBlocks, HearsOldest, BringsRefusal, HearsAnswer, PlugsBlock, refused_page, reply_of}
 use Rattle.iom_platform.specs.Seen.{BlockSeen, Seen}
 use Rattle.iom_block_life.specs.Lives.{Turn, Turns, Taken, Lives, entry_in, finished_at, TakesStep, HearsMade, HearsReply, HearsRefusal, ChangesDisk, taken_at}
 use Rattle.iom_block_life.specs.Runs.{ends_life, finished_in, head_in, went_on, entry_by, taken_in}
@@ -85,7 +85,7 @@ frame_found : (frame : Option ℕ) (old : Parts) (id : ℕ) (access : Access) (t
 frame_found None old id access told new found = ap went_on found.0
 frame_found (Some frame) old id access told new found = answered told found.reply found.told_so
 
-through_cache : (can : DeviceKind → Bool) (old : Parts) (id : ℕ) (access : Access) (told : Outcome) (new : Parts) → AsksThroughCache can old id access told new → went_on told ≡ true
+through_cache : (can : DeviceKind → Bool) (old : Parts) (id : ℕ) (access : Access) (told : Outcome) (new : Parts) → DeviceAsksThroughCache can old id access told new → went_on told ≡ true
 through_cache can old id access told new (inl unknown) = ap went_on unknown.told_so
 through_cache can old id access told new (inr (inl unable)) = ap went_on unable.told_so
 through_cache can old id access told new (inr (inr (able, inl bad))) = ap went_on bad.1
@@ -146,7 +146,7 @@ steps : (old new : Parts) (id : ℕ) (told : Outcome) (before after : Device) �
     → LivesOn before after (entry_at (went_on told) before) (finished_in told)
 steps old new id told before after once = by once.taken once.steps once.ends
   where
-    by : (taken : Step) → Steps before taken once.between → EndsStep taken old id once.between told new after
+    by : (taken : Step) → BlockDeviceSteps before taken once.between → EndsStep taken old id once.between told new after
         → LivesOn before after (entry_at (went_on told) before) (finished_in told)
     by step.Idle happens ends = ends_step before once.between after step.Idle told refl (ap finished_in ends.0) (ap went_on ends.0) happens ends.2
     by step.Waiting happens ends = ends_step before once.between after step.Waiting told refl (ap finished_in ends.0) (ap went_on ends.0) happens ends.2
@@ -215,7 +215,7 @@ plugs_any : (number : Option ℕ) (id other : ℕ) (old new : Seen) (told : Outc
 plugs_any None id other old new told block there same = stay_on id old new block there same
 plugs_any (Some number) id other old new told block there plugged = plugs number id other old new told block there plugged
 
-inserts : (number id other : ℕ) (old new : Seen) (told : Outcome) (block : BlockSeen) → block_with old.blocks id ≡ Some block → model.InsertsDisk number old other told new
+inserts : (number id other : ℕ) (old new : Seen) (told : Outcome) (block : BlockSeen) → block_with old.blocks id ≡ Some block → model.InsertsIntoBlock number old other told new
     → GoesOn id block.device new.blocks [] []
 inserts number id other old new outcome.Done block there put =
     by (one_changes (HasDisk put.disk) old.blocks new.blocks id other block there put.changed)
@@ -228,7 +228,7 @@ inserts number id other old new told block there same = stay_on id old new block
 leaves : (id other : ℕ) (old new : Seen) (told : Outcome) (block : BlockSeen) → block_with old.blocks id ≡ Some block → ends_life id (events.Detach other) told ≡ false → model.LeavesBlock old other told new
     → GoesOn id block.device new.blocks [] []
 leaves id other old new (outcome.Ticket ticket) block there alive changes =
-    called IsLeft old new id other block there changes (kept_alive IsLeft new.blocks id other block alive)
+    called IsGivenUp old new id other block there changes (kept_alive IsGivenUp new.blocks id other block alive)
 leaves id other old new told block there alive same = stay_on id old new block there same
 
 resets : (id other : ℕ) (old new : Seen) (told : Outcome) (block : BlockSeen) → block_with old.blocks id ≡ Some block → ends_life id (events.Reset other) told ≡ false → model.ResetsBlock old other told new

@@ -8,7 +8,7 @@ use Rattle.iom_virtqueue.specs.Accesses.{Access, reads, wrapped}
 use Rattle.iom_virtio_blk.specs.declared.stage.Stage.TheVariants.{NeedsReset}
 use Rattle.iom_virtqueue.specs.declared.phase.Phase.TheVariants.{AvailableIndex}
 use Rattle.iom_virtio_blk.specs.Steps.{Device}
-use Rattle.iom_block_life.specs.Lives.{Turn, Lives, Taken, taken_at, finished_at, head_of, reads_entry, IsFresh, UsesEachOnce}
+use Rattle.iom_block_life.specs.Lives.{Turn, Lives, Taken, taken_at, finished_at, head_of, reads_entry, HasFreshQueue, UsesEachOnce}
 use Rattle.iom_block_life.proofs.QueueTurns.{in_work, sound, at_most_one}
 use Rattle.iom_block_life.proofs.DeviceTurns.{Works, Follows, turns_on, stopped_turns}
 
@@ -110,7 +110,7 @@ lives_on layout old new (turn ∷ turns) taken finished works (next, later, ends
     (subst (λ (f : List ℕ). LivesOn layout old new (taken_at old turn ++ later) f) (sym done) whole)
 
 pub uses_each_once : (layout : Layout) (old new : Device) (turns : List Turn) (taken : List Taken) (finished : List ℕ)
-    → IsFresh layout old → Lives old turns taken finished new → UsesEachOnce layout taken finished new
+    → HasFreshQueue layout old → Lives old turns taken finished new → UsesEachOnce layout taken finished new
 uses_each_once layout old new turns taken finished fresh lives =
     let none_finished = ap (λ q. q.finished) fresh.queue in
     let none_begun = ap in_work fresh.queue in

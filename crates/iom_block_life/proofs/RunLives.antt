@@ -20,10 +20,10 @@ use Rattle.iom_platform.specs.Happens.{HappensHere}
 use Rattle.iom_platform.specs.Runs.{GoesThrough}
 use Rattle.iom_world.specs.Seen.{parts_of}
 use Rattle.iom_world_effects.specs.Parts.{Parts}
-use Rattle.iom_world_effects.specs.BlockDevices.{SetsQueue}
+use Rattle.iom_world_effects.specs.BlockDevices.{SetsBlockQueue}
 use Rattle.iom_platform.specs.Seen.{BlockSeen, Seen}
-use Rattle.iom_block_life.specs.Lives.{Turn, Taken, Lives, taken_at, finished_at, IsFresh, UsesEachOnce}
-use Rattle.iom_block_life.specs.Runs.{LivesThrough, heads_in, entries_in}
+use Rattle.iom_block_life.specs.Lives.{Turn, Taken, Lives, taken_at, finished_at, HasFreshQueue, UsesEachOnce}
+use Rattle.iom_block_life.specs.Runs.{LivesThrough, heads_in, entries_taken}
 use Rattle.iom_block_life.proofs.BlockChanges.{as_device, IsChanged, one_changes}
 use Rattle.iom_block_life.proofs.EventLives.{GoesOn, same_on, event_on}
 use Rattle.iom_block_life.proofs.LifeLemmas.{uses_each_once}
@@ -46,7 +46,7 @@ lives_append (turn ∷ first) later old mid new taken more finished ends (next, 
 
 runs_on : (events : List Event) (outcomes : List Outcome) (traces : List (Option Trace)) (state last : State) (run : Run state events outcomes last) (old new : Seen)
     (id : ℕ) (block : BlockSeen) (through : GoesThrough state old events outcomes traces last run new) → block_with old.blocks id ≡ Some block
-    → LivesThrough id events outcomes → GoesOn id block.device new.blocks (entries_in id state old events outcomes traces last run new through) (heads_in id events outcomes)
+    → LivesThrough id events outcomes → GoesOn id block.device new.blocks (entries_taken id state old events outcomes traces last run new through) (heads_in id events outcomes)
 runs_on [] [] [] state last run old new id block through there alive =
     same_on id new.blocks block (ap (λ seen. block_with seen.blocks id) through.1 ∙ there)
 runs_on [] [] (trace ∷ traces) state last run old new id block through there alive = absurd through
@@ -65,9 +65,9 @@ runs_on (event ∷ events) (told ∷ outcomes) (trace ∷ traces) state last (ne
 
 pub runs_use : (state last : State) (old new : Seen) (events : List Event) (outcomes : List Outcome) (traces : List (Option Trace)) (run : Run state events outcomes last)
     (id : ℕ) (layout : Layout) (block : BlockSeen) (through : GoesThrough state old events outcomes traces last run new)
-    → block_with old.blocks id ≡ Some block → IsFresh layout block.device → LivesThrough id events outcomes
+    → block_with old.blocks id ≡ Some block → HasFreshQueue layout block.device → LivesThrough id events outcomes
     → (after : BlockSeen) × (block_with new.blocks id ≡ Some after)
-    × UsesEachOnce layout (entries_in id state old events outcomes traces last run new through) (heads_in id events outcomes) after.device
+    × UsesEachOnce layout (entries_taken id state old events outcomes traces last run new through) (heads_in id events outcomes) after.device
 runs_use state last old new events outcomes traces run id layout block through there fresh alive =
     let on = runs_on events outcomes traces state last run old new id block through there alive in
     (on.block, on.there, uses_each_once layout block.device on.block.device on.turns _ (heads_in id events outcomes) fresh on.lives)
@@ -88,7 +88,7 @@ queued layout old new set =
 pub queue_set : (layout : Layout) (old new : Device) → SetsUp layout old new → new.front.queue ≡ fresh_queue layout
 queue_set layout old new set = sym (ap (queue_or (fresh_queue layout)) (queued layout old new set))
 
-set_fresh : (layout : Layout) (old new : Device) → IsLayout layout → SetsUp layout old new → IsFresh layout new
+set_fresh : (layout : Layout) (old new : Device) → IsLayout layout → SetsUp layout old new → HasFreshQueue layout new
 set_fresh layout old new lawful set =
     record { stage = sym (ap stage_or (queued layout old new set)); lawful = lawful; queue = queue_set layout old new set }
 
@@ -97,7 +97,7 @@ abbrev IsDone : Outcome → Type 0
 IsDone outcome.Done = Unit {0}
 IsDone told = ⊥
 
-lies_lawfully : (old new : Parts) (id : ℕ) (layout : Layout) → SetsQueue old id layout outcome.Done new → IsLayout layout
+lies_lawfully : (old new : Parts) (id : ℕ) (layout : Layout) → SetsBlockQueue old id layout outcome.Done new → IsLayout layout
 lies_lawfully old new id layout (inl unknown) = absurd (subst IsDone unknown.told_so tt)
 lies_lawfully old new id layout (inr (inl unable)) = absurd (subst IsDone unable.told_so tt)
 lies_lawfully old new id layout (inr (inr (able, inl lawful))) = lawful.0
@@ -105,7 +105,7 @@ lies_lawfully old new id layout (inr (inr (able, inr refused))) = absurd (subst 
 
 pub queues_begin : (old new : Seen) (id size descriptors available used : ℕ) (block : BlockSeen)
     → HappensHere old (events.Queue id size descriptors available used) outcome.Done new → block_with old.blocks id ≡ Some block
-    → (after : BlockSeen) × (block_with new.blocks id ≡ Some after) × IsFresh (layout_of size descriptors available used) after.device
+    → (after : BlockSeen) × (block_with new.blocks id ≡ Some after) × HasFreshQueue (layout_of size descriptors available used) after.device
 queues_begin old new id size descriptors available used block happens there =
     by (one_changes (SetsUp layout) old.blocks new.blocks id id block there happens.1.0)
   where
@@ -113,7 +113,7 @@ queues_begin old new id size descriptors available used block happens there =
     layout = layout_of size descriptors available used
 
     by : ((id ≢ id) × (block_with new.blocks id ≡ Some block)) ⊎ IsChanged (SetsUp layout) new.blocks id id block
-        → (after : BlockSeen) × (block_with new.blocks id ≡ Some after) × IsFresh layout after.device
+        → (after : BlockSeen) × (block_with new.blocks id ≡ Some after) × HasFreshQueue layout after.device
     by (inl (differ, stays)) = absurd (differ refl)
     by (inr changed) = (
       as_device block changed.after,

@@ -21,7 +21,7 @@ use Rattle.iom_virtio_blk.specs.Steps.{Device, device}
 use Rattle.iom_virtio_blk.proofs.DiskStays.{name_stays}
 use Rattle.iom_virtio_blk.proofs.StepLemmas.{tells_inserted, tells_kept}
 use Rattle.iom_world_effects.specs.Parts.{Parts}
-use Rattle.iom_platform.specs.Blocks.{EndsStep, HasDisk, HearsMade, HearsRefusal, IsLeft, IsNew, IsReset, SetsUp, StepsOnce}
+use Rattle.iom_platform.specs.Blocks.{EndsStep, HasDisk, HearsMade, HearsRefusal, IsGivenUp, IsNew, IsReset, SetsUp, StepsOnce}
 use Rattle.iom_block_life.specs.Stories.{Story, Tells, begins, ended}
 use Rattle.iom_block_life.proofs.RunLives.{queue_set}
 
@@ -85,7 +85,7 @@ pub is_reset : (story : Story) (old new : Device) → IsReset old new → Tells 
 is_reset story old new is tells =
     rests story old new (λ works. reset_rests new.front.stage (ap (λ (d : Device). d.front.stage) is) works) (ap (λ (d : Device). d.disk) is) tells
 
-pub is_left : (old new : Device) → IsLeft old new → Tells ended new
+pub is_left : (old new : Device) → IsGivenUp old new → Tells ended new
 is_left old new is = subst (λ (d : Device). Tells ended d) (sym is)
     (record { disk = refl; history = record { map = tt; work = λ works served. absurd (reset_rests Reset refl works) } })
 

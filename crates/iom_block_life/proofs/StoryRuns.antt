@@ -18,7 +18,7 @@ use Rattle.iom_virtqueue.specs.declared.layout.Layout.{Layout}
 use Rattle.iom_virtqueue.specs.Layouts.{layout_of}
 use Rattle.iom_world.specs.Seen.{parts_of}
 use Rattle.iom_platform.specs.Blocks as model
-use Rattle.iom_platform.specs.Blocks.{block_with, Changes, ChangesOne, Stay, StepsOnce, HasDisk, IsLeft, IsReset, IsTaken, SetsUp, DoesToBlocks, HearsOldest, BringsRefusal, HearsAnswer, PlugsBlock, refused_page}
+use Rattle.iom_platform.specs.Blocks.{block_with, Changes, ChangesOne, Stay, StepsOnce, HasDisk, IsGivenUp, IsReset, IsDiskTaken, SetsUp, DoesToBlocks, HearsOldest, BringsRefusal, HearsAnswer, PlugsBlock, refused_page}
 use Rattle.iom_platform.specs.Happens.{HappensHere}
 use Rattle.iom_platform.specs.Runs.{GoesThrough}
 use Rattle.iom_platform.specs.Seen.{BlockSeen, Seen}
@@ -83,7 +83,7 @@ plugs_any None id other old new told block story has same = stay_told id old new
 plugs_any (Some number) id other old new told block story has plugged = plugs number id other old new told block story has plugged
 
 inserts : (number id other : ℕ) (old new : Seen) (told : Outcome) (block : BlockSeen) (story : Story) → Has id old block story
-    → model.InsertsDisk number old other told new → IsTold id new.blocks (story_after id old (events.Medium other number) told new story)
+    → model.InsertsIntoBlock number old other told new → IsTold id new.blocks (story_after id old (events.Medium other number) told new story)
 inserts number id other old new outcome.Done block story has is =
     switches (HasDisk is.disk) id other old new.blocks block story
     (put_in (find (λ (one : DiskSeen). one.number == number) old.at_hand) story) has
@@ -94,7 +94,7 @@ inserts number id other old new told block story has same = stay_told id old new
 leaves : (id other : ℕ) (old new : Seen) (told : Outcome) (block : BlockSeen) (story : Story) → Has id old block story
     → model.LeavesBlock old other told new → IsTold id new.blocks (story_after id old (events.Detach other) told new story)
 leaves id other old new (outcome.Ticket ticket) block story has changes =
-    switches IsLeft id other old new.blocks block story ended has (λ after left there. is_left block.device after left) changes.0
+    switches IsGivenUp id other old new.blocks block story ended has (λ after left there. is_left block.device after left) changes.0
 leaves id other old new told block story has same = stay_told id old new block story has same
 
 resets : (id other : ℕ) (old new : Seen) (told : Outcome) (block : BlockSeen) (story : Story) → Has id old block story → model.ResetsBlock old other told new
@@ -212,12 +212,12 @@ there_behind (first ∷ others) id one own none = by (first.id == id) refl (ther
 
 pub plugs_begin : (old new : Seen) (id number : ℕ) (what : NewDevice)
     → HappensHere old (events.Plug id what) outcome.Done new → disk_of what ≡ Some number → block_with old.blocks id ≡ None
-    → (disk : DiskState) × IsTaken number old.at_hand disk new.at_hand
+    → (disk : DiskState) × IsDiskTaken number old.at_hand disk new.at_hand
     × (after : BlockSeen) × (block_with new.blocks id ≡ Some after) × Tells (begins disk) after.device
 plugs_begin old new id number what happens is none = by (subst (λ (n : Option ℕ). model.PlugsAny n old id outcome.Done new) is happens.1)
   where
     by : model.IsPluggedIn number id old.blocks old.at_hand new.blocks new.at_hand
-        → (disk : DiskState) × IsTaken number old.at_hand disk new.at_hand
+        → (disk : DiskState) × IsDiskTaken number old.at_hand disk new.at_hand
         × (after : BlockSeen) × (block_with new.blocks id ≡ Some after) × Tells (begins disk) after.device
     by plugged = (
       plugged.disk,

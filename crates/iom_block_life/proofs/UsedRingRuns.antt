@@ -18,19 +18,19 @@ use Rattle.iom_machine.specs.Machine.{Run}
 use Rattle.iom_virtio_blk.specs.declared.step.Step.{Step}
 use Rattle.iom_virtio_blk.specs.declared.step.Step.TheVariants as step
 use Rattle.iom_virtio_blk.specs.Elements.{Byte, Done, IsWithin, Writes, begun, bytes_from, count_after, done_at, element_of, elements_from, wrote_at, wrote_by}
-use Rattle.iom_virtio_blk.specs.Steps.{Device, Steps}
+use Rattle.iom_virtio_blk.specs.Steps.{Device, BlockDeviceSteps}
 use Rattle.iom_virtio_blk.proofs.ElementLemmas.{steps_write}
 use Rattle.iom_virtqueue.specs.declared.layout.Layout.{Layout}
 use Rattle.iom_virtqueue.specs.Layouts.{layout_of}
 use Rattle.iom_virtqueue.specs.Queues.{QueueState, more_finished}
 use Rattle.iom_world.specs.Seen.{parts_of}
 use Rattle.iom_platform.specs.Blocks as model
-use Rattle.iom_platform.specs.Blocks.{block_with, Changes, Stay, StepsOnce, EndsStep, HasDisk, IsLeft, IsReset, SetsUp, DoesToBlocks, HearsOldest, BringsRefusal, HearsAnswer, PlugsBlock, refused_page}
+use Rattle.iom_platform.specs.Blocks.{block_with, Changes, Stay, StepsOnce, EndsStep, HasDisk, IsGivenUp, IsReset, SetsUp, DoesToBlocks, HearsOldest, BringsRefusal, HearsAnswer, PlugsBlock, refused_page}
 use Rattle.iom_platform.specs.Runs.{GoesThrough}
 use Rattle.iom_platform.specs.Seen.{BlockSeen, Seen}
-use Rattle.iom_block_life.specs.Lives.{IsFresh}
+use Rattle.iom_block_life.specs.Lives.{HasFreshQueue}
 use Rattle.iom_block_life.specs.Runs.{LivesThrough, ends_life, went_on}
-use Rattle.iom_block_life.specs.UsedRings.{bytes_by, bytes_in, done_by, done_in, requests_in, wrote_when}
+use Rattle.iom_block_life.specs.UsedRings.{bytes_by, bytes_in, done_by_device, done_in, requests_in, wrote_when}
 use Rattle.iom_block_life.proofs.BlockChanges.{as_device, there_before, IsChanged, one_changes}
 use Rattle.iom_block_life.proofs.EventLives.{to_memory}
 use Rattle.iom_block_life.proofs.StoryLemmas.{ends, hears_made, hears_refusal}
@@ -137,7 +137,7 @@ step_writes : (old new : Parts) (id : ℕ) (told : Outcome) (before after : Devi
     → Writes before.front.queue after.front.queue (wrote_if (went_on told) before) (done_in told)
 step_writes old new id told before after once within = by once.taken once.steps once.ends
   where
-    as_shown : (taken : Step) (shown : Outcome) → Steps before taken once.between → EndsStep taken old id once.between told new after → told ≡ shown
+    as_shown : (taken : Step) (shown : Outcome) → BlockDeviceSteps before taken once.between → EndsStep taken old id once.between told new after → told ≡ shown
         → went_on shown ≡ false → wrote_at before taken ≡ [] → done_in shown ≡ done_at taken
         → Writes before.front.queue after.front.queue (wrote_if (went_on told) before) (done_in told)
     as_shown taken shown steps end is none wrote done =
@@ -145,7 +145,7 @@ step_writes old new id told before after once within = by once.taken once.steps 
         (steps_write before once.between taken steps within) (ends taken old new id told once.between after end).queue
         (went_not told shown before is none ∙ sym wrote) (ap done_in is ∙ done)
 
-    by : (taken : Step) → Steps before taken once.between → EndsStep taken old id once.between told new after
+    by : (taken : Step) → BlockDeviceSteps before taken once.between → EndsStep taken old id once.between told new after
         → Writes before.front.queue after.front.queue (wrote_if (went_on told) before) (done_in told)
     by step.Idle steps end = as_shown step.Idle (outcome.Stepped rest.Idle) steps end end.0 refl refl refl
     by step.Waiting steps end = as_shown step.Waiting (outcome.Stepped rest.Waiting) steps end end.0 refl refl refl
@@ -160,7 +160,7 @@ step_writes old new id told before after once within = by once.taken once.steps 
 
 steps_on : (id other : ℕ) (old new : Seen) (told : Outcome) (block : BlockSeen) → Has id old block
     → Changes (StepsOnce (parts_of old.world) other told (parts_of new.world)) old other new
-    → WritesOn id block.device.front.queue new.blocks (bytes_by id old (events.Step other) told) (done_by id (events.Step other) told)
+    → WritesOn id block.device.front.queue new.blocks (bytes_by id old (events.Step other) told) (done_by_device id (events.Step other) told)
 steps_on id other old new told block has changes =
     by (one_changes (StepsOnce (parts_of old.world) other told (parts_of new.world)) old.blocks new.blocks id other block has.there changes.0)
   where
@@ -168,7 +168,7 @@ steps_on id other old new told block has changes =
     wrote = wrote_when (went_on told) (block_with old.blocks id)
 
     as_is : (c : Bool) → (id == other) ≡ c → WritesOn id block.device.front.queue new.blocks (if c then wrote else []) (if c then done_in told else [])
-        → WritesOn id block.device.front.queue new.blocks (bytes_by id old (events.Step other) told) (done_by id (events.Step other) told)
+        → WritesOn id block.device.front.queue new.blocks (bytes_by id old (events.Step other) told) (done_by_device id (events.Step other) told)
     as_is c is on = subst (λ (b : Bool). WritesOn id block.device.front.queue new.blocks (if b then wrote else []) (if b then done_in told else [])) (sym is) on
 
     same_bytes : (c : Bool) → wrote_when c (Some block) ≡ wrote_if c block.device
@@ -176,7 +176,7 @@ steps_on id other old new told block has changes =
     same_bytes false = refl
 
     by : ((other ≢ id) × (block_with new.blocks id ≡ Some block)) ⊎ IsChanged (StepsOnce (parts_of old.world) other told (parts_of new.world)) new.blocks id other block
-        → WritesOn id block.device.front.queue new.blocks (bytes_by id old (events.Step other) told) (done_by id (events.Step other) told)
+        → WritesOn id block.device.front.queue new.blocks (bytes_by id old (events.Step other) told) (done_by_device id (events.Step other) told)
     by (inl (differ, stays)) = as_is false (ne_eqb id other (λ same. differ (sym same))) (same_on id old new.blocks block has stays)
     by (inr changed) = as_is true (eq-eqb id other (sym changed.same))
         (record {
@@ -201,7 +201,7 @@ plugs_any : (number : Option ℕ) (id other : ℕ) (old new : Seen) (told : Outc
 plugs_any None id other old new told block has same = stay_on id old new block has same
 plugs_any (Some number) id other old new told block has plugged = plugs number id other old new told block has plugged
 
-inserts : (number id other : ℕ) (old new : Seen) (told : Outcome) (block : BlockSeen) → Has id old block → model.InsertsDisk number old other told new
+inserts : (number id other : ℕ) (old new : Seen) (told : Outcome) (block : BlockSeen) → Has id old block → model.InsertsIntoBlock number old other told new
     → WritesOn id block.device.front.queue new.blocks [] []
 inserts number id other old new outcome.Done block has put = by (one_changes (HasDisk put.disk) old.blocks new.blocks id other block has.there put.changed)
   where
@@ -218,7 +218,7 @@ inserts number id other old new told block has same = stay_on id old new block h
 leaves : (id other : ℕ) (old new : Seen) (told : Outcome) (block : BlockSeen) → Has id old block → ends_life id (events.Detach other) told ≡ false
     → model.LeavesBlock old other told new → WritesOn id block.device.front.queue new.blocks [] []
 leaves id other old new (outcome.Ticket ticket) block has lives changes =
-    changes_on IsLeft id other old new block has (λ same after how. alive id other lives same) changes
+    changes_on IsGivenUp id other old new block has (λ same after how. alive id other lives same) changes
 leaves id other old new told block has lives same = stay_on id old new block has same
 
 resets : (id other : ℕ) (old new : Seen) (told : Outcome) (block : BlockSeen) → Has id old block → ends_life id (events.Reset other) told ≡ false
@@ -263,7 +263,7 @@ delivers place id old new told block has same = stay_on id old new block has sam
 
 -- any event
 event_on : (id : ℕ) (old new : Seen) (event : Event) (told : Outcome) (block : BlockSeen) → Has id old block → ends_life id event told ≡ false
-    → DoesToBlocks old event told new → WritesOn id block.device.front.queue new.blocks (bytes_by id old event told) (done_by id event told)
+    → DoesToBlocks old event told new → WritesOn id block.device.front.queue new.blocks (bytes_by id old event told) (done_by_device id event told)
 event_on id old new (events.Plug other what) told block has lives does = plugs_any (disk_of what) id other old new told block has does
 event_on id old new (events.Medium other number) told block has lives does = inserts number id other old new told block has does
 event_on id old new (events.Detach other) told block has lives does = leaves id other old new told block has lives does
@@ -295,12 +295,12 @@ runs_on (event ∷ events) (told ∷ outcomes) (trace ∷ traces) state last (ne
       there = more.there;
       writes =
           joined block.device.front.queue one.block.device.front.queue more.block.device.front.queue (bytes_by id old event told)
-          (bytes_in id next mid events outcomes traces last rest new later) (done_by id event told) (requests_in id events outcomes) one.writes more.writes;
+          (bytes_in id next mid events outcomes traces last rest new later) (done_by_device id event told) (requests_in id events outcomes) one.writes more.writes;
     }
 
 pub runs_write : (state last : State) (old new : Seen) (events : List Event) (outcomes : List Outcome) (traces : List (Option Trace)) (run : Run state events outcomes last)
     (id : ℕ) (layout : Layout) (block : BlockSeen) (through : GoesThrough state old events outcomes traces last run new)
-    → block_with old.blocks id ≡ Some block → IsFresh layout block.device → LivesThrough id events outcomes
+    → block_with old.blocks id ≡ Some block → HasFreshQueue layout block.device → LivesThrough id events outcomes
     → (after : BlockSeen) × (block_with new.blocks id ≡ Some after)
     × (bytes_in id state old events outcomes traces last run new through ≡ elements_from layout 0 (requests_in id events outcomes) ++ begun after.device.front.queue)
 runs_write state last old new events outcomes traces run id layout block through there fresh lives =

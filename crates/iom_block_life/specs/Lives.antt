@@ -14,7 +14,7 @@ use Rattle.iom_virtio_blk.specs.declared.step.Step.{Step}
 use Rattle.iom_virtio_blk.specs.declared.step.Step.TheVariants.{Idle, Waiting, Down, Chain, Finished, Wants}
 use Rattle.iom_virtio_blk.specs.declared.step.Reply.{Reply}
 use Rattle.iom_virtio_blk.specs.Blocks.{EndsWaiting, wanted_by, replied, down}
-use Rattle.iom_virtio_blk.specs.Steps.{Device, Steps}
+use Rattle.iom_virtio_blk.specs.Steps.{Device, BlockDeviceSteps}
 
 -- what happens to a device: it takes a step, with this outcome; it hears that its access of this number was made, with these bytes; it hears what became
 -- of the access that it wants; it hears that the translation of a page is refused; a disk is put in or taken out, or a call is refused, and all but the disk
@@ -28,7 +28,7 @@ pub data Turn : Type 0 where
 
 -- the device before and after it
 abbrev pub Turns : Device → Turn → Device → Type 0
-Turns old (TakesStep outcome) new = Steps old outcome new
+Turns old (TakesStep outcome) new = BlockDeviceSteps old outcome new
 Turns old (HearsMade number bytes) new =
     (old.front.waits ≡ Some number → EndsWaiting old.front bytes new.front) × (old.front.waits ≢ Some number → new.front ≡ old.front)
 Turns old (HearsReply reply) new = new.front ≡ replied reply old.front
@@ -90,7 +90,7 @@ Lives old (turn ∷ turns) taken finished new =
     × Turns old turn next × (taken ≡ taken_at old turn ++ later) × (finished ≡ finished_at turn ++ ends) × Lives next turns later ends new
 
 -- a device whose queue was just set
-pub record IsFresh (layout : Layout) (d : Device) : Type 0 where
+pub record HasFreshQueue (layout : Layout) (d : Device) : Type 0 where
   pub stage : d.front.stage ≡ DriverOk
   pub lawful : IsLayout layout
   pub queue : d.front.queue ≡ fresh_queue layout
@@ -112,4 +112,4 @@ pub record UsesEachOnce (layout : Layout) (taken : List Taken) (finished : List 
 abbrev pub LivesUseEachOnce : Type 0
 LivesUseEachOnce =
     (layout : Layout) (old new : Device) (turns : List Turn) (taken : List Taken) (finished : List ℕ)
-    → IsFresh layout old → Lives old turns taken finished new → UsesEachOnce layout taken finished new
+    → HasFreshQueue layout old → Lives old turns taken finished new → UsesEachOnce layout taken finished new

@@ -14,7 +14,7 @@ use Rattle.iom_platform.specs.Blocks.{block_with}
 use Rattle.iom_platform.specs.Happens.{HappensHere}
 use Rattle.iom_platform.specs.Runs.{GoesThrough}
 use Rattle.iom_platform.specs.Seen.{BlockSeen, Seen}
-use Rattle.iom_block_life.specs.Lives.{Taken, entry_in, IsFresh, UsesEachOnce}
+use Rattle.iom_block_life.specs.Lives.{Taken, entry_in, HasFreshQueue, UsesEachOnce}
 
 -- whether the event, told so, ends the life of the device with this id: it is detached, revived or reset, or its queue is set anew, and that isn't refused
 abbrev pub ends_life : ℕ → Event → Outcome → Bool
@@ -69,26 +69,26 @@ taken_in id old (events.Step other) told = if id == other then entry_by (went_on
 taken_in id old event told = []
 
 -- the entries that the steps of this device took, in their order, in the states that the platform goes through
-abbrev pub entries_in : (id : ℕ) (state : State) (old : Seen) (events : List Event) (outcomes : List Outcome) (traces : List (Option Trace)) (last : State)
+abbrev pub entries_taken : (id : ℕ) (state : State) (old : Seen) (events : List Event) (outcomes : List Outcome) (traces : List (Option Trace)) (last : State)
     (run : Run state events outcomes last) (new : Seen) → GoesThrough state old events outcomes traces last run new → List Taken
-entries_in id state old [] outcomes traces last run new through = []
-entries_in id state old (event ∷ events) [] traces last run new through = []
-entries_in id state old (event ∷ events) (told ∷ outcomes) [] last run new through = []
-entries_in id state old (event ∷ events) (told ∷ outcomes) (trace ∷ traces) last (next, step, rest) new (shows, mid, happens, counts, later) =
-    taken_in id old event told ++ entries_in id next mid events outcomes traces last rest new later
+entries_taken id state old [] outcomes traces last run new through = []
+entries_taken id state old (event ∷ events) [] traces last run new through = []
+entries_taken id state old (event ∷ events) (told ∷ outcomes) [] last run new through = []
+entries_taken id state old (event ∷ events) (told ∷ outcomes) (trace ∷ traces) last (next, step, rest) new (shows, mid, happens, counts, later) =
+    taken_in id old event told ++ entries_taken id next mid events outcomes traces last rest new later
 
 -- a queue that is set begins a life
 abbrev pub QueuesBeginLives : Type 0
 QueuesBeginLives =
     (old new : Seen) (id size descriptors available used : ℕ) (block : BlockSeen)
     → HappensHere old (events.Queue id size descriptors available used) outcome.Done new → block_with old.blocks id ≡ Some block
-    → (after : BlockSeen) × (block_with new.blocks id ≡ Some after) × IsFresh (layout_of size descriptors available used) after.device
+    → (after : BlockSeen) × (block_with new.blocks id ≡ Some after) × HasFreshQueue (layout_of size descriptors available used) after.device
 
 -- THE LAW of the model: from a block device whose queue was just set, over any events of which none ends its life
 abbrev pub RunsUseEachOnce : Type 0
 RunsUseEachOnce =
     (state last : State) (old new : Seen) (events : List Event) (outcomes : List Outcome) (traces : List (Option Trace)) (run : Run state events outcomes last)
     (id : ℕ) (layout : Layout) (block : BlockSeen) (through : GoesThrough state old events outcomes traces last run new)
-    → block_with old.blocks id ≡ Some block → IsFresh layout block.device → LivesThrough id events outcomes
+    → block_with old.blocks id ≡ Some block → HasFreshQueue layout block.device → LivesThrough id events outcomes
     → (after : BlockSeen) × (block_with new.blocks id ≡ Some after)
-    × UsesEachOnce layout (entries_in id state old events outcomes traces last run new through) (heads_in id events outcomes) after.device
+    × UsesEachOnce layout (entries_taken id state old events outcomes traces last run new through) (heads_in id events outcomes) after.device

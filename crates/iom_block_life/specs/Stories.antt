@@ -13,7 +13,7 @@ use Rattle.iom_virtio_blk.specs.Disks.{name_in}
 use Rattle.iom_virtio_blk.specs.DiskStates.{DiskState}
 use Rattle.iom_virtio_blk.specs.Histories.{Entry, inserted, TellsDisk, history_after}
 use Rattle.iom_virtio_blk.specs.Steps.{Device}
-use Rattle.iom_platform.specs.Blocks.{block_with, IsTaken}
+use Rattle.iom_platform.specs.Blocks.{block_with, IsDiskTaken}
 use Rattle.iom_platform.specs.Happens.{HappensHere}
 use Rattle.iom_platform.specs.Runs.{GoesThrough}
 use Rattle.iom_platform.specs.Seen.{BlockSeen, Seen}
@@ -73,7 +73,7 @@ abbrev pub PlugsBeginStories : Type 0
 PlugsBeginStories =
     (old new : Seen) (id number : ℕ) (what : NewDevice)
     → HappensHere old (events.Plug id what) outcome.Done new → disk_of what ≡ Some number → block_with old.blocks id ≡ None
-    → (disk : DiskState) × IsTaken number old.at_hand disk new.at_hand
+    → (disk : DiskState) × IsDiskTaken number old.at_hand disk new.at_hand
     × (after : BlockSeen) × (block_with new.blocks id ≡ Some after) × Tells (begins disk) after.device
 
 -- THE LAW: over any events, whatever the driver writes into its rings, and through resets, revivals, detaches and disks that are put in

@@ -13,7 +13,7 @@ use Rattle.iom_virtio_blk.specs.Elements.{Byte, Done, begun, elements_from, wrot
 use Rattle.iom_platform.specs.Blocks.{block_with}
 use Rattle.iom_platform.specs.Runs.{GoesThrough}
 use Rattle.iom_platform.specs.Seen.{BlockSeen, Seen}
-use Rattle.iom_block_life.specs.Lives.{IsFresh}
+use Rattle.iom_block_life.specs.Lives.{HasFreshQueue}
 use Rattle.iom_block_life.specs.Runs.{LivesThrough, went_on}
 
 -- the request that a step finished, by what is told: the head of its chain, and the count of the bytes that were written
@@ -22,15 +22,15 @@ done_in (outcome.Stepped (rest.Finished head len)) = record { head = head; len =
 done_in told = []
 
 -- the same of a step of this device
-abbrev pub done_by : ℕ → Event → Outcome → List Done
-done_by id (events.Step other) told = if id == other then done_in told else []
-done_by id event told = []
+abbrev pub done_by_device : ℕ → Event → Outcome → List Done
+done_by_device id (events.Step other) told = if id == other then done_in told else []
+done_by_device id event told = []
 
 -- all requests of this device that the events finished, in their order
 abbrev pub requests_in : ℕ → List Event → List Outcome → List Done
 requests_in id [] outcomes = []
 requests_in id (event ∷ events) [] = []
-requests_in id (event ∷ events) (told ∷ outcomes) = done_by id event told ++ requests_in id events outcomes
+requests_in id (event ∷ events) (told ∷ outcomes) = done_by_device id event told ++ requests_in id events outcomes
 
 -- the bytes of the used ring that were written by the access whose end the step heard, if it went on, by the device before it
 abbrev pub wrote_when : Bool → Option BlockSeen → List Byte
@@ -59,6 +59,6 @@ abbrev pub RunsWriteElements : Type 0
 RunsWriteElements =
     (state last : State) (old new : Seen) (events : List Event) (outcomes : List Outcome) (traces : List (Option Trace)) (run : Run state events outcomes last)
     (id : ℕ) (layout : Layout) (block : BlockSeen) (through : GoesThrough state old events outcomes traces last run new)
-    → block_with old.blocks id ≡ Some block → IsFresh layout block.device → LivesThrough id events outcomes
+    → block_with old.blocks id ≡ Some block → HasFreshQueue layout block.device → LivesThrough id events outcomes
     → (after : BlockSeen) × (block_with new.blocks id ≡ Some after)
     × (bytes_in id state old events outcomes traces last run new through ≡ elements_from layout 0 (requests_in id events outcomes) ++ begun after.device.front.queue)

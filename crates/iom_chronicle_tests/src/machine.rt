@@ -2,7 +2,7 @@
 ghost use Rattle.std.specs.Prelude.{◌+◌, ◌<◌, ◌^◌};
 ghost use Rattle.iom_hardware.specs.HardwareParts.{hardware_parts};
 ghost use Rattle.iom_hardware.specs.Sound.{IsSoundHardware};
-ghost use Rattle.iom_hardware.specs.SoundIsFact.{sound_prop};
+ghost use Rattle.iom_hardware.specs.SoundIsFact.{sound_hardware_prop};
 
 use crate::expect::expect;
 use iom_base::{AccessKind, NewDevice};
@@ -52,7 +52,7 @@ pub(crate) enum Act<'a> {
 pub(crate) struct Machine {
     hardware: Hardware,
     chronicle: Box<Chronicle>,
-    ghost sound: { IsSoundHardware (hardware_parts hardware) hardware.events } by { sound_prop (hardware_parts hardware) hardware.events },
+    ghost sound: { IsSoundHardware (hardware_parts hardware) hardware.events } by { sound_hardware_prop (hardware_parts hardware) hardware.events },
 }
 
 /// The memory of a test.

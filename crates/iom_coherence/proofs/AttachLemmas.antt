@@ -5,9 +5,9 @@ use Rattle.iom_ledger.specs.History.{Pair, held_at}
 use Rattle.iom_coherence.specs.Attachments.{IsQuarantined, has_ats, in_both_stages, caches_translations}
 use Rattle.iom_coherence.specs.Copies.{ContextFits, EntryGoes, IsFaithfulEntry, IsFaithfulTranslation, TranslationGoes}
 use Rattle.iom_coherence.specs.Deliveries.{raised}
-use Rattle.iom_coherence.specs.DriverCalls.{with_attachment}
+use Rattle.iom_coherence.specs.DriverCalls.{attachments_with}
 use Rattle.iom_coherence.specs.Faithful.{GrantsFit, IsFaithful}
-use Rattle.iom_coherence.specs.Holdings.{HoldsNothing, LingersUpTo}
+use Rattle.iom_coherence.specs.Holdings.{HoldsNoPage, LingersUpTo}
 use Rattle.iom_coherence.specs.Scene.{Answer, Copy, Scene}
 use Rattle.iom_machine.specs.declared.state.Attachment.TheVariants.{Attached, Detached, Quarantined}
 use Rattle.iom_base.specs.declared.mode.Mode.{Mode}
@@ -26,7 +26,7 @@ pub record IsBare (s : Scene) (device : ℕ) : Type 0 where
 -- The device is attached, where no copy of it is there but its context.
 pub faithful_attached_bare : (s : Scene) (device : ℕ) (mode : Mode) (ats : Bool) → IsFaithful s → IsBare s device
     → (ats ≡ true → caches_translations (s.kind_of device) ≡ true)
-    → IsFaithful (record s { attachment_of = with_attachment s.attachment_of device (Attached mode ats) })
+    → IsFaithful (record s { attachment_of = attachments_with s.attachment_of device (Attached mode ats) })
 faithful_attached_bare s device mode ats faithful bare caches = record {
   order = record {
     fences = faithful.order.fences;
@@ -48,17 +48,17 @@ faithful_attached_bare s device mode ats faithful bare caches = record {
 }
   where
     New : Scene
-    New = record s { attachment_of = with_attachment s.attachment_of device (Attached mode ats) }
+    New = record s { attachment_of = attachments_with s.attachment_of device (Attached mode ats) }
 
-    grants : (d : ℕ) (b : Bool) → (device == d) ≡ b → GrantsFit New.history d (with_attachment s.attachment_of device (Attached mode ats) d)
+    grants : (d : ℕ) (b : Bool) → (device == d) ≡ b → GrantsFit New.history d (attachments_with s.attachment_of device (Attached mode ats) d)
     grants d true e = subst (GrantsFit New.history d) (sym (own_attachment s.attachment_of device (Attached mode ats) d e)) tt
     grants d false e = subst (GrantsFit New.history d) (sym (other_attachment s.attachment_of device (Attached mode ats) d e)) (faithful.order.grants d)
 
-    cached : (d : ℕ) (b : Bool) → (device == d) ≡ b → has_ats (with_attachment s.attachment_of device (Attached mode ats) d) ≡ true → caches_translations (s.kind_of d) ≡ true
+    cached : (d : ℕ) (b : Bool) → (device == d) ≡ b → has_ats (attachments_with s.attachment_of device (Attached mode ats) d) ≡ true → caches_translations (s.kind_of d) ≡ true
     cached d true e has = subst (λ x. caches_translations (s.kind_of x) ≡ true) (eqb-true device d e) (caches (sym (ap has_ats (own_attachment s.attachment_of device (Attached mode ats) d e)) ∙ has))
     cached d false e has = faithful.order.cached d (sym (ap has_ats (other_attachment s.attachment_of device (Attached mode ats) d e)) ∙ has)
 
-    context : (d : ℕ) (b : Bool) → (device == d) ≡ b → ContextFits s d (s.attachment_of d) → ContextFits New d (with_attachment s.attachment_of device (Attached mode ats) d)
+    context : (d : ℕ) (b : Bool) → (device == d) ≡ b → ContextFits s d (s.attachment_of d) → ContextFits New d (attachments_with s.attachment_of device (Attached mode ats) d)
     context d true e fits = subst (ContextFits New d) (sym (own_attachment s.attachment_of device (Attached mode ats) d e)) tt
     context d false e fits = subst (ContextFits New d) (sym (other_attachment s.attachment_of device (Attached mode ats) d e)) fits
 
@@ -71,7 +71,7 @@ faithful_attached_bare s device mode ats faithful bare caches = record {
         (λ t goes. (goes.0, λ has. elim (goes.1 (sym (ap has_ats is) ∙ has)) [ inl told ↦ inl told | inr (q, cut) ↦ inr (subst IsQuarantined (sym is) q, cut) ]))
         (faithful.translations copy there))
 
-    goes_on : (d a t : ℕ) → with_attachment s.attachment_of device (Attached mode ats) d ≡ s.attachment_of d → EntryGoes s d a t → EntryGoes New d a t
+    goes_on : (d a t : ℕ) → attachments_with s.attachment_of device (Attached mode ats) d ≡ s.attachment_of d → EntryGoes s d a t → EntryGoes New d a t
     goes_on d a t is (inl told) = inl told
     goes_on d a t is (inr (inl underway)) = inr (inl underway)
     goes_on d a t is (inr (inr (inl stopped))) = inr (inr (inl stopped))
@@ -90,7 +90,7 @@ faithful_attached_bare s device mode ats faithful bare caches = record {
 -- An attach keeps all facts: of a detached device there are no copies.
 pub faithful_attached : (s : Scene) (device : ℕ) (mode : Mode) (ats : Bool) → IsFaithful s → s.attachment_of device ≡ Detached
     → (ats ≡ true → caches_translations (s.kind_of device) ≡ true)
-    → IsFaithful (record s { attachment_of = with_attachment s.attachment_of device (Attached mode ats) })
+    → IsFaithful (record s { attachment_of = attachments_with s.attachment_of device (Attached mode ats) })
 faithful_attached s device mode ats faithful at caches = faithful_attached_bare s device mode ats faithful (record {
   translations = λ copy there its.
       let none = subst (GrantsFit s.history device) at (faithful.order.grants device) in
@@ -111,7 +111,7 @@ faithful_attached s device mode ats faithful at caches = faithful_attached_bare 
 -- A revive keeps all facts: it resets the device, so that nothing is left that was cut off.
 pub faithful_revived : (s : Scene) (device ticket : ℕ) (mode : Mode) (ats : Bool) (left : List Copy) → IsFaithful s → s.attachment_of device ≡ Quarantined ticket mode ats → ticket ≤ s.confirmed
     → ((copy : Copy) → Contains left copy → Contains s.entries copy × ((device == copy.device) ≡ false))
-    → IsFaithful (record s { entries = left; epoch_of = raised s.kind_of s.epoch_of device; attachment_of = with_attachment s.attachment_of device (Attached mode ats) })
+    → IsFaithful (record s { entries = left; epoch_of = raised s.kind_of s.epoch_of device; attachment_of = attachments_with s.attachment_of device (Attached mode ats) })
 faithful_revived s device ticket mode ats left faithful at confirmed kept =
     faithful_attached_bare (record s { entries = left; epoch_of = raised s.kind_of s.epoch_of device }) device mode ats (faithful_reset s device left faithful kept)
     (record {
@@ -125,7 +125,7 @@ faithful_revived s device ticket mode ats left faithful at confirmed kept =
     own : (copy : Copy) → device ≡ copy.device → (device == copy.device) ≡ true
     own copy its = subst (λ x. (device == x) ≡ true) its (same_number device)
 
-    fits : HoldsNothing s.history device × LingersUpTo s.history device ticket
+    fits : HoldsNoPage s.history device × LingersUpTo s.history device ticket
     fits = subst (GrantsFit s.history device) at (faithful.order.grants device)
 
     none : (copy : Copy) → device ≡ copy.device → IsFaithfulTranslation s copy → ⊥

@@ -6,7 +6,7 @@ use Rattle.iom_coherence.specs.Attachments.{IsAttached, IsQuarantined, has_ats, 
 use Rattle.iom_coherence.specs.Copies.{ContextFits, EntryGoes, IsCutOff, IsFaithfulEntry, IsFaithfulTranslation, IsInUse, IsUnderway, TranslationGoes}
 use Rattle.iom_coherence.specs.Deliveries.{MayBeSent, raised}
 use Rattle.iom_coherence.specs.Faithful.{IsFaithful, IsOrdered}
-use Rattle.iom_coherence.specs.Queue.{Extent, covers}
+use Rattle.iom_coherence.specs.Queue.{Extent, extent_covers}
 use Rattle.iom_coherence.specs.Requests.{IsWalked}
 use Rattle.iom_coherence.specs.Scene.{Answer, AtsMessage, Copy, InvalidateCompletion, InvalidateRequest, Invalidation, Question, Scene}
 use Rattle.iom_coherence.specs.ToCome.{AreToCome, drops_translation, invalidates, is_fence}
@@ -211,7 +211,7 @@ faithful_reset s device left faithful kept = record {
 
 -- An invalidation is delivered: the device drops what it covers, raises its epoch, and says that it is done.
 pub faithful_invalidated : (s : Scene) (slot : Invalidation) (extent : Extent) (left : List Copy) (messages : List AtsMessage) → IsFaithful s → Contains s.messages (InvalidateRequest slot extent)
-    → ((copy : Copy) → Contains left copy → Contains s.entries copy × (((slot.device == copy.device) && covers extent copy.page) ≡ false))
+    → ((copy : Copy) → Contains left copy → Contains s.entries copy × (((slot.device == copy.device) && extent_covers extent copy.page) ≡ false))
     → ((message : AtsMessage) → Contains messages message → (message ≡ InvalidateCompletion slot) ⊎ Contains s.messages message)
     → IsFaithful (record s { entries = left; epoch_of = raised s.kind_of s.epoch_of slot.device; messages = messages })
 faithful_invalidated s slot extent left messages faithful sent kept from = record {
@@ -248,17 +248,17 @@ faithful_invalidated s slot extent left messages faithful sent kept from = recor
     New : Scene
     New = record s { entries = left; epoch_of = raised s.kind_of s.epoch_of slot.device; messages = messages }
 
-    underway : (d a : ℕ) → ((slot.device == d) && covers extent a) ≡ false → IsUnderway s d a → IsUnderway New d a
+    underway : (d a : ℕ) → ((slot.device == d) && extent_covers extent a) ≡ false → IsUnderway s d a → IsUnderway New d a
     underway d a uncovered (serial, opened, undone, covered) = (
       serial,
       opened,
       (λ there. elim (from (InvalidateCompletion (record { serial = serial; device = d })) there) [
         | inl same ↦ (
             let is : record { serial = serial; device = d } ≡ slot = cc in
-            let in_extent : covers extent a ≡ true = covered extent (subst (λ x. Contains s.messages (InvalidateRequest x extent)) (sym is) sent) in
+            let in_extent : extent_covers extent a ≡ true = covered extent (subst (λ x. Contains s.messages (InvalidateRequest x extent)) (sym is) sent) in
             let its : d ≡ slot.device = ap (λ (x : Invalidation). x.device) is in
             let own : (slot.device == d) ≡ true = subst (λ x. (slot.device == x) ≡ true) (sym its) (same_number slot.device) in
-            let none : ((slot.device == d) && covers extent a) ≡ true = rw (own, in_extent) refl in
+            let none : ((slot.device == d) && extent_covers extent a) ≡ true = rw (own, in_extent) refl in
             absurd (false≢true (sym uncovered ∙ none))
             )
         | inr old ↦ undone old
@@ -269,13 +269,13 @@ faithful_invalidated s slot extent left messages faithful sent kept from = recor
       ]),
     )
 
-    goes_on : (d a t : ℕ) → ((slot.device == d) && covers extent a) ≡ false → EntryGoes s d a t → EntryGoes New d a t
+    goes_on : (d a t : ℕ) → ((slot.device == d) && extent_covers extent a) ≡ false → EntryGoes s d a t → EntryGoes New d a t
     goes_on d a t uncovered (inl told) = inl told
     goes_on d a t uncovered (inr (inl (fence, on_its_way))) = inr (inl (fence, underway d a uncovered on_its_way))
     goes_on d a t uncovered (inr (inr (inl stopped))) = inr (inr (inl stopped))
     goes_on d a t uncovered (inr (inr (inr cut))) = inr (inr (inr cut))
 
-    entry : (copy : Copy) → ((slot.device == copy.device) && covers extent copy.page) ≡ false → IsFaithfulEntry s copy → IsFaithfulEntry New copy
+    entry : (copy : Copy) → ((slot.device == copy.device) && extent_covers extent copy.page) ≡ false → IsFaithfulEntry s copy → IsFaithfulEntry New copy
     entry copy uncovered fact in_use =
         let old = fact in_use in (
           old.0,

@@ -5,7 +5,7 @@ use Rattle.iom_ledger.specs.declared.entry.HistoryEntry.TheVariants.{Confirmed}
 use Rattle.iom_ledger.specs.History.{confirms}
 use Rattle.iom_coherence.specs.Attachments.{IsQuarantined, has_ats, in_both_stages}
 use Rattle.iom_coherence.specs.Copies.{AccessGoes, ContextFits, EntryGoes, IsFaithfulEntry, TranslationGoes, NamesGrant, IsFaithfulTranslation}
-use Rattle.iom_coherence.specs.DriverCalls.{once_confirmed}
+use Rattle.iom_coherence.specs.DriverCalls.{attachment_once_confirmed}
 use Rattle.iom_coherence.specs.Faithful.{GrantsFit, IsFaithful, IsOrdered}
 use Rattle.iom_coherence.specs.Queue.{QueuedCommand}
 use Rattle.iom_coherence.specs.Scene.{Copy, Scene, PendingTicket}
@@ -28,7 +28,7 @@ ConfirmedScene s ticket later = record s {
   history = Confirmed ticket ∷ s.history;
   pending = later;
   confirmed = ticket;
-  attachment_of = λ d. once_confirmed ticket (s.attachment_of d);
+  attachment_of = λ d. attachment_once_confirmed ticket (s.attachment_of d);
 }
 
 -- what is still to come for a ticket is to come for another one than this
@@ -53,7 +53,7 @@ to_come-confirmed s ticket fence later ordered oldest done t steps (f, there, or
     (other.0, (f, other.1, order))
 
 -- an attachment isn't one with ATS because a ticket is confirmed
-ats_before : (ticket : ℕ) (attachment : Attachment) → has_ats (once_confirmed ticket attachment) ≡ true → has_ats attachment ≡ true
+ats_before : (ticket : ℕ) (attachment : Attachment) → has_ats (attachment_once_confirmed ticket attachment) ≡ true → has_ats attachment ≡ true
 ats_before ticket Detached has = has
 ats_before ticket (Attached mode ats) has = has
 ats_before ticket (Quarantined t mode ats) has = has
@@ -63,14 +63,14 @@ ats_before ticket (Leaving t mode ats) has = by (ticket == t) has
     by true x = absurd (false≢true x)
     by false x = x
 
-quarantined_after : (ticket : ℕ) (attachment : Attachment) → IsQuarantined attachment → IsQuarantined (once_confirmed ticket attachment)
+quarantined_after : (ticket : ℕ) (attachment : Attachment) → IsQuarantined attachment → IsQuarantined (attachment_once_confirmed ticket attachment)
 quarantined_after ticket Detached q = q
 quarantined_after ticket (Attached mode ats) q = q
 quarantined_after ticket (Quarantined t mode ats) q = q
 quarantined_after ticket (Leaving t mode ats) q = absurd (false≢true q)
 
 grants-confirmed : (s : Scene) (ticket : ℕ) (later : List PendingTicket) (d : ℕ) (attachment : Attachment) → GrantsFit s.history d attachment
-    → GrantsFit (Confirmed ticket ∷ s.history) d (once_confirmed ticket attachment)
+    → GrantsFit (Confirmed ticket ∷ s.history) d (attachment_once_confirmed ticket attachment)
 grants-confirmed s ticket later d Detached (holds, lingers) = (holds, λ a t pair c. lingers a t pair (lingers_confirmed s.history ticket d a t pair c))
 grants-confirmed s ticket later d (Attached mode ats) fits = tt
 grants-confirmed s ticket later d (Quarantined x mode ats) (holds, lingers) = (holds, λ a t pair c. lingers a t pair (lingers_confirmed s.history ticket d a t pair c))
@@ -138,7 +138,7 @@ faithful_confirmed s ticket fence later faithful oldest done = record {
         let other = other_ticket s ticket fence later faithful.order oldest done t f there order in
         (other.0, (f, other.1, order, snapshot_taken))
 
-    context : (d : ℕ) (attachment : Attachment) → ContextFits s d attachment → ContextFits (ConfirmedScene s ticket later) d (once_confirmed ticket attachment)
+    context : (d : ℕ) (attachment : Attachment) → ContextFits s d attachment → ContextFits (ConfirmedScene s ticket later) d (attachment_once_confirmed ticket attachment)
     context d Detached fits = fits
     context d (Attached mode ats) fits = tt
     context d (Quarantined x mode ats) fits = (still_to_come x (drops_context d ∷ []) fits).1
@@ -161,19 +161,19 @@ faithful_confirmed s ticket fence later faithful oldest done = record {
         backed-never (in_both_stages (s.attachment_of copy.device)) s.history S copy nothing.0 nothing.1 old
 
     -- what the copy names it still names
-    names : (copy : Copy) (S T : ℕ → Type 0) → in_both_stages (once_confirmed ticket (s.attachment_of copy.device)) ≡ in_both_stages (s.attachment_of copy.device)
+    names : (copy : Copy) (S T : ℕ → Type 0) → in_both_stages (attachment_once_confirmed ticket (s.attachment_of copy.device)) ≡ in_both_stages (s.attachment_of copy.device)
         → ((t : ℕ) → S t → (ticket ≢ t) × T t) → NamesGrant s S copy → NamesGrant (ConfirmedScene s ticket later) T copy
     names copy S T same go old =
-        backed-as (in_both_stages (once_confirmed ticket (s.attachment_of copy.device))) (in_both_stages (s.attachment_of copy.device)) (Confirmed ticket ∷ s.history) T copy same
+        backed-as (in_both_stages (attachment_once_confirmed ticket (s.attachment_of copy.device))) (in_both_stages (s.attachment_of copy.device)) (Confirmed ticket ∷ s.history) T copy same
         (backed (in_both_stages (s.attachment_of copy.device)) s.history (Confirmed ticket ∷ s.history) S T copy
         (λ a r comes was. confirmed s.history S T ticket copy.device a (copy.pair.0, r) go was) old)
 
-    translation_as : (copy : Copy) → in_both_stages (once_confirmed ticket (s.attachment_of copy.device)) ≡ in_both_stages (s.attachment_of copy.device)
+    translation_as : (copy : Copy) → in_both_stages (attachment_once_confirmed ticket (s.attachment_of copy.device)) ≡ in_both_stages (s.attachment_of copy.device)
         → IsFaithfulTranslation s copy → IsFaithfulTranslation (ConfirmedScene s ticket later) copy
     translation_as copy same old =
         names copy (TranslationGoes s copy.device copy.page) (TranslationGoes (ConfirmedScene s ticket later) copy.device copy.page) same (λ t goes. translation copy.device copy.page t goes) old
 
-    entry_as : (copy : Copy) → in_both_stages (once_confirmed ticket (s.attachment_of copy.device)) ≡ in_both_stages (s.attachment_of copy.device)
+    entry_as : (copy : Copy) → in_both_stages (attachment_once_confirmed ticket (s.attachment_of copy.device)) ≡ in_both_stages (s.attachment_of copy.device)
         → NamesGrant s (EntryGoes s copy.device copy.page) copy → NamesGrant (ConfirmedScene s ticket later) (EntryGoes (ConfirmedScene s ticket later) copy.device copy.page) copy
     entry_as copy same old =
         names copy (EntryGoes s copy.device copy.page) (EntryGoes (ConfirmedScene s ticket later) copy.device copy.page) same (λ t goes. entry_goes copy.device copy.page t goes) old

@@ -8,7 +8,7 @@ use Rattle.iom_coherence.specs.Attachments.{IsKnown, in_both_stages}
 use Rattle.iom_coherence.specs.Backing.{IsBacked}
 use Rattle.iom_coherence.specs.Copies.{AccessGoes, ContextFits, EntryGoes, IsFaithfulAccess, NamesGrant, TranslationGoes}
 use Rattle.iom_coherence.specs.Faithful.{GrantsFit, IsFaithful}
-use Rattle.iom_coherence.specs.Holdings.{AreApart, HoldsNothing, HoldsOrLingers, LingersOnNothing}
+use Rattle.iom_coherence.specs.Holdings.{AreApart, HoldsNoPage, HoldsOrLingers, LingersOnNothing}
 use Rattle.iom_coherence.specs.Laws.{AccessesAreKnown, ContextsAreNotOver, DoneFencesAreGone, IsNotOver, IsOfKnown, IsReachable, NamesHeld, NamesReachable, OfAnswers, OfEntries, OfTranslations, OpenSlotsHoldFences, StoppedQueuesHoldFences, IsUnconfirmed}
 use Rattle.iom_coherence.specs.Scene.{Copy, Scene}
 use Rattle.iom_coherence.specs.ToCome.{AreToCome, QueuedStep, drops_context}
@@ -75,7 +75,7 @@ contexts_are_not_over scene device faithful there = by (scene.attachment_of devi
     by (Leaving t mode ats) fits = pending t (drops_context device ∷ []) fits (confirms scene.history t) refl
 
 -- for a detached device nothing is held and nothing lingers
-known : (scene : Scene) (device : ℕ) → IsFaithful scene → (HoldsNothing scene.history device → LingersOnNothing scene.history device → ⊥) → IsKnown (scene.attachment_of device)
+known : (scene : Scene) (device : ℕ) → IsFaithful scene → (HoldsNoPage scene.history device → LingersOnNothing scene.history device → ⊥) → IsKnown (scene.attachment_of device)
 known scene device faithful something = by (scene.attachment_of device) (faithful.order.grants device)
   where
     by : (attachment : Attachment) → GrantsFit scene.history device attachment → IsKnown attachment

@@ -6,9 +6,9 @@ use Rattle.iom_ledger.specs.History.{History, Pair, Holds, held_at}
 use Rattle.iom_coherence.specs.Attachments.{IsQuarantined, has_ats, in_both_stages, caches_translations}
 use Rattle.iom_coherence.specs.Backing.{IsBacked}
 use Rattle.iom_coherence.specs.Copies.{AccessGoes, ContextFits, EntryGoes, IsFaithfulContext, IsFaithfulEntry, IsFaithfulTranslation, TranslationGoes}
-use Rattle.iom_coherence.specs.DriverCalls.{leave_commands, with_attachment}
+use Rattle.iom_coherence.specs.DriverCalls.{leave_commands, attachments_with}
 use Rattle.iom_coherence.specs.Faithful.{GrantsFit, IsFaithful, IsOrdered}
-use Rattle.iom_coherence.specs.Holdings.{HoldsNothing, LingersOnNothing}
+use Rattle.iom_coherence.specs.Holdings.{HoldsNoPage, LingersOnNothing}
 use Rattle.iom_coherence.specs.Queue.{Fence}
 use Rattle.iom_coherence.specs.Scene.{Scene}
 use Rattle.iom_coherence.specs.ToCome.{AreToCome, InOrder, drops_context, drops_translation, invalidates, is_fence}
@@ -19,15 +19,15 @@ use Rattle.iom_coherence.proofs.LedgerLemmas.{backed, backed-still, backed-never
 use Rattle.iom_coherence.proofs.TicketLemmas.{same_number, Ticketed, to_come-ticket, to_come-new, translation-ticket, access-ticket, access-new, context-ticket, entry-ticket, fresh, ordered-ticket}
 
 -- the attachment of another device
-pub other_attachment : (of : ℕ → Attachment) (device : ℕ) (now : Attachment) (d : ℕ) → (device == d) ≡ false → with_attachment of device now d ≡ of d
+pub other_attachment : (of : ℕ → Attachment) (device : ℕ) (now : Attachment) (d : ℕ) → (device == d) ≡ false → attachments_with of device now d ≡ of d
 other_attachment of device now d e = rw e refl
 
-pub own_attachment : (of : ℕ → Attachment) (device : ℕ) (now : Attachment) (d : ℕ) → (device == d) ≡ true → with_attachment of device now d ≡ now
+pub own_attachment : (of : ℕ → Attachment) (device : ℕ) (now : Attachment) (d : ℕ) → (device == d) ≡ true → attachments_with of device now d ≡ now
 own_attachment of device now d e = rw e refl
 
 -- the scene where the device leaves, or is quarantined
 abbrev pub LeftScene : Scene → ℕ → History → Attachment → Scene
-LeftScene s device h now = Ticketed s (leave_commands device) h (with_attachment s.attachment_of device now)
+LeftScene s device h now = Ticketed s (leave_commands device) h (attachments_with s.attachment_of device now)
 
 leave-translation : (s : Scene) (device : ℕ) (h : History) (of : ℕ → Attachment) (a : ℕ) → AreToCome (Ticketed s (leave_commands device) h of) (s.given + 1) (drops_translation device a ∷ [])
 leave-translation s device h of a =
@@ -53,11 +53,11 @@ contexts-left s device h now own d fits = by (device == d) refl
     by true e = subst (ContextFits (LeftScene s device h now) d) (sym (own_attachment s.attachment_of device now d e))
         (subst (λ x. ContextFits (LeftScene s device h now) x now) (eqb-true device d e) own)
     by false e = subst (ContextFits (LeftScene s device h now) d) (sym (other_attachment s.attachment_of device now d e))
-        (context-ticket s (leave_commands device) h (with_attachment s.attachment_of device now) d (s.attachment_of d) fits)
+        (context-ticket s (leave_commands device) h (attachments_with s.attachment_of device now) d (s.attachment_of d) fits)
 
 -- a device that leaves so has a cache if it is one with ATS
 cached-left : (s : Scene) (device : ℕ) (now : Attachment) → IsOrdered s → (has_ats now ≡ true → caches_translations (s.kind_of device) ≡ true)
-    → (d : ℕ) → has_ats (with_attachment s.attachment_of device now d) ≡ true → caches_translations (s.kind_of d) ≡ true
+    → (d : ℕ) → has_ats (attachments_with s.attachment_of device now d) ≡ true → caches_translations (s.kind_of d) ≡ true
 cached-left s device now ordered own d has = by (device == d) refl
   where
     by : (b : Bool) → (device == d) ≡ b → caches_translations (s.kind_of d) ≡ true
@@ -98,7 +98,7 @@ faithful_quarantined s device mode ats faithful at = record {
     H = AllReleased device (s.given + 1) ∷ s.history
 
     Of : ℕ → Attachment
-    Of = with_attachment s.attachment_of device (Quarantined (s.given + 1) mode ats)
+    Of = attachments_with s.attachment_of device (Quarantined (s.given + 1) mode ats)
 
     New : Scene
     New = QuarantinedScene s device mode ats
@@ -110,7 +110,7 @@ faithful_quarantined s device mode ats faithful at = record {
         up_to (inl (new, held)) = omega (arith, new)
         up_to (inr old) = let within = faithful.order.lingering d a t pair old in omega (arith, within)
 
-    elsewhere : (d : ℕ) → (device == d) ≡ false → (a t : ℕ) (pair : Pair) → HoldsNothing s.history d → Lingering H d a t pair → Lingering s.history d a t pair
+    elsewhere : (d : ℕ) → (device == d) ≡ false → (a t : ℕ) (pair : Pair) → HoldsNoPage s.history d → Lingering H d a t pair → Lingering s.history d a t pair
     elsewhere d e a t pair holds c = old (lingers_all_released s.history device (s.given + 1) d a t pair c)
       where
         old : ((t ≡ s.given + 1) × Holds s.history d a pair) ⊎ Lingering s.history d a t pair → Lingering s.history d a t pair
@@ -127,7 +127,7 @@ faithful_quarantined s device mode ats faithful at = record {
     own : GrantsFit New.history device (Quarantined (s.given + 1) mode ats)
     own = ((λ a. none_held s.history device (s.given + 1) a), λ a t pair c. lingering device a t pair c)
 
-    grants : (d : ℕ) (b : Bool) → (device == d) ≡ b → GrantsFit New.history d (with_attachment s.attachment_of device (Quarantined (s.given + 1) mode ats) d)
+    grants : (d : ℕ) (b : Bool) → (device == d) ≡ b → GrantsFit New.history d (attachments_with s.attachment_of device (Quarantined (s.given + 1) mode ats) d)
     grants d true e = subst (GrantsFit New.history d) (sym (own_attachment s.attachment_of device Now d e)) (subst (λ x. GrantsFit New.history x Now) (eqb-true device d e) own)
     grants d false e = subst (GrantsFit New.history d) (sym (other_attachment s.attachment_of device Now d e)) (others d e (s.attachment_of d) (faithful.order.grants d))
 
@@ -137,10 +137,10 @@ faithful_quarantined s device mode ats faithful at = record {
     not_quarantined : IsQuarantined (s.attachment_of device) → ⊥
     not_quarantined q = false≢true (subst IsQuarantined at q)
 
-    is_quarantined : IsQuarantined (with_attachment s.attachment_of device (Quarantined (s.given + 1) mode ats) device)
+    is_quarantined : IsQuarantined (attachments_with s.attachment_of device (Quarantined (s.given + 1) mode ats) device)
     is_quarantined = subst IsQuarantined (sym (own_attachment s.attachment_of device Now device (same_number device))) refl
 
-    own_has : has_ats (with_attachment s.attachment_of device (Quarantined (s.given + 1) mode ats) device) ≡ has_ats (s.attachment_of device)
+    own_has : has_ats (attachments_with s.attachment_of device (Quarantined (s.given + 1) mode ats) device) ≡ has_ats (s.attachment_of device)
     own_has = ap has_ats (own_attachment s.attachment_of device Now device (same_number device)) ∙ sym (ap has_ats at)
 
     own_stages : in_both_stages (Of device) ≡ in_both_stages (s.attachment_of device)
@@ -207,7 +207,7 @@ abbrev pub LeavingScene : Scene → ℕ → Mode → Bool → Scene
 LeavingScene s device mode ats = LeftScene s device s.history (Leaving (s.given + 1) mode ats)
 
 -- A detach keeps all facts: there are no copies of the device but its context.
-pub faithful_detached : (s : Scene) (device : ℕ) (mode : Mode) (ats : Bool) → IsFaithful s → s.attachment_of device ≡ Attached mode ats → HoldsNothing s.history device → LingersOnNothing s.history device
+pub faithful_detached : (s : Scene) (device : ℕ) (mode : Mode) (ats : Bool) → IsFaithful s → s.attachment_of device ≡ Attached mode ats → HoldsNoPage s.history device → LingersOnNothing s.history device
     → IsFaithful (LeavingScene s device mode ats)
 faithful_detached s device mode ats faithful at holds lingers = record {
   order = ordered-ticket s (leave_commands device) s.history Of faithful.order (λ l within. within) (λ t. refl)
@@ -232,13 +232,13 @@ faithful_detached s device mode ats faithful at holds lingers = record {
     Now = Leaving (s.given + 1) mode ats
 
     Of : ℕ → Attachment
-    Of = with_attachment s.attachment_of device (Leaving (s.given + 1) mode ats)
+    Of = attachments_with s.attachment_of device (Leaving (s.given + 1) mode ats)
 
     New : Scene
     New = LeavingScene s device mode ats
 
-    grants : (d : ℕ) (b : Bool) → (device == d) ≡ b → GrantsFit New.history d (with_attachment s.attachment_of device (Leaving (s.given + 1) mode ats) d)
-    grants d true e = subst (GrantsFit New.history d) (sym (own_attachment s.attachment_of device Now d e)) (subst (λ x. HoldsNothing s.history x × LingersOnNothing s.history x) (eqb-true device d e) (holds, lingers))
+    grants : (d : ℕ) (b : Bool) → (device == d) ≡ b → GrantsFit New.history d (attachments_with s.attachment_of device (Leaving (s.given + 1) mode ats) d)
+    grants d true e = subst (GrantsFit New.history d) (sym (own_attachment s.attachment_of device Now d e)) (subst (λ x. HoldsNoPage s.history x × LingersOnNothing s.history x) (eqb-true device d e) (holds, lingers))
     grants d false e = subst (GrantsFit New.history d) (sym (other_attachment s.attachment_of device Now d e)) (faithful.order.grants d)
 
     none : (S : ℕ → Type 0) (d a : ℕ) (pair : Pair) → device ≡ d → IsBacked (in_both_stages (s.attachment_of d)) s.history S (record { device = d; page = a; pair = pair }) → ⊥

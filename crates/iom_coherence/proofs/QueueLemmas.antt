@@ -7,7 +7,7 @@ use Rattle.iom_coherence.specs.Among.{AreAmong}
 use Rattle.iom_coherence.specs.Attachments.{IsQuarantined, in_both_stages, may_forge}
 use Rattle.iom_coherence.specs.Copies.{AccessGoes, ContextFits, EntryGoes, IsFaithfulEntry, IsUnderway, TranslationGoes}
 use Rattle.iom_coherence.specs.Faithful.{IsFaithful, IsOrdered}
-use Rattle.iom_coherence.specs.Queue.{DropContext, DropTranslations, Extent, Fence, Invalidate, QueuedCommand, covers}
+use Rattle.iom_coherence.specs.Queue.{DropContext, DropTranslations, Extent, Fence, Invalidate, QueuedCommand, extent_covers}
 use Rattle.iom_coherence.specs.Scene.{AccessInFlight, Answer, AtsMessage, Copy, InvalidateCompletion, InvalidateRequest, Invalidation, Question, Scene, Stock}
 use Rattle.iom_coherence.specs.ToCome.{AreToCome, FencesRise, InOrder, QueuedStep, drops_context, drops_translation, invalidates, is_fence}
 use Rattle.iom_machine.specs.declared.state.Attachment.{Attachment}
@@ -91,7 +91,7 @@ order-fetched s command later translations contexts slots last_serial messages o
 
 -- IOTINVAL.
 pub faithful_translations_dropped : (s : Scene) (device : ℕ) (extent : Extent) (later : List QueuedCommand) (left : List Copy) → IsFaithful s → s.waiting ≡ DropTranslations device extent ∷ later
-    → ((copy : Copy) → Contains left copy → Contains s.translations copy × (((device == copy.device) && covers extent copy.page) ≡ false))
+    → ((copy : Copy) → Contains left copy → Contains s.translations copy × (((device == copy.device) && extent_covers extent copy.page) ≡ false))
     → IsFaithful (record s { waiting = later; translations = left })
 faithful_translations_dropped s device extent later left faithful head dropped = record {
   order = order-fetched s (DropTranslations device extent) later left s.contexts s.slots s.last_serial s.messages faithful.order head (λ fence. refl)
@@ -315,7 +315,7 @@ faithful_slot_opened s device extent later slots messages faithful head opens se
     )
 
     -- the slot that is opened now
-    begins : (d a : ℕ) → device ≡ d → covers extent a ≡ true → may_forge (s.kind_of d) ≡ false → IsUnderway New d a
+    begins : (d a : ℕ) → device ≡ d → extent_covers extent a ≡ true → may_forge (s.kind_of d) ≡ false → IsUnderway New d a
     begins d a its in_extent trusted = (
       s.last_serial + 1,
       subst (λ x. Contains slots (record { serial = s.last_serial + 1; device = x })) its (subst (λ l. Contains l slot) (sym opens) (Contains-push s.slots slot)),
@@ -324,7 +324,7 @@ faithful_slot_opened s device extent later slots messages faithful head opens se
         | inr old ↦ (let low = faithful.numbers.done (record { serial = s.last_serial + 1; device = d }) old trusted in absurd (omega (arith, low)))
       ]),
       (λ r there. elim (sent (InvalidateRequest (record { serial = s.last_serial + 1; device = d }) r) there) [
-        | inl same ↦ (let is : r ≡ extent = cc in subst (λ x. covers x a ≡ true) (sym is) in_extent)
+        | inl same ↦ (let is : r ≡ extent = cc in subst (λ x. extent_covers x a ≡ true) (sym is) in_extent)
         | inr old ↦ (let low = faithful.numbers.requested (record { serial = s.last_serial + 1; device = d }) r old in absurd (omega (arith, low)))
       ]),
     )
@@ -332,9 +332,9 @@ faithful_slot_opened s device extent later slots messages faithful head opens se
     goes_on : (d a t : ℕ) → may_forge (s.kind_of d) ≡ false → EntryGoes s d a t → EntryGoes New d a t
     goes_on d a t trusted (inl (fence, there, order)) = by (subst (λ q. InOrder (invalidates d a ∷ is_fence fence ∷ []) q) head order)
       where
-        by : (((device == d) && covers extent a) ≡ true) × InOrder (is_fence fence ∷ []) later ⊎ InOrder (invalidates d a ∷ is_fence fence ∷ []) later → EntryGoes New d a t
+        by : (((device == d) && extent_covers extent a) ≡ true) × InOrder (is_fence fence ∷ []) later ⊎ InOrder (invalidates d a ∷ is_fence fence ∷ []) later → EntryGoes New d a t
         by (inl (it, rest)) =
-            let parts = and_parts (device == d) (covers extent a) it in
+            let parts = and_parts (device == d) (extent_covers extent a) it in
             inr (inl ((fence, there, rest), begins d a (eqb-true device d parts.0) parts.1 trusted))
         by (inr next) = inl (fence, there, next)
     goes_on d a t trusted (inr (inl (fence, underway))) = inr (inl (fence-fetched s (Invalidate device extent) later head t (λ f. refl) fence, stays d a trusted underway))

@@ -6,9 +6,9 @@ use Rattle.iom_coherence.specs.Among.{AreAmong}
 use Rattle.iom_coherence.specs.Attachments.{IsKnown, IsQuarantined, has_ats, in_both_stages}
 use Rattle.iom_coherence.specs.Backing.{IsBacked}
 use Rattle.iom_coherence.specs.Copies.{AccessGoes, ContextFits, EntryGoes, IsFaithfulEntry, IsFaithfulTranslation, TranslationGoes}
-use Rattle.iom_coherence.specs.DriverCalls.{all_requeued, requeued, restarted}
+use Rattle.iom_coherence.specs.DriverCalls.{all_queued_again, queued_again, restarted}
 use Rattle.iom_coherence.specs.Faithful.{GrantsFit, IsFaithful, IsOrdered}
-use Rattle.iom_coherence.specs.Holdings.{HoldsNothing, LingersOnNothing}
+use Rattle.iom_coherence.specs.Holdings.{HoldsNoPage, LingersOnNothing}
 use Rattle.iom_coherence.specs.Queue.{Fence, QueuedCommand}
 use Rattle.iom_coherence.specs.Scene.{Answer, AtsMessage, Copy, InvalidateCompletion, InvalidateRequest, Invalidation, Question, Scene, PendingTicket, Stock}
 use Rattle.iom_coherence.specs.ToCome.{AreToCome, FencesRise, InOrder, QueuedStep, drops_context, drops_translation, invalidates, is_fence, WaitsForFence}
@@ -27,21 +27,21 @@ in_order-both (step ∷ steps) second (command ∷ later) more (inl (does, a)) b
 in_order-both (step ∷ steps) second (command ∷ later) more (inr a) b = inr (in_order-both (step ∷ steps) second later more a b)
 
 -- the commands for a device are among all
-in_requeued : (of : ℕ → Attachment) (devices : List ℕ) (d : ℕ) (steps : List QueuedStep) → Contains devices d → InOrder steps (requeued d (of d)) → InOrder steps (all_requeued of devices)
+in_requeued : (of : ℕ → Attachment) (devices : List ℕ) (d : ℕ) (steps : List QueuedStep) → Contains devices d → InOrder steps (queued_again d (of d)) → InOrder steps (all_queued_again of devices)
 in_requeued of [] d steps there order = absurd (in_none d there)
 in_requeued of (device ∷ others) d steps there order = by (in_requeued of others d steps) (cons_cases device others d there)
   where
-    by : (Contains others d → InOrder steps (requeued d (of d)) → InOrder steps (all_requeued of others)) → (device ≡ d) ⊎ Contains others d
-        → InOrder steps (requeued device (of device) ++ all_requeued of others)
-    by rest (inl same) = in_order-more steps (requeued device (of device)) (all_requeued of others) (subst (λ x. InOrder steps (requeued x (of x))) (sym same) order)
-    by rest (inr later) = in_order-last steps (requeued device (of device)) (all_requeued of others) (rest later order)
+    by : (Contains others d → InOrder steps (queued_again d (of d)) → InOrder steps (all_queued_again of others)) → (device ≡ d) ⊎ Contains others d
+        → InOrder steps (queued_again device (of device) ++ all_queued_again of others)
+    by rest (inl same) = in_order-more steps (queued_again device (of device)) (all_queued_again of others) (subst (λ x. InOrder steps (queued_again x (of x))) (sym same) order)
+    by rest (inr later) = in_order-last steps (queued_again device (of device)) (all_queued_again of others) (rest later order)
 
 -- no fence is among them
-no_fence : (of : ℕ → Attachment) (devices : List ℕ) (low high : ℕ) → low ≤ high → FencesRise low (all_requeued of devices) high
+no_fence : (of : ℕ → Attachment) (devices : List ℕ) (low high : ℕ) → low ≤ high → FencesRise low (all_queued_again of devices) high
 no_fence of [] low high within = within
 no_fence of (device ∷ others) low high within = by (of device) (no_fence of others low high within)
   where
-    by : (attachment : Attachment) → FencesRise low (all_requeued of others) high → FencesRise low (requeued device attachment ++ all_requeued of others) high
+    by : (attachment : Attachment) → FencesRise low (all_queued_again of others) high → FencesRise low (queued_again device attachment ++ all_queued_again of others) high
     by Detached rest = rest
     by (Attached mode false) rest = rest
     by (Attached mode true) rest = rest
@@ -52,7 +52,7 @@ no_fence of (device ∷ others) low high within = by (of device) (no_fence of ot
 pub faithful_restarted : (s : Scene) (devices : List ℕ) → IsFaithful s → ((d : ℕ) → IsKnown (s.attachment_of d) → Contains devices d) → IsFaithful (restarted s devices)
 faithful_restarted s devices faithful known = record {
   order = record {
-    fences = rise-fence s.completed (all_requeued s.attachment_of devices) s.last_fence (no_fence s.attachment_of devices s.completed s.last_fence (rise_le s.completed s.waiting s.last_fence faithful.order.fences));
+    fences = rise-fence s.completed (all_queued_again s.attachment_of devices) s.last_fence (no_fence s.attachment_of devices s.completed s.last_fence (rise_le s.completed s.waiting s.last_fence faithful.order.fences));
     tickets = tickets-waiting_for s.confirmed s.pending s.given (s.last_fence + 1) faithful.order.tickets;
     confirmed = faithful.order.confirmed;
     lingering = faithful.order.lingering;
@@ -77,7 +77,7 @@ faithful_restarted s devices faithful known = record {
         (λ t goes. (
           s.last_fence + 1,
           contains_map (λ (p : PendingTicket). Waits p.ticket (s.last_fence + 1)) s.pending (Waits t goes.0) goes.1,
-          in_order-last (is_fence (s.last_fence + 1) ∷ []) (all_requeued s.attachment_of devices) (Fence (s.last_fence + 1) ∷ []) (inl (same_number (s.last_fence + 1), tt)),
+          in_order-last (is_fence (s.last_fence + 1) ∷ []) (all_queued_again s.attachment_of devices) (Fence (s.last_fence + 1) ∷ []) (inl (same_number (s.last_fence + 1), tt)),
           (λ n is. let none : ◌≡◌ {A = Option Stock} None (Some (Stocked (s.last_fence + 1) n)) = is in cc),
         )) old.2,
     old.3,
@@ -91,16 +91,16 @@ faithful_restarted s devices faithful known = record {
     New = restarted s devices
 
     -- what is requeued for the device is to come for each pending ticket
-    to_come : (d : ℕ) (attachment : Attachment) → s.attachment_of d ≡ attachment → IsKnown attachment → (t : ℕ) (before steps : List QueuedStep) → AreToCome s t before → InOrder steps (requeued d attachment) → AreToCome New t steps
+    to_come : (d : ℕ) (attachment : Attachment) → s.attachment_of d ≡ attachment → IsKnown attachment → (t : ℕ) (before steps : List QueuedStep) → AreToCome s t before → InOrder steps (queued_again d attachment) → AreToCome New t steps
     to_come d attachment at is_known t before steps (fence, there, order) requeues = (
       s.last_fence + 1,
       contains_map (λ (p : PendingTicket). Waits p.ticket (s.last_fence + 1)) s.pending (Waits t fence) there,
-      in_order-both steps (is_fence (s.last_fence + 1) ∷ []) (all_requeued s.attachment_of devices) (Fence (s.last_fence + 1) ∷ [])
-          (in_requeued s.attachment_of devices d steps (known d (subst IsKnown (sym at) is_known)) (subst (λ x. InOrder steps (requeued d x)) (sym at) requeues))
+      in_order-both steps (is_fence (s.last_fence + 1) ∷ []) (all_queued_again s.attachment_of devices) (Fence (s.last_fence + 1) ∷ [])
+          (in_requeued s.attachment_of devices d steps (known d (subst IsKnown (sym at) is_known)) (subst (λ x. InOrder steps (queued_again d x)) (sym at) requeues))
           (inl (same_number (s.last_fence + 1), tt)),
     )
 
-    nothing : (S : ℕ → Type 0) (d a : ℕ) (pair : Pair) → HoldsNothing s.history d × LingersOnNothing s.history d → IsBacked (in_both_stages (s.attachment_of d)) s.history S (record { device = d; page = a; pair = pair }) → ⊥
+    nothing : (S : ℕ → Type 0) (d a : ℕ) (pair : Pair) → HoldsNoPage s.history d × LingersOnNothing s.history d → IsBacked (in_both_stages (s.attachment_of d)) s.history S (record { device = d; page = a; pair = pair }) → ⊥
     nothing S d a pair none old = backed-never (in_both_stages (s.attachment_of d)) s.history S (record { device = d; page = a; pair = pair }) none.0 none.1 old
 
     translation : (d a : ℕ) (pair : Pair) (attachment : Attachment) → s.attachment_of d ≡ attachment → IsFaithfulTranslation s (record { device = d; page = a; pair = pair }) → IsFaithfulTranslation New (record { device = d; page = a; pair = pair })
@@ -136,12 +136,12 @@ faithful_restarted s devices faithful known = record {
     pending d a t (inr (inr (inl ((fence, there, order), stopped)))) = (fence, there)
     pending d a t (inr (inr (inr ((fence, there, order), q)))) = (fence, there)
 
-    again : (d : ℕ) (attachment : Attachment) → s.attachment_of d ≡ attachment → IsKnown attachment → (t : ℕ) (steps : List QueuedStep) → ((fence : ℕ) × WaitsForFence s t fence) → InOrder steps (requeued d attachment) → AreToCome New t steps
+    again : (d : ℕ) (attachment : Attachment) → s.attachment_of d ≡ attachment → IsKnown attachment → (t : ℕ) (steps : List QueuedStep) → ((fence : ℕ) × WaitsForFence s t fence) → InOrder steps (queued_again d attachment) → AreToCome New t steps
     again d attachment at is_known t steps (fence, there) requeues = (
       s.last_fence + 1,
       contains_map (λ (p : PendingTicket). Waits p.ticket (s.last_fence + 1)) s.pending (Waits t fence) there,
-      in_order-both steps (is_fence (s.last_fence + 1) ∷ []) (all_requeued s.attachment_of devices) (Fence (s.last_fence + 1) ∷ [])
-          (in_requeued s.attachment_of devices d steps (known d (subst IsKnown (sym at) is_known)) (subst (λ x. InOrder steps (requeued d x)) (sym at) requeues))
+      in_order-both steps (is_fence (s.last_fence + 1) ∷ []) (all_queued_again s.attachment_of devices) (Fence (s.last_fence + 1) ∷ [])
+          (in_requeued s.attachment_of devices d steps (known d (subst IsKnown (sym at) is_known)) (subst (λ x. InOrder steps (queued_again d x)) (sym at) requeues))
           (inl (same_number (s.last_fence + 1), tt)),
     )
 

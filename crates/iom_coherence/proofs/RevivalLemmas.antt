@@ -6,7 +6,7 @@ use Rattle.iom_coherence.proofs.ListLemmas.{contains_head, in_none}
 use Rattle.iom_coherence.proofs.ToComeLemmas.{Waits}
 use Rattle.iom_coherence.specs.Attachments.{IsKnown}
 use Rattle.iom_coherence.specs.Deliveries.{raised}
-use Rattle.iom_coherence.specs.DriverCalls.{leave_commands, once_confirmed, release_commands, released_extent, restarted, with_attachment, with_kind, with_ticket}
+use Rattle.iom_coherence.specs.DriverCalls.{leave_commands, attachment_once_confirmed, queued_by_release, released_extent, restarted, attachments_with, with_kind, with_ticket}
 use Rattle.iom_coherence.specs.Fetches.{next_invalidation}
 use Rattle.iom_coherence.specs.Laws.{scene_at_power_on}
 use Rattle.iom_coherence.specs.Transitions.{CompleteFence, FetchIodir, FetchIotinval, OccurInTurn, Occurs, TakeStock}
@@ -36,7 +36,7 @@ Over s ticket later = record s {
   history = Confirmed ticket ∷ s.history;
   pending = later;
   confirmed = ticket;
-  attachment_of = λ d. once_confirmed ticket (s.attachment_of d);
+  attachment_of = λ d. attachment_once_confirmed ticket (s.attachment_of d);
 }
 
 -- The detach.
@@ -45,10 +45,10 @@ abbrev plugged : Scene
 plugged = record scene_at_power_on { kind_of = with_kind scene_at_power_on.kind_of 2 Ats }
 
 abbrev attached : Scene
-attached = record plugged { attachment_of = with_attachment plugged.attachment_of 2 (Attached (Second Sv39) false) }
+attached = record plugged { attachment_of = attachments_with plugged.attachment_of 2 (Attached (Second Sv39) false) }
 
 abbrev leaving : Scene
-leaving = record (with_ticket attached (leave_commands 2)) { attachment_of = with_attachment attached.attachment_of 2 (Leaving (attached.given + 1) (Second Sv39) false) }
+leaving = record (with_ticket attached (leave_commands 2)) { attachment_of = attachments_with attached.attachment_of 2 (Leaving (attached.given + 1) (Second Sv39) false) }
 
 abbrev reset : Scene
 reset = record leaving { entries = []; epoch_of = raised leaving.kind_of leaving.epoch_of 2 }
@@ -121,13 +121,13 @@ detach_occurs = (
 -- The quarantine.
 
 abbrev attached_again : Scene
-attached_again = record gone { attachment_of = with_attachment gone.attachment_of 2 (Attached (Both Sv48) true) }
+attached_again = record gone { attachment_of = attachments_with gone.attachment_of 2 (Attached (Both Sv48) true) }
 
 abbrev granted_page : Scene
 granted_page = record attached_again { history = Granted 2 3 5 both_rights ∷ attached_again.history }
 
 abbrev released_page : Scene
-released_page = record (with_ticket granted_page (release_commands 2 (released_extent (Both Sv48) 3) true)) { history = Released 2 3 (granted_page.given + 1) ∷ granted_page.history }
+released_page = record (with_ticket granted_page (queued_by_release 2 (released_extent (Both Sv48) 3) true)) { history = Released 2 3 (granted_page.given + 1) ∷ granted_page.history }
 
 abbrev dropped : Scene
 dropped = Fetched released_page (Invalidate 2 WholeSpace ∷ Fence 2 ∷ [])
@@ -139,7 +139,7 @@ requested = record dropped { waiting = Fence 2 ∷ []; slots = dropped.slots ++ 
 abbrev quarantined : Scene
 quarantined = record (with_ticket requested (leave_commands 2)) {
   history = AllReleased 2 (requested.given + 1) ∷ requested.history;
-  attachment_of = with_attachment requested.attachment_of 2 (Quarantined (requested.given + 1) (Both Sv48) true);
+  attachment_of = attachments_with requested.attachment_of 2 (Quarantined (requested.given + 1) (Both Sv48) true);
 }
 
 cut_off_occurs : OccurInTurn gone cut_off quarantined
@@ -188,7 +188,7 @@ abbrev revived : Scene
 revived = record both_over {
   entries = [];
   epoch_of = raised both_over.kind_of both_over.epoch_of 2;
-  attachment_of = with_attachment both_over.attachment_of 2 (Attached (Both Sv48) true);
+  attachment_of = attachments_with both_over.attachment_of 2 (Attached (Both Sv48) true);
 }
 
 -- no other device is known

@@ -11,7 +11,7 @@ use Rattle.iom_coherence.specs.Attachments.{IsAttached, in_both_stages}
 use Rattle.iom_coherence.specs.Backing.{ComesFrom, IsBacked}
 use Rattle.iom_coherence.specs.Copies.{AccessGoes, EntryGoes, IsFaithfulAccess, TranslationGoes}
 use Rattle.iom_coherence.specs.Faithful.{GrantsFit, IsFaithful, IsOrdered}
-use Rattle.iom_coherence.specs.Holdings.{HoldsNothing}
+use Rattle.iom_coherence.specs.Holdings.{HoldsNoPage}
 use Rattle.iom_coherence.specs.Laws.{AccessesMay}
 use Rattle.iom_coherence.specs.Queue.{Fence}
 use Rattle.iom_coherence.specs.Requests.{IsSource, next_access}
@@ -32,8 +32,8 @@ away s device d attached isnt = by (device == d) refl
     by false e = e
     by true e = absurd (isnt (subst (λ x. IsAttached (s.attachment_of x)) (eqb-true device d e) attached))
 
-granted_elsewhere : (s : Scene) (device page frame : ℕ) (rights : Rights) (d : ℕ) → (device == d) ≡ false → HoldsNothing s.history d
-    → HoldsNothing (Granted device page frame rights ∷ s.history) d
+granted_elsewhere : (s : Scene) (device page frame : ℕ) (rights : Rights) (d : ℕ) → (device == d) ≡ false → HoldsNoPage s.history d
+    → HoldsNoPage (Granted device page frame rights ∷ s.history) d
 granted_elsewhere s device page frame rights d other holds a = rw other (holds a)
 
 grants-granted : (s : Scene) (device page frame : ℕ) (rights : Rights) → IsAttached (s.attachment_of device) → (d : ℕ) (attachment : Attachment) → s.attachment_of d ≡ attachment

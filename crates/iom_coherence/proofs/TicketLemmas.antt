@@ -9,10 +9,10 @@ use Rattle.iom_base.specs.Modes.{is_both}
 use Rattle.iom_coherence.specs.Attachments.{IsQuarantined, has_ats, in_both_stages, caches_translations}
 use Rattle.iom_coherence.specs.Backing.{ComesFrom}
 use Rattle.iom_coherence.specs.Copies.{AccessGoes, ContextFits, EntryGoes, IsFaithfulEntry, TranslationGoes}
-use Rattle.iom_coherence.specs.DriverCalls.{release_commands, released_extent, with_ticket}
+use Rattle.iom_coherence.specs.DriverCalls.{queued_by_release, released_extent, with_ticket}
 use Rattle.iom_coherence.specs.Faithful.{GrantsFit, IsFaithful, IsOrdered}
 use Rattle.iom_coherence.specs.Holdings.{AreApart}
-use Rattle.iom_coherence.specs.Queue.{Extent, Fence, QueuedCommand, covers, WholeSpace, OnePage}
+use Rattle.iom_coherence.specs.Queue.{Extent, Fence, QueuedCommand, extent_covers, WholeSpace, OnePage}
 use Rattle.iom_coherence.specs.Scene.{Copy, Scene}
 use Rattle.iom_coherence.specs.ToCome.{AreToCome, FencesRise, InOrder, QueuedStep, drops_context, drops_translation, invalidates, is_fence}
 use Rattle.iom_machine.specs.declared.state.Attachment.{Attachment}
@@ -124,7 +124,7 @@ ordered-ticket s commands h of ordered no_fence as_confirmed lingering apart gra
 -- The release of a page.
 
 abbrev pub ReleasedScene : Scene → ℕ → ℕ → Mode → Bool → Scene
-ReleasedScene s device page mode ats = Ticketed s (release_commands device (released_extent mode page) ats) (Released device page (s.given + 1) ∷ s.history) s.attachment_of
+ReleasedScene s device page mode ats = Ticketed s (queued_by_release device (released_extent mode page) ats) (Released device page (s.given + 1) ∷ s.history) s.attachment_of
 
 grants-released : (s : Scene) (device page : ℕ) (mode : Mode) (ats : Bool) (d : ℕ) (attachment : Attachment) → GrantsFit s.history d attachment → GrantsFit (Released device page (s.given + 1) ∷ s.history) d attachment
 grants-released s device page mode ats d attachment = by attachment
@@ -145,23 +145,23 @@ grants-released s device page mode ats d attachment = by attachment
     by (Leaving t m x) (holds, lingers) = (none holds, λ a u pair c. lingers a u pair (lingered holds a u pair c))
 
 -- what is to come for a page that the release covers
-release-steps : (s : Scene) (device : ℕ) (extent : Extent) (a : ℕ) (ats : Bool) (h : History) → covers extent a ≡ true
-    → AreToCome (Ticketed s (release_commands device extent ats) h s.attachment_of) (s.given + 1) (drops_translation device a ∷ [])
-    × (ats ≡ true → AreToCome (Ticketed s (release_commands device extent ats) h s.attachment_of) (s.given + 1) (drops_translation device a ∷ invalidates device a ∷ []))
-    × (ats ≡ true → AreToCome (Ticketed s (release_commands device extent ats) h s.attachment_of) (s.given + 1) (invalidates device a ∷ []))
+release-steps : (s : Scene) (device : ℕ) (extent : Extent) (a : ℕ) (ats : Bool) (h : History) → extent_covers extent a ≡ true
+    → AreToCome (Ticketed s (queued_by_release device extent ats) h s.attachment_of) (s.given + 1) (drops_translation device a ∷ [])
+    × (ats ≡ true → AreToCome (Ticketed s (queued_by_release device extent ats) h s.attachment_of) (s.given + 1) (drops_translation device a ∷ invalidates device a ∷ []))
+    × (ats ≡ true → AreToCome (Ticketed s (queued_by_release device extent ats) h s.attachment_of) (s.given + 1) (invalidates device a ∷ []))
 release-steps s device extent a false h in_extent =
     let dev = same_number device in
     let fen = same_number (s.last_fence + 1) in (
-      to_come-new s (release_commands device extent false) h s.attachment_of (drops_translation device a ∷ []) (inl (rw (dev, in_extent) refl, inl (fen, tt))),
+      to_come-new s (queued_by_release device extent false) h s.attachment_of (drops_translation device a ∷ []) (inl (rw (dev, in_extent) refl, inl (fen, tt))),
       (λ never. absurd (false≢true never)),
       (λ never. absurd (false≢true never)),
     )
 release-steps s device extent a true h in_extent =
     let dev = same_number device in
     let fen = same_number (s.last_fence + 1) in (
-      to_come-new s (release_commands device extent true) h s.attachment_of (drops_translation device a ∷ []) (inl (rw (dev, in_extent) refl, inr (inl (fen, tt)))),
-      (λ yes. to_come-new s (release_commands device extent true) h s.attachment_of (drops_translation device a ∷ invalidates device a ∷ []) (inl (rw (dev, in_extent) refl, inl (rw (dev, in_extent) refl, inl (fen, tt))))),
-      (λ yes. to_come-new s (release_commands device extent true) h s.attachment_of (invalidates device a ∷ []) (inr (inl (rw (dev, in_extent) refl, inl (fen, tt))))),
+      to_come-new s (queued_by_release device extent true) h s.attachment_of (drops_translation device a ∷ []) (inl (rw (dev, in_extent) refl, inr (inl (fen, tt)))),
+      (λ yes. to_come-new s (queued_by_release device extent true) h s.attachment_of (drops_translation device a ∷ invalidates device a ∷ []) (inl (rw (dev, in_extent) refl, inl (rw (dev, in_extent) refl, inl (fen, tt))))),
+      (λ yes. to_come-new s (queued_by_release device extent true) h s.attachment_of (invalidates device a ∷ []) (inr (inl (rw (dev, in_extent) refl, inl (fen, tt))))),
     )
 
 -- a device that is attached so is in both stages where the mode is
@@ -170,18 +170,18 @@ both_stages s device d mode ats at its = ap (λ x. in_both_stages (s.attachment_
 
 -- a release covers what comes from the page
 covered : (both : Bool) (mode : Mode) (page granted : ℕ) (rights : Rights) (a : ℕ) (remembered : Rights) → both ≡ is_both mode → page ≡ granted
-    → ComesFrom both granted rights a remembered → covers (released_extent mode page) a ≡ true
+    → ComesFrom both granted rights a remembered → extent_covers (released_extent mode page) a ≡ true
 covered both mode page granted rights a remembered as_mode here comes = by (is_both mode) (subst (λ b. ComesFrom b granted rights a remembered) as_mode comes)
   where
-    by : (b : Bool) → ComesFrom b granted rights a remembered → covers (if b then WholeSpace else OnePage page) a ≡ true
+    by : (b : Bool) → ComesFrom b granted rights a remembered → extent_covers (if b then WholeSpace else OnePage page) a ≡ true
     by true all = refl
     by false same = subst (λ x. (page == x) ≡ true) (here ∙ same.0) (same_number page)
 
-release-fence : (s : Scene) (device : ℕ) (extent : Extent) (ats : Bool) → InOrder (is_fence (s.last_fence + 1) ∷ []) (release_commands device extent ats ++ Fence (s.last_fence + 1) ∷ [])
+release-fence : (s : Scene) (device : ℕ) (extent : Extent) (ats : Bool) → InOrder (is_fence (s.last_fence + 1) ∷ []) (queued_by_release device extent ats ++ Fence (s.last_fence + 1) ∷ [])
 release-fence s device extent false = inr (inl (same_number (s.last_fence + 1), tt))
 release-fence s device extent true = inr (inr (inl (same_number (s.last_fence + 1), tt)))
 
-release-no_fence : (s : Scene) (device : ℕ) (extent : Extent) (ats : Bool) (low : ℕ) → low ≤ s.last_fence → FencesRise low (release_commands device extent ats) s.last_fence
+release-no_fence : (s : Scene) (device : ℕ) (extent : Extent) (ats : Bool) (low : ℕ) → low ≤ s.last_fence → FencesRise low (queued_by_release device extent ats) s.last_fence
 release-no_fence s device extent false low within = within
 release-no_fence s device extent true low within = within
 
@@ -197,7 +197,7 @@ entry-released s device page mode ats ordered at copy faithful in_use =
       backed (in_both_stages (s.attachment_of copy.device)) s.history (Released device page (s.given + 1) ∷ s.history) (EntryGoes s copy.device copy.page) (EntryGoes (ReleasedScene s device page mode ats) copy.device copy.page) copy (λ granted rights comes was.
           released s.history (EntryGoes s copy.device copy.page) (EntryGoes (ReleasedScene s device page mode ats) copy.device copy.page) device page (s.given + 1) (fresh s ordered)
           copy.device granted (copy.pair.0, rights)
-          (λ t goes. entry-ticket s (release_commands device (released_extent mode page) ats) (Released device page (s.given + 1) ∷ s.history) s.attachment_of copy.device copy.page t refl goes)
+          (λ t goes. entry-ticket s (queued_by_release device (released_extent mode page) ats) (Released device page (s.given + 1) ∷ s.history) s.attachment_of copy.device copy.page t refl goes)
           (λ its here.
           let with_ats : ats ≡ true = sym (ap has_ats at) ∙ ap (λ d. has_ats (s.attachment_of d)) its ∙ old.0 in
           let in_extent = covered (in_both_stages (s.attachment_of copy.device)) mode page granted rights copy.page copy.pair.1 (both_stages s device copy.device mode ats at its) here comes in
@@ -209,7 +209,7 @@ entry-released s device page mode ats ordered at copy faithful in_use =
 -- A release keeps all facts.
 pub faithful_released : (s : Scene) (device page : ℕ) (mode : Mode) (ats : Bool) → IsFaithful s → s.attachment_of device ≡ Attached mode ats → IsFaithful (ReleasedScene s device page mode ats)
 faithful_released s device page mode ats faithful at = record {
-  order = ordered-ticket s (release_commands device (released_extent mode page) ats) (Released device page (s.given + 1) ∷ s.history) s.attachment_of faithful.order (release-no_fence s device (released_extent mode page) ats) (λ t. refl)
+  order = ordered-ticket s (queued_by_release device (released_extent mode page) ats) (Released device page (s.given + 1) ∷ s.history) s.attachment_of faithful.order (release-no_fence s device (released_extent mode page) ats) (λ t. refl)
       (λ d a t pair c. lingering-released s device page faithful.order d a t pair (lingers_released s.history device page (s.given + 1) d a t pair c))
       (apart-released s.history device page (s.given + 1) faithful.order.apart)
       (λ d. grants-released s device page mode ats d (s.attachment_of d) (faithful.order.grants d)) faithful.order.cached;
@@ -218,7 +218,7 @@ faithful_released s device page mode ats faithful at = record {
       backed (in_both_stages (s.attachment_of copy.device)) s.history (Released device page (s.given + 1) ∷ s.history) (TranslationGoes s copy.device copy.page) (TranslationGoes (ReleasedScene s device page mode ats) copy.device copy.page) copy (λ granted rights comes was.
       released s.history (TranslationGoes s copy.device copy.page) (TranslationGoes (ReleasedScene s device page mode ats) copy.device copy.page) device page (s.given + 1)
       (fresh s faithful.order) copy.device granted (copy.pair.0, rights)
-      (λ t goes. translation-ticket s (release_commands device (released_extent mode page) ats) (Released device page (s.given + 1) ∷ s.history) s.attachment_of copy.device copy.page t refl goes)
+      (λ t goes. translation-ticket s (queued_by_release device (released_extent mode page) ats) (Released device page (s.given + 1) ∷ s.history) s.attachment_of copy.device copy.page t refl goes)
       (λ its here.
       let in_extent = covered (in_both_stages (s.attachment_of copy.device)) mode page granted rights copy.page copy.pair.1 (both_stages s device copy.device mode ats at its) here comes in
       let steps = release-steps s device (released_extent mode page) copy.page ats (Released device page (s.given + 1) ∷ s.history) in_extent in
@@ -231,12 +231,12 @@ faithful_released s device page mode ats faithful at = record {
         old.1,
         released s.history (AccessGoes s flight.number) (AccessGoes (ReleasedScene s device page mode ats) flight.number) device page (s.given + 1)
             (fresh s faithful.order) flight.device old.0 (flight.frame, old.1)
-            (λ t goes. access-ticket s (release_commands device (released_extent mode page) ats) (Released device page (s.given + 1) ∷ s.history) s.attachment_of flight.number t goes)
-            (λ its here. access-new s (release_commands device (released_extent mode page) ats) (Released device page (s.given + 1) ∷ s.history) s.attachment_of flight.number faithful.order (release-fence s device (released_extent mode page) ats))
+            (λ t goes. access-ticket s (queued_by_release device (released_extent mode page) ats) (Released device page (s.given + 1) ∷ s.history) s.attachment_of flight.number t goes)
+            (λ its here. access-new s (queued_by_release device (released_extent mode page) ats) (Released device page (s.given + 1) ∷ s.history) s.attachment_of flight.number faithful.order (release-fence s device (released_extent mode page) ats))
             old.2,
         old.3,
       );
-  contexts = λ d there. context-ticket s (release_commands device (released_extent mode page) ats) (Released device page (s.given + 1) ∷ s.history) s.attachment_of d (s.attachment_of d) (faithful.contexts d there);
+  contexts = λ d there. context-ticket s (queued_by_release device (released_extent mode page) ats) (Released device page (s.given + 1) ∷ s.history) s.attachment_of d (s.attachment_of d) (faithful.contexts d there);
   entries = λ copy there. entry-released s device page mode ats faithful.order at copy (faithful.entries copy there);
   answers = λ epoch copy there now. entry-released s device page mode ats faithful.order at copy (faithful.answers epoch copy there now);
 }

@@ -4,7 +4,7 @@ use Rattle.iom_base.specs.declared.access.AccessKind.TheVariants.{Write}
 use Rattle.iom_ledger.specs.declared.entry.HistoryEntry.TheVariants.{Granted, Released, Confirmed}
 use Rattle.iom_coherence.proofs.ListLemmas.{cons_cases, contains_head, in_none}
 use Rattle.iom_coherence.specs.Deliveries.{MayBeSent, raised}
-use Rattle.iom_coherence.specs.DriverCalls.{once_confirmed, release_commands, released_extent, with_attachment, with_kind, with_ticket}
+use Rattle.iom_coherence.specs.DriverCalls.{attachment_once_confirmed, queued_by_release, released_extent, attachments_with, with_kind, with_ticket}
 use Rattle.iom_coherence.specs.Fetches.{next_invalidation}
 use Rattle.iom_coherence.specs.Laws.{scene_at_power_on}
 use Rattle.iom_coherence.specs.Transitions.{Accept, CarryMessages, CompleteFence, Confirm, DeliverAnswer, DeliverCompletion, DeliverRequest, FetchAtsInval, FetchIotinval, Grant, KeepContext, KeepTranslation, Make, OccurInTurn, Occurs, TakeStock}
@@ -24,7 +24,7 @@ abbrev plugged : Scene
 plugged = record scene_at_power_on { kind_of = with_kind scene_at_power_on.kind_of 2 Ats }
 
 abbrev attached : Scene
-attached = record plugged { attachment_of = with_attachment plugged.attachment_of 2 (Attached (First Sv39) true) }
+attached = record plugged { attachment_of = attachments_with plugged.attachment_of 2 (Attached (First Sv39) true) }
 
 abbrev granted_page : Scene
 granted_page = record attached { history = Granted 2 3 5 both_rights ∷ attached.history }
@@ -48,7 +48,7 @@ abbrev quiet : Scene
 quiet = record with_entry { messages = [] }
 
 abbrev released_page : Scene
-released_page = record (with_ticket quiet (release_commands 2 (released_extent (First Sv39) 3) true)) { history = Released 2 3 (quiet.given + 1) ∷ quiet.history }
+released_page = record (with_ticket quiet (queued_by_release 2 (released_extent (First Sv39) 3) true)) { history = Released 2 3 (quiet.given + 1) ∷ quiet.history }
 
 abbrev stale : Scene
 stale = record released_page { accepted = released_page.accepted + 1; in_flight = first_write ∷ [] }
@@ -88,7 +88,7 @@ over = record done {
   history = Confirmed 1 ∷ done.history;
   pending = [];
   confirmed = 1;
-  attachment_of = λ d. once_confirmed 1 (done.attachment_of d);
+  attachment_of = λ d. attachment_once_confirmed 1 (done.attachment_of d);
 }
 
 ask_is_carried : Occurs CarryMessages granted_page asked

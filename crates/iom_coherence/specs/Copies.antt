@@ -4,7 +4,7 @@ use Rattle.iom_base.specs.declared.rights.Rights.{Rights}
 use Rattle.iom_base.specs.Rights.{allows}
 use Rattle.iom_machine.specs.declared.state.Attachment.{Attachment}
 use Rattle.iom_machine.specs.declared.state.Attachment.TheVariants.{Detached, Attached, Quarantined, Leaving}
-use Rattle.iom_coherence.specs.Queue.{Extent, covers}
+use Rattle.iom_coherence.specs.Queue.{Extent, extent_covers}
 use Rattle.iom_coherence.specs.Scene.{Copy, AccessInFlight, InvalidateRequest, InvalidateCompletion, Scene}
 use Rattle.iom_coherence.specs.Attachments.{has_ats, in_both_stages, IsQuarantined}
 use Rattle.iom_coherence.specs.ToCome.{InOrder, is_fence, WaitsForFence, AreToCome, drops_translation, drops_context, invalidates}
@@ -55,7 +55,7 @@ abbrev pub IsUnderway : Scene → ℕ → ℕ → Type 0
 IsUnderway scene device page = (serial : ℕ)
     × Contains scene.slots (record { serial = serial; device = device })
     × (¬ Contains scene.messages (InvalidateCompletion (record { serial = serial; device = device })))
-    × ((extent : Extent) → Contains scene.messages (InvalidateRequest (record { serial = serial; device = device }) extent) → covers extent page ≡ true)
+    × ((extent : Extent) → Contains scene.messages (InvalidateRequest (record { serial = serial; device = device }) extent) → extent_covers extent page ≡ true)
 
 -- Before the ticket is confirmed the device drops its entry of the page, or can't use it any more: the invalidation is still queued; or it is under way; or a
 -- fence timed out, and a restart queues it again; or the device is quarantined, and its context is dropped.

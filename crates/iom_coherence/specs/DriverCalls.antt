@@ -11,7 +11,7 @@ use Rattle.iom_coherence.specs.Queue.{Extent, OnePage, WholeSpace, QueuedCommand
 use Rattle.iom_coherence.specs.Scene.{Copy, PendingTicket, Scene}
 use Rattle.iom_base.specs.Modes.{is_both}
 use Rattle.iom_coherence.specs.Attachments.{IsKnown, IsAttached, caches_translations}
-use Rattle.iom_coherence.specs.Holdings.{HoldsNothing, LingersOnNothing}
+use Rattle.iom_coherence.specs.Holdings.{HoldsNoPage, LingersOnNothing}
 use Rattle.iom_coherence.specs.Deliveries.{AreOthers, raised}
 
 -- the kinds of the plugged devices, with this one
@@ -24,14 +24,14 @@ DeviceIsPlugged old device kind new = (old.kind_of device ≡ None)
     × (new ≡ record old { kind_of = with_kind old.kind_of device kind })
 
 -- the attachments, where this device is attached so now
-abbrev pub with_attachment : (ℕ → Attachment) → ℕ → Attachment → ℕ → Attachment
-with_attachment attachment_of device now d = if device == d then now else attachment_of d
+abbrev pub attachments_with : (ℕ → Attachment) → ℕ → Attachment → ℕ → Attachment
+attachments_with attachment_of device now d = if device == d then now else attachment_of d
 
 -- a device that is detached is attached; with ATS only one with a cache of its own
 abbrev pub DeviceIsAttached : Scene → ℕ → Mode → Bool → Scene → Type 0
 DeviceIsAttached old device mode ats new = (old.attachment_of device ≡ Detached)
     × (ats ≡ true → caches_translations (old.kind_of device) ≡ true)
-    × (new ≡ record old { attachment_of = with_attachment old.attachment_of device (Attached mode ats) })
+    × (new ≡ record old { attachment_of = attachments_with old.attachment_of device (Attached mode ats) })
 
 -- a frame is granted to an attached device, at a page where nothing is held and nothing lingers; no command is queued
 abbrev pub PageIsGranted : Scene → ℕ → ℕ → ℕ → Rights → Scene → Type 0
@@ -54,14 +54,14 @@ abbrev pub released_extent : Mode → ℕ → Extent
 released_extent mode page = if is_both mode then WholeSpace else OnePage page
 
 -- the commands of a release; with ATS the device is asked once the cached translation is dropped, so that it can't ask for that again
-abbrev pub release_commands : ℕ → Extent → Bool → List QueuedCommand
-release_commands device extent false = DropTranslations device extent ∷ []
-release_commands device extent true = DropTranslations device extent ∷ Invalidate device extent ∷ []
+abbrev pub queued_by_release : ℕ → Extent → Bool → List QueuedCommand
+queued_by_release device extent false = DropTranslations device extent ∷ []
+queued_by_release device extent true = DropTranslations device extent ∷ Invalidate device extent ∷ []
 
 -- a page of an attached device is released
 abbrev pub PageIsReleased : Scene → ℕ → ℕ → Scene → Type 0
 PageIsReleased old device page new = (mode : Mode) × (ats : Bool) × (old.attachment_of device ≡ Attached mode ats)
-    × (new ≡ record (with_ticket old (release_commands device (released_extent mode page) ats)) {
+    × (new ≡ record (with_ticket old (queued_by_release device (released_extent mode page) ats)) {
       history = Released device page (old.given + 1) ∷ old.history;
     })
 
@@ -72,9 +72,9 @@ leave_commands device = DropContext device ∷ DropTranslations device WholeSpac
 -- an attached device that holds nothing, and for which nothing lingers, is detached: it leaves until the ticket is confirmed
 abbrev pub DeviceIsDetached : Scene → ℕ → Scene → Type 0
 DeviceIsDetached old device new = (mode : Mode) × (ats : Bool) × (old.attachment_of device ≡ Attached mode ats)
-    × HoldsNothing old.history device × LingersOnNothing old.history device
+    × HoldsNoPage old.history device × LingersOnNothing old.history device
     × (new ≡ record (with_ticket old (leave_commands device)) {
-      attachment_of = with_attachment old.attachment_of device (Leaving (old.given + 1) mode ats);
+      attachment_of = attachments_with old.attachment_of device (Leaving (old.given + 1) mode ats);
     })
 
 -- an attached device is cut off, and all that it holds is released
@@ -82,7 +82,7 @@ abbrev pub DeviceIsQuarantined : Scene → ℕ → Scene → Type 0
 DeviceIsQuarantined old device new = (mode : Mode) × (ats : Bool) × (old.attachment_of device ≡ Attached mode ats)
     × (new ≡ record (with_ticket old (leave_commands device)) {
       history = AllReleased device (old.given + 1) ∷ old.history;
-      attachment_of = with_attachment old.attachment_of device (Quarantined (old.given + 1) mode ats);
+      attachment_of = attachments_with old.attachment_of device (Quarantined (old.given + 1) mode ats);
     })
 
 -- a device whose quarantine's ticket is confirmed is reset, and attached as before
@@ -93,21 +93,21 @@ DeviceIsRevived old device new = (ticket : ℕ) × (mode : Mode) × (ats : Bool)
     × (new ≡ record old {
       entries = left;
       epoch_of = raised old.kind_of old.epoch_of device;
-      attachment_of = with_attachment old.attachment_of device (Attached mode ats);
+      attachment_of = attachments_with old.attachment_of device (Attached mode ats);
     })
 
 -- the commands of a restart for a device that is attached so
-abbrev pub requeued : ℕ → Attachment → List QueuedCommand
-requeued device Detached = []
-requeued device (Attached mode false) = DropContext device ∷ DropTranslations device WholeSpace ∷ []
-requeued device (Attached mode true) = DropContext device ∷ DropTranslations device WholeSpace ∷ Invalidate device WholeSpace ∷ []
-requeued device (Quarantined ticket mode ats) = DropContext device ∷ DropTranslations device WholeSpace ∷ []
-requeued device (Leaving ticket mode ats) = DropContext device ∷ DropTranslations device WholeSpace ∷ []
+abbrev pub queued_again : ℕ → Attachment → List QueuedCommand
+queued_again device Detached = []
+queued_again device (Attached mode false) = DropContext device ∷ DropTranslations device WholeSpace ∷ []
+queued_again device (Attached mode true) = DropContext device ∷ DropTranslations device WholeSpace ∷ Invalidate device WholeSpace ∷ []
+queued_again device (Quarantined ticket mode ats) = DropContext device ∷ DropTranslations device WholeSpace ∷ []
+queued_again device (Leaving ticket mode ats) = DropContext device ∷ DropTranslations device WholeSpace ∷ []
 
 -- and for each of these
-abbrev pub all_requeued : (ℕ → Attachment) → List ℕ → List QueuedCommand
-all_requeued attachment_of [] = []
-all_requeued attachment_of (device ∷ others) = requeued device (attachment_of device) ++ all_requeued attachment_of others
+abbrev pub all_queued_again : (ℕ → Attachment) → List ℕ → List QueuedCommand
+all_queued_again attachment_of [] = []
+all_queued_again attachment_of (device ∷ others) = queued_again device (attachment_of device) ++ all_queued_again attachment_of others
 
 -- the tickets, all waiting for one fence
 abbrev pub waiting_for : ℕ → List PendingTicket → List PendingTicket
@@ -116,7 +116,7 @@ waiting_for fence pending = map (λ (p : PendingTicket). record { ticket = p.tic
 -- the queue is emptied and the slots are closed, everything is queued again, and all pending tickets wait for one new fence
 abbrev pub restarted : Scene → List ℕ → Scene
 restarted scene devices = record scene {
-  waiting = all_requeued scene.attachment_of devices ++ Fence (scene.last_fence + 1) ∷ [];
+  waiting = all_queued_again scene.attachment_of devices ++ Fence (scene.last_fence + 1) ∷ [];
   last_fence = scene.last_fence + 1;
   pending = waiting_for (scene.last_fence + 1) scene.pending;
   fence_snapshot = None;
@@ -129,11 +129,11 @@ abbrev pub QueueIsRestarted : Scene → List ℕ → Scene → Type 0
 QueueIsRestarted old devices new = ((device : ℕ) → IsKnown (old.attachment_of device) → Contains devices device) × (new ≡ restarted old devices)
 
 -- a leaving device is detached once its ticket is confirmed
-abbrev pub once_confirmed : ℕ → Attachment → Attachment
-once_confirmed confirmed Detached = Detached
-once_confirmed confirmed (Attached mode ats) = Attached mode ats
-once_confirmed confirmed (Quarantined ticket mode ats) = Quarantined ticket mode ats
-once_confirmed confirmed (Leaving ticket mode ats) = if confirmed == ticket then Detached else Leaving ticket mode ats
+abbrev pub attachment_once_confirmed : ℕ → Attachment → Attachment
+attachment_once_confirmed confirmed Detached = Detached
+attachment_once_confirmed confirmed (Attached mode ats) = Attached mode ats
+attachment_once_confirmed confirmed (Quarantined ticket mode ats) = Quarantined ticket mode ats
+attachment_once_confirmed confirmed (Leaving ticket mode ats) = if confirmed == ticket then Detached else Leaving ticket mode ats
 
 -- a poll confirms the oldest pending ticket, whose fence is done; where it confirms several, it does so for one after another
 abbrev pub TicketIsConfirmed : Scene → ℕ → Scene → Type 0
@@ -143,5 +143,5 @@ TicketIsConfirmed old ticket new = (fence : ℕ) × (later : List PendingTicket)
       history = Confirmed ticket ∷ old.history;
       pending = later;
       confirmed = ticket;
-      attachment_of = λ d. once_confirmed ticket (old.attachment_of d);
+      attachment_of = λ d. attachment_once_confirmed ticket (old.attachment_of d);
     })

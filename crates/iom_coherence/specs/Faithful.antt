@@ -7,16 +7,16 @@ use Rattle.iom_base.specs.declared.device_kind.DeviceKind.{DeviceKind}
 use Rattle.iom_coherence.specs.Queue.{Extent, QueuedCommand, Fence}
 use Rattle.iom_coherence.specs.Scene.{Copy, AccessInFlight, Invalidation, AtsMessage, Question, Answer, InvalidateRequest, InvalidateCompletion, Scene}
 use Rattle.iom_coherence.specs.Attachments.{has_ats, caches_translations, may_forge}
-use Rattle.iom_coherence.specs.Holdings.{HoldsNothing, LingersOnNothing, LingersUpTo, AreApart}
+use Rattle.iom_coherence.specs.Holdings.{HoldsNoPage, LingersOnNothing, LingersUpTo, AreApart}
 use Rattle.iom_coherence.specs.ToCome.{FencesRise, TicketsRise}
 use Rattle.iom_coherence.specs.Copies.{IsFaithfulTranslation, IsFaithfulAccess, IsFaithfulContext, IsFaithfulEntry}
 
 -- what a device that is attached so may hold and linger on
 abbrev pub GrantsFit : History → ℕ → Attachment → Type 0
-GrantsFit history device Detached = HoldsNothing history device × LingersOnNothing history device
+GrantsFit history device Detached = HoldsNoPage history device × LingersOnNothing history device
 GrantsFit history device (Attached mode ats) = ⊤
-GrantsFit history device (Quarantined ticket mode ats) = HoldsNothing history device × LingersUpTo history device ticket
-GrantsFit history device (Leaving ticket mode ats) = HoldsNothing history device × LingersOnNothing history device
+GrantsFit history device (Quarantined ticket mode ats) = HoldsNoPage history device × LingersUpTo history device ticket
+GrantsFit history device (Leaving ticket mode ats) = HoldsNoPage history device × LingersOnNothing history device
 
 -- the fence may have taken its snapshot: it is at the head, no slot is open, and commands are fetched
 pub record IsStocked (waiting : List QueuedCommand) (slots : List Invalidation) (is_stopped : Bool) (fence : ℕ) : Type 0 where

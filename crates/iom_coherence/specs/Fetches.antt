@@ -1,13 +1,13 @@
 -- What the IOMMU does with the command at the head of the queue (RISC-V IOMMU Architecture Specification, section 3.1).
 use Rattle.std.specs.Prelude.{◌≡◌, ℕ, ◌+◌, ◌<◌, false, ◌==◌, ◌&&◌, true, List, [], ◌∷◌, ◌++◌, Contains, None, Some}
-use Rattle.iom_coherence.specs.Queue.{Extent, covers, QueuedCommand, DropTranslations, DropContext, Invalidate, Fence}
+use Rattle.iom_coherence.specs.Queue.{Extent, extent_covers, QueuedCommand, DropTranslations, DropContext, Invalidate, Fence}
 use Rattle.iom_coherence.specs.Scene.{Copy, AccessInFlight, Invalidation, AtsMessage, InvalidateRequest, Scene}
 use Rattle.iom_coherence.specs.Among.{AreAmongWith}
 
 -- each of these is one of the others, and of no page of the device in the extent
 abbrev pub AreOutside : List Copy → ℕ → Extent → List Copy → Type 0
 AreOutside left device extent copies =
-    (copy : Copy) → Contains left copy → Contains copies copy × (((device == copy.device) && covers extent copy.page) ≡ false)
+    (copy : Copy) → Contains left copy → Contains copies copy × (((device == copy.device) && extent_covers extent copy.page) ≡ false)
 
 -- IOTINVAL drops the cached translations that it covers, and perhaps others
 abbrev pub TranslationsAreDropped : Scene → ℕ → Extent → Scene → Type 0

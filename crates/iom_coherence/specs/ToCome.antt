@@ -1,6 +1,6 @@
 -- What is still to come before a ticket is confirmed: steps of the command queue, the ticket's fence the last of them.
 use Rattle.std.specs.Prelude.{◌≡◌, ℕ, ◌<◌, ◌≤◌, ◌⊎◌, Bool, true, false, ◌==◌, ◌&&◌, List, [], ◌∷◌, ◌++◌, Contains, ⊤}
-use Rattle.iom_coherence.specs.Queue.{covers, QueuedCommand, DropTranslations, DropContext, Invalidate, Fence}
+use Rattle.iom_coherence.specs.Queue.{extent_covers, QueuedCommand, DropTranslations, DropContext, Invalidate, Fence}
 use Rattle.iom_coherence.specs.Scene.{PendingTicket, Scene}
 
 -- a step, by the test that tells the commands that take it
@@ -9,7 +9,7 @@ QueuedStep = QueuedCommand → Bool
 
 -- the cached translation of the device's page is dropped
 abbrev pub drops_translation : ℕ → ℕ → QueuedStep
-drops_translation device page (DropTranslations d extent) = (d == device) && covers extent page
+drops_translation device page (DropTranslations d extent) = (d == device) && extent_covers extent page
 drops_translation device page (DropContext d) = false
 drops_translation device page (Invalidate d extent) = false
 drops_translation device page (Fence number) = false
@@ -25,7 +25,7 @@ drops_context device (Fence number) = false
 abbrev pub invalidates : ℕ → ℕ → QueuedStep
 invalidates device page (DropTranslations d extent) = false
 invalidates device page (DropContext d) = false
-invalidates device page (Invalidate d extent) = (d == device) && covers extent page
+invalidates device page (Invalidate d extent) = (d == device) && extent_covers extent page
 invalidates device page (Fence number) = false
 
 -- the fence of this number is done

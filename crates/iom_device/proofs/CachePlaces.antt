@@ -5,7 +5,7 @@ use Rattle.std.proofs.lemmas.Bool.{eq-eqb}
 use Rattle.iom_ats_cache.specs.Cache.{Cache}
 use Rattle.iom_device.specs.declared.device.Device.{Device}
 use Rattle.iom_fabric.specs.declared.message.Range.{Range}
-use Rattle.iom_device.specs.Caches.{device_with, cache_in, cache_of, with_cache, with_has_disk, IsPlaceOf}
+use Rattle.iom_device.specs.Caches.{device_with, cache_in, cache_of, with_cache, with_has_disk, IsDevicePlace}
 use Rattle.iom_device.specs.Calls.{Obeys}
 
 -- ids that aren't the same
@@ -23,7 +23,7 @@ no_place (device ∷ others) id none =
 
 -- the first device with its id
 pub place_is : (devices : List Device) (id place : ℕ) (device : Device) → slice_get devices place ≡ Some device → device.id ≡ id
-    → ((k : ℕ) (other : Device) → k < place → slice_get devices k ≡ Some other → other.id ≢ id) → IsPlaceOf devices id place
+    → ((k : ℕ) (other : Device) → k < place → slice_get devices k ≡ Some other → other.id ≢ id) → IsDevicePlace devices id place
 place_is [] id place device at own none = cc
 place_is (first ∷ others) id zero device at own none =
     let same : first ≡ device = cc in

@@ -47,8 +47,8 @@ with_has_disk [] id has = []
 with_has_disk (device ∷ others) id has = if device.id == id then (record device { has_disk = has }) ∷ others else device ∷ with_has_disk others id has
 
 -- the device that stands there is the one with the id, and a cache that is set there is set for it, and so is whether it has a disk
-abbrev pub IsPlaceOf : List Device → ℕ → ℕ → Type 0
-IsPlaceOf devices id place =
+abbrev pub IsDevicePlace : List Device → ℕ → ℕ → Type 0
+IsDevicePlace devices id place =
     (device : Device) × (slice_get devices place ≡ Some device) × (device_with devices id ≡ Some device)
     × ((cache : Option Cache) → slice_set devices place (record device { cache = cache }) ≡ with_cache devices id cache)
     × ((has : Bool) → slice_set devices place (record device { has_disk = has }) ≡ with_has_disk devices id has)

@@ -2,7 +2,7 @@
 ghost use Rattle.std.specs.Prelude.{◌≡◌, ◌+◌, ◌<◌, ◌^◌, None, MatchOption, is_some};
 ghost use Rattle.std.specs.Option.{option_and_then};
 ghost use Rattle.iom_ats_cache.specs.Cache.{Cache, frame_for};
-ghost use Rattle.iom_device.specs.Caches.{epoch_of, epoch_in, device_with, IsPlaceOf};
+ghost use Rattle.iom_device.specs.Caches.{epoch_of, epoch_in, device_with, IsDevicePlace};
 ghost use Rattle.iom_device.specs.Calls.{Obeys, new_cache, reset_of, with_reset};
 
 use iom_ats_cache::Atc;
@@ -33,7 +33,7 @@ fn new_cache(kind: DeviceKind) -> Option<Atc>
 
 /// Where the device with this id stands.
 pub fn place_of(devices: &[Device], id: DeviceId) -> Option<usize>
-    ensures { MatchOption result (device_with devices.now id ≡ None) (IsPlaceOf devices.now id) }
+    ensures { MatchOption result (device_with devices.now id ≡ None) (IsDevicePlace devices.now id) }
 {
     for place in 0..devices.len() {
         if devices[place].id == id {

@@ -17,7 +17,7 @@ use Rattle.iom_base.specs.declared.ppn.Ppn.{Ppn}
 use Rattle.iom_device_dir.specs.declared.words.ContextWords.{ContextWords}
 use Rattle.iom_base.specs.PageNumbers.{page_from}
 use Rattle.iom_device_dir.specs.Values.{address_space_from, guest_root_from}
-use Rattle.iom_device_dir.specs.Formats.{mode_of, IsNonLeafEntry, IsNonLeafEntryRefused, IsFirstStage, IsSecondStage, SetsOnlyOfferedBits, AreContextWords, IsContextMisconfigured, IsContextRefused}
+use Rattle.iom_device_dir.specs.Formats.{table_mode, IsNonLeafEntry, IsNonLeafEntryRefused, IsFirstStage, IsSecondStage, SetsOnlyOfferedBits, AreContextWords, IsContextMisconfigured, IsContextRefused}
 use Rattle.iom_device_dir.specs.Decoded.{decoded_non_leaf_entry, size_at, first_stage_at, second_stage_at, sets_only_offered_bits, context_with_stages, decoded_context}
 use Rattle.iom_device_dir.proofs.SameValues.{same_page, same_space, same_root}
 
@@ -53,10 +53,10 @@ clear_told w =
 
 -- what a mode tells of the size of tables
 abbrev TellsSize : ℕ → Option Size → Type 0
-TellsSize mode (Some size) = mode ≡ mode_of size
-TellsSize mode None = (size : Size) → mode ≢ mode_of size
+TellsSize mode (Some size) = mode ≡ table_mode size
+TellsSize mode None = (size : Size) → mode ≢ table_mode size
 
-no_size : (mode : ℕ) → mode ≢ 8 → mode ≢ 9 → (size : Size) → mode ≢ mode_of size
+no_size : (mode : ℕ) → mode ≢ 8 → mode ≢ 9 → (size : Size) → mode ≢ table_mode size
 no_size mode small large Sv39 h = small h
 no_size mode small large Sv48 h = large h
 
@@ -72,7 +72,7 @@ abbrev TellsFirst : ℕ → ℕ → Option FirstStage → Type 0
 TellsFirst mode ppn (Some stage) = IsFirstStage mode ppn stage
 TellsFirst mode ppn None = (stage : FirstStage) → ¬ IsFirstStage mode ppn stage
 
-no_first : (mode ppn : ℕ) → mode ≢ 0 → ((size : Size) → mode ≢ mode_of size) → (stage : FirstStage) → ¬ IsFirstStage mode ppn stage
+no_first : (mode ppn : ℕ) → mode ≢ 0 → ((size : Size) → mode ≢ table_mode size) → (stage : FirstStage) → ¬ IsFirstStage mode ppn stage
 no_first mode ppn bare none first.Bare h = bare h
 no_first mode ppn bare none (first.Tables size root) h = none size h.0
 
@@ -88,7 +88,7 @@ first_told mode root =
       | inr z ↦ rw z.0 (first_by_size mode root z.1 (size_at mode) (size_told mode))
     ]
 
-tables_first : (mode : ℕ) (root : Ppn) (size : Size) → mode ≡ mode_of size → first_stage_at mode root ≡ Some (first.Tables size root)
+tables_first : (mode : ℕ) (root : Ppn) (size : Size) → mode ≡ table_mode size → first_stage_at mode root ≡ Some (first.Tables size root)
 tables_first mode root Sv39 h = rw h refl
 tables_first mode root Sv48 h = rw h refl
 
@@ -101,7 +101,7 @@ abbrev TellsSecond : ℕ → ℕ → Option SecondStage → Type 0
 TellsSecond mode ppn (Some stage) = IsSecondStage mode ppn stage
 TellsSecond mode ppn None = (stage : SecondStage) → ¬ IsSecondStage mode ppn stage
 
-no_second : (mode ppn : ℕ) → mode ≢ 0 → ((size : Size) → mode ≢ mode_of size) → (stage : SecondStage) → ¬ IsSecondStage mode ppn stage
+no_second : (mode ppn : ℕ) → mode ≢ 0 → ((size : Size) → mode ≢ table_mode size) → (stage : SecondStage) → ¬ IsSecondStage mode ppn stage
 no_second mode ppn bare none second.Bare h = bare h
 no_second mode ppn bare none (second.Tables size root) h = none size h.0
 
@@ -131,7 +131,7 @@ second_told mode ppn small =
       ])
     ]
 
-tables_second : (mode ppn : ℕ) (size : Size) → mode ≡ mode_of size → (ppn % 4 == 0) ≡ true → second_stage_at mode ppn ≡ Some (second.Tables size (guest_root_from ppn))
+tables_second : (mode ppn : ℕ) (size : Size) → mode ≡ table_mode size → (ppn % 4 == 0) ≡ true → second_stage_at mode ppn ≡ Some (second.Tables size (guest_root_from ppn))
 tables_second mode ppn Sv39 h even = rw (h, even) refl
 tables_second mode ppn Sv48 h even = rw (h, even) refl
 

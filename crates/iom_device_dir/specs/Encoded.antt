@@ -8,7 +8,7 @@ use Rattle.iom_device_dir.specs.declared.stages.FirstStage.TheVariants as first
 use Rattle.iom_device_dir.specs.declared.stages.SecondStage.{SecondStage}
 use Rattle.iom_device_dir.specs.declared.stages.SecondStage.TheVariants as second
 use Rattle.iom_device_dir.specs.declared.words.ContextWords.{ContextWords}
-use Rattle.iom_device_dir.specs.Formats.{mode_of}
+use Rattle.iom_device_dir.specs.Formats.{table_mode}
 use Rattle.iom_device_dir.specs.Words.{context_bytes}
 
 abbrev pub encoded_non_leaf_entry : NonLeafEntry → ℕ
@@ -17,11 +17,11 @@ encoded_non_leaf_entry entry = entry.next.number * 2 ^ 10 + 1
 -- MODE and PPN
 abbrev pub first_stage_word : FirstStage → ℕ
 first_stage_word first.Bare = 0
-first_stage_word (first.Tables size root) = mode_of size * 2 ^ 60 + root.number
+first_stage_word (first.Tables size root) = table_mode size * 2 ^ 60 + root.number
 
 abbrev pub second_stage_word : SecondStage → ℕ
 second_stage_word second.Bare = 0
-second_stage_word (second.Tables size root) = mode_of size * 2 ^ 60 + root.number
+second_stage_word (second.Tables size root) = table_mode size * 2 ^ 60 + root.number
 
 unfoldable pub encoded_context_words : Context → ContextWords
 encoded_context_words context = record {

@@ -28,20 +28,20 @@ IsNonLeafEntryRefused word cause =
     ⊎ ((bits 0 0 word ≡ 1) × ((bits 9 1 word ≢ 0) ⊎ (bits 63 54 word ≢ 0)) × (cause ≡ DirectoryEntryMisconfigured))
 
 -- MODE of tables of the size, in fsc and in iohgatp: 8 Sv39 and Sv39x4, 9 Sv48 and Sv48x4. No other mode is offered but 0, Bare
-abbrev pub mode_of : Size → ℕ
-mode_of Sv39 = 8
-mode_of Sv48 = 9
+abbrev pub table_mode : Size → ℕ
+table_mode Sv39 = 8
+table_mode Sv48 = 9
 
 -- MODE and PPN of fsc (section 2.1.3.4, with PDTV 0): Bare, whatever PPN is, or tables
 abbrev pub IsFirstStage : ℕ → ℕ → FirstStage → Type 0
 IsFirstStage mode ppn first.Bare = mode ≡ 0
-IsFirstStage mode ppn (first.Tables size root) = (mode ≡ mode_of size) × (root.number ≡ ppn)
+IsFirstStage mode ppn (first.Tables size root) = (mode ≡ table_mode size) × (root.number ≡ ppn)
 
 -- MODE and PPN of iohgatp (section 2.1.3.2): Bare, whatever PPN is, or tables, whose root is 16 KiB and aligned to that, so PPN is a multiple
 -- of 4, as the number of each `GuestRoot` is (src/values.rt)
 abbrev pub IsSecondStage : ℕ → ℕ → SecondStage → Type 0
 IsSecondStage mode ppn second.Bare = mode ≡ 0
-IsSecondStage mode ppn (second.Tables size root) = (mode ≡ mode_of size) × (root.number ≡ ppn)
+IsSecondStage mode ppn (second.Tables size root) = (mode ≡ table_mode size) × (root.number ≡ ppn)
 
 -- no bit is set that is reserved, or that asks for what isn't offered: in tc (section 2.1.3.1) all but V 0 and EN_ATS 1, so EN_PRI 2,
 -- T2GPA 3, DTF 4, PDTV 5, PRPR 6, GADE 7, SADE 8, DPE 9, SBE 10 and SXL 11 too; in ta (section 2.1.3.3) all but PSCID 31:12; in fsc

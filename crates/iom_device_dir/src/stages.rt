@@ -1,7 +1,7 @@
 // The stages of translation that a context asks for, by their modes.
 ghost use Rattle.std.specs.Prelude.{◌≡◌, ◌<◌, ◌*◌, ◌^◌};
 ghost use Rattle.iom_device_dir.specs.Decoded.{size_at, first_stage_at, second_stage_at};
-ghost use Rattle.iom_device_dir.specs.Formats.{mode_of};
+ghost use Rattle.iom_device_dir.specs.Formats.{table_mode};
 ghost use Rattle.iom_device_dir.specs.Encoded.{first_stage_word, second_stage_word};
 
 use crate::values::GuestRoot;
@@ -47,7 +47,7 @@ fn size_at(mode: u64) -> Option<Size>
 
 /// The mode of tables of the size.
 fn mode_of(size: Size) -> u64
-    ensures value { result ≡ mode_of size }
+    ensures value { result ≡ table_mode size }
     ensures small { result < 10 }
 {
     match size {

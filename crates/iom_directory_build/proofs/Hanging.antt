@@ -10,9 +10,9 @@ use Rattle.iom_phys_mem.specs.Words.{zeroed}
 use Rattle.iom_device_dir.specs.declared.context.Context.{Context}
 use Rattle.iom_device_dir.specs.Paths.{ddi, entry_place, ids_below}
 use Rattle.iom_device_dir.specs.Located.{path_end_from}
-use Rattle.iom_directory_build.specs.Pages.{next_page, page_at, HasPage, HasWholePath, IsDirectory, missing_below, missing_pages, AreFresh}
+use Rattle.iom_directory_build.specs.Pages.{next_page, page_at, HasPage, HasWholePath, IsDirectory, missing_below, missing_pages, AreFreshPages}
 use Rattle.iom_directory_build.specs.Written.{entry_word, with_entry_at, with_context_at, hung_below, hung}
-use Rattle.iom_directory_build.specs.Changes.{Stores, WritesPlace, KeepsOthers, KeepsOutside}
+use Rattle.iom_directory_build.specs.Changes.{StoresOneWord, WritesPlace, KeepsOthers, KeepsOutsideDirectory}
 use Rattle.iom_directory_build.proofs.Paths.{at_root, goes_down, to_level, one_down, none_follows, past_root}
 use Rattle.iom_directory_build.proofs.Prefixes.{index_fits}
 use Rattle.iom_directory_build.proofs.Words.{zero_next}
@@ -29,7 +29,7 @@ pub record Hung (old now : List (List ℕ)) (top root id : ℕ) (pages : List �
   pub fresh : (n : ℕ) → used ≤ n → n < length pages → HasPage now top root (slice_index pages n) → ⊥
   pub has : (f : ℕ) → HasPage now top root f ↔ (HasPage old top root f ⊎ ((n : ℕ) × (n < used) × (f ≡ slice_index pages n)))
   pub ends : (other : ℕ) → other < ids_below top → path_end_from now top root other ≡ path_end_from old top root other
-  pub outside : KeepsOutside old now top root
+  pub outside : KeepsOutsideDirectory old now top root
   pub size : length now ≡ length old
   pub paths : (other : ℕ) → other < ids_below top → HasWholePath old top root other → HasWholePath now top root other
   pub writes : hung now level page id (drop used pages) context ≡ hung old top root id pages context
@@ -65,7 +65,7 @@ none_lower m top root id level le none =
     to_level (λ lower. page_at m top root lower id ≡ None) level none
     (λ lower lt above. one_down m top root lower id (omega (arith, le, lt)) ∙ ap (λ o. option_and_then (λ q. next_page m q (suc lower) id) o) above)
 
-pub hung_start : (old : List (List ℕ)) (top root id : ℕ) (pages : List ℕ) (context : Context) → IsDirectory old top root → length pages ≡ missing_pages old top root id → AreFresh old top root pages
+pub hung_start : (old : List (List ℕ)) (top root id : ℕ) (pages : List ℕ) (context : Context) → IsDirectory old top root → length pages ≡ missing_pages old top root id → AreFreshPages old top root pages
     → Hung old old top root id pages context top root 0
 hung_start old top root id pages context d count fresh =
     record {
@@ -121,7 +121,7 @@ next_zero old now top root id pages context n page used lt h named =
 pub page_inside : (old now : List (List ℕ)) (top root id : ℕ) (pages : List ℕ) (context : Context) (level page used : ℕ) → id < ids_below top → Hung old now top root id pages context level page used → page < length now
 page_inside old now top root id pages context level page used in_range h = h.directory.inside page (level, id, h.within, in_range, h.at)
 
-module _ (old mid new : List (List ℕ)) (top root id : ℕ) (pages : List ℕ) (context : Context) (level page used : ℕ) (low : top ≤ 2) (in_range : id < ids_below top) (distinct : AllPairs (λ f g. f ≢ g) pages) (small : slice_index pages used < 2 ^ 44) (h : Hung old mid top root id pages context (suc level) page used) (named : next_page mid page (suc level) id ≡ None) (stores : Stores mid new (entry_place page (ddi (suc level) id)) (entry_word (slice_index pages used))) (whole : new ≡ with_entry_at mid page (suc level) id (slice_index pages used)) where
+module _ (old mid new : List (List ℕ)) (top root id : ℕ) (pages : List ℕ) (context : Context) (level page used : ℕ) (low : top ≤ 2) (in_range : id < ids_below top) (distinct : AllPairs (λ f g. f ≢ g) pages) (small : slice_index pages used < 2 ^ 44) (h : Hung old mid top root id pages context (suc level) page used) (named : next_page mid page (suc level) id ≡ None) (stores : StoresOneWord mid new (entry_place page (ddi (suc level) id)) (entry_word (slice_index pages used))) (whole : new ≡ with_entry_at mid page (suc level) id (slice_index pages used)) where
   abbrev f : ℕ
   f = slice_index pages used
 
@@ -219,7 +219,7 @@ pub record Puts (old new : List (List ℕ)) (top root id : ℕ) (pages : List �
   pub pages_are : (f : ℕ) → HasPage new top root f ↔ (HasPage old top root f ⊎ Contains pages f)
   pub here : path_end_from new top root id ≡ Ok context
   pub others : KeepsOthers old new top root id
-  pub outside : KeepsOutside old new top root
+  pub outside : KeepsOutsideDirectory old new top root
   pub size : length new ≡ length old
   pub path : HasWholePath new top root id
   pub paths : (other : ℕ) → other < ids_below top → HasWholePath old top root other → HasWholePath new top root other
@@ -263,13 +263,13 @@ goes_past old now top root id pages context n page used next lt h named =
 
 pub hangs_next : (old mid new : List (List ℕ)) (top root id : ℕ) (pages : List ℕ) (context : Context) (n page used : ℕ) → 1 < n → top ≤ 2 → id < ids_below top → AllPairs (λ f g. f ≢ g) pages → slice_index pages used < 2 ^ 44
     → Hung old mid top root id pages context (n - 1) page used → next_page mid page (n - 1) id ≡ None
-    → Stores mid new (entry_place page (ddi (n - 1) id)) (entry_word (slice_index pages used)) → new ≡ with_entry_at mid page (n - 1) id (slice_index pages used)
+    → StoresOneWord mid new (entry_place page (ddi (n - 1) id)) (entry_word (slice_index pages used)) → new ≡ with_entry_at mid page (n - 1) id (slice_index pages used)
     → Hung old new top root id pages context (n - 1 - 1) (slice_index pages used) (used + 1)
 hangs_next old mid new top root id pages context n page used lt low in_range distinct small h named stores whole =
     let up = two_down n lt in
     hung_new old mid new top root id pages context (n - 1 - 1) page used low in_range distinct small
     (subst (λ l. Hung old mid top root id pages context l page used) up h) (subst (λ l. next_page mid page l id ≡ None) up named)
-    (subst (λ l. Stores mid new (entry_place page (ddi l id)) (entry_word (slice_index pages used))) up stores)
+    (subst (λ l. StoresOneWord mid new (entry_place page (ddi l id)) (entry_word (slice_index pages used))) up stores)
     (subst (λ l. new ≡ with_entry_at mid page l id (slice_index pages used)) up whole)
 
 pub puts_all : (old mid new : List (List ℕ)) (top root id : ℕ) (pages : List ℕ) (context : Context) (n page used : ℕ) → n ≤ 1 → id < ids_below top → Hung old mid top root id pages context (n - 1) page used

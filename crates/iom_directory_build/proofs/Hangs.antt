@@ -7,7 +7,7 @@ use Rattle.iom_device_dir.specs.Paths.{ddi, entry_place, context_place, ids_belo
 use Rattle.iom_device_dir.specs.Located.{loaded_entry, loaded_context, follow_entry, path_end_from}
 use Rattle.iom_directory_build.specs.Pages.{page_named, next_page, page_at, HasPage, IsDirectory, IsSamePrefix, EndsLawfully}
 use Rattle.iom_directory_build.specs.Written.{entry_word}
-use Rattle.iom_directory_build.specs.Changes.{Stores, KeepsOutside}
+use Rattle.iom_directory_build.specs.Changes.{StoresOneWord, KeepsOutsideDirectory}
 use Rattle.iom_directory_build.proofs.Paths.{to_level, at_root, goes_down, comes_from, level_within, same_entry, same_page_at, same_some, end_past, stops_lawfully, same_end_from}
 use Rattle.iom_directory_build.proofs.Prefixes.{index_fits, context_index_fits, same_above, same_index, same_below}
 use Rattle.iom_directory_build.proofs.Same.{same_after}
@@ -21,7 +21,7 @@ pub record Hangs (old new : List (List ℕ)) (top root level id page next : ℕ)
   pub in_range : id < ids_below top
   pub at : page_at old top root (suc level) id ≡ Some page
   pub nowhere : next_page old page (suc level) id ≡ None
-  pub stores : Stores old new (entry_place page (ddi (suc level) id)) (entry_word next)
+  pub stores : StoresOneWord old new (entry_place page (ddi (suc level) id)) (entry_word next)
   pub zero : slice_get old next ≡ Some zeroed
   pub outside : HasPage old top root next → ⊥
   pub small : next < 2 ^ 44
@@ -240,7 +240,7 @@ module _ (old new : List (List ℕ)) (top root level id page next : ℕ) (h : Ha
         lawful = λ other other_in_range. subst EndsLawfully (sym (ends_hung other other_in_range)) (h.directory.lawful other other_in_range);
       }
 
-  pub outside_hung : KeepsOutside old new top root
+  pub outside_hung : KeepsOutsideDirectory old new top root
   outside_hung f out =
       let fits = index_fits (suc level) id in
       h.stores.frames f (λ e. out ((pages_hung f).1 (inl (subst (λ n. HasPage old top root n) (let same : page ≡ f = omega (arith, e, fits) in same) has_page))))

@@ -10,7 +10,7 @@ use Rattle.iom_device_dir.specs.declared.context.Context.{Context}
 use Rattle.iom_device_dir.specs.Paths.{ddi, entry_place, context_place, ids_below}
 use Rattle.iom_device_dir.specs.Located.{loaded_entry, path_end_from}
 use Rattle.iom_directory_build.specs.Pages.{next_page, page_at, HasPage, HasWholePath, IsDirectory, EndsLawfully}
-use Rattle.iom_directory_build.specs.Changes.{WritesPlace, KeepsOthers, KeepsOutside}
+use Rattle.iom_directory_build.specs.Changes.{WritesPlace, KeepsOthers, KeepsOutsideDirectory}
 use Rattle.iom_directory_build.proofs.Paths.{past_root, end_past, stops_lawfully, same_end_from}
 use Rattle.iom_directory_build.proofs.Prefixes.{index_fits, context_index_fits, same_id}
 use Rattle.iom_directory_build.proofs.Same.{SameEntries, SameContextOf, same_page, same_pages, same_directory, same_end}
@@ -22,7 +22,7 @@ pub record Writes (old new : List (List ℕ)) (top root id : ℕ) (found : Resul
   pub pages : (f : ℕ) → HasPage new top root f ↔ HasPage old top root f
   pub here : path_end_from new top root id ≡ found
   pub others : KeepsOthers old new top root id
-  pub outside : KeepsOutside old new top root
+  pub outside : KeepsOutsideDirectory old new top root
   pub size : length new ≡ length old
   pub paths : (other : ℕ) → other < ids_below top → HasWholePath old top root other → HasWholePath new top root other
 

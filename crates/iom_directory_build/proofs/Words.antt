@@ -15,7 +15,7 @@ use Rattle.iom_device_dir.specs.Located.{loaded_entry, loaded_context, follow_en
 use Rattle.iom_device_dir.proofs.Exact.{found_non_leaf}
 use Rattle.iom_directory_build.specs.Pages.{page_named, next_page}
 use Rattle.iom_directory_build.specs.Written.{entry_word}
-use Rattle.iom_directory_build.specs.Changes.{Stores, WritesPlace}
+use Rattle.iom_directory_build.specs.Changes.{StoresOneWord, WritesPlace}
 use Rattle.iom_directory_build.proofs.Prefixes.{index_fits, context_index_fits}
 
 -- a frame that is there
@@ -90,7 +90,7 @@ entry_found next small =
     ap page_named (found_non_leaf (next * 2 ^ 10 + 1) entry means)
 
 -- four words stored one after another in one place of 32 bytes
-module _ (zeroth first second third fourth : List (List ℕ)) (a b c d u v w x page id : ℕ) (store_u : Stores zeroth first a u) (store_v : Stores first second b v) (store_w : Stores second third c w) (store_x : Stores third fourth d x) where
+module _ (zeroth first second third fourth : List (List ℕ)) (a b c d u v w x page id : ℕ) (store_u : StoresOneWord zeroth first a u) (store_v : StoresOneWord first second b v) (store_w : StoresOneWord second third c w) (store_x : StoresOneWord third fourth d x) where
   pub stored_first : a ≢ b → a ≢ c → a ≢ d → word_at 8 fourth a ≡ Some u
   stored_first n m l = store_x.elsewhere a l ∙ store_w.elsewhere a m ∙ store_v.elsewhere a n ∙ store_u.here
 
@@ -136,7 +136,7 @@ zeros_found = refl
 
 -- three words of a context are stored: with its first word it is there
 pub others_stand : (zeroth first second third : List (List ℕ)) (place tc iohgatp ta fsc : ℕ) (found : Result Context Cause)
-    → Stores zeroth first (place + 24) fsc → Stores first second (place + 16) ta → Stores second third (place + 8) iohgatp
+    → StoresOneWord zeroth first (place + 24) fsc → StoresOneWord first second (place + 16) ta → StoresOneWord second third (place + 8) iohgatp
     → loaded_context (four_context_words (Some tc) (Some iohgatp) (Some ta) (Some fsc)) ≡ found
     → loaded_context (four_context_words (Some tc) (word_at 8 third (place + 8)) (word_at 8 third (place + 16)) (word_at 8 third (place + 24))) ≡ found
 others_stand zeroth first second third place tc iohgatp ta fsc found u v w words =
@@ -147,7 +147,7 @@ others_stand zeroth first second third place tc iohgatp ta fsc found u v w words
 
 -- a context is written, its first word last
 pub context_written : (zeroth first second third fourth : List (List ℕ)) (place page id tc iohgatp ta fsc : ℕ) (found : Result Context Cause) → place ≡ context_place page (ddi 0 id)
-    → Stores zeroth first (place + 24) fsc → Stores first second (place + 16) ta → Stores second third (place + 8) iohgatp → Stores third fourth place tc
+    → StoresOneWord zeroth first (place + 24) fsc → StoresOneWord first second (place + 16) ta → StoresOneWord second third (place + 8) iohgatp → StoresOneWord third fourth place tc
     → loaded_context (four_context_words (Some tc) (Some iohgatp) (Some ta) (Some fsc)) ≡ found → WritesPlace zeroth fourth page id found
 context_written zeroth first second third fourth place page id tc iohgatp ta fsc found is u v w x words =
     let here : loaded_context (context_words_at fourth place) ≡ found =
@@ -161,7 +161,7 @@ context_written zeroth first second third fourth place page id tc iohgatp ta fsc
 
 -- a place is cleared, its first word first
 pub context_cleared : (zeroth first second third fourth : List (List ℕ)) (place page id : ℕ) → place ≡ context_place page (ddi 0 id)
-    → Stores zeroth first place 0 → Stores first second (place + 8) 0 → Stores second third (place + 16) 0 → Stores third fourth (place + 24) 0
+    → StoresOneWord zeroth first place 0 → StoresOneWord first second (place + 8) 0 → StoresOneWord second third (place + 16) 0 → StoresOneWord third fourth (place + 24) 0
     → WritesPlace zeroth fourth page id (Err DirectoryEntryNotValid)
 context_cleared zeroth first second third fourth place page id is u v w x =
     let here : loaded_context (context_words_at fourth place) ≡ Err DirectoryEntryNotValid =

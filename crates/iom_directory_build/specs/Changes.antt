@@ -14,11 +14,11 @@ KeepsOthers old new top root id =
     (other : ℕ) → other < ids_below top → other ≢ id → path_end_from new top root other ≡ path_end_from old top root other
 
 -- each frame that is no page of the directory, as it is afterwards, has the bytes that it had
-abbrev pub KeepsOutside : List (List ℕ) → List (List ℕ) → ℕ → ℕ → Type 0
-KeepsOutside old new top root = (f : ℕ) → (HasPage new top root f → ⊥) → slice_get new f ≡ slice_get old f
+abbrev pub KeepsOutsideDirectory : List (List ℕ) → List (List ℕ) → ℕ → ℕ → Type 0
+KeepsOutsideDirectory old new top root = (f : ℕ) → (HasPage new top root f → ⊥) → slice_get new f ≡ slice_get old f
 
 -- a word was stored at an address: no other word and no other frame changed
-pub record Stores (old new : List (List ℕ)) (address word : ℕ) : Type 0 where
+pub record StoresOneWord (old new : List (List ℕ)) (address word : ℕ) : Type 0 where
   pub here : word_at 8 new address ≡ Some word
   pub elsewhere : (a : ℕ) → a ≢ address → word_at 8 new a ≡ word_at 8 old a
   pub frames : (n : ℕ) → n ≢ address / page_size → slice_get new n ≡ slice_get old n

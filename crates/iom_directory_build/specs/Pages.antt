@@ -67,7 +67,7 @@ missing_pages memory (suc top) root id =
     missing_below (next_page memory root (suc top) id) (suc top) (λ next. missing_pages memory top next id)
 
 -- frames that may become pages of the directory: zeroed frames of memory, distinct, and none of its pages
-pub record AreFresh (memory : List (List ℕ)) (top root : ℕ) (pages : List ℕ) : Type 0 where
+pub record AreFreshPages (memory : List (List ℕ)) (top root : ℕ) (pages : List ℕ) : Type 0 where
   pub zero : All (λ f. slice_get memory f ≡ Some zeroed) pages
   pub outside : All (λ f. HasPage memory top root f → ⊥) pages
   pub distinct : AllPairs (λ f g. f ≢ g) pages

@@ -13,13 +13,13 @@ with_words memory [] = memory
 with_words memory ((address, word) ∷ later) = with_words (with_word 8 memory address word) later
 
 -- a word of the 32 bytes of a context
-unfoldable pub word_of : Context → ℕ → ℕ
-word_of context k = context_word (encoded_context context) k
+unfoldable pub encoded_word : Context → ℕ → ℕ
+encoded_word context k = context_word (encoded_context context) k
 
 -- the four words of a context at its place. The one that makes it valid comes last
 abbrev pub context_stores : ℕ → Context → List (ℕ × ℕ)
 context_stores place context =
-    (place + 24, word_of context 3) ∷ (place + 16, word_of context 2) ∷ (place + 8, word_of context 1) ∷ (place, word_of context 0) ∷ []
+    (place + 24, encoded_word context 3) ∷ (place + 16, encoded_word context 2) ∷ (place + 8, encoded_word context 1) ∷ (place, encoded_word context 0) ∷ []
 
 -- zeros in its place. The one that makes it invalid comes first
 abbrev pub cleared_stores : ℕ → List (ℕ × ℕ)

@@ -6,8 +6,8 @@ ghost use Rattle.iom_device_dir.specs.Words.{context_word};
 ghost use Rattle.iom_device_dir.specs.Paths.{ddi, entry_place, four_context_words};
 ghost use Rattle.iom_device_dir.specs.Located.{loaded_context};
 ghost use Rattle.iom_directory_build.specs.Pages.{next_page};
-ghost use Rattle.iom_directory_build.specs.Written.{word_of, entry_word, with_entry_at, with_context_at, cleared_at};
-ghost use Rattle.iom_directory_build.specs.Changes.{Stores, WritesPlace};
+ghost use Rattle.iom_directory_build.specs.Written.{encoded_word, entry_word, with_entry_at, with_context_at, cleared_at};
+ghost use Rattle.iom_directory_build.specs.Changes.{StoresOneWord, WritesPlace};
 
 use byteorder::{ByteOrder, LittleEndian};
 use iom_base::{DeviceId, ENTRY_SIZE, PAGE_SIZE, Ppn};
@@ -44,7 +44,7 @@ pub(crate) fn next_page<B: Bytes>(memory: &B, page: u64, level: u8, id: DeviceId
 /// Stores a word at a place of memory.
 fn put_word<B: Bytes>(memory: &mut B, address: u64, word: u64)
     requires place { IsPlace 8 (B.frames_of memory.old) address }
-    ensures stores { Stores (B.frames_of memory.old) (B.frames_of memory.new) address word }
+    ensures stores { StoresOneWord (B.frames_of memory.old) (B.frames_of memory.new) address word }
     ensures whole { B.frames_of memory.new ≡ with_word 8 (B.frames_of memory.old) address word }
 {
     let _stored = memory.store_u64(address, word);
@@ -57,7 +57,7 @@ pub(crate) fn put_entry<B: Bytes>(memory: &mut B, page: u64, level: u8, id: Devi
     requires small { page < 2 ^ 44 }
     requires level { level ≤ 2 }
     requires zero { slice_get (B.frames_of memory.old) next ≡ Some zeroed }
-    ensures stores { Stores (B.frames_of memory.old) (B.frames_of memory.new) (entry_place page (ddi level id)) (entry_word next) }
+    ensures stores { StoresOneWord (B.frames_of memory.old) (B.frames_of memory.new) (entry_place page (ddi level id)) (entry_word next) }
     ensures whole { B.frames_of memory.new ≡ with_entry_at (B.frames_of memory.old) page level id next }
 {
     let entry = NonLeafEntry {
@@ -90,8 +90,8 @@ fn words_of_bytes(bytes: &[u8; CONTEXT_SIZE]) -> [u64; 4]
 
 /// The words of the bytes of a context.
 fn words_of(context: Context) -> [u64; 4]
-    ensures words { result ≡ word_of context 0 ∷ word_of context 1 ∷ word_of context 2 ∷ word_of context 3 ∷ [] }
-    ensures found { loaded_context (four_context_words (Some (word_of context 0)) (Some (word_of context 1)) (Some (word_of context 2)) (Some (word_of context 3))) ≡ Ok context }
+    ensures words { result ≡ encoded_word context 0 ∷ encoded_word context 1 ∷ encoded_word context 2 ∷ encoded_word context 3 ∷ [] }
+    ensures found { loaded_context (four_context_words (Some (encoded_word context 0)) (Some (encoded_word context 1)) (Some (encoded_word context 2)) (Some (encoded_word context 3))) ≡ Ok context }
 {
     words_of_bytes(&context.encode())
 }
@@ -103,7 +103,7 @@ fn make_valid<B: Bytes>(memory: &mut B, place: u64, word: u64, context: &Context
     requires others { let old = B.frames_of memory.old in
         loaded_context (four_context_words (Some word) (word_at 8 old (place + 8)) (word_at 8 old (place + 16)) (word_at 8 old (place + 24)))
         ≡ Ok context.now }
-    ensures stores { Stores (B.frames_of memory.old) (B.frames_of memory.new) place word }
+    ensures stores { StoresOneWord (B.frames_of memory.old) (B.frames_of memory.new) place word }
     ensures whole { B.frames_of memory.new ≡ with_word 8 (B.frames_of memory.old) place word }
 {
     put_word(memory, place, word);
@@ -114,7 +114,7 @@ fn make_valid<B: Bytes>(memory: &mut B, place: u64, word: u64, context: &Context
 fn clear_behind<B: Bytes>(memory: &mut B, place: u64, address: u64)
     requires place { IsPlace 8 (B.frames_of memory.old) address }
     requires invalid { word_at 8 (B.frames_of memory.old) place ≡ Some 0 }
-    ensures stores { Stores (B.frames_of memory.old) (B.frames_of memory.new) address 0 }
+    ensures stores { StoresOneWord (B.frames_of memory.old) (B.frames_of memory.new) address 0 }
     ensures whole { B.frames_of memory.new ≡ with_word 8 (B.frames_of memory.old) address 0 }
 {
     put_word(memory, address, 0);

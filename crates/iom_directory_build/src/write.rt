@@ -3,9 +3,9 @@ ghost use Rattle.std.specs.List.{Contains};
 ghost use Rattle.iom_base.specs.declared.cause.Cause.TheVariants.{DirectoryEntryNotValid};
 ghost use Rattle.iom_device_dir.specs.Paths.{ids_below};
 ghost use Rattle.iom_device_dir.specs.Located.{path_end_from};
-ghost use Rattle.iom_directory_build.specs.Pages.{root_level, page_at, HasPage, HasWholePath, IsDirectory, missing_pages, AreFresh};
+ghost use Rattle.iom_directory_build.specs.Pages.{root_level, page_at, HasPage, HasWholePath, IsDirectory, missing_pages, AreFreshPages};
 ghost use Rattle.iom_directory_build.specs.Written.{hung, without_context};
-ghost use Rattle.iom_directory_build.specs.Changes.{KeepsOthers, KeepsOutside};
+ghost use Rattle.iom_directory_build.specs.Changes.{KeepsOthers, KeepsOutsideDirectory};
 
 use crate::entries::{erase_context, next_page, put_entry, write_context};
 use iom_base::DeviceId;
@@ -56,7 +56,7 @@ pub fn put_context<B: Bytes>(
     requires directory { IsDirectory (B.frames_of memory.old) (root_level levels) root }
     requires empty { path_end_from (B.frames_of memory.old) (root_level levels) root id ≡ Err DirectoryEntryNotValid }
     requires count { length pages.now ≡ missing_pages (B.frames_of memory.old) (root_level levels) root id }
-    requires fresh { AreFresh (B.frames_of memory.old) (root_level levels) root pages.now }
+    requires fresh { AreFreshPages (B.frames_of memory.old) (root_level levels) root pages.now }
     ensures directory { IsDirectory (B.frames_of memory.new) (root_level levels) root }
     ensures pages { (f : ℕ) → HasPage (B.frames_of memory.new) (root_level levels) root f
         ↔ (HasPage (B.frames_of memory.old) (root_level levels) root f ⊎ Contains pages.now f) }
@@ -66,7 +66,7 @@ pub fn put_context<B: Bytes>(
         → HasWholePath (B.frames_of memory.old) (root_level levels) root other
         → HasWholePath (B.frames_of memory.new) (root_level levels) root other }
     ensures others { KeepsOthers (B.frames_of memory.old) (B.frames_of memory.new) (root_level levels) root id }
-    ensures outside { KeepsOutside (B.frames_of memory.old) (B.frames_of memory.new) (root_level levels) root }
+    ensures outside { KeepsOutsideDirectory (B.frames_of memory.old) (B.frames_of memory.new) (root_level levels) root }
     ensures size { length (B.frames_of memory.new) ≡ length (B.frames_of memory.old) }
 
     // What the clauses above follow from, as one equation.
@@ -101,7 +101,7 @@ pub fn clear_context<B: Bytes>(memory: &mut B, levels: u8, root: u32, id: Device
         → HasWholePath (B.frames_of memory.old) (root_level levels) root other
         → HasWholePath (B.frames_of memory.new) (root_level levels) root other }
     ensures others { KeepsOthers (B.frames_of memory.old) (B.frames_of memory.new) (root_level levels) root id }
-    ensures outside { KeepsOutside (B.frames_of memory.old) (B.frames_of memory.new) (root_level levels) root }
+    ensures outside { KeepsOutsideDirectory (B.frames_of memory.old) (B.frames_of memory.new) (root_level levels) root }
     ensures size { length (B.frames_of memory.new) ≡ length (B.frames_of memory.old) }
 
     // What the clauses above follow from, as one equation.

@@ -7,13 +7,13 @@ use Rattle.iom_machine.specs.Devices.{replaced_device}
 use Rattle.iom_machine.specs.declared.state.Device.{Device}
 use Rattle.iom_machine.proofs.InFlightLemmas.{found_device}
 use Rattle.iom_doubts.specs.declared.doubts.Doubt.{Doubt}
-use Rattle.iom_doubts.specs.Doubted.{MayBe, MayEachBe, MayFly, with_flights}
+use Rattle.iom_doubts.specs.Doubted.{MayBeOther, MayEachBe, MayFly, with_flights}
 use Rattle.iom_doubts.proofs.FlightLemmas.{as_many}
 
 -- what may be doubted now and wasn't before is of this device's access with this number
 abbrev pub DoubtsOnly : List Doubt → List Doubt → ℕ → ℕ → Type 0
 DoubtsOnly old new id number =
-    (i n : ℕ) (made other : AcceptedAccess) → ((i ≡ id) × (n ≡ number) → ⊥) → MayBe new i n made other → MayBe old i n made other
+    (i n : ℕ) (made other : AcceptedAccess) → ((i ≡ id) × (n ≡ number) → ⊥) → MayBeOther new i n made other → MayBeOther old i n made other
 
 -- no two of the devices have one id
 abbrev pub HaveOwnIds : List Device → Type 0
@@ -23,10 +23,10 @@ HaveOwnIds (d ∷ ds) = (find (λ (x : Device). x.id == d.id) ds ≡ None) × Ha
 -- of one more in flight, the last is new, and the others might be so before
 pub last_is_new : (old new : List Doubt) (id accepted : ℕ) (flights : List AcceptedAccess) (added : AcceptedAccess) (chosen : List AcceptedAccess)
     → DoubtsOnly old new id (accepted + 1) → MayEachBe new id (accepted + 1) (flights ++ added ∷ []) chosen
-    → (front : List AcceptedAccess) × (last : AcceptedAccess) × (chosen ≡ front ++ last ∷ []) × MayEachBe old id accepted flights front × MayBe new id (accepted + 1) added last
+    → (front : List AcceptedAccess) × (last : AcceptedAccess) × (chosen ≡ front ++ last ∷ []) × MayEachBe old id accepted flights front × MayBeOther new id (accepted + 1) added last
 last_is_new old new id accepted [] added [] only may = absurd may
 last_is_new old new id accepted [] added (last ∷ []) only may =
-    ([], last, refl, tt, subst (λ (n : ℕ). MayBe new id n added last) (less_none (accepted + 1)) may.0)
+    ([], last, refl, tt, subst (λ (n : ℕ). MayBeOther new id n added last) (less_none (accepted + 1)) may.0)
   where
     less_none : (n : ℕ) → n - 0 ≡ n
     less_none n = omega arith
@@ -38,7 +38,7 @@ last_is_new old new id accepted (f ∷ fs) added (g ∷ gs) only may =
       g ∷ rest.0,
       rest.1,
       ap (λ (l : List AcceptedAccess). g ∷ l) rest.2,
-      (only id (accepted - length fs) f g (λ both. omega (arith, both.1)) (subst (λ (n : ℕ). MayBe new id n f g) same may.0), rest.3),
+      (only id (accepted - length fs) f g (λ both. omega (arith, both.1)) (subst (λ (n : ℕ). MayBeOther new id n f g) same may.0), rest.3),
       rest.4,
     )
   where
@@ -87,7 +87,7 @@ pub record OneMore (old new : List Doubt) (devices : List Device) (id : ℕ) (de
   pub flew : MayFly old devices before
   pub front : List AcceptedAccess
   pub last : AcceptedAccess
-  pub is_last : MayBe new device.id (device.accepted + 1) added last
+  pub is_last : MayBeOther new device.id (device.accepted + 1) added last
   pub many : length front ≡ length device.in_flight
   pub found : find (λ (x : Device). x.id == id) (with_flights before devices) ≡ Some (record device { in_flight = front })
   pub replaced : with_flights flights (replaced_device devices id (with_one_more device device.in_flight added))

@@ -14,7 +14,7 @@ use Rattle.iom_machine.specs.declared.state.State.{State}
 use Rattle.iom_machine.proofs.DeviceLemmas.{found_replaced}
 use Rattle.iom_machine.proofs.InFlightLemmas.{found_device}
 use Rattle.iom_doubts.specs.declared.doubts.Doubt.{Doubt}
-use Rattle.iom_doubts.specs.Doubted.{MayBe, MayEachBe, MayFly, with_flights, flown}
+use Rattle.iom_doubts.specs.Doubted.{MayBeOther, MayEachBe, MayFly, with_flights, flown}
 use Rattle.iom_doubts.specs.Followed.{IsCommitOf}
 use Rattle.iom_doubts.proofs.FlightSteps.{Led}
 
@@ -28,7 +28,7 @@ pub record OneMade (doubts : List Doubt) (devices : List Device) (id : ℕ) (dev
       ≡ replaced_device (with_flights before devices) id (record device { in_flight = rest })
 
 pub one_made : (doubts : List Doubt) (devices : List Device) (id : ℕ) (device : Device) (made is : AcceptedAccess) (later : List AcceptedAccess) (flights : List (List AcceptedAccess))
-    → find (λ (x : Device). x.id == id) devices ≡ Some device → device.in_flight ≡ made ∷ later → MayBe doubts device.id (device.accepted - length later) made is
+    → find (λ (x : Device). x.id == id) devices ≡ Some device → device.in_flight ≡ made ∷ later → MayBeOther doubts device.id (device.accepted - length later) made is
     → MayFly doubts (replaced_device devices id (record device { in_flight = later })) flights → OneMade doubts devices id device is later flights
 one_made doubts [] id device made is later flights at oldest may fly = absurd (never device at)
   where
@@ -93,7 +93,7 @@ makes_there : (state : State) (id : ℕ) (device : Device) (is : AcceptedAccess)
 makes_there state id device is rest outcome after found makes = rw found makes
 
 pub commit_flies : (doubts : List Doubt) (flights : List (List AcceptedAccess)) (old : State) (id : ℕ) (device : Device) (made is : AcceptedAccess) (later : List AcceptedAccess) (outcome : Outcome) (new : State)
-    → IsCommitOf outcome → device_of old id ≡ Some device → device.in_flight ≡ made ∷ later → MayBe doubts device.id (device.accepted - length later) made is
+    → IsCommitOf outcome → device_of old id ≡ Some device → device.in_flight ≡ made ∷ later → MayBeOther doubts device.id (device.accepted - length later) made is
     → MayFly doubts new.devices flights → Commits (with_oldest old id device is later) id outcome new
     → Led doubts old flights new (λ before after. Commits before id outcome after)
 commit_flies doubts flights old id device made is later (outcomes.Read bytes) new commits at oldest may fly step =

@@ -5,7 +5,7 @@ use Rattle.iom_base.specs.declared.access.AcceptedAccess.{AcceptedAccess}
 use Rattle.iom_machine.specs.Devices.{replaced_device}
 use Rattle.iom_machine.specs.declared.state.Device.{Device}
 use Rattle.iom_doubts.specs.declared.doubts.Doubt.{Doubt}
-use Rattle.iom_doubts.specs.Doubted.{AreAmong, MayBe, MayEachBe, MayFly, with_flights}
+use Rattle.iom_doubts.specs.Doubted.{DoubtsAreAmong, MayBeOther, MayEachBe, MayFly, with_flights}
 
 -- those that each may be are as many
 pub as_many : (doubts : List Doubt) (id accepted : ℕ) (made others : List AcceptedAccess) → MayEachBe doubts id accepted made others → length others ≡ length made
@@ -90,17 +90,17 @@ changed_among doubts (d ∷ ds) (f ∷ fs) id device now chosen may at = by (d.i
     by false found goes = ap (λ (l : List Device). record d { in_flight = f } ∷ l) (goes found)
 
 -- what may be in flight with fewer doubts may be with all
-fewer_be : (some all : List Doubt) (id number : ℕ) (made other : AcceptedAccess) → AreAmong some all → MayBe some id number made other → MayBe all id number made other
+fewer_be : (some all : List Doubt) (id number : ℕ) (made other : AcceptedAccess) → DoubtsAreAmong some all → MayBeOther some id number made other → MayBeOther all id number made other
 fewer_be some all id number made other among (inl same) = inl same
 fewer_be some all id number made other among (inr (place, doubt, at, moved)) = let there = among place doubt at in inr (there.0, doubt, there.1, moved)
 
-fewer_each : (some all : List Doubt) (id accepted : ℕ) (made others : List AcceptedAccess) → AreAmong some all → MayEachBe some id accepted made others → MayEachBe all id accepted made others
+fewer_each : (some all : List Doubt) (id accepted : ℕ) (made others : List AcceptedAccess) → DoubtsAreAmong some all → MayEachBe some id accepted made others → MayEachBe all id accepted made others
 fewer_each some all id accepted [] [] among may = may
 fewer_each some all id accepted [] (g ∷ gs) among may = absurd may
 fewer_each some all id accepted (f ∷ fs) [] among may = absurd may
 fewer_each some all id accepted (f ∷ fs) (g ∷ gs) among may = (fewer_be some all id _ f g among may.0, fewer_each some all id accepted fs gs among may.1)
 
-pub fewer_fly : (some all : List Doubt) (devices : List Device) (flights : List (List AcceptedAccess)) → AreAmong some all → MayFly some devices flights → MayFly all devices flights
+pub fewer_fly : (some all : List Doubt) (devices : List Device) (flights : List (List AcceptedAccess)) → DoubtsAreAmong some all → MayFly some devices flights → MayFly all devices flights
 fewer_fly some all [] [] among fly = fly
 fewer_fly some all [] (f ∷ fs) among fly = absurd fly
 fewer_fly some all (d ∷ ds) [] among fly = absurd fly

@@ -15,7 +15,7 @@ use Rattle.iom_machine.specs.declared.state.Device.{Device}
 use Rattle.iom_machine.specs.declared.state.Frame.{Frame}
 use Rattle.iom_machine.specs.declared.state.State.{State}
 use Rattle.iom_doubts.specs.declared.doubts.Doubt.{Doubt}
-use Rattle.iom_doubts.specs.Doubted.{MayBe, MayBeBy, MayEachBe, MayFly, with_flights, flown}
+use Rattle.iom_doubts.specs.Doubted.{MayBeOther, MayBeBy, MayEachBe, MayFly, with_flights, flown}
 use Rattle.iom_doubts.proofs.FlightSteps.{Led, same_attachment}
 
 -- what may be in flight might be so before devices were detached
@@ -70,7 +70,7 @@ DoubtsMay doubts history =
     → May history id other.frame other.access.kind
 
 moved_may : (doubts : List Doubt) (history : History) (id number : ℕ) (made other : AcceptedAccess) → DoubtsMay doubts history → May history id made.frame made.access.kind
-    → MayBe doubts id number made other → May history id other.frame other.access.kind
+    → MayBeOther doubts id number made other → May history id other.frame other.access.kind
 moved_may doubts history id number made other each may (inl same) = subst (λ (a : AcceptedAccess). May history id a.frame a.access.kind) (sym same) may
 moved_may doubts history id number made other each may (inr (place, doubt, at, moved)) = each place doubt at id number made other moved
 

@@ -20,7 +20,7 @@ use Rattle.iom_machine.specs.declared.state.State.{State}
 use Rattle.iom_machine.proofs.InFlightLemmas.{found_device}
 use Rattle.iom_doubts.specs.declared.doubts.Doubt.{Doubt}
 use Rattle.iom_doubts.specs.Begun.{on_frame}
-use Rattle.iom_doubts.specs.Doubted.{MayBe, MayBeBy, MayFly, flown, with_flights}
+use Rattle.iom_doubts.specs.Doubted.{MayBeOther, MayBeBy, MayFly, flown, with_flights}
 use Rattle.iom_doubts.proofs.FlightAccepts.{DoubtsOnly, HaveOwnIds, OneMore, one_more_flies, with_one_more}
 
 pub accept_too : (attachment : Attachment) (state : State) (flights : List (List AcceptedAccess)) (id : ℕ) (access : Access) (frame : ℕ)
@@ -72,7 +72,7 @@ accepted_flies old new state flights id device sent frame after own at only is f
 
 -- the frame on which the last one is, and that it may be there
 on_such : (doubts : List Doubt) (id number : ℕ) (is_cached : Bool) (IsSuch : ℕ → Type 0) (made last : AcceptedAccess) → IsDoubtedSo doubts id number is_cached IsSuch
-    → IsSuch made.frame → made ≡ on_frame is_cached made.frame made → MayBe doubts id number made last
+    → IsSuch made.frame → made ≡ on_frame is_cached made.frame made → MayBeOther doubts id number made last
     → (frame : ℕ) × IsSuch frame × (last ≡ on_frame is_cached frame made)
 on_such doubts id number is_cached IsSuch made last so such own (inl same) = (made.frame, such, same ∙ own)
 on_such doubts id number is_cached IsSuch made last so such own (inr (place, doubt, at, moved)) = so place doubt at made last moved

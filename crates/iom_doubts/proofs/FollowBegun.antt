@@ -22,11 +22,11 @@ use Rattle.iom_machine.specs.declared.state.Device.{Device}
 use Rattle.iom_machine.specs.declared.state.Frame.{Frame}
 use Rattle.iom_machine.specs.declared.state.State.{State}
 use Rattle.iom_machine.proofs.InFlightLemmas.{All-at, found_device}
-use Rattle.iom_known.specs.Allowed.{Past, IsTrueOf, state_of}
+use Rattle.iom_known.specs.Allowed.{Past, IsTrueOf, known_state}
 use Rattle.iom_known.specs.Steps.{IsExplained}
 use Rattle.iom_known.specs.declared.known.Known.{Known}
 use Rattle.iom_doubts.specs.Begun.{AreOpen, IsOpenAt, IsOpenFor, on_frame}
-use Rattle.iom_doubts.specs.Doubted.{IsNotAbout, IsOfStep, MayAddStep, MayBe, MayBeBegun, MayBeBy, MayFly, flown}
+use Rattle.iom_doubts.specs.Doubted.{IsNotAbout, IsOfStep, MayAddStep, MayBeOther, MayBeBegun, MayBeBy, MayFly, flown}
 use Rattle.iom_doubts.specs.Followed.{IsFollowed, StepsBy}
 use Rattle.iom_doubts.specs.declared.begun.BegunAccess.{BegunAccess}
 use Rattle.iom_doubts.specs.declared.begun.Place.{Place}
@@ -66,12 +66,12 @@ pass_alike (Leaving ticket (Second size) ats) state id one other frame page kind
 pass_alike (Leaving ticket (Both size) ats) state id one other frame page kind may = rw kind may
 
 pub open_alike : (known : Known) (device : Device) (one : Access) (page frame : ℕ) (kind : AccessKind) → page_of one ≡ page → one.kind ≡ kind
-    → ((past : Past) (frames : List Frame) → IsTrueOf known past → MayAccept device.attachment (state_of known past.history frames) device.id one frame)
-    → ((past : Past) (frames : List Frame) → IsTrueOf known past → MayGoThrough device.attachment (state_of known past.history frames) device.id one frame)
+    → ((past : Past) (frames : List Frame) → IsTrueOf known past → MayAccept device.attachment (known_state known past.history frames) device.id one frame)
+    → ((past : Past) (frames : List Frame) → IsTrueOf known past → MayGoThrough device.attachment (known_state known past.history frames) device.id one frame)
     → IsOpenFor known device page frame kind
 open_alike known device one page frame kind at of accepts passes = λ other there its past frames is. (
-  accept_alike device.attachment (state_of known past.history frames) device.id one other frame (there ∙ sym at) (its ∙ sym of) (accepts past frames is),
-  pass_alike device.attachment (state_of known past.history frames) device.id one other frame (there ∙ sym at) (its ∙ sym of) (passes past frames is),
+  accept_alike device.attachment (known_state known past.history frames) device.id one other frame (there ∙ sym at) (its ∙ sym of) (accepts past frames is),
+  pass_alike device.attachment (known_state known past.history frames) device.id one other frame (there ∙ sym at) (its ∙ sym of) (passes past frames is),
 )
 
 -- one place more at which each access is open
@@ -165,24 +165,24 @@ new_or_old : (before now : List Doubt) (added : BegunAccess) → now ≡ before 
 new_or_old before now added same place doubt at = one_of_more before (Begun added) doubt place (subst (λ (l : List Doubt). slice_get l place ≡ Some doubt) same at)
 
 step_doubts_only : (before now : List Doubt) (known : Known) (id number : ℕ) → MayAddStep before now known id number → DoubtsOnly before now id number
-step_doubts_only before now known id number (inl same) = λ i n made other differs may. subst (λ (l : List Doubt). MayBe l i n made other) same may
+step_doubts_only before now known id number (inl same) = λ i n made other differs may. subst (λ (l : List Doubt). MayBeOther l i n made other) same may
 step_doubts_only before now known id number (inr (added, of, same)) = λ i n made other differs may. by i n made other differs may
   where
-    by : (i n : ℕ) (made other : AcceptedAccess) → ((i ≡ id) × (n ≡ number) → ⊥) → MayBe now i n made other → MayBe before i n made other
+    by : (i n : ℕ) (made other : AcceptedAccess) → ((i ≡ id) × (n ≡ number) → ⊥) → MayBeOther now i n made other → MayBeOther before i n made other
     by i n made other differs (inl is) = inl is
     by i n made other differs (inr (place, doubt, at, moved)) = which (new_or_old before now added same place doubt at)
       where
         never : MayBeBegun added i n other → ⊥
         never moved = differs (sym moved.own ∙ of.own, sym moved.numbered ∙ of.numbered)
 
-        which : (slice_get before place ≡ Some doubt) ⊎ (doubt ≡ Begun added) → MayBe before i n made other
+        which : (slice_get before place ≡ Some doubt) ⊎ (doubt ≡ Begun added) → MayBeOther before i n made other
         which (inl there) = inr (place, doubt, there, moved)
         which (inr is) = absurd (never (subst (λ (d : Doubt). MayBeBy d i n made other) is moved))
 
 -- where the access is at one of the places of the doubt, a step may begin it so
 starts_at : (known : Known) (past : Past) (frames : List Frame) (id number : ℕ) (device : Device) (added : BegunAccess) (made last : AcceptedAccess) → IsTrueOf known past
     → find (λ (d : Device). d.id == id) known.devices ≡ Some device → IsOfStep added known id number → MayBeBegun added id number last
-    → StartsAs (has_cache device.kind) device.attachment (state_of known past.history frames) device.id last
+    → StartsAs (has_cache device.kind) device.attachment (known_state known past.history frames) device.id last
 starts_at known past frames id number device added made last is found of moved =
     let could = moved.could.could in
     let place = moved.could.place in
@@ -190,22 +190,22 @@ starts_at known past frames id number device added made last is found of moved =
       wanted = could.wanted;
       frame = place.frame;
       may = could.may;
-      opens = opens_either (has_cache device.kind) device.attachment (state_of known past.history frames) device.id could.wanted place.frame
+      opens = opens_either (has_cache device.kind) device.attachment (known_state known past.history frames) device.id could.wanted place.frame
           (by could.wanted.kind refl (each.1 moved.could.k place moved.could.among));
       is = could.is ∙ ap (λ (c : Bool). sent c place.frame could.wanted) each.0;
     }
   where
     by : (kind : AccessKind) → moved.could.could.wanted.kind ≡ kind → IsOpenAt known device moved.could.place
-        → MayAccept device.attachment (state_of known past.history frames) device.id moved.could.could.wanted moved.could.place.frame
-        × MayGoThrough device.attachment (state_of known past.history frames) device.id moved.could.could.wanted moved.could.place.frame
+        → MayAccept device.attachment (known_state known past.history frames) device.id moved.could.could.wanted moved.could.place.frame
+        × MayGoThrough device.attachment (known_state known past.history frames) device.id moved.could.could.wanted moved.could.place.frame
     by Read e opened = opened.0 moved.could.could.wanted moved.could.could.there e past frames is
     by Write e opened = opened.1 (moved.could.could.writable e) moved.could.could.wanted moved.could.could.there e past frames is
 
 starts_as : (before now : List Doubt) (known : Known) (past : Past) (frames : List Frame) (id number : ℕ) (device : Device) (access : Access) (frame : ℕ) (made last : AcceptedAccess)
     → IsTrueOf known past → find (λ (d : Device). d.id == id) known.devices ≡ Some device → All (IsNotAbout id number) before → MayAddStep before now known id number
-    → MayWant access → Opens (has_cache device.kind) device.attachment (state_of known past.history frames) device.id access frame
-    → made ≡ sent (has_cache device.kind) frame access → MayBe now id number made last
-    → StartsAs (has_cache device.kind) device.attachment (state_of known past.history frames) device.id last
+    → MayWant access → Opens (has_cache device.kind) device.attachment (known_state known past.history frames) device.id access frame
+    → made ≡ sent (has_cache device.kind) frame access → MayBeOther now id number made last
+    → StartsAs (has_cache device.kind) device.attachment (known_state known past.history frames) device.id last
 starts_as before now known past frames id number device access frame made last is found none adds want opens own (inl same) =
     record { wanted = access; frame = frame; may = want; opens = opens; is = same ∙ own }
 starts_as before now known past frames id number device access frame made last is found none (inl same) want opens own (inr (place, doubt, at, moved)) =
@@ -215,7 +215,7 @@ starts_as before now known past frames id number device access frame made last i
     which (new_or_old before now added same place doubt at)
   where
     which : (slice_get before place ≡ Some doubt) ⊎ (doubt ≡ Begun added)
-        → StartsAs (has_cache device.kind) device.attachment (state_of known past.history frames) device.id last
+        → StartsAs (has_cache device.kind) device.attachment (known_state known past.history frames) device.id last
     which (inl there) = absurd (not_by id number doubt made last (All-at (IsNotAbout id number) before place doubt none there) moved)
     which (inr its) = starts_at known past frames id number device added made last is found of (subst (λ (d : Doubt). MayBeBy d id number made last) its moved)
 
@@ -225,10 +225,10 @@ beginning access frame = record { directory = []; taken = []; frame = frame; dev
 
 begun_flies : (before now : List Doubt) (known : Known) (past : Past) (frames : List Frame) (id number : ℕ) (access : Access) (frame : ℕ) (flights : List (List AcceptedAccess)) (after : State)
     → IsTrueOf known past → All (IsNotAbout id number) before → MayAddStep before now known id number → MayFly now after.devices flights
-    → Steps access frame (state_of known past.history frames) id (Accepted number) after
-    → Led before (state_of known past.history frames) flights after (λ b a. Step b (events.Step id) (Accepted number) a)
+    → Steps access frame (known_state known past.history frames) id (Accepted number) after
+    → Led before (known_state known past.history frames) flights after (λ b a. Step b (events.Step id) (Accepted number) a)
 begun_flies before now known past frames id number access frame flights after is none adds fly step =
-    let state = state_of known past.history frames in
+    let state = known_state known past.history frames in
     let able = able_to is_block_device (λ d. TakesStep state d access frame (Accepted number) after) state after number (device_of state id) step in
     let device = able.0 in
     let c = has_cache device.kind in
@@ -237,7 +237,7 @@ begun_flies before now known past frames id number access frame flights after is
     let only = subst (λ (n : ℕ). DoubtsOnly before now device.id n) told.2 (subst (λ (i : ℕ). DoubtsOnly before now i number) (sym own) (step_doubts_only before now known id number adds)) in
     let more = accepted_flies before now state flights id device (sent c frame access).access frame after (own_ids_in_order known.devices is.order.distinct) able.1 only told.3 fly in
     let made : AcceptedAccess = record { access = (sent c frame access).access; frame = frame } in
-    let last = subst (λ (n : ℕ). MayBe now id n made more.0.last) (sym told.2) (subst (λ (i : ℕ). MayBe now i (device.accepted + 1) made more.0.last) own more.0.is_last) in
+    let last = subst (λ (n : ℕ). MayBeOther now id n made more.0.last) (sym told.2) (subst (λ (i : ℕ). MayBeOther now i (device.accepted + 1) made more.0.last) own more.0.is_last) in
     let starts = starts_as before now known past frames id number device access frame made more.0.last is able.1 none adds able.3.0 told.1 (same_frame c frame access) last in (
       more.0.before,
       more.0.flew,
@@ -256,6 +256,6 @@ begun_follows old new before now id number outcome accepted none adds past is ex
       is_true = explained.is_true;
       from_before = λ flights frames fly allowed.
           let came = explained.from_before frames allowed in
-          let led = begun_flies before now old past came.frames id number came.step.0.access came.step.0.frame flights (state_of new explained.after.history frames) is none adds fly came.step.1 in
+          let led = begun_flies before now old past came.frames id number came.step.0.access came.step.0.frame flights (known_state new explained.after.history frames) is none adds fly came.step.1 in
           record { flights = led.0; frames = came.frames; flew = led.1; allowed = came.allowed; step = led.2 };
     })

@@ -12,13 +12,13 @@ use Rattle.iom_machine.specs.declared.outcome.Outcome.{Outcome}
 use Rattle.iom_machine.specs.declared.outcome.Outcome.TheVariants as outcomes
 use Rattle.iom_machine.specs.declared.state.Device.{Device}
 use Rattle.iom_machine.specs.declared.state.State.{State}
-use Rattle.iom_known.specs.Allowed.{Past, IsTrueOf, AreInOrder, HadBytes, ids_of, state_of}
+use Rattle.iom_known.specs.Allowed.{Past, IsTrueOf, AreInOrder, HadBytes, ids_of, known_state}
 use Rattle.iom_known.specs.Steps.{IsExplained}
 use Rattle.iom_known.specs.declared.known.Known.{Known}
 use Rattle.iom_known.proofs.StayLemmas.{allowed_by_ids, same_ids}
 use Rattle.iom_doubts.specs.Begun.{CouldHaveBegun, on_frame}
-use Rattle.iom_doubts.specs.Doubted.{AreAmong, MayBe, MayFly}
-use Rattle.iom_doubts.specs.Followed.{IsCommitOf, IsFollowed, IsOldest, IsOldestOn, IsPutOn, IsReadyFor, StepsBy}
+use Rattle.iom_doubts.specs.Doubted.{DoubtsAreAmong, MayBeOther, MayFly}
+use Rattle.iom_doubts.specs.Followed.{IsCommitOf, IsFollowed, MayBeOldest, IsOldestOn, IsPutOn, IsReadyFor, StepsBy}
 use Rattle.iom_doubts.specs.declared.begun.BegunAccess.{BegunAccess}
 use Rattle.iom_doubts.specs.declared.doubts.Doubt.{Doubt}
 use Rattle.iom_doubts.specs.declared.doubts.Doubt.TheVariants.{Begun, InFlight}
@@ -85,14 +85,14 @@ stays_oldest doubts flights old id outcome new commits fly step =
     commit_flies doubts flights old id has.device has.made has.made has.later outcome new commits has.found has.oldest (inl refl) fly
     (subst (λ (s : State). Commits s id outcome new) (sym whole) step)
 
-commit_stays : (old new : Known) (before now : List Doubt) (id : ℕ) (outcome : Outcome) (past : Past) → IsCommitOf outcome → AreAmong now before
+commit_stays : (old new : Known) (before now : List Doubt) (id : ℕ) (outcome : Outcome) (past : Past) → IsCommitOf outcome → DoubtsAreAmong now before
     → IsExplained old new (Commit id) outcome past → IsFollowed old before new now (StepsBy (Commit id) outcome) past
 commit_stays old new before now id outcome past commits among explained = record {
   after = explained.after;
   is_true = explained.is_true;
   from_before = λ flights frames fly allowed.
       let came = explained.from_before frames allowed in
-      let led = stays_oldest before flights (state_of old past.history came.frames) id outcome (state_of new explained.after.history frames) commits
+      let led = stays_oldest before flights (known_state old past.history came.frames) id outcome (known_state new explained.after.history frames) commits
       (fewer_fly now before new.devices flights among fly) came.step.1 in
       record { flights = led.0; frames = came.frames; flew = led.1; allowed = came.allowed; step = (came.step.0, led.2) };
 }
@@ -122,7 +122,7 @@ true_with_others old devices exact past same is = record {
 }
 
 -- a commit of the oldest access, where that was put on another frame before
-commit_puts : (old mid new : Known) (before now : List Doubt) (id : ℕ) (outcome : Outcome) (past : Past) → IsCommitOf outcome → AreAmong now before → IsPutOn old before id mid
+commit_puts : (old mid new : Known) (before now : List Doubt) (id : ℕ) (outcome : Outcome) (past : Past) → IsCommitOf outcome → DoubtsAreAmong now before → IsPutOn old before id mid
     → IsTrueOf old past → ((past : Past) → IsTrueOf mid past → IsExplained mid new (Commit id) outcome past)
     → IsFollowed old before new now (StepsBy (Commit id) outcome) past
 commit_puts old mid new before now id outcome past commits among put is explains =
@@ -138,10 +138,10 @@ commit_puts old mid new before now id outcome past commits among put is explains
       is_true = explained.is_true;
       from_before = λ flights frames fly allowed.
           let came = explained.from_before frames allowed in
-          let was = state_of old past.history came.frames in
-          let led = commit_flies before flights was id device put.made put.moved put.later outcome (state_of new explained.after.history frames) commits (put.stands.1 ∙ put.there)
+          let was = known_state old past.history came.frames in
+          let led = commit_flies before flights was id device put.made put.moved put.later outcome (known_state new explained.after.history frames) commits (put.stands.1 ∙ put.there)
           put.oldest put.may (fewer_fly now before new.devices flights among fly)
-          (subst (λ (ds : List Device). Commits (record was { devices = ds }) id outcome (state_of new explained.after.history frames)) (sym (put.stands.2 moved)) came.step.1) in
+          (subst (λ (ds : List Device). Commits (record was { devices = ds }) id outcome (known_state new explained.after.history frames)) (sym (put.stands.2 moved)) came.step.1) in
           record {
             flights = led.0;
             frames = came.frames;
@@ -152,7 +152,7 @@ commit_puts old mid new before now id outcome past commits among put is explains
     }
 
 -- Where all is ready for a line, and it is explained then, it is followed.
-pub ready_follows : (old mid new : Known) (before now : List Doubt) (event : Event) (outcome : Outcome) → AreAmong now before → IsReadyFor old before mid event outcome
+pub ready_follows : (old mid new : Known) (before now : List Doubt) (event : Event) (outcome : Outcome) → DoubtsAreAmong now before → IsReadyFor old before mid event outcome
     → ((past : Past) → IsTrueOf mid past → IsExplained mid new event outcome past)
     → (past : Past) → IsTrueOf old past → IsFollowed old before new now (StepsBy event outcome) past
 ready_follows old mid new before now event outcome among (inl (same, leaves)) explains past is =
@@ -193,7 +193,7 @@ one_fewer (one ∷ rest) first at = omega arith
 
 -- what is known, where the oldest access of a device was put where it may be
 pub is_put : (old : Known) (doubts : List Doubt) (id place : ℕ) (device : Device) (moved : AcceptedAccess) (devices : List Device) (exact : Bool) → StandsAt old.devices id place
-    → slice_get old.devices place ≡ Some device → IsOldest doubts device moved
+    → slice_get old.devices place ≡ Some device → MayBeOldest doubts device moved
     → devices ≡ slice_set old.devices place (record device { in_flight = slice_set device.in_flight 0 moved })
     → IsPutOn old doubts id (with_others old devices exact)
 is_put old doubts id place device moved devices exact stands there (made, at, may) put = record {
@@ -205,7 +205,7 @@ is_put old doubts id place device moved devices exact stands there (made, at, ma
   stands = stands;
   there = there;
   oldest = first_and_rest device.in_flight made at;
-  may = subst (λ (n : ℕ). MayBe doubts device.id (device.accepted - n) made moved) (one_fewer device.in_flight made at) may;
+  may = subst (λ (n : ℕ). MayBeOther doubts device.id (device.accepted - n) made moved) (one_fewer device.in_flight made at) may;
   put = ap (λ (ds : List Device). with_others old ds exact)
       (put ∙ ap (λ (l : List AcceptedAccess). slice_set old.devices place (record device { in_flight = l })) (other_first device.in_flight made moved at));
 }
@@ -238,12 +238,12 @@ is_oldest_on doubts device doubt flight made number k frame there at is about am
 -- an access that a step may have begun, where that is the oldest
 pub is_oldest_begun : (doubts : List Doubt) (device : Device) (doubt : ℕ) (begun : BegunAccess) (made moved : AcceptedAccess) (number : ℕ) → slice_get doubts doubt ≡ Some (Begun begun)
     → slice_get device.in_flight 0 ≡ Some made → number ≡ device.accepted - (length device.in_flight - 1)
-    → (begun.device ≡ device.id) × (begun.number ≡ number) → CouldHaveBegun begun moved → IsOldest doubts device moved
+    → (begun.device ≡ device.id) × (begun.number ≡ number) → CouldHaveBegun begun moved → MayBeOldest doubts device moved
 is_oldest_begun doubts device doubt begun made moved number there at is about could =
     (made, at, inr (doubt, Begun begun, there, record { own = about.0; numbered = about.1 ∙ is; could = could }))
 
 -- what is left of some without the one at a place is among these
-pub left_among : (doubts : List Doubt) (place : ℕ) → AreAmong (take place doubts ++ drop (suc place) doubts) doubts
+pub left_among : (doubts : List Doubt) (place : ℕ) → DoubtsAreAmong (take place doubts ++ drop (suc place) doubts) doubts
 left_among doubts place = λ k doubt at. by doubts place k doubt at
   where
     by : (all : List Doubt) (place k : ℕ) (doubt : Doubt) → slice_get (take place all ++ drop (suc place) all) k ≡ Some doubt

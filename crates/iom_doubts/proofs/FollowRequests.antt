@@ -18,14 +18,14 @@ use Rattle.iom_machine.specs.declared.outcome.Outcome.TheVariants.{Accepted}
 use Rattle.iom_machine.specs.declared.state.Frame.{Frame}
 use Rattle.iom_machine.specs.declared.state.State.{State}
 use Rattle.iom_machine.proofs.InFlightLemmas.{All-at, found_device}
-use Rattle.iom_known.specs.Allowed.{Past, IsTrueOf, state_of}
-use Rattle.iom_known.specs.Asked.{event_asking, asked_access, IsAskedBy}
+use Rattle.iom_known.specs.Allowed.{Past, IsTrueOf, known_state}
+use Rattle.iom_known.specs.Asked.{event_asking, asked_access, IsAskedInWay}
 use Rattle.iom_known.specs.Steps.{IsExplained}
 use Rattle.iom_known.specs.declared.known.Known.{Known}
 use Rattle.iom_known.specs.declared.way.Way.{Way}
 use Rattle.iom_known.specs.declared.way.Way.TheVariants.{Untranslated, Forged, Cached}
 use Rattle.iom_doubts.specs.Begun.{on_frame}
-use Rattle.iom_doubts.specs.Doubted.{AddsRequest, IsNotAbout, IsOfRequest, MayBe, MayBeBy, MayBeMoved, MayFly, flown, is_through_cache}
+use Rattle.iom_doubts.specs.Doubted.{AddsRequest, IsNotAbout, IsOfRequest, MayBeOther, MayBeBy, MayBeMoved, MayFly, flown, is_through_cache}
 use Rattle.iom_doubts.specs.Followed.{IsFollowed, StepsBy}
 use Rattle.iom_doubts.specs.declared.doubts.Doubt.{Doubt}
 use Rattle.iom_doubts.specs.declared.doubts.Doubt.TheVariants.{Begun, InFlight}
@@ -77,14 +77,14 @@ doubts_only : (before now : List Doubt) (known : Known) (way : Way) (id : ℕ) (
     → DoubtsOnly before now id number
 doubts_only before now known way id access number adds = λ i n made other differs may. by i n made other differs may
   where
-    by : (i n : ℕ) (made other : AcceptedAccess) → ((i ≡ id) × (n ≡ number) → ⊥) → MayBe now i n made other → MayBe before i n made other
+    by : (i n : ℕ) (made other : AcceptedAccess) → ((i ≡ id) × (n ≡ number) → ⊥) → MayBeOther now i n made other → MayBeOther before i n made other
     by i n made other differs (inl same) = inl same
     by i n made other differs (inr (place, doubt, at, moved)) = which (new_or_old before now known way id access number adds place doubt at)
       where
         never : (flight : Flight) → IsOfRequest flight known way id access number → MayBeMoved flight i n made other → ⊥
         never flight of moved = differs (sym moved.own ∙ of.own, sym moved.numbered ∙ of.numbered)
 
-        which : (slice_get before place ≡ Some doubt) ⊎ ((flight : Flight) × (doubt ≡ InFlight flight) × IsOfRequest flight known way id access number) → MayBe before i n made other
+        which : (slice_get before place ≡ Some doubt) ⊎ ((flight : Flight) × (doubt ≡ InFlight flight) × IsOfRequest flight known way id access number) → MayBeOther before i n made other
         which (inl there) = inr (place, doubt, there, moved)
         which (inr (flight, is, of)) = absurd (never flight of (subst (λ (d : Doubt). MayBeBy d i n made other) is moved))
 
@@ -109,11 +109,11 @@ doubted_so before now known way id access number IsSuch none adds such = λ plac
 -- the device that asks is in doubt afterwards only so
 asks_only : (before now : List Doubt) (known : Known) (past : Past) (frames : List Frame) (way : Way) (id : ℕ) (access : Access) (number : ℕ) → IsTrueOf known past
     → All (IsNotAbout id number) before → AddsRequest before now known way id access number
-    → OfDevice (state_of known past.history frames) id (λ d. number ≡ d.accepted + 1 → DoubtsOnly before now d.id (d.accepted + 1)
-    × IsDoubtedSo now d.id (d.accepted + 1) (is_through_cache way) (MayAccept d.attachment (state_of known past.history frames) d.id access)
-    × IsDoubtedSo now d.id (d.accepted + 1) (is_through_cache way) (MayGoThrough d.attachment (state_of known past.history frames) d.id access))
+    → OfDevice (known_state known past.history frames) id (λ d. number ≡ d.accepted + 1 → DoubtsOnly before now d.id (d.accepted + 1)
+    × IsDoubtedSo now d.id (d.accepted + 1) (is_through_cache way) (MayAccept d.attachment (known_state known past.history frames) d.id access)
+    × IsDoubtedSo now d.id (d.accepted + 1) (is_through_cache way) (MayGoThrough d.attachment (known_state known past.history frames) d.id access))
 asks_only before now known past frames way id access number is none adds = λ device at next.
-    let state = state_of known past.history frames in
+    let state = known_state known past.history frames in
     let own : device.id ≡ id = (found_device known.devices id device at).1 in
     subst (λ (n : ℕ). DoubtsOnly before now device.id n × IsDoubtedSo now device.id n (is_through_cache way) (MayAccept device.attachment state device.id access)
     × IsDoubtedSo now device.id n (is_through_cache way) (MayGoThrough device.attachment state device.id access)) next
@@ -175,42 +175,42 @@ forged_never choice before after event Write id access number e step = never (wr
 
 -- where a request is accepted on one frame, it is also accepted with other accesses in flight, on each frame on which it may be
 asked_flies : (before now : List Doubt) (known : Known) (past : Past) (frames : List Frame) (way : Way) (id : ℕ) (access : Access) (number : ℕ) (event : Event)
-    (flights : List (List AcceptedAccess)) (after : State) → IsAskedBy event way id access → IsTrueOf known past
+    (flights : List (List AcceptedAccess)) (after : State) → IsAskedInWay event way id access → IsTrueOf known past
     → All (IsNotAbout id number) before → AddsRequest before now known way id access number → MayFly now after.devices flights
-    → Step (state_of known past.history frames) event (Accepted number) after
-    → Led before (state_of known past.history frames) flights after (λ b a. Step b event (Accepted number) a)
+    → Step (known_state known past.history frames) event (Accepted number) after
+    → Led before (known_state known past.history frames) flights after (λ b a. Step b event (Accepted number) a)
 asked_flies before now known past frames Untranslated id access number event flights after asked is none adds fly (choice, step) =
-    let state = state_of known past.history frames in
+    let state = known_state known past.history frames in
     let only = asks_only before now known past frames Untranslated id access number is none adds in
     let led = request_flies before now state flights id choice.frame access number after (own_ids_in_order known.devices is.order.distinct)
     (λ device at next. let so = only device at next in (so.0, so.1)) fly
     (untranslated_of choice state after event access.kind id access (Accepted number) asked.0 asked.1 step) in
     (led.0, led.1, (choosing led.2.0, untranslated_by led.2.0 (flown led.0 state) (flown flights after) event access.kind id access (Accepted number) asked.0 asked.1 led.2.1))
 asked_flies before now known past frames Cached id access number event flights after asked is none adds fly (choice, step) =
-    let state = state_of known past.history frames in
+    let state = known_state known past.history frames in
     let only = asks_only before now known past frames Cached id access number is none adds in
     let led = cached_request_flies before now state flights id choice.frame access number after (own_ids_in_order known.devices is.order.distinct)
     (λ device at next. let so = only device at next in (so.0, so.2)) fly
     (cached_of choice state after event access.kind id access (Accepted number) asked.0 asked.1 step) in
     (led.0, led.1, (choosing led.2.0, cached_by led.2.0 (flown led.0 state) (flown flights after) event access.kind id access (Accepted number) asked.0 asked.1 led.2.1))
 asked_flies before now known past frames Forged id access number event flights after asked is none adds fly (choice, step) =
-    absurd (forged_never choice (state_of known past.history frames) after event access.kind id access number asked.0 step)
+    absurd (forged_never choice (known_state known past.history frames) after event access.kind id access number asked.0 step)
 
 pub accepted_follows : (old new : Known) (before now : List Doubt) (way : Way) (id number : ℕ) (access : Access) (event : Event) (past : Past)
-    → IsAskedBy event way id access → IsTrueOf old past → All (IsNotAbout id number) before → AddsRequest before now old way id access number
+    → IsAskedInWay event way id access → IsTrueOf old past → All (IsNotAbout id number) before → AddsRequest before now old way id access number
     → IsExplained old new event (Accepted number) past → IsFollowed old before new now (StepsBy event (Accepted number)) past
 accepted_follows old new before now way id number access event past asked is none adds explained = record {
   after = explained.after;
   is_true = explained.is_true;
   from_before = λ flights frames fly allowed.
       let came = explained.from_before frames allowed in
-      let led = asked_flies before now old past came.frames way id access number event flights (state_of new explained.after.history frames) asked is none adds fly came.step in
+      let led = asked_flies before now old past came.frames way id access number event flights (known_state new explained.after.history frames) asked is none adds fly came.step in
       record { flights = led.0; frames = came.frames; flew = led.1; allowed = came.allowed; step = led.2 };
 }
 
 -- the same, of an outcome that is this
 pub asked_follows : (old new : Known) (before now : List Doubt) (way : Way) (id number : ℕ) (access : Access) (event : Event) (outcome : Outcome) → outcome ≡ Accepted number
-    → All (IsNotAbout id number) before → AddsRequest before now old way id access number → IsAskedBy event way id access
+    → All (IsNotAbout id number) before → AddsRequest before now old way id access number → IsAskedInWay event way id access
     → ((past : Past) → IsTrueOf old past → IsExplained old new event outcome past)
     → (past : Past) → IsTrueOf old past → IsFollowed old before new now (StepsBy event outcome) past
 asked_follows old new before now way id number access event outcome accepted none adds asked explained past is =

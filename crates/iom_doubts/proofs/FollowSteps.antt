@@ -7,10 +7,10 @@ use Rattle.iom_machine.specs.declared.outcome.Outcome.{Outcome}
 use Rattle.iom_machine.specs.declared.state.Device.{Device}
 use Rattle.iom_machine.specs.declared.state.State.{State}
 use Rattle.iom_machine.specs.Machine.{Step}
-use Rattle.iom_known.specs.Allowed.{Past, IsTrueOf, ids_of, state_of}
+use Rattle.iom_known.specs.Allowed.{Past, IsTrueOf, ids_of, known_state}
 use Rattle.iom_known.specs.Steps.{IsExplained}
 use Rattle.iom_known.specs.declared.known.Known.{Known}
-use Rattle.iom_doubts.specs.Doubted.{AreAmong, MayBe, MayEachBe, MayFly, with_flights, flown}
+use Rattle.iom_doubts.specs.Doubted.{DoubtsAreAmong, MayBeOther, MayEachBe, MayFly, with_flights, flown}
 use Rattle.iom_doubts.specs.Followed.{IsFollowed, LeavesFlights, StepsBy}
 use Rattle.iom_doubts.specs.declared.doubts.Doubt.{Doubt}
 use Rattle.iom_doubts.proofs.FlightAccepts.{HaveOwnIds}
@@ -59,7 +59,7 @@ same_each doubts id accepted (f ∷ fs) [] none may = absurd may
 same_each doubts id accepted (f ∷ fs) (g ∷ gs) none may =
     ap (λ (x : AcceptedAccess). x ∷ gs) (same may.0) ∙ ap (λ (l : List AcceptedAccess). f ∷ l) (same_each doubts id accepted fs gs none may.1)
   where
-    same : {n : ℕ} → MayBe doubts id n f g → g ≡ f
+    same : {n : ℕ} → MayBeOther doubts id n f g → g ≡ f
     same (inl is) = is
     same (inr (place, doubt, at, moved)) = absurd (none place doubt at)
 
@@ -80,8 +80,8 @@ explained_then_settled old before new now event outcome past none explained = re
   is_true = explained.is_true;
   from_before = λ flights frames fly allowed.
       let came = explained.from_before frames allowed in
-      let was : State = state_of old past.history came.frames in
-      let is : State = state_of new explained.after.history frames in
+      let was : State = known_state old past.history came.frames in
+      let is : State = known_state new explained.after.history frames in
       let same : flown flights is ≡ is = ap (λ (ds : List Device). record is { devices = ds }) (same_devices now new.devices flights none fly) in
       record {
         flights = own_flights old.devices;
@@ -100,12 +100,12 @@ explained_leaves old new doubts event outcome past leaves explained = record {
   is_true = explained.is_true;
   from_before = λ flights frames fly allowed.
       let came = explained.from_before frames allowed in
-      let led = step_flies doubts flights (state_of old past.history came.frames) event outcome (state_of new explained.after.history frames) leaves fly came.step in
+      let led = step_flies doubts flights (known_state old past.history came.frames) event outcome (known_state new explained.after.history frames) leaves fly came.step in
       record { flights = led.0; frames = came.frames; flew = led.1; allowed = came.allowed; step = led.2 };
 }
 
 -- what is followed with some doubts afterwards is so with fewer
-pub followed_by_fewer : (old : Known) (before : List Doubt) (new : Known) (some all : List Doubt) (IsStep : State → State → Type 0) (past : Past) → AreAmong some all
+pub followed_by_fewer : (old : Known) (before : List Doubt) (new : Known) (some all : List Doubt) (IsStep : State → State → Type 0) (past : Past) → DoubtsAreAmong some all
     → IsFollowed old before new all IsStep past → IsFollowed old before new some IsStep past
 followed_by_fewer old before new some all IsStep past among followed = record {
   after = followed.after;

@@ -1,5 +1,5 @@
 -- What is said of a result where there is one.
-use Rattle.iom_doubts.specs.Doubted.{AreAmong}
+use Rattle.iom_doubts.specs.Doubted.{DoubtsAreAmong}
 use Rattle.iom_doubts.specs.declared.doubts.Doubts.{Doubts}
 use Rattle.std.proofs.Common.{◌≡◌, Option, None, Some, Result, Ok, Err, IfOk, IfSome, sym, subst}
 
@@ -12,5 +12,5 @@ if_ok_any (Ok x) P all = all x
 if_ok_any (Err e) P all = tt
 
 -- the same doubts are among themselves
-pub same_among : (new old : Doubts) → new ≡ old → AreAmong new.all.items old.all.items
-same_among new old same = subst (λ (d : Doubts). AreAmong d.all.items old.all.items) (sym same) (λ place doubt at. (place, at))
+pub same_among : (new old : Doubts) → new ≡ old → DoubtsAreAmong new.all.items old.all.items
+same_among new old same = subst (λ (d : Doubts). DoubtsAreAmong d.all.items old.all.items) (sym same) (λ place doubt at. (place, at))

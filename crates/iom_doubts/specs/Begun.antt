@@ -9,7 +9,7 @@ use Rattle.iom_machine.specs.Requests.{MayAccept}
 use Rattle.iom_machine.specs.ThroughCache.{MayGoThrough}
 use Rattle.iom_machine.specs.declared.state.Device.{Device}
 use Rattle.iom_machine.specs.declared.state.Frame.{Frame}
-use Rattle.iom_known.specs.Allowed.{Past, IsTrueOf, state_of}
+use Rattle.iom_known.specs.Allowed.{Past, IsTrueOf, known_state}
 use Rattle.iom_known.specs.Reached.{CanReach}
 use Rattle.iom_known.specs.declared.known.Known.{Known}
 use Rattle.iom_doubts.specs.declared.begun.BegunAccess.{BegunAccess}
@@ -24,8 +24,8 @@ on_frame true frame made = record { access = at_frame frame made.access; frame =
 abbrev pub IsOpenFor : Known → Device → ℕ → ℕ → AccessKind → Type 0
 IsOpenFor known device page frame kind =
     (access : Access) → page_of access ≡ page → access.kind ≡ kind → (past : Past) (frames : List Frame) → IsTrueOf known past
-    → MayAccept device.attachment (state_of known past.history frames) device.id access frame
-    × MayGoThrough device.attachment (state_of known past.history frames) device.id access frame
+    → MayAccept device.attachment (known_state known past.history frames) device.id access frame
+    × MayGoThrough device.attachment (known_state known past.history frames) device.id access frame
 
 -- each access that may be at the place is such
 abbrev pub IsOpenAt : Known → Device → Place → Type 0

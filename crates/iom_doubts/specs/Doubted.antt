@@ -9,7 +9,7 @@ use Rattle.iom_machine.specs.ThroughCache.{MayGoThrough}
 use Rattle.iom_machine.specs.declared.state.Device.{Device}
 use Rattle.iom_machine.specs.declared.state.Frame.{Frame}
 use Rattle.iom_machine.specs.declared.state.State.{State}
-use Rattle.iom_known.specs.Allowed.{Past, IsTrueOf, state_of}
+use Rattle.iom_known.specs.Allowed.{Past, IsTrueOf, known_state}
 use Rattle.iom_known.specs.Reached.{CanReach}
 use Rattle.iom_known.specs.declared.known.Known.{Known}
 use Rattle.iom_known.specs.declared.way.Way.{Way}
@@ -42,15 +42,15 @@ MayBeBy (InFlight doubt) id number made other = MayBeMoved doubt id number made 
 MayBeBy (Begun doubt) id number made other = MayBeBegun doubt id number other
 
 -- the device's access of this number may be the other: they are the same, or it is in doubt
-abbrev pub MayBe : List Doubt → ℕ → ℕ → AcceptedAccess → AcceptedAccess → Type 0
-MayBe doubts id number made other =
+abbrev pub MayBeOther : List Doubt → ℕ → ℕ → AcceptedAccess → AcceptedAccess → Type 0
+MayBeOther doubts id number made other =
     (other ≡ made) ⊎ ((place : ℕ) × (doubt : Doubt) × (slice_get doubts place ≡ Some doubt) × MayBeBy doubt id number made other)
 
 -- Each of the device's accesses in flight may be the one at its place among the others. The last is the one with the number of those that were accepted.
 abbrev pub MayEachBe : List Doubt → ℕ → ℕ → List AcceptedAccess → List AcceptedAccess → Type 0
 MayEachBe doubts id accepted [] [] = ⊤
 MayEachBe doubts id accepted (made ∷ later) (other ∷ others) =
-    MayBe doubts id (accepted - length later) made other × MayEachBe doubts id accepted later others
+    MayBeOther doubts id (accepted - length later) made other × MayEachBe doubts id accepted later others
 MayEachBe doubts id accepted _ _ = ⊥
 
 -- the devices may have these accesses in flight
@@ -61,8 +61,8 @@ MayFly doubts (device ∷ devices) (flights ∷ others) =
 MayFly doubts _ _ = ⊥
 
 -- the doubts that are among some are among all
-abbrev pub AreAmong : List Doubt → List Doubt → Type 0
-AreAmong some all = (place : ℕ) (doubt : Doubt) → slice_get some place ≡ Some doubt → (other : ℕ) × (slice_get all other ≡ Some doubt)
+abbrev pub DoubtsAreAmong : List Doubt → List Doubt → Type 0
+DoubtsAreAmong some all = (place : ℕ) (doubt : Doubt) → slice_get some place ≡ Some doubt → (other : ℕ) × (slice_get all other ≡ Some doubt)
 
 -- the doubt isn't about the device's access with this number
 abbrev pub IsNotAbout : ℕ → ℕ → Doubt → Type 0
@@ -82,8 +82,8 @@ pub record IsOfRequest (doubt : Flight) (known : Known) (way : Way) (id : ℕ) (
   pub cached : doubt.is_cached ≡ is_through_cache way
   pub each : (device : Device) → find (λ (it : Device). it.id == id) known.devices ≡ Some device
       → (k frame : ℕ) → slice_get doubt.frames.items k ≡ Some frame → (past : Past) (frames : List Frame) → IsTrueOf known past
-      → MayAccept device.attachment (state_of known past.history frames) id access frame
-      × MayGoThrough device.attachment (state_of known past.history frames) id access frame
+      → MayAccept device.attachment (known_state known past.history frames) id access frame
+      × MayGoThrough device.attachment (known_state known past.history frames) id access frame
 
 -- The doubts are those before, or these and one about this request.
 abbrev pub AddsRequest : List Doubt → List Doubt → Known → Way → ℕ → Access → ℕ → Type 0

@@ -10,10 +10,10 @@ use Rattle.iom_machine.specs.declared.state.Device.{Device}
 use Rattle.iom_machine.specs.declared.state.Frame.{Frame}
 use Rattle.iom_machine.specs.declared.state.State.{State}
 use Rattle.iom_machine.specs.Machine.{Step}
-use Rattle.iom_known.specs.Allowed.{Past, IsTrueOf, AreAllowed, state_of}
+use Rattle.iom_known.specs.Allowed.{Past, IsTrueOf, AreAllowed, known_state}
 use Rattle.iom_known.specs.declared.known.Known.{Known}
 use Rattle.iom_doubts.specs.Begun.{on_frame}
-use Rattle.iom_doubts.specs.Doubted.{MayBe, MayFly, flown}
+use Rattle.iom_doubts.specs.Doubted.{MayBeOther, MayFly, flown}
 use Rattle.iom_doubts.specs.declared.doubts.Doubt.{Doubt}
 
 -- a state that was allowed before, with these doubts, from which such a step leads to the new one
@@ -22,14 +22,14 @@ pub record CameFromOne (old : Known) (doubts : List Doubt) (past : Past) (IsStep
   pub frames : List Frame
   pub flew : MayFly doubts old.devices flights
   pub allowed : AreAllowed old past frames
-  pub step : IsStep (flown flights (state_of old past.history frames)) new
+  pub step : IsStep (flown flights (known_state old past.history frames)) new
 
 -- Each state that is allowed afterwards, whatever frames the accesses in doubt are on, is one to which such a step leads, from one that was allowed before.
 pub record IsFollowed (old : Known) (before : List Doubt) (new : Known) (now : List Doubt) (IsStep : State → State → Type 0) (past : Past) : Type 0 where
   pub after : Past
   pub is_true : IsTrueOf new after
   pub from_before : (flights : List (List AcceptedAccess)) (frames : List Frame) → MayFly now new.devices flights → AreAllowed new after frames
-      → CameFromOne old before past IsStep (flown flights (state_of new after.history frames))
+      → CameFromOne old before past IsStep (flown flights (known_state new after.history frames))
 
 -- What this outcome comes of leaves all in flight as it is: nothing is accepted, made or confirmed.
 abbrev pub LeavesFlights : Outcome → Type 0
@@ -80,16 +80,16 @@ IsCommitOf (outcomes.Wrote len) = ⊤
 IsCommitOf _ = ⊥
 
 -- The oldest access of the device may be this one.
-abbrev pub IsOldest : List Doubt → Device → AcceptedAccess → Type 0
-IsOldest doubts device moved =
+abbrev pub MayBeOldest : List Doubt → Device → AcceptedAccess → Type 0
+MayBeOldest doubts device moved =
     (made : AcceptedAccess) × (slice_get device.in_flight 0 ≡ Some made)
-    × MayBe doubts device.id (device.accepted - (length device.in_flight - 1)) made moved
+    × MayBeOther doubts device.id (device.accepted - (length device.in_flight - 1)) made moved
 
 -- The oldest access of the device may be on the frame.
 abbrev pub IsOldestOn : List Doubt → Device → Bool → ℕ → Type 0
 IsOldestOn doubts device is_cached frame =
     (made : AcceptedAccess) × (slice_get device.in_flight 0 ≡ Some made)
-    × MayBe doubts device.id (device.accepted - (length device.in_flight - 1)) made (on_frame is_cached frame made)
+    × MayBeOther doubts device.id (device.accepted - (length device.in_flight - 1)) made (on_frame is_cached frame made)
 
 -- The oldest access of the device is put where it may be. Else all that is known stays as it is, but whether something was left out.
 pub record IsPutOn (old : Known) (doubts : List Doubt) (id : ℕ) (new : Known) : Type 0 where
@@ -101,7 +101,7 @@ pub record IsPutOn (old : Known) (doubts : List Doubt) (id : ℕ) (new : Known) 
   pub stands : StandsAt old.devices id place
   pub there : slice_get old.devices place ≡ Some device
   pub oldest : device.in_flight ≡ made ∷ later
-  pub may : MayBe doubts device.id (device.accepted - length later) made moved
+  pub may : MayBeOther doubts device.id (device.accepted - length later) made moved
   pub put : new ≡ record {
     levels = old.levels;
     ledger = old.ledger;

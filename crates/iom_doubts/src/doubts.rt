@@ -247,7 +247,7 @@ fn is_over(doubt: &Doubt) -> bool {
 
 impl Doubts {
     ghost use Rattle.std.specs.Prelude.{◌≡◌, ◌↔◌, ◌⊎◌, ◌++◌, ◌∷◌, [], All, IsTrue, OnOk};
-    ghost use Rattle.iom_doubts.specs.Doubted.{AreAmong, IsAllReached, IsNotAbout};
+    ghost use Rattle.iom_doubts.specs.Doubted.{DoubtsAreAmong, IsAllReached, IsNotAbout};
     ghost use Rattle.iom_doubts.specs.declared.doubts.Doubt.TheVariants.{Begun, InFlight};
 
     pub fn new(alloc: Global) -> Doubts
@@ -341,7 +341,7 @@ impl Doubts {
 
     /// The access isn't in flight any longer.
     pub fn forget(&mut self, place: usize)
-        ensures { AreAmong self.new.all.items self.old.all.items }
+        ensures { DoubtsAreAmong self.new.all.items self.old.all.items }
     {
         if place < self.all.len() {
             let _doubt = self.all.remove(place);

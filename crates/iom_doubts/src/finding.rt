@@ -1,7 +1,7 @@
 // What the oldest access of a device may be, where it is in doubt and is made.
 ghost use Rattle.std.specs.Prelude.{◌≡◌, IfOk, IfSome};
 ghost use Rattle.iom_doubts.specs.Begun.{CouldHaveBegun};
-ghost use Rattle.iom_doubts.specs.Followed.{IsOldest, IsOldestOn};
+ghost use Rattle.iom_doubts.specs.Followed.{MayBeOldest, IsOldestOn};
 
 use crate::begun::{BegunAccess, Place, begun_at, read_at};
 use crate::doubts::{Doubt, Doubts};
@@ -227,7 +227,7 @@ pub fn find_begun(
     doubt: usize,
     outcome: &Outcome,
 ) -> Result<Option<AcceptedAccess>, AllocError>
-    ensures { IfOk result (λ found. IfSome found (λ made. IsOldest doubts.now.all.items device.now made)) }
+    ensures { IfOk result (λ found. IfSome found (λ made. MayBeOldest doubts.now.all.items device.now made)) }
 {
     let Some(believed) = device.in_flight.as_slice().first() else {
         return Ok(None);

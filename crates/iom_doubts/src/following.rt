@@ -2,7 +2,7 @@
 // these are on.
 ghost use Rattle.std.specs.Prelude.{◌≡◌, ◌⊎◌, ◌<◌, ℕ, IfOk, IsTrue, length};
 ghost use Rattle.iom_machine.specs.Judging.{StandsAt};
-ghost use Rattle.iom_doubts.specs.Doubted.{AreAmong};
+ghost use Rattle.iom_doubts.specs.Doubted.{DoubtsAreAmong};
 ghost use Rattle.iom_doubts.specs.Followed.{IsCommitOf, IsPutOn, IsReadyFor};
 
 use crate::begun::{BegunAccess, frames_of};
@@ -30,7 +30,7 @@ fn put_oldest(
 ) -> bool
     requires { place < length known.old.devices }
     ensures { IsTrue result → (id : ℕ) → StandsAt known.old.devices id place
-        → IsPutOn known.old doubts.old.all.items id known.new × AreAmong doubts.new.all.items doubts.old.all.items }
+        → IsPutOn known.old doubts.old.all.items id known.new × DoubtsAreAmong doubts.new.all.items doubts.old.all.items }
 {
     let device = &known.devices.as_slice()[place];
     let Some(found) = find_oldest(known, doubts, memory, device, doubt, bytes) else {
@@ -87,7 +87,7 @@ fn put_begun(
 ) -> Result<bool, AllocError>
     requires { place < length known.old.devices }
     ensures { IfOk result (λ ready. IsTrue ready → (id : ℕ) → StandsAt known.old.devices id place
-        → IsPutOn known.old doubts.old.all.items id known.new × AreAmong doubts.new.all.items doubts.old.all.items) }
+        → IsPutOn known.old doubts.old.all.items id known.new × DoubtsAreAmong doubts.new.all.items doubts.old.all.items) }
 {
     let device = &known.devices.as_slice()[place];
     let found = find_begun(alloc, known, doubts, memory, device, doubt, outcome)?;
@@ -113,7 +113,7 @@ fn put_in_doubt(
 ) -> Result<bool, AllocError>
     requires { place < length known.old.devices }
     ensures { IfOk result (λ ready. IsTrue ready → (id : ℕ) → StandsAt known.old.devices id place
-        → IsPutOn known.old doubts.old.all.items id known.new × AreAmong doubts.new.all.items doubts.old.all.items) }
+        → IsPutOn known.old doubts.old.all.items id known.new × DoubtsAreAmong doubts.new.all.items doubts.old.all.items) }
 {
     if doubts.begun_at(doubt).is_some() {
         return put_begun(alloc, known, doubts, memory, place, doubt, outcome);
@@ -229,7 +229,7 @@ fn is_ready_in_doubt(
 ) -> Result<bool, AllocError>
     requires { place < length known.old.devices }
     ensures { IfOk result (λ ready. IsTrue ready → (id : ℕ) → StandsAt known.old.devices id place
-        → IsPutOn known.old doubts.old.all.items id known.new × AreAmong doubts.new.all.items doubts.old.all.items) }
+        → IsPutOn known.old doubts.old.all.items id known.new × DoubtsAreAmong doubts.new.all.items doubts.old.all.items) }
 {
     if !put_in_doubt(alloc, known, doubts, memory, place, doubt, outcome)? {
         return Ok(false);
@@ -249,7 +249,7 @@ fn is_ready_to_make(
 ) -> Result<bool, AllocError>
     ensures { IfOk result (λ ready. IsTrue ready → IsCommitOf outcome.now
         × ((known.new ≡ known.old) ⊎ IsPutOn known.old doubts.old.all.items id known.new)
-        × AreAmong doubts.new.all.items doubts.old.all.items) }
+        × DoubtsAreAmong doubts.new.all.items doubts.old.all.items) }
 {
     if !is_commit(outcome) {
         return Ok(false);
@@ -275,7 +275,7 @@ pub fn is_ready_for(
     outcome: &Outcome,
 ) -> Result<bool, AllocError>
     ensures { IfOk result (λ ready. IsTrue ready → IsReadyFor known.old doubts.old.all.items known.new event.now outcome.now
-        × AreAmong doubts.new.all.items doubts.old.all.items) }
+        × DoubtsAreAmong doubts.new.all.items doubts.old.all.items) }
 {
     if leaves_flights(outcome) {
         return is_ready_to_show(known, memory, event, outcome);

@@ -7,15 +7,15 @@ use Rattle.iom_base.specs.declared.owner.Owner.TheVariants.{System, OneDevice}
 use Rattle.iom_device_dir.specs.Located.{path_end_from}
 use Rattle.iom_device_dir.specs.Paths.{ids_below}
 use Rattle.iom_directory_build.proofs.Stays.{missing_stays}
-use Rattle.iom_directory_build.specs.Changes.{KeepsOthers, KeepsOutside}
-use Rattle.iom_directory_build.specs.Pages.{IsDirectory, HasPage, HasWholePath, AreFresh, root_level, missing_pages}
+use Rattle.iom_directory_build.specs.Changes.{KeepsOthers, KeepsOutsideDirectory}
+use Rattle.iom_directory_build.specs.Pages.{IsDirectory, HasPage, HasWholePath, AreFreshPages, root_level, missing_pages}
 use Rattle.iom_phys_mem.specs.Words.{zeroed}
 use Rattle.iom_driver.specs.declared.device.Device.{Device}
 use Rattle.iom_driver.specs.declared.device.Stages.{Stages}
 use Rattle.iom_driver.specs.Choices.{AreHighestFree, marked_for, cleared}
 use Rattle.iom_driver.specs.Attaching.{IsRootBelow, root_frames, limit_below}
 use Rattle.iom_driver.specs.declared.device.Attachment.TheVariants.{Attached}
-use Rattle.iom_driver.specs.Devices.{attachment_of, stages_of}
+use Rattle.iom_driver.specs.Devices.{attachment_by_id, stages_of}
 use Rattle.iom_driver.specs.Directory.{context_for, located_for, IsDirectoryFrame}
 use Rattle.iom_driver.specs.Layout.{IsLevels, AreFixed, directory_frame, fault_frame}
 use Rattle.iom_driver.specs.Ready.{TablesStand}
@@ -34,7 +34,7 @@ pub record IsPut (memory memory' : List (List ℕ)) (levels root id : ℕ) (stag
   pub path : HasWholePath memory' (root_level levels) root id
   pub paths : (other : ℕ) → other < ids_below (root_level levels) → HasWholePath memory (root_level levels) root other → HasWholePath memory' (root_level levels) root other
   pub others : KeepsOthers memory memory' (root_level levels) root id
-  pub outside : KeepsOutside memory memory' (root_level levels) root
+  pub outside : KeepsOutsideDirectory memory memory' (root_level levels) root
 
 -- What an attach finds: the directory stands, and the frames that it takes are free.
 pub record MayTake (d : DriverState) (frames : ℕ) (memory : List (List ℕ)) (count : ℕ) (pages roots : List ℕ) : Type 0 where
@@ -103,7 +103,7 @@ module _ (d : DriverState) (frames : ℕ) (memory : List (List ℕ)) (id count :
   pub roots_zero : (f : ℕ) → Among f roots → slice_get between f ≡ Some zeroed
   roots_zero f here = taken_zero f (among_right f pages roots here)
 
-  pub fresh : AreFresh between (root_level d.levels) (directory_frame frames) pages
+  pub fresh : AreFreshPages between (root_level d.levels) (directory_frame frames) pages
   fresh = record {
     zero = λ k d lt. taken_zero (get_or pages k d) (among_left (get_or pages k d) pages roots (among_get pages k d lt));
     outside = λ k d lt at. page_apart (get_or pages k d) (among_left (get_or pages k d) pages roots (among_get pages k d lt)) at;
@@ -172,7 +172,7 @@ module _ (d : DriverState) (frames : ℕ) (memory : List (List ℕ)) (id count :
           no_completion = λ same. owned_differs d.marks (frames - 3) f System may.fixed.completion free (sym same);
         }
 
-    pub stands_after : (devices' : List Device) → attachment_of devices' id ≡ Attached stage → ((other : ℕ) → other ≢ id → attachment_of devices' other ≡ attachment_of d.devices other)
+    pub stands_after : (devices' : List Device) → attachment_by_id devices' id ≡ Attached stage → ((other : ℕ) → other ≢ id → attachment_by_id devices' other ≡ attachment_by_id d.devices other)
         → DirectoryIn frames memory' marks' devices' d.levels
     stands_after devices' now same =
         directory_put frames between memory' marks' d.devices devices' d.levels id stage pages stands_marked put.tree put.has page_frame put.here put.others put.path put.paths now same

@@ -13,7 +13,7 @@ use Rattle.iom_driver.specs.declared.device.Device.{Device}
 use Rattle.iom_driver.specs.declared.device.Stages.{Stages}
 use Rattle.iom_driver.specs.Admitted.{IsAligned}
 use Rattle.iom_driver.specs.Attaching.{root_frames}
-use Rattle.iom_driver.specs.Devices.{owned_stages, is_plugged, with_attachment}
+use Rattle.iom_driver.specs.Devices.{owned_stages, has_device, with_attachment}
 use Rattle.iom_driver.specs.Orders.{MapsNothing}
 use Rattle.iom_driver.specs.Tables.{AreTablesOf, HaveTables, leaf_for}
 use Rattle.iom_driver.proofs.Keeps.{set_or_other}
@@ -55,7 +55,7 @@ tables_new memory marks ledger id mode root aligned cleared marked none =
 
 -- the tables of all devices, where one more has a zeroed root, and what is another device's stays
 pub tables_attached : (memory memory' : List (List ℕ)) (marks marks' : List (Option Owner)) (ledger : Ledger) (devices : List Device) (id : ℕ) (stage : Stages)
-    → HaveTables memory marks ledger devices → is_plugged devices id ≡ true → IsAligned stage.mode stage.root
+    → HaveTables memory marks ledger devices → has_device devices id ≡ true → IsAligned stage.mode stage.root
     → ((f : ℕ) → Among f (root_frames stage.mode stage.root) → (slice_get memory' f ≡ Some zeroed) × (slice_get marks' f ≡ Some (Some (OneDevice id))))
     → ((n other : ℕ) → slice_get marks n ≡ Some (Some (OneDevice other)) → (slice_get memory' n ≡ slice_get memory n) × (slice_get marks' n ≡ slice_get marks n))
     → ((page : ℕ) → held_in ledger id page ≡ None) → HaveTables memory' marks' ledger (with_attachment devices id (Attached stage))

@@ -7,7 +7,7 @@ use Rattle.iom_base.specs.declared.owner.Owner.{Owner}
 use Rattle.iom_base.specs.declared.owner.Owner.TheVariants.{System, OneDevice}
 use Rattle.iom_device_dir.specs.Located.{path_end_from}
 use Rattle.iom_device_dir.specs.Paths.{ids_below}
-use Rattle.iom_directory_build.specs.Changes.{KeepsOthers, KeepsOutside}
+use Rattle.iom_directory_build.specs.Changes.{KeepsOthers, KeepsOutsideDirectory}
 use Rattle.iom_directory_build.specs.Pages.{IsDirectory, HasPage, HasWholePath, root_level}
 use Rattle.iom_ledger.specs.declared.ledger.Ledger.{Ledger}
 use Rattle.iom_ledger.specs.Changes.{ShowsReleaseOfAll, released_from}
@@ -18,7 +18,7 @@ use Rattle.iom_driver.specs.declared.device.Attachment.{Attachment}
 use Rattle.iom_driver.specs.declared.device.Attachment.TheVariants.{Detached, Attached, Quarantined, Leaving}
 use Rattle.iom_driver.specs.declared.device.Device.{Device}
 use Rattle.iom_driver.specs.declared.device.Stages.{Stages}
-use Rattle.iom_driver.specs.Devices.{device_of, attachment_of, attached_stages, owned_stages, stages_of, owned_stages_of, is_plugged, with_attachment, HaveOwnIds}
+use Rattle.iom_driver.specs.Devices.{device_by_id, attachment_by_id, attached_stages, owned_stages, stages_of, owned_stages_of, has_device, with_attachment, HaveOwnIds}
 use Rattle.iom_driver.specs.Directory.{context_for}
 use Rattle.iom_driver.specs.Fences.{last_fence}
 use Rattle.iom_driver.specs.Layout.{directory_frame}
@@ -83,7 +83,7 @@ all_namable devices levels own numbers named k d lt =
 pub owned_cut_off : (devices : List Device) (id ticket : ℕ) (stage : Stages) → stages_of devices id ≡ Some stage → (other : ℕ)
     → owned_stages_of (with_attachment devices id (Quarantined ticket stage)) other ≡ owned_stages_of devices other
 owned_cut_off devices id ticket stage attached other = elim (set_or_other devices id (Quarantined ticket stage) other (attached_there devices id stage attached)) [
-  | inl now ↦ ap owned_stages now.1 ∙ sym (attached_owns (attachment_of devices id) stage attached) ∙ ap (λ i. owned_stages_of devices i) (sym now.0)
+  | inl now ↦ ap owned_stages now.1 ∙ sym (attached_owns (attachment_by_id devices id) stage attached) ∙ ap (λ i. owned_stages_of devices i) (sym now.0)
   | inr was ↦ ap owned_stages was.1
 ]
 
@@ -94,7 +94,7 @@ pub record IsCleared (memory memory' : List (List ℕ)) (levels root id : ℕ) :
   pub here : path_end_from memory' (root_level levels) root id ≡ Err DirectoryEntryNotValid
   pub paths : (other : ℕ) → other < ids_below (root_level levels) → HasWholePath memory (root_level levels) root other → HasWholePath memory' (root_level levels) root other
   pub others : KeepsOthers memory memory' (root_level levels) root id
-  pub outside : KeepsOutside memory memory' (root_level levels) root
+  pub outside : KeepsOutsideDirectory memory memory' (root_level levels) root
   pub size : length memory' ≡ length memory
 
 -- a frame of the system's isn't a device's
@@ -139,8 +139,8 @@ pub sound_quarantined : (old new : Ledger) (marks : List (Option Owner)) (device
     → IsSound old marks devices frames levels started given confirmed restarts restarted → ShowsReleaseOfAll old new id (given + 1) → started ≡ true → stages_of devices id ≡ Some stage
     → given + restarts < 4294967295 → IsSound new marks (with_attachment devices id (Quarantined (given + 1) stage)) frames levels started (given + 1) confirmed restarts restarted
 sound_quarantined old new marks devices frames levels started given confirmed restarts restarted id stage sound released runs attached more =
-    let either : (other : ℕ) → ((other ≡ id) × (attachment_of (with_attachment devices id (Quarantined (given + 1) stage)) other ≡ Quarantined (given + 1) stage))
-    ⊎ ((other ≢ id) × (attachment_of (with_attachment devices id (Quarantined (given + 1) stage)) other ≡ attachment_of devices other)) =
+    let either : (other : ℕ) → ((other ≡ id) × (attachment_by_id (with_attachment devices id (Quarantined (given + 1) stage)) other ≡ Quarantined (given + 1) stage))
+    ⊎ ((other ≢ id) × (attachment_by_id (with_attachment devices id (Quarantined (given + 1) stage)) other ≡ attachment_by_id devices other)) =
     λ other. set_or_other devices id (Quarantined (given + 1) stage) other (attached_there devices id stage attached) in
     let owned = owned_cut_off devices id (given + 1) stage attached in
     let le : confirmed ≤ given = sound.tickets.ordered in
@@ -191,20 +191,20 @@ not_there None none = refl
 not_there (Some device) none = cc
 
 -- a device that is cut off is there
-pub cut_off_there : (devices : List Device) (id ticket : ℕ) (stage : Stages) → attachment_of devices id ≡ Quarantined ticket stage → is_plugged devices id ≡ true
-cut_off_there devices id ticket stage at = by (is_plugged devices id) refl
+pub cut_off_there : (devices : List Device) (id ticket : ℕ) (stage : Stages) → attachment_by_id devices id ≡ Quarantined ticket stage → has_device devices id ≡ true
+cut_off_there devices id ticket stage at = by (has_device devices id) refl
   where
-    nothing : is_plugged devices id ≡ false → attachment_of devices id ≡ Detached
-    nothing none = attachment_absent devices id (not_there (device_of devices id) none)
+    nothing : has_device devices id ≡ false → attachment_by_id devices id ≡ Detached
+    nothing none = attachment_absent devices id (not_there (device_by_id devices id) none)
 
     apart : ◌≡◌ {A = Attachment} Detached (Quarantined ticket stage) → ⊥
     apart same = cc
 
-    by : (b : Bool) → is_plugged devices id ≡ b → b ≡ true
+    by : (b : Bool) → has_device devices id ≡ b → b ≡ true
     by true there = refl
     by false none = absurd (apart (sym (nothing none) ∙ at))
 
-pub owned_revived : (devices : List Device) (id ticket : ℕ) (stage : Stages) → attachment_of devices id ≡ Quarantined ticket stage → (other : ℕ)
+pub owned_revived : (devices : List Device) (id ticket : ℕ) (stage : Stages) → attachment_by_id devices id ≡ Quarantined ticket stage → (other : ℕ)
     → owned_stages_of (with_attachment devices id (Attached stage)) other ≡ owned_stages_of devices other
 owned_revived devices id ticket stage cut_off other = elim (set_or_other devices id (Attached stage) other (cut_off_there devices id ticket stage cut_off)) [
   | inl now ↦ ap owned_stages now.1 ∙ sym (ap owned_stages cut_off) ∙ ap (λ i. owned_stages_of devices i) (sym now.0)
@@ -212,11 +212,11 @@ owned_revived devices id ticket stage cut_off other = elim (set_or_other devices
 ]
 
 pub sound_revived : (ledger : Ledger) (marks : List (Option Owner)) (devices : List Device) (frames levels : ℕ) (started : Bool) (given confirmed restarts restarted id ticket : ℕ) (stage : Stages)
-    → IsSound ledger marks devices frames levels started given confirmed restarts restarted → started ≡ true → attachment_of devices id ≡ Quarantined ticket stage
+    → IsSound ledger marks devices frames levels started given confirmed restarts restarted → started ≡ true → attachment_by_id devices id ≡ Quarantined ticket stage
     → IsSound ledger marks (with_attachment devices id (Attached stage)) frames levels started given confirmed restarts restarted
 sound_revived ledger marks devices frames levels started given confirmed restarts restarted id ticket stage sound runs cut_off =
-    let either : (other : ℕ) → ((other ≡ id) × (attachment_of (with_attachment devices id (Attached stage)) other ≡ Attached stage))
-    ⊎ ((other ≢ id) × (attachment_of (with_attachment devices id (Attached stage)) other ≡ attachment_of devices other)) =
+    let either : (other : ℕ) → ((other ≡ id) × (attachment_by_id (with_attachment devices id (Attached stage)) other ≡ Attached stage))
+    ⊎ ((other ≢ id) × (attachment_by_id (with_attachment devices id (Attached stage)) other ≡ attachment_by_id devices other)) =
     λ other. set_or_other devices id (Attached stage) other (cut_off_there devices id ticket stage cut_off) in
     let owned = owned_revived devices id ticket stage cut_off in
     record {
@@ -264,7 +264,7 @@ pub record IsPutAgain (memory memory' : List (List ℕ)) (levels root id : ℕ) 
   pub path : HasWholePath memory' (root_level levels) root id
   pub paths : (other : ℕ) → other < ids_below (root_level levels) → HasWholePath memory (root_level levels) root other → HasWholePath memory' (root_level levels) root other
   pub others : KeepsOthers memory memory' (root_level levels) root id
-  pub outside : KeepsOutside memory memory' (root_level levels) root
+  pub outside : KeepsOutsideDirectory memory memory' (root_level levels) root
   pub size : length memory' ≡ length memory
 
 -- the tables of the devices stay then

@@ -14,7 +14,7 @@ use Rattle.iom_phys_mem.specs.Words.{zeroed}
 use Rattle.iom_driver.specs.declared.device.Device.{Device}
 use Rattle.iom_driver.specs.declared.device.Stages.{Stages}
 use Rattle.iom_driver.specs.declared.device.Attachment.TheVariants.{Detached, Attached}
-use Rattle.iom_driver.specs.Devices.{attachment_of, attached_stages, owned_stages, stages_of, owned_stages_of}
+use Rattle.iom_driver.specs.Devices.{attachment_by_id, attached_stages, owned_stages, stages_of, owned_stages_of}
 use Rattle.iom_driver.specs.Directory.{context_for, located_for, IsDirectoryFrame, DirectoryStands}
 use Rattle.iom_driver.specs.Layout.{IsLevels, AreFixed, directory_frame, id_limit}
 
@@ -79,7 +79,7 @@ directory_stay frames memory memory' marks marks' devices devices' levels range 
 
 -- an empty one, of a zeroed root
 pub directory_starts : (frames : ℕ) (memory : List (List ℕ)) (marks : List (Option Owner)) (devices : List Device) (levels : ℕ) → IsLevels levels → 64 ≤ frames → AreFixed marks frames
-    → slice_get memory (directory_frame frames) ≡ Some zeroed → ((id : ℕ) → attachment_of devices id ≡ Detached) → DirectoryIn frames memory marks devices levels
+    → slice_get memory (directory_frame frames) ≡ Some zeroed → ((id : ℕ) → attachment_by_id devices id ≡ Detached) → DirectoryIn frames memory marks devices levels
 directory_starts frames memory marks devices levels range many fixed cleared none =
     let new = zeroed_root memory (root_level levels) (directory_frame frames) (low_levels levels range) cleared in
     record {
@@ -123,7 +123,7 @@ pub directory_put : (frames : ℕ) (memory memory' : List (List ℕ)) (marks : L
     → path_end_from memory' (root_level levels) (directory_frame frames) id ≡ Ok (context_for stage) → KeepsOthers memory memory' (root_level levels) (directory_frame frames) id
     → HasWholePath memory' (root_level levels) (directory_frame frames) id
     → ((other : ℕ) → other < ids_below (root_level levels) → HasWholePath memory (root_level levels) (directory_frame frames) other → HasWholePath memory' (root_level levels) (directory_frame frames) other)
-    → attachment_of devices' id ≡ Attached stage → ((other : ℕ) → other ≢ id → attachment_of devices' other ≡ attachment_of devices other) → DirectoryIn frames memory' marks devices' levels
+    → attachment_by_id devices' id ≡ Attached stage → ((other : ℕ) → other ≢ id → attachment_by_id devices' other ≡ attachment_by_id devices other) → DirectoryIn frames memory' marks devices' levels
 directory_put frames memory memory' marks devices devices' levels id stage pages stands tree has fresh here others path paths now same = record {
   tree = tree;
   own = λ page at. elim (has page at) [ inl was ↦ stands.own page was | inr new ↦ fresh page new ];

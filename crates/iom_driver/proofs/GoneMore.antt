@@ -10,22 +10,22 @@ use Rattle.iom_table_frames.specs.Marks.{GivesBack}
 use Rattle.iom_driver.specs.declared.device.Attachment.{Attachment}
 use Rattle.iom_driver.specs.declared.device.Attachment.TheVariants.{Detached}
 use Rattle.iom_driver.specs.declared.device.Device.{Device}
-use Rattle.iom_driver.specs.Confirmed.{has_left, is_gone, given_back, ClearsGone}
-use Rattle.iom_driver.specs.Devices.{device_of, attachment_of, HaveOwnIds}
+use Rattle.iom_driver.specs.Confirmed.{has_left_until, is_gone, mark_given_back, ClearsGone}
+use Rattle.iom_driver.specs.Devices.{device_by_id, attachment_by_id, HaveOwnIds}
 use Rattle.iom_driver.proofs.Ids.{none_of_all, none_at}
 use Rattle.iom_driver.proofs.Lists.{differs, same_items}
 use Rattle.iom_driver.proofs.Places.{attachment_absent}
 
 -- no device before a place has the id of the one there
-pub none_before : (devices : List Device) (k : ℕ) (device : Device) → HaveOwnIds devices → slice_get devices k ≡ Some device → device_of (take k devices) device.id ≡ None
+pub none_before : (devices : List Device) (k : ℕ) (device : Device) → HaveOwnIds devices → slice_get devices k ≡ Some device → device_by_id (take k devices) device.id ≡ None
 none_before [] k device own at = cc
 none_before (first ∷ others) zero device own at = refl
 none_before (first ∷ others) (suc k) device own at =
     rw (differs first.id device.id (λ same. none_at others first.id k device own.0 at (sym same))) (none_before others k device own.1 at)
 
 -- how devices are attached, with one more
-attachment_more : (devices : List Device) (device : Device) (id : ℕ) → device_of devices device.id ≡ None
-    → attachment_of (devices ++ device ∷ []) id ≡ (if device.id == id then device.attachment else attachment_of devices id)
+attachment_more : (devices : List Device) (device : Device) (id : ℕ) → device_by_id devices device.id ≡ None
+    → attachment_by_id (devices ++ device ∷ []) id ≡ (if device.id == id then device.attachment else attachment_by_id devices id)
 attachment_more [] device id none = by (device.id == id)
   where
     by : (b : Bool) → ◌≡◌ {A = Attachment} (option_map_or (λ (d : Device). d.attachment) (if b then Some device else None) Detached) (if b then device.attachment else Detached)
@@ -50,22 +50,22 @@ owner_case (OneDevice other) id = elim (eqb_tells other id) [
     one_id same = cc
 
 -- which owners have left, with one device more: its own, and each other as before
-gone_before : (done : ℕ) (devices : List Device) (device : Device) → device_of devices device.id ≡ None → is_gone done devices (OneDevice device.id) ≡ false
-gone_before done devices device none = ap (has_left done) (attachment_absent devices device.id none)
+gone_before : (done : ℕ) (devices : List Device) (device : Device) → device_by_id devices device.id ≡ None → is_gone done devices (OneDevice device.id) ≡ false
+gone_before done devices device none = ap (has_left_until done) (attachment_absent devices device.id none)
 
-gone_own : (done : ℕ) (devices : List Device) (device : Device) → device_of devices device.id ≡ None → is_gone done (devices ++ device ∷ []) (OneDevice device.id) ≡ has_left done device.attachment
+gone_own : (done : ℕ) (devices : List Device) (device : Device) → device_by_id devices device.id ≡ None → is_gone done (devices ++ device ∷ []) (OneDevice device.id) ≡ has_left_until done device.attachment
 gone_own done devices device none =
-    ap (has_left done) (attachment_more devices device device.id none) ∙ rw (eq-eqb device.id device.id refl) refl
+    ap (has_left_until done) (attachment_more devices device device.id none) ∙ rw (eq-eqb device.id device.id refl) refl
 
-gone_other : (done : ℕ) (devices : List Device) (device : Device) (owner : Owner) → device_of devices device.id ≡ None → owner ≢ OneDevice device.id
+gone_other : (done : ℕ) (devices : List Device) (device : Device) (owner : Owner) → device_by_id devices device.id ≡ None → owner ≢ OneDevice device.id
     → is_gone done (devices ++ device ∷ []) owner ≡ is_gone done devices owner
 gone_other done devices device System none other = refl
 gone_other done devices device (OneDevice id) none other =
-    ap (has_left done) (attachment_more devices device id none) ∙ rw (differs device.id id (λ same. other (ap OneDevice (sym same)))) refl
+    ap (has_left_until done) (attachment_more devices device id none) ∙ rw (differs device.id id (λ same. other (ap OneDevice (sym same)))) refl
 
 -- THE DEVICE HASN'T LEFT
 
-gone_same : (done : ℕ) (devices : List Device) (device : Device) → device_of devices device.id ≡ None → has_left done device.attachment ≡ false → (owner : Owner)
+gone_same : (done : ℕ) (devices : List Device) (device : Device) → device_by_id devices device.id ≡ None → has_left_until done device.attachment ≡ false → (owner : Owner)
     → is_gone done (devices ++ device ∷ []) owner ≡ is_gone done devices owner
 gone_same done devices device none stays owner = elim (owner_case owner device.id) [
   | inl e ↦ ap (is_gone done (devices ++ device ∷ [])) e ∙ gone_own done devices device none ∙ stays ∙ sym (ap (is_gone done devices) e ∙ gone_before done devices device none)
@@ -73,19 +73,19 @@ gone_same done devices device none stays owner = elim (owner_case owner device.i
 ]
 
 maps_same : (done : ℕ) (one other : List Device) → ((owner : Owner) → is_gone done one owner ≡ is_gone done other owner) → (marks : List (Option Owner))
-    → map (given_back done one) marks ≡ map (given_back done other) marks
+    → map (mark_given_back done one) marks ≡ map (mark_given_back done other) marks
 maps_same done one other same [] = refl
 maps_same done one other same (None ∷ marks) = ap (λ (ms : List (Option Owner)). None ∷ ms) (maps_same done one other same marks)
 maps_same done one other same (Some owner ∷ marks) =
     rw (same owner) (ap (λ (ms : List (Option Owner)). (if is_gone done other owner then None else Some owner) ∷ ms) (maps_same done one other same marks))
 
-pub marks_stay : (done : ℕ) (devices : List Device) (device : Device) (marks old : List (Option Owner)) → device_of devices device.id ≡ None → has_left done device.attachment ≡ false
-    → marks ≡ map (given_back done devices) old → marks ≡ map (given_back done (devices ++ device ∷ [])) old
+pub marks_stay : (done : ℕ) (devices : List Device) (device : Device) (marks old : List (Option Owner)) → device_by_id devices device.id ≡ None → has_left_until done device.attachment ≡ false
+    → marks ≡ map (mark_given_back done devices) old → marks ≡ map (mark_given_back done (devices ++ device ∷ [])) old
 marks_stay done devices device marks old none stays is =
     is ∙ sym (maps_same done (devices ++ device ∷ []) devices (gone_same done devices device none stays) old)
 
-pub clears_stay : (done : ℕ) (devices : List Device) (device : Device) (marks : List (Option Owner)) (old new : List (List ℕ)) → device_of devices device.id ≡ None
-    → has_left done device.attachment ≡ false → ClearsGone done devices marks old new → ClearsGone done (devices ++ device ∷ []) marks old new
+pub clears_stay : (done : ℕ) (devices : List Device) (device : Device) (marks : List (Option Owner)) (old new : List (List ℕ)) → device_by_id devices device.id ≡ None
+    → has_left_until done device.attachment ≡ false → ClearsGone done devices marks old new → ClearsGone done (devices ++ device ∷ []) marks old new
 clears_stay done devices device marks old new none stays clears = record {
   size = clears.size;
   own = λ f owner at gone. clears.own f owner at (sym (gone_same done devices device none stays owner) ∙ gone);
@@ -95,7 +95,7 @@ clears_stay done devices device marks old new none stays clears = record {
 -- THE DEVICE HAS LEFT
 
 -- a mark that is somebody's was that one's
-back_from : (done : ℕ) (devices : List Device) (mark : Option (Option Owner)) (owner : Owner) → option_map (given_back done devices) mark ≡ Some (Some owner) → mark ≡ Some (Some owner)
+back_from : (done : ℕ) (devices : List Device) (mark : Option (Option Owner)) (owner : Owner) → option_map (mark_given_back done devices) mark ≡ Some (Some owner) → mark ≡ Some (Some owner)
 back_from done devices None owner is = cc
 back_from done devices (Some None) owner is = cc
 back_from done devices (Some (Some own)) owner is = by (is_gone done devices own) is
@@ -104,29 +104,29 @@ back_from done devices (Some (Some own)) owner is = by (is_gone done devices own
     by true is = cc
     by false is = is
 
-pub marks_back : (done : ℕ) (devices : List Device) (device : Device) (marks marks' old : List (Option Owner)) (before after : List (List ℕ)) → device_of devices device.id ≡ None
-    → has_left done device.attachment ≡ true → marks ≡ map (given_back done devices) old → GivesBack (OneDevice device.id) marks marks' before after
-    → marks' ≡ map (given_back done (devices ++ device ∷ [])) old
+pub marks_back : (done : ℕ) (devices : List Device) (device : Device) (marks marks' old : List (Option Owner)) (before after : List (List ℕ)) → device_by_id devices device.id ≡ None
+    → has_left_until done device.attachment ≡ true → marks ≡ map (mark_given_back done devices) old → GivesBack (OneDevice device.id) marks marks' before after
+    → marks' ≡ map (mark_given_back done (devices ++ device ∷ [])) old
 marks_back done devices device marks marks' old before after none left is gives =
-    same_items marks' (map (given_back done (devices ++ device ∷ [])) old) (λ f. by f (slice_get old f) refl ∙ sym (slice_get-map (given_back done (devices ++ device ∷ [])) old f))
+    same_items marks' (map (mark_given_back done (devices ++ device ∷ [])) old) (λ f. by f (slice_get old f) refl ∙ sym (slice_get-map (mark_given_back done (devices ++ device ∷ [])) old f))
   where
-    was : (f : ℕ) → slice_get marks f ≡ option_map (given_back done devices) (slice_get old f)
-    was f = ap (λ (ms : List (Option Owner)). slice_get ms f) is ∙ slice_get-map (given_back done devices) old f
+    was : (f : ℕ) → slice_get marks f ≡ option_map (mark_given_back done devices) (slice_get old f)
+    was f = ap (λ (ms : List (Option Owner)). slice_get ms f) is ∙ slice_get-map (mark_given_back done devices) old f
 
-    stays : (f : ℕ) (mark : Option (Option Owner)) → slice_get old f ≡ mark → mark ≢ Some (Some (OneDevice device.id)) → slice_get marks' f ≡ option_map (given_back done devices) mark
+    stays : (f : ℕ) (mark : Option (Option Owner)) → slice_get old f ≡ mark → mark ≢ Some (Some (OneDevice device.id)) → slice_get marks' f ≡ option_map (mark_given_back done devices) mark
     stays f mark at other =
         (gives.others f (λ own. other (sym at ∙ back_from done devices (slice_get old f) (OneDevice device.id) (sym (was f) ∙ own)))).0
-        ∙ was f ∙ ap (option_map (given_back done devices)) at
+        ∙ was f ∙ ap (option_map (mark_given_back done devices)) at
 
-    by : (f : ℕ) (mark : Option (Option Owner)) → slice_get old f ≡ mark → slice_get marks' f ≡ option_map (given_back done (devices ++ device ∷ [])) mark
+    by : (f : ℕ) (mark : Option (Option Owner)) → slice_get old f ≡ mark → slice_get marks' f ≡ option_map (mark_given_back done (devices ++ device ∷ [])) mark
     by f None at = stays f None at (λ same. cc)
     by f (Some None) at = stays f (Some None) at (λ same. cc)
     by f (Some (Some owner)) at = elim (owner_case owner device.id) [
       | inl e ↦
           let free : is_gone done devices owner ≡ false = ap (is_gone done devices) e ∙ gone_before done devices device none in
           let gone : is_gone done (devices ++ device ∷ []) owner ≡ true = ap (is_gone done (devices ++ device ∷ [])) e ∙ gone_own done devices device none ∙ left in
-          let kept : option_map (given_back done devices) (Some (Some owner)) ≡ Some (Some owner) = rw free refl in
-          let own : slice_get marks f ≡ Some (Some (OneDevice device.id)) = was f ∙ ap (option_map (given_back done devices)) at ∙ kept ∙ ap (λ (o : Owner). Some (Some o)) e in
+          let kept : option_map (mark_given_back done devices) (Some (Some owner)) ≡ Some (Some owner) = rw free refl in
+          let own : slice_get marks f ≡ Some (Some (OneDevice device.id)) = was f ∙ ap (option_map (mark_given_back done devices)) at ∙ kept ∙ ap (λ (o : Owner). Some (Some o)) e in
           rw gone (gives.own f own).0
       | inr other ↦
           stays f (Some (Some owner)) at (λ same. other (one_owner owner same))
@@ -136,8 +136,8 @@ marks_back done devices device marks marks' old before after none left is gives 
         one_owner : (o : Owner) → ◌≡◌ {A = Option (Option Owner)} (Some (Some o)) (Some (Some (OneDevice device.id))) → o ≡ OneDevice device.id
         one_owner o same = cc
 
-pub clears_back : (done : ℕ) (devices : List Device) (device : Device) (marks marks' old : List (Option Owner)) (memory before after : List (List ℕ)) → device_of devices device.id ≡ None
-    → has_left done device.attachment ≡ true → marks ≡ map (given_back done devices) old → GivesBack (OneDevice device.id) marks marks' before after
+pub clears_back : (done : ℕ) (devices : List Device) (device : Device) (marks marks' old : List (Option Owner)) (memory before after : List (List ℕ)) → device_by_id devices device.id ≡ None
+    → has_left_until done device.attachment ≡ true → marks ≡ map (mark_given_back done devices) old → GivesBack (OneDevice device.id) marks marks' before after
     → ClearsGone done devices old memory before → ClearsGone done (devices ++ device ∷ []) old memory after
 clears_back done devices device marks marks' old memory before after none left is gives clears = record {
   size = gives.memory_size ∙ clears.size;
@@ -160,21 +160,21 @@ clears_back done devices device marks marks' old memory before after none left i
       ]);
 }
   where
-    was : (f : ℕ) → slice_get marks f ≡ option_map (given_back done devices) (slice_get old f)
-    was f = ap (λ (ms : List (Option Owner)). slice_get ms f) is ∙ slice_get-map (given_back done devices) old f
+    was : (f : ℕ) → slice_get marks f ≡ option_map (mark_given_back done devices) (slice_get old f)
+    was f = ap (λ (ms : List (Option Owner)). slice_get ms f) is ∙ slice_get-map (mark_given_back done devices) old f
 
     one_owner : (o : Owner) → ◌≡◌ {A = Option (Option Owner)} (Some (Some o)) (Some (Some (OneDevice device.id))) → o ≡ OneDevice device.id
     one_owner o same = cc
 
     mark_kept : (f : ℕ) (owner : Owner) → slice_get old f ≡ Some (Some owner) → is_gone done devices owner ≡ false → slice_get marks f ≡ Some (Some owner)
-    mark_kept f owner at free = was f ∙ ap (option_map (given_back done devices)) at ∙ rw free refl
+    mark_kept f owner at free = was f ∙ ap (option_map (mark_given_back done devices)) at ∙ rw free refl
 
 -- nothing is given back where there are no devices
 none_gone : (done : ℕ) (owner : Owner) → is_gone done [] owner ≡ false
 none_gone done System = refl
 none_gone done (OneDevice id) = refl
 
-pub marks_at_first : (done : ℕ) (marks : List (Option Owner)) → marks ≡ map (given_back done []) marks
+pub marks_at_first : (done : ℕ) (marks : List (Option Owner)) → marks ≡ map (mark_given_back done []) marks
 marks_at_first done [] = refl
 marks_at_first done (None ∷ marks) = ap (λ (ms : List (Option Owner)). None ∷ ms) (marks_at_first done marks)
 marks_at_first done (Some owner ∷ marks) = rw (none_gone done owner) (ap (λ (ms : List (Option Owner)). Some owner ∷ ms) (marks_at_first done marks))

@@ -30,7 +30,7 @@ use Rattle.iom_base.specs.declared.owner.Owner.TheVariants.{OneDevice}
 use Rattle.iom_table_frames.specs.Marks.{IsFreeForTable, is_marked}
 use Rattle.iom_driver.specs.declared.device.Device.{Device}
 use Rattle.iom_driver.specs.declared.device.Stages.{Stages}
-use Rattle.iom_driver.specs.Calls.{KeepsOthers}
+use Rattle.iom_driver.specs.Calls.{KeepsOtherFrames}
 use Rattle.iom_driver.specs.Choices.{marked_for, cleared}
 use Rattle.iom_driver.specs.Devices.{owned_stages_of}
 use Rattle.iom_driver.specs.Tables.{AreTablesOf, HaveTables, leaf_for}
@@ -150,7 +150,7 @@ mapped_others memory memory' marks ledger id mode root page named count n leaf c
 pub others_kept : (memory memory' : List (List ℕ)) (marks : List (Option Owner)) (ledger : Ledger) (id : ℕ) (mode : Mode) (root page named count : ℕ) (leaf : PageLeaf) (chosen : List ℕ) → length marks ≡ length memory
     → AreTablesOf memory marks ledger id mode root
     → AreChosen marks ledger (Some named) (length memory) count chosen → IsMapped (size_in mode) (cleared chosen memory) memory' root page leaf chosen
-    → KeepsOthers (marked_for (OneDevice id) chosen marks) id memory memory'
+    → KeepsOtherFrames (marked_for (OneDevice id) chosen marks) id memory memory'
 others_kept memory memory' marks ledger id mode root page named count leaf chosen long tables chose mapped f differs =
     let inside : All (λ n. n < length marks) chosen = λ k d lt. subst (λ n. get_or chosen k d < n) (sym long) (chose.inside k d lt) in
     mapped_others memory memory' marks ledger id mode root page named count f leaf chosen long tables chose mapped differs

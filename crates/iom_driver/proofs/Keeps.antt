@@ -19,8 +19,8 @@ use Rattle.iom_driver.specs.declared.device.Attachment.TheVariants.{Attached, Qu
 use Rattle.iom_driver.specs.declared.device.Device.{Device}
 use Rattle.iom_driver.specs.declared.device.Stages.{Stages}
 use Rattle.iom_driver.specs.Choices.{marked_for}
-use Rattle.iom_driver.specs.Confirmed.{once_confirmed, given_back}
-use Rattle.iom_driver.specs.Devices.{device_of, attachment_of, attached_stages, owned_stages, stages_of, owned_stages_of, is_plugged, detached, with_attachment, IsLowestNumber}
+use Rattle.iom_driver.specs.Confirmed.{driven_once_confirmed, mark_given_back}
+use Rattle.iom_driver.specs.Devices.{device_by_id, attachment_by_id, attached_stages, owned_stages, stages_of, owned_stages_of, has_device, detached, with_attachment, IsLowestNumber}
 use Rattle.iom_driver.specs.Layout.{AreFixed, id_limit}
 use Rattle.iom_driver.specs.Sound.{IsGrant, AreGrants, AreFences, IsSound, RiseBetween}
 use Rattle.iom_driver.proofs.Gone.{attachment_confirmed, stage_confirmed, still_owned, still_leaving, still_quarantined, detached_after, ids_confirmed, unmarked_back, marked_back}
@@ -34,10 +34,10 @@ use Rattle.iom_driver.proofs.Tickets.{rise_further, rise_more, rise_left}
 -- PLUG
 
 pub sound_plugged : (ledger : Ledger) (marks : List (Option Owner)) (devices : List Device) (frames levels : ℕ) (started : Bool) (given confirmed restarts restarted id : ℕ) (trusted : Bool)
-    → IsSound ledger marks devices frames levels started given confirmed restarts restarted → device_of devices id ≡ None → length devices < 16
+    → IsSound ledger marks devices frames levels started given confirmed restarts restarted → device_by_id devices id ≡ None → length devices < 16
     → IsSound ledger marks (devices ++ detached id trusted ∷ []) frames levels started given confirmed restarts restarted
 sound_plugged ledger marks devices frames levels started given confirmed restarts restarted id trusted sound none few =
-    let same : (other : ℕ) → attachment_of (devices ++ detached id trusted ∷ []) other ≡ attachment_of devices other = λ other. attachment_plugged devices id trusted other in
+    let same : (other : ℕ) → attachment_by_id (devices ++ detached id trusted ∷ []) other ≡ attachment_by_id devices other = λ other. attachment_plugged devices id trusted other in
     record {
       sizes = sound.sizes;
       fixed = sound.fixed;
@@ -77,7 +77,7 @@ grants_polled marks old new first n confirmed grants = record {
 }
 
 -- grants, where marks of devices that have left are given back
-grants_back : (marks : List (Option Owner)) (ledger : Ledger) (done : ℕ) (devices : List Device) → AreGrants marks ledger → AreGrants (map (given_back done devices) marks) ledger
+grants_back : (marks : List (Option Owner)) (ledger : Ledger) (done : ℕ) (devices : List Device) → AreGrants marks ledger → AreGrants (map (mark_given_back done devices) marks) ledger
 grants_back marks ledger done devices grants = record {
   held = λ d a frame rights held.
       let grant = grants.held d a frame rights held in record { page_low = grant.page_low; unreserved = unmarked_back done devices marks frame grant.unreserved };
@@ -86,7 +86,7 @@ grants_back marks ledger done devices grants = record {
 }
 
 -- the fixed frames are the system's, which never leaves
-fixed_back : (marks : List (Option Owner)) (done : ℕ) (devices : List Device) (frames : ℕ) → AreFixed marks frames → AreFixed (map (given_back done devices) marks) frames
+fixed_back : (marks : List (Option Owner)) (done : ℕ) (devices : List Device) (frames : ℕ) → AreFixed marks frames → AreFixed (map (mark_given_back done devices) marks) frames
 fixed_back marks done devices frames fixed = record {
   command = marked_back done devices marks (frames - 1) System fixed.command refl;
   fault = marked_back done devices marks (frames - 2) System fixed.fault refl;
@@ -96,9 +96,9 @@ fixed_back marks done devices frames fixed = record {
 
 pub sound_polled : (old new : Ledger) (marks : List (Option Owner)) (devices : List Device) (frames levels : ℕ) (started : Bool) (given confirmed restarts restarted done : ℕ)
     → IsSound old marks devices frames levels started given confirmed restarts restarted → ConfirmsFrom old new (confirmed + 1) (done - confirmed) → confirmed ≤ done → done ≤ given
-    → IsSound new (map (given_back done devices) marks) (map (once_confirmed done) devices) frames levels started given done restarts restarted
+    → IsSound new (map (mark_given_back done devices) marks) (map (driven_once_confirmed done) devices) frames levels started given done restarts restarted
 sound_polled old new marks devices frames levels started given confirmed restarts restarted done sound shown low high = record {
-  sizes = record { marked = length-map marks (given_back done devices) ∙ sound.sizes.marked; size = sound.sizes.size; in_range = sound.sizes.in_range };
+  sizes = record { marked = length-map marks (mark_given_back done devices) ∙ sound.sizes.marked; size = sound.sizes.size; in_range = sound.sizes.in_range };
   fixed = fixed_back marks done devices frames sound.fixed;
   grants = grants_back marks new done devices (grants_polled marks old new (confirmed + 1) (done - confirmed) shown sound.grants);
   holders = λ id page none. shown.held id page ∙ sound.holders id page (sym (stage_confirmed done devices id) ∙ none);
@@ -117,8 +117,8 @@ sound_polled old new marks devices frames levels started given confirmed restart
   leaving = λ id ticket stage at. let still = still_leaving done devices id ticket stage at in (still.1, (sound.leaving id ticket stage still.0).1);
   quarantined = λ id ticket stage at. sound.quarantined id ticket stage (still_quarantined done devices id ticket stage at);
   ids = ids_confirmed done devices sound.ids;
-  few = omega (arith, length-map devices (once_confirmed done), sound.few);
-  idle = λ stopped id. attachment_confirmed done devices id ∙ detached_after done (attachment_of devices id) (sound.idle stopped id);
+  few = omega (arith, length-map devices (driven_once_confirmed done), sound.few);
+  idle = λ stopped id. attachment_confirmed done devices id ∙ detached_after done (attachment_by_id devices id) (sound.idle stopped id);
 }
 
 -- ATTACH
@@ -151,19 +151,19 @@ grants_reserved marks marks' ledger chosen grants free stay = record {
 }
 
 -- how each device is attached, once one attachment is set
-pub set_or_other : (devices : List Device) (id : ℕ) (a : Attachment) (other : ℕ) → is_plugged devices id ≡ true
-    → ((other ≡ id) × (attachment_of (with_attachment devices id a) other ≡ a)) ⊎ ((other ≢ id) × (attachment_of (with_attachment devices id a) other ≡ attachment_of devices other))
+pub set_or_other : (devices : List Device) (id : ℕ) (a : Attachment) (other : ℕ) → has_device devices id ≡ true
+    → ((other ≡ id) × (attachment_by_id (with_attachment devices id a) other ≡ a)) ⊎ ((other ≢ id) × (attachment_by_id (with_attachment devices id a) other ≡ attachment_by_id devices other))
 set_or_other devices id a other plugged = elim (eqb_tells other id) [
-  | inl e ↦ inl (e.1, ap (λ i. attachment_of (with_attachment devices id a) i) e.1 ∙ attachment_set devices id a plugged)
+  | inl e ↦ inl (e.1, ap (λ i. attachment_by_id (with_attachment devices id a) i) e.1 ∙ attachment_set devices id a plugged)
   | inr ne ↦ inr (ne.1, attachment_other devices id other a ne.1)
 ]
 
 pub sound_attached : (ledger : Ledger) (marks : List (Option Owner)) (devices : List Device) (frames levels : ℕ) (started : Bool) (given confirmed restarts restarted id count : ℕ) (stage : Stages) (pages roots : List ℕ)
-    → IsSound ledger marks devices frames levels started given confirmed restarts restarted → started ≡ true → is_plugged devices id ≡ true → id < id_limit levels
+    → IsSound ledger marks devices frames levels started given confirmed restarts restarted → started ≡ true → has_device devices id ≡ true → id < id_limit levels
     → AreTaken marks ledger frames count pages roots → IsLowestNumber devices stage.number → stage.number ≤ 17
     → IsSound ledger (taken_marks id pages roots marks) (with_attachment devices id (Attached stage)) frames levels started given confirmed restarts restarted
 sound_attached ledger marks devices frames levels started given confirmed restarts restarted id count stage pages roots sound runs plugged narrow taken lowest small =
-    let either : (other : ℕ) → ((other ≡ id) × (attachment_of (with_attachment devices id (Attached stage)) other ≡ Attached stage)) ⊎ ((other ≢ id) × (attachment_of (with_attachment devices id (Attached stage)) other ≡ attachment_of devices other)) =
+    let either : (other : ℕ) → ((other ≡ id) × (attachment_by_id (with_attachment devices id (Attached stage)) other ≡ Attached stage)) ⊎ ((other ≢ id) × (attachment_by_id (with_attachment devices id (Attached stage)) other ≡ attachment_by_id devices other)) =
     λ other. set_or_other devices id (Attached stage) other plugged in
     record {
       sizes = record { marked = length-taken id pages roots marks ∙ sound.sizes.marked; size = sound.sizes.size; in_range = sound.sizes.in_range };
@@ -215,7 +215,7 @@ more_fences given restarts restarted fences more =
 pub owned_leaving : (devices : List Device) (id ticket : ℕ) (stage : Stages) → stages_of devices id ≡ Some stage → (other : ℕ)
     → owned_stages_of (with_attachment devices id (Leaving ticket stage)) other ≡ owned_stages_of devices other
 owned_leaving devices id ticket stage attached other = elim (set_or_other devices id (Leaving ticket stage) other (attached_there devices id stage attached)) [
-  | inl now ↦ ap owned_stages now.1 ∙ sym (attached_owns (attachment_of devices id) stage attached) ∙ ap (λ i. owned_stages_of devices i) (sym now.0)
+  | inl now ↦ ap owned_stages now.1 ∙ sym (attached_owns (attachment_by_id devices id) stage attached) ∙ ap (λ i. owned_stages_of devices i) (sym now.0)
   | inr was ↦ ap owned_stages was.1
 ]
 
@@ -223,8 +223,8 @@ pub sound_detached : (ledger : Ledger) (marks : List (Option Owner)) (devices : 
     → IsSound ledger marks devices frames levels started given confirmed restarts restarted → started ≡ true → stages_of devices id ≡ Some stage → ((page : ℕ) → held_in ledger id page ≡ None)
     → given + restarts < 4294967295 → IsSound ledger marks (with_attachment devices id (Leaving (given + 1) stage)) frames levels started (given + 1) confirmed restarts restarted
 sound_detached ledger marks devices frames levels started given confirmed restarts restarted id stage sound runs attached none more =
-    let either : (other : ℕ) → ((other ≡ id) × (attachment_of (with_attachment devices id (Leaving (given + 1) stage)) other ≡ Leaving (given + 1) stage))
-    ⊎ ((other ≢ id) × (attachment_of (with_attachment devices id (Leaving (given + 1) stage)) other ≡ attachment_of devices other)) =
+    let either : (other : ℕ) → ((other ≡ id) × (attachment_by_id (with_attachment devices id (Leaving (given + 1) stage)) other ≡ Leaving (given + 1) stage))
+    ⊎ ((other ≢ id) × (attachment_by_id (with_attachment devices id (Leaving (given + 1) stage)) other ≡ attachment_by_id devices other)) =
     λ other. set_or_other devices id (Leaving (given + 1) stage) other (attached_there devices id stage attached) in
     let owned = owned_leaving devices id (given + 1) stage attached in
     let le = sound.tickets.ordered in

@@ -7,7 +7,7 @@ use Rattle.std.proofs.lemmas.Bool.{eq-eqb, false≢true}
 use Rattle.std.proofs.lemmas.Map.Steps.{le-length_from_below}
 use Rattle.iom_driver.specs.declared.device.Device.{Device}
 use Rattle.iom_driver.specs.declared.device.Stages.{Stages}
-use Rattle.iom_driver.specs.Devices.{owned_stages_of, owned_stages, with_attachment, is_plugged, is_used, has_number, IsLowestNumber}
+use Rattle.iom_driver.specs.Devices.{owned_stages_of, owned_stages, with_attachment, has_device, is_used, has_number, IsLowestNumber}
 use Rattle.iom_driver.specs.Sound.{HaveNumbers}
 use Rattle.iom_driver.specs.declared.device.Attachment.TheVariants.{Attached}
 use Rattle.iom_driver.proofs.Places.{attachment_set, attachment_other}
@@ -75,7 +75,7 @@ holder_uses (device ∷ others) id stage at = elim (eqb_tells device.id id) [
     there false used = used
 
 -- where one more device is attached under the lowest free number
-pub numbers_attached : (devices : List Device) (id : ℕ) (stage : Stages) → HaveNumbers devices → is_plugged devices id ≡ true → IsLowestNumber devices stage.number → stage.number ≤ 17
+pub numbers_attached : (devices : List Device) (id : ℕ) (stage : Stages) → HaveNumbers devices → has_device devices id ≡ true → IsLowestNumber devices stage.number → stage.number ≤ 17
     → HaveNumbers (with_attachment devices id (Attached stage))
 numbers_attached devices id stage numbers plugged lowest small = record {
   small = λ other s at. elim (whose other s at) [

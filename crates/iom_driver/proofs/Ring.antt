@@ -15,7 +15,7 @@ use Rattle.iom_registers.specs.Bits.{bits}
 use Rattle.iom_registers.specs.declared.directory.DirectoryPointer.{DirectoryPointer}
 use Rattle.iom_registers.specs.declared.registers.Registers.{Registers}
 use Rattle.iom_registers.specs.declared.register.Register.TheVariants.{Ddtp, Cqb, Cqcsr, Fqb, Fqcsr}
-use Rattle.iom_registers.specs.Fields.{entry_count, ddtp_written, with_mode, mode_at, pointer_to}
+use Rattle.iom_registers.specs.Fields.{entry_count, ddtp_written, with_mode, mode_with_code, pointer_to}
 use Rattle.iom_registers.specs.Queues.{command_base, command_entries, command_head, command_tail, directory_mode, directory_root, is_command_queue_on, fault_base, fault_entries, fault_head, fault_tail, is_fault_queue_on}
 use Rattle.iom_registers.specs.Table.{written}
 use Rattle.iom_driver.specs.Appends.{AppendsAll}
@@ -124,7 +124,7 @@ started_pointer : (r : Registers) (ddtp cqb fqb : ℕ) → IsOff r → (started 
 started_pointer r ddtp cqb fqb off = rw (off.off, off.faults_off) refl
 
 -- the number of iommu_mode is one above that of the levels
-mode_above : (levels : ℕ) → IsLevels levels → mode_at (levels + 1) ≡ Some (mode_of levels)
+mode_above : (levels : ℕ) → IsLevels levels → mode_with_code (levels + 1) ≡ Some (mode_of levels)
 mode_above zero range = absurd (omega arith)
 mode_above (suc zero) range = refl
 mode_above (suc (suc zero)) range = refl
@@ -137,5 +137,5 @@ started_names r frames levels off few range cqb fqb =
     let low : bits 3 0 (ddtp_of frames levels) ≡ levels + 1 = omega (arith, range.1) in
     let high : bits 53 10 (ddtp_of frames levels) ≡ frames - 4 = omega (arith, range.1, few) in
     let pointer : (started r (ddtp_of frames levels) cqb fqb).ddtp ≡ pointer_to (mode_of levels) (ddtp_of frames levels) =
-    started_pointer r (ddtp_of frames levels) cqb fqb off ∙ ap (λ m. with_mode r.ddtp m (ddtp_of frames levels)) (ap mode_at low ∙ mode_above levels range) in
+    started_pointer r (ddtp_of frames levels) cqb fqb off ∙ ap (λ m. with_mode r.ddtp m (ddtp_of frames levels)) (ap mode_with_code low ∙ mode_above levels range) in
     record { mode = ap (λ (p : DirectoryPointer). p.mode) pointer; root = ap (λ (p : DirectoryPointer). p.ppn) pointer ∙ high }

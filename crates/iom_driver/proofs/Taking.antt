@@ -13,7 +13,7 @@ use Rattle.iom_registers.specs.declared.register.Register.TheVariants.{Fqh, Fqcs
 use Rattle.iom_registers.specs.Queues.{fault_head, fault_tail, is_fault_queue_on}
 use Rattle.iom_registers.specs.Table.{written}
 use Rattle.iom_driver.specs.Ready.{IsReport, IsFaultRing, IsReady, KeepsFaults}
-use Rattle.iom_driver.specs.Reports.{TakesReport, cleared_marks}
+use Rattle.iom_driver.specs.Reports.{TakesOldestRecord, cleared_marks}
 use Rattle.iom_driver.specs.State.{DriverState}
 use Rattle.iom_driver.proofs.FaultRings.{fault_ring_stays}
 
@@ -27,16 +27,16 @@ other_reports e es all reports is =
 
 -- what is taken is a record
 by_entry : {M : Type 0} (g : Ghosts M) (memory : List (List ℕ)) (io io' : M) (e : Entry) → IsReport e → TakesEntry g.registers g.after memory io (Some e) io'
-    → records_in memory (g.registers io) ≡ e ∷ records_in memory (g.registers io') → TakesReport g memory io (record_of_entry e) io'
+    → records_in memory (g.registers io) ≡ e ∷ records_in memory (g.registers io') → TakesOldestRecord g memory io (record_of_entry e) io'
 by_entry g memory io io' (entry.Record f) is takes list = (takes, list)
 by_entry g memory io io' entry.Illegal is takes list = absurd is
 by_entry g memory io io' entry.Outside is takes list = absurd is
 
 pub takes_report : {M : Type 0} (g : Ghosts M) (memory : List (List ℕ)) (io io' : M) (e : Entry) (found : Option Fields) → IsFaultRing memory (g.registers io)
     → TakesEntry g.registers g.after memory io (Some e) io' → records_in memory (g.registers io) ≡ e ∷ records_in memory (g.registers io') → found ≡ record_of_entry e
-    → TakesReport g memory io found io'
+    → TakesOldestRecord g memory io found io'
 takes_report g memory io io' e found ring takes list is =
-    subst (λ o. TakesReport g memory io o io') (sym is)
+    subst (λ o. TakesOldestRecord g memory io o io') (sym is)
     (by_entry g memory io io' e (first_report e (records_in memory (g.registers io')) (records_in memory (g.registers io)) ring.reports list) takes list)
 
 -- the driver stays ready while the head moves on

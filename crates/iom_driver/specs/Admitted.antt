@@ -11,7 +11,7 @@ use Rattle.iom_registers.specs.declared.registers.Registers.{Registers}
 use Rattle.iom_table_frames.specs.Marks.{is_marked}
 use Rattle.iom_driver.specs.declared.device.Stages.{Stages}
 use Rattle.iom_driver.specs.declared.device.Attachment.TheVariants.{Quarantined}
-use Rattle.iom_driver.specs.Devices.{attachment_of, is_plugged, stages_of, owned_stages_of}
+use Rattle.iom_driver.specs.Devices.{attachment_by_id, has_device, stages_of, owned_stages_of}
 use Rattle.iom_driver.specs.Fences.{last_fence}
 use Rattle.iom_driver.specs.Layout.{id_limit, queue_entries}
 use Rattle.iom_driver.specs.Reasons.{release_places}
@@ -19,7 +19,7 @@ use Rattle.iom_driver.specs.State.{DriverState}
 
 pub record MayBeAttached (d : DriverState) (id : ℕ) : Type 0 where
   pub started : d.started ≡ true
-  pub plugged : is_plugged d.devices id ≡ true
+  pub plugged : has_device d.devices id ≡ true
   pub nothing : owned_stages_of d.devices id ≡ None
   pub narrow : id < id_limit d.levels
 
@@ -57,7 +57,7 @@ pub record MayBeQuarantined (d : DriverState) (r : Registers) (id : ℕ) (stage 
 pub record MayBeRevived (d : DriverState) (id : ℕ) (stage : Stages) : Type 0 where
   pub started : d.started ≡ true
   pub ticket : ℕ
-  pub cut_off : attachment_of d.devices id ≡ Quarantined ticket stage
+  pub cut_off : attachment_by_id d.devices id ≡ Quarantined ticket stage
   pub over : ticket ≤ d.confirmed
 
 -- the root may be that of tables in the mode: a second stage's fills four frames, and is aligned to that

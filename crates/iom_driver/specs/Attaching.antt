@@ -25,8 +25,8 @@ abbrev pub lacking_pages : DriverState → List (List ℕ) → ℕ → ℕ
 lacking_pages d memory id = missing_pages memory (root_level d.levels) (directory_frame (length memory)) id
 
 -- these are the highest free frames, as many as the directory lacks pages
-abbrev pub ArePages : DriverState → List (List ℕ) → ℕ → List ℕ → Type 0
-ArePages d memory id pages = AreHighestFree d.marks d.ledger None (length memory) (lacking_pages d memory id) pages
+abbrev pub AreDirectoryPages : DriverState → List (List ℕ) → ℕ → List ℕ → Type 0
+AreDirectoryPages d memory id pages = AreHighestFree d.marks d.ledger None (length memory) (lacking_pages d memory id) pages
 
 -- what is free once these pages, the highest free frames, are taken, lies below the last of them
 abbrev pub limit_below : ℕ → List ℕ → ℕ
@@ -59,7 +59,7 @@ pub record TakesRoot (d : DriverState) (memory : List (List ℕ)) (id : ℕ) (mo
   pub in_mode : stage.mode ≡ mode
   pub with_ats : stage.ats ≡ ats
   pub pages : List ℕ
-  pub chosen : ArePages d memory id pages
+  pub chosen : AreDirectoryPages d memory id pages
   pub root : IsRootBelow mode d (limit_below (length memory) pages) stage.root
   pub lowest : IsLowestNumber d.devices stage.number
   pub driver : d' ≡ record d {
@@ -73,7 +73,7 @@ pub record TakesRoot (d : DriverState) (memory : List (List ℕ)) (id : ℕ) (mo
 abbrev pub LacksRoot : DriverState → List (List ℕ) → ℕ → Mode → Refusal → Type 0
 LacksRoot d memory id mode NoFrames =
     (¬ HasFree d.marks d.ledger None (lacking_pages d memory id) (length memory))
-    ⊎ ((pages : List ℕ) × ArePages d memory id pages × NoRootBelow mode d (limit_below (length memory) pages))
+    ⊎ ((pages : List ℕ) × AreDirectoryPages d memory id pages × NoRootBelow mode d (limit_below (length memory) pages))
 LacksRoot d memory id mode _ = ⊥
 
 -- ATTACH

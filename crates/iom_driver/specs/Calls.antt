@@ -79,8 +79,8 @@ abbrev pub granted_leaf : ℕ → GrantRights → PageLeaf
 granted_leaf frame rights = record { frame = frame; rights = rights_of rights }
 
 -- each frame that isn't the device's has the bytes that it had
-abbrev pub KeepsOthers : List (Option Owner) → ℕ → List (List ℕ) → List (List ℕ) → Type 0
-KeepsOthers marks id memory memory' = (f : ℕ) → slice_get marks f ≢ Some (Some (OneDevice id)) → slice_get memory' f ≡ slice_get memory f
+abbrev pub KeepsOtherFrames : List (Option Owner) → ℕ → List (List ℕ) → List (List ℕ) → Type 0
+KeepsOtherFrames marks id memory memory' = (f : ℕ) → slice_get marks f ≢ Some (Some (OneDevice id)) → slice_get memory' f ≡ slice_get memory f
 
 -- The tables that the page lacks take the highest free frames, the granted one passed over, and they are the device's; memory is what it was, but that
 -- these frames are zero, and then hang on the page's path, from the root down, with the page's leaf: no frame but the device's changes. The ledger has
@@ -94,7 +94,7 @@ pub record TakesTables (d : DriverState) (memory : List (List ℕ)) (id page fra
   pub agrees : (h : History) → Agrees d.ledger h → Agrees d'.ledger (entry.Granted id page frame (rights_of rights) ∷ h)
   pub driver : d' ≡ record d { ledger = d'.ledger; marks = marked_for (OneDevice id) tables d.marks }
   pub bytes : memory' ≡ mapped (size_in stage.mode) (cleared tables memory) stage.root page (granted_leaf frame rights) tables
-  pub others : KeepsOthers d'.marks id memory memory'
+  pub others : KeepsOtherFrames d'.marks id memory memory'
 
 -- the frames that are free besides the granted one are enough for the tables that the page lacks
 pub record HasFrames (d : DriverState) (memory : List (List ℕ)) (id page frame : ℕ) : Type 0 where

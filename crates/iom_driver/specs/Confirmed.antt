@@ -7,28 +7,28 @@ use Rattle.iom_phys_mem.specs.Words.{zeroed}
 use Rattle.iom_driver.specs.declared.device.Attachment.{Attachment}
 use Rattle.iom_driver.specs.declared.device.Attachment.TheVariants.{Detached, Attached, Quarantined, Leaving}
 use Rattle.iom_driver.specs.declared.device.Device.{Device}
-use Rattle.iom_driver.specs.Devices.{attachment_of}
+use Rattle.iom_driver.specs.Devices.{attachment_by_id}
 
 -- whether it leaves under a ticket up to the last that was confirmed
-abbrev pub has_left : ℕ → Attachment → Bool
-has_left done Detached = false
-has_left done (Attached stage) = false
-has_left done (Quarantined ticket stage) = false
-has_left done (Leaving ticket stage) = nat_le ticket done
+abbrev pub has_left_until : ℕ → Attachment → Bool
+has_left_until done Detached = false
+has_left_until done (Attached stage) = false
+has_left_until done (Quarantined ticket stage) = false
+has_left_until done (Leaving ticket stage) = nat_le ticket done
 
 -- a device that leaves so is attached to nothing from then on; each other one stays
-abbrev pub once_confirmed : ℕ → Device → Device
-once_confirmed done device = record device { attachment = if has_left done device.attachment then Detached else device.attachment }
+abbrev pub driven_once_confirmed : ℕ → Device → Device
+driven_once_confirmed done device = record device { attachment = if has_left_until done device.attachment then Detached else device.attachment }
 
 -- whether the owner is a device that leaves so
 abbrev pub is_gone : ℕ → List Device → Owner → Bool
 is_gone done devices System = false
-is_gone done devices (OneDevice id) = has_left done (attachment_of devices id)
+is_gone done devices (OneDevice id) = has_left_until done (attachment_by_id devices id)
 
 -- the mark of a frame then: what such a device owned has no owner any more
-abbrev pub given_back : ℕ → List Device → Option Owner → Option Owner
-given_back done devices None = None
-given_back done devices (Some owner) = if is_gone done devices owner then None else Some owner
+abbrev pub mark_given_back : ℕ → List Device → Option Owner → Option Owner
+mark_given_back done devices None = None
+mark_given_back done devices (Some owner) = if is_gone done devices owner then None else Some owner
 
 -- and memory: each frame of such a device is zero, and no other changes
 pub record ClearsGone (done : ℕ) (devices : List Device) (marks : List (Option Owner)) (old new : List (List ℕ)) : Type 0 where

@@ -8,21 +8,21 @@ use Rattle.iom_driver.specs.declared.device.Device.{Device}
 use Rattle.iom_driver.specs.declared.device.Stages.{Stages}
 
 -- the device with this id
-abbrev pub device_of : List Device → ℕ → Option Device
-device_of [] id = None
-device_of (device ∷ others) id = if device.id == id then Some device else device_of others id
+abbrev pub device_by_id : List Device → ℕ → Option Device
+device_by_id [] id = None
+device_by_id (device ∷ others) id = if device.id == id then Some device else device_by_id others id
 
 -- whether there is one
-abbrev pub is_plugged : List Device → ℕ → Bool
-is_plugged devices id = is_some (device_of devices id)
+abbrev pub has_device : List Device → ℕ → Bool
+has_device devices id = is_some (device_by_id devices id)
 
 -- whether the device with this id has a cache of translations of its own that obeys invalidations; false where there is none
-abbrev pub is_trusted : List Device → ℕ → Bool
-is_trusted devices id = option_map_or (λ (device : Device). device.trusted) (device_of devices id) false
+abbrev pub has_trusted_cache : List Device → ℕ → Bool
+has_trusted_cache devices id = option_map_or (λ (device : Device). device.trusted) (device_by_id devices id) false
 
 -- how the device with this id is attached; Detached where there is none
-abbrev pub attachment_of : List Device → ℕ → Attachment
-attachment_of devices id = option_map_or (λ (device : Device). device.attachment) (device_of devices id) Detached
+abbrev pub attachment_by_id : List Device → ℕ → Attachment
+attachment_by_id devices id = option_map_or (λ (device : Device). device.attachment) (device_by_id devices id) Detached
 
 -- the stages of an attached device
 abbrev pub attached_stages : Attachment → Option Stages
@@ -39,11 +39,11 @@ owned_stages (Quarantined ticket stage) = Some stage
 owned_stages (Leaving ticket stage) = Some stage
 
 -- whether a device that is attached so is attached with ATS
-abbrev pub has_ats : Attachment → Bool
-has_ats Detached = false
-has_ats (Attached stage) = stage.ats
-has_ats (Quarantined ticket stage) = false
-has_ats (Leaving ticket stage) = false
+abbrev pub is_attached_with_ats : Attachment → Bool
+is_attached_with_ats Detached = false
+is_attached_with_ats (Attached stage) = stage.ats
+is_attached_with_ats (Quarantined ticket stage) = false
+is_attached_with_ats (Leaving ticket stage) = false
 
 -- whether it isn't attached, or not any longer: it was detached
 abbrev pub is_away : Attachment → Bool
@@ -53,19 +53,19 @@ is_away (Quarantined ticket stage) = false
 is_away (Leaving ticket stage) = true
 
 -- whether it is cut off
-abbrev pub is_quarantined : Attachment → Bool
-is_quarantined Detached = false
-is_quarantined (Attached stage) = false
-is_quarantined (Quarantined ticket stage) = true
-is_quarantined (Leaving ticket stage) = false
+abbrev pub is_cut_off : Attachment → Bool
+is_cut_off Detached = false
+is_cut_off (Attached stage) = false
+is_cut_off (Quarantined ticket stage) = true
+is_cut_off (Leaving ticket stage) = false
 
 -- the stages of the device with this id, where it is attached
 abbrev pub stages_of : List Device → ℕ → Option Stages
-stages_of devices id = attached_stages (attachment_of devices id)
+stages_of devices id = attached_stages (attachment_by_id devices id)
 
 -- where it is attached, quarantined or leaving
 abbrev pub owned_stages_of : List Device → ℕ → Option Stages
-owned_stages_of devices id = owned_stages (attachment_of devices id)
+owned_stages_of devices id = owned_stages (attachment_by_id devices id)
 
 -- a device as it is plugged in: attached to nothing
 abbrev pub detached : ℕ → Bool → Device
@@ -80,7 +80,7 @@ with_attachment (device ∷ others) id attachment =
 -- each device has an id of its own
 abbrev pub HaveOwnIds : List Device → Type 0
 HaveOwnIds [] = ⊤
-HaveOwnIds (device ∷ others) = (device_of others device.id ≡ None) × HaveOwnIds others
+HaveOwnIds (device ∷ others) = (device_by_id others device.id ≡ None) × HaveOwnIds others
 
 -- whether the device, attached, quarantined or leaving, has this address-space number
 abbrev pub has_number : ℕ → Device → Bool

@@ -9,7 +9,7 @@ use Rattle.iom_phys_mem.specs.Words.{word_at}
 use Rattle.iom_registers.specs.declared.registers.Registers.{Registers}
 use Rattle.iom_registers.specs.Queues.{command_status}
 use Rattle.iom_driver.specs.declared.answers.Polled.{Polled}
-use Rattle.iom_driver.specs.Confirmed.{once_confirmed, given_back, ClearsGone}
+use Rattle.iom_driver.specs.Confirmed.{driven_once_confirmed, mark_given_back, ClearsGone}
 use Rattle.iom_driver.specs.Fences.{fence_of, done_by}
 use Rattle.iom_driver.specs.Layout.{completion_address}
 use Rattle.iom_driver.specs.Reasons.{why_not_poll}
@@ -32,8 +32,8 @@ pub record ConfirmsDone (r : Registers) (d : DriverState) (memory : List (List �
   pub agrees : (h : History) → Agrees d.ledger h → Agrees d'.ledger (confirmed_from (d.confirmed + 1) polled.count h)
   pub driver : d' ≡ record d {
     ledger = d'.ledger;
-    marks = map (given_back (done_after d polled) d.devices) d.marks;
-    devices = map (once_confirmed (done_after d polled)) d.devices;
+    marks = map (mark_given_back (done_after d polled) d.devices) d.marks;
+    devices = map (driven_once_confirmed (done_after d polled)) d.devices;
     confirmed = done_after d polled;
   }
   pub cleared : ClearsGone (done_after d polled) d.devices d.marks memory memory'

@@ -49,9 +49,9 @@ pub own_ids_prop : (devices : List Device) → IsProp (HaveOwnIds devices)
 own_ids_prop [] = hlevel props
 own_ids_prop (device ∷ others) = let rest = own_ids_prop others in hlevel (props, rest)
 
-pub sound_prop : (ledger : Ledger) (marks : List (Option Owner)) (devices : List Device) (frames levels : ℕ) (started : Bool) (given confirmed restarts restarted : ℕ)
+pub sound_driver_prop : (ledger : Ledger) (marks : List (Option Owner)) (devices : List Device) (frames levels : ℕ) (started : Bool) (given confirmed restarts restarted : ℕ)
     → IsProp (IsSound ledger marks devices frames levels started given confirmed restarts restarted)
-sound_prop ledger marks devices frames levels started given confirmed restarts restarted = hlevel (props, rise_prop, own_ids_prop)
+sound_driver_prop ledger marks devices frames levels started given confirmed restarts restarted = hlevel (props, rise_prop, own_ids_prop)
 
 pub root_prop : (mode : Mode) (memory : List (List ℕ)) (root : ℕ) → IsProp (IsRootIn mode memory root)
 root_prop (First size) memory root = hlevel (props, upper_prop, lowest_prop)

@@ -15,7 +15,7 @@ use Rattle.iom_table_frames.specs.Marks.{is_marked}
 use Rattle.iom_driver.specs.declared.device.Stages.{Stages}
 use Rattle.iom_driver.specs.declared.device.Attachment.{Attachment}
 use Rattle.iom_driver.specs.declared.device.Attachment.TheVariants as attachment
-use Rattle.iom_driver.specs.Devices.{is_plugged, is_trusted, is_away, is_quarantined, attachment_of, stages_of, owned_stages_of}
+use Rattle.iom_driver.specs.Devices.{has_device, has_trusted_cache, is_away, is_cut_off, attachment_by_id, stages_of, owned_stages_of}
 use Rattle.iom_driver.specs.Fences.{last_fence}
 use Rattle.iom_driver.specs.Layout.{id_limit}
 use Rattle.iom_driver.specs.State.{DriverState}
@@ -36,7 +36,7 @@ release_places (Some stage) = if stage.ats then 3 else 2
 -- a device is plugged in
 abbrev pub why_not_plug : DriverState → ℕ → List (Bool × Refusal)
 why_not_plug d id =
-    (is_plugged d.devices id, AlreadyPlugged)
+    (has_device d.devices id, AlreadyPlugged)
     ∷ (nat_le 16 (length d.devices), TooManyDevices)
     ∷ []
 
@@ -44,19 +44,19 @@ why_not_plug d id =
 abbrev pub why_not_attach : DriverState → ℕ → Bool → List (Bool × Refusal)
 why_not_attach d id ats =
     (not d.started, NotStarted)
-    ∷ (not (is_plugged d.devices id), NoSuchDevice)
+    ∷ (not (has_device d.devices id), NoSuchDevice)
     ∷ (is_some (owned_stages_of d.devices id), AlreadyAttached)
     ∷ (nat_le (id_limit d.levels) id, IdTooWide)
-    ∷ (ats && not (is_trusted d.devices id), NotTrusted)
+    ∷ (ats && not (has_trusted_cache d.devices id), NotTrusted)
     ∷ []
 
 -- the driver isn't started, or the device isn't there, or isn't attached (any longer), or is quarantined
 abbrev pub why_not_attached : DriverState → ℕ → List (Bool × Refusal) → List (Bool × Refusal)
 why_not_attached d id later =
     (not d.started, NotStarted)
-    ∷ (not (is_plugged d.devices id), NoSuchDevice)
-    ∷ (is_away (attachment_of d.devices id), NotAttached)
-    ∷ (is_quarantined (attachment_of d.devices id), Quarantined)
+    ∷ (not (has_device d.devices id), NoSuchDevice)
+    ∷ (is_away (attachment_by_id d.devices id), NotAttached)
+    ∷ (is_cut_off (attachment_by_id d.devices id), Quarantined)
     ∷ later
 
 -- the pages that may be granted are below this, by the stages of the device
@@ -122,10 +122,10 @@ waits_for_its_ticket confirmed (attachment.Leaving ticket stage) = false
 abbrev pub why_not_revive : DriverState → ℕ → List (Bool × Refusal)
 why_not_revive d id =
     (not d.started, NotStarted)
-    ∷ (not (is_plugged d.devices id), NoSuchDevice)
-    ∷ (is_away (attachment_of d.devices id), NotAttached)
+    ∷ (not (has_device d.devices id), NoSuchDevice)
+    ∷ (is_away (attachment_by_id d.devices id), NotAttached)
     ∷ (is_some (stages_of d.devices id), AlreadyAttached)
-    ∷ (waits_for_its_ticket d.confirmed (attachment_of d.devices id), StillGranted)
+    ∷ (waits_for_its_ticket d.confirmed (attachment_by_id d.devices id), StillGranted)
     ∷ []
 
 -- the command queue is emptied

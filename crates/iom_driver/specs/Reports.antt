@@ -16,13 +16,13 @@ abbrev pub cleared_marks : ℕ
 cleared_marks = 0x301
 
 -- the oldest record is taken, and the head moves on; where there is none, fqmf and fqof are cleared
-abbrev pub TakesReport : {M : Type 0} → Ghosts M → List (List ℕ) → M → Option Fields → M → Type 0
-TakesReport g memory io (Some fields) io' =
+abbrev pub TakesOldestRecord : {M : Type 0} → Ghosts M → List (List ℕ) → M → Option Fields → M → Type 0
+TakesOldestRecord g memory io (Some fields) io' =
     TakesEntry g.registers g.after memory io (Some (entry.Record fields)) io'
     × (records_in memory (g.registers io) ≡ entry.Record fields ∷ records_in memory (g.registers io'))
-TakesReport g memory io None io' = (records_in memory (g.registers io) ≡ []) × (io' ≡ g.after io Fqcsr cleared_marks)
+TakesOldestRecord g memory io None io' = (records_in memory (g.registers io) ≡ []) × (io' ≡ g.after io Fqcsr cleared_marks)
 
 -- FAULTS, which leaves the driver and memory
 abbrev pub AnswersFaults : {M : Type 0} → Ghosts M → DriverState → List (List ℕ) → M → Result (Option Fields) Refusal → M → Type 0
-AnswersFaults g d memory io (Ok found) io' = NoneApplies (why_not_poll d) × TakesReport g memory io found io'
+AnswersFaults g d memory io (Ok found) io' = NoneApplies (why_not_poll d) × TakesOldestRecord g memory io found io'
 AnswersFaults g d memory io (Err why) io' = (first_that_applies (why_not_poll d) ≡ Some why) × (io' ≡ io)

@@ -12,7 +12,7 @@ use Rattle.iom_registers.specs.declared.register.Register.TheVariants.{Cqcsr, Cq
 use Rattle.iom_driver.specs.declared.device.Device.{Device}
 use Rattle.iom_driver.specs.declared.device.Stages.{Stages}
 use Rattle.iom_driver.specs.Appends.{context_invalidation, space_invalidation, fence, AppendsAll}
-use Rattle.iom_driver.specs.Devices.{owned_stages, has_ats}
+use Rattle.iom_driver.specs.Devices.{owned_stages, is_attached_with_ats}
 use Rattle.iom_driver.specs.Fences.{last_fence}
 use Rattle.iom_driver.specs.Layout.{command_frame, completion_address}
 use Rattle.iom_driver.specs.Reasons.{why_not_restart}
@@ -35,7 +35,7 @@ requeued_for id (Some stage) ats = context_invalidation id ∷ space_invalidatio
 
 -- so for each device that is attached, quarantined or leaving; only one that is attached keeps translations of its own
 abbrev pub requeued : Device → List Command
-requeued device = requeued_for device.id (owned_stages device.attachment) (has_ats device.attachment)
+requeued device = requeued_for device.id (owned_stages device.attachment) (is_attached_with_ats device.attachment)
 
 -- those for all of these devices, in their order
 abbrev pub all_requeued : List Device → List Command

@@ -7,7 +7,7 @@ use Rattle.iom_base.specs.declared.refusal.Refusal.{Refusal}
 use Rattle.iom_base.specs.Refusals.{first_that_applies, NoneApplies}
 use Rattle.iom_driver.specs.declared.device.Attachment.TheVariants.{Attached, Quarantined}
 use Rattle.iom_driver.specs.declared.device.Stages.{Stages}
-use Rattle.iom_driver.specs.Devices.{attachment_of, with_attachment}
+use Rattle.iom_driver.specs.Devices.{attachment_by_id, with_attachment}
 use Rattle.iom_driver.specs.Directory.{context_for}
 use Rattle.iom_driver.specs.Layout.{directory_frame}
 use Rattle.iom_driver.specs.Reasons.{why_not_revive}
@@ -18,7 +18,7 @@ use Rattle.iom_driver.specs.State.{DriverState}
 pub record WritesContextAgain (d : DriverState) (memory : List (List ℕ)) (id : ℕ) (d' : DriverState) (memory' : List (List ℕ)) : Type 0 where
   pub ticket : ℕ
   pub stage : Stages
-  pub cut_off : attachment_of d.devices id ≡ Quarantined ticket stage
+  pub cut_off : attachment_by_id d.devices id ≡ Quarantined ticket stage
   pub driver : d' ≡ record d { devices = with_attachment d.devices id (Attached stage) }
   pub bytes : memory' ≡ hung memory (root_level d.levels) (directory_frame (length memory)) id [] (context_for stage)
   pub others : (f : ℕ) → slice_get d.marks f ≢ Some (Some System) → slice_get memory' f ≡ slice_get memory f

@@ -10,7 +10,7 @@ use Rattle.iom_phys_mem.specs.Sizes.{IsMemorySize}
 use Rattle.iom_driver.specs.declared.device.Device.{Device}
 use Rattle.iom_driver.specs.declared.device.Stages.{Stages}
 use Rattle.iom_driver.specs.declared.device.Attachment.TheVariants.{Detached, Quarantined, Leaving}
-use Rattle.iom_driver.specs.Devices.{attachment_of, stages_of, owned_stages_of, HaveOwnIds}
+use Rattle.iom_driver.specs.Devices.{attachment_by_id, stages_of, owned_stages_of, HaveOwnIds}
 use Rattle.iom_driver.specs.Layout.{AreFixed, IsLevels, id_limit}
 
 -- a pair that is granted at a page: the page is one that tables of some size map, and the frame is of memory and isn't reserved
@@ -39,12 +39,12 @@ AreNamed devices levels = (id : ℕ) (stage : Stages) → owned_stages_of device
 -- a device leaves under a ticket that was given and isn't confirmed
 abbrev pub LeaveUnderTickets : List Device → ℕ → ℕ → Type 0
 LeaveUnderTickets devices given confirmed =
-    (id ticket : ℕ) (stage : Stages) → attachment_of devices id ≡ Leaving ticket stage → (confirmed < ticket) × (ticket ≤ given)
+    (id ticket : ℕ) (stage : Stages) → attachment_by_id devices id ≡ Leaving ticket stage → (confirmed < ticket) × (ticket ≤ given)
 
 -- a device is cut off under a ticket that was given
 abbrev pub AreCutOffUnderTickets : List Device → ℕ → Type 0
 AreCutOffUnderTickets devices given =
-    (id ticket : ℕ) (stage : Stages) → attachment_of devices id ≡ Quarantined ticket stage → (0 < ticket) × (ticket ≤ given)
+    (id ticket : ℕ) (stage : Stages) → attachment_by_id devices id ≡ Quarantined ticket stage → (0 < ticket) × (ticket ≤ given)
 
 -- the tickets rise, from above the first number up to the last at most
 abbrev pub RiseBetween : ℕ → ℕ → List ℕ → Type 0
@@ -81,4 +81,4 @@ pub record IsSound (ledger : Ledger) (marks : List (Option Owner)) (devices : Li
   pub quarantined : AreCutOffUnderTickets devices given
   pub ids : HaveOwnIds devices
   pub few : length devices ≤ 16
-  pub idle : started ≡ false → (id : ℕ) → attachment_of devices id ≡ Detached
+  pub idle : started ≡ false → (id : ℕ) → attachment_by_id devices id ≡ Detached

@@ -4,9 +4,9 @@ ghost use Rattle.iom_base.specs.declared.refusal.Refusal.{Refusal};
 ghost use Rattle.iom_base.specs.Refusals.{first_that_applies, NoneApplies};
 ghost use Rattle.iom_registers.specs.Queues.{command_entries};
 ghost use Rattle.iom_driver.specs.Admitted.{MayBeAttached, MayBeGranted, MayBeReleased, MayBeDetached, MayBeQuarantined, MayBeRevived};
-ghost use Rattle.iom_driver.specs.Devices.{device_of, stages_of};
+ghost use Rattle.iom_driver.specs.Devices.{device_by_id, stages_of};
 ghost use Rattle.iom_driver.specs.Layout.{queue_entries};
-ghost use Rattle.iom_driver.specs.Places.{IsPlaceOf};
+ghost use Rattle.iom_driver.specs.Places.{IsAttachmentPlace};
 ghost use Rattle.iom_driver.specs.Reasons.{release_places, why_not_attach, why_not_attached, why_not_grant, why_not_release, why_not_detach, why_not_quarantine, why_not_revive, HasGrants};
 ghost use Rattle.iom_driver.specs.Seen.{state_of};
 
@@ -31,7 +31,7 @@ impl Driver {
     pub(crate) fn admit_attach(&self, id: DeviceId, ats: bool) -> Result<usize, Refusal>
         ensures admitted { IfOk result (λ place. NoneApplies (why_not_attach (state_of self.now) id ats)) }
         ensures may { IfOk result (λ place. MayBeAttached (state_of self.now) id) }
-        ensures place { IfOk result (λ place. IsPlaceOf self.now.devices.items id place) }
+        ensures place { IfOk result (λ place. IsAttachmentPlace self.now.devices.items id place) }
         ensures refused { IfErr result (λ why. first_that_applies (why_not_attach (state_of self.now) id ats) ≡ Some why) }
     {
         if !self.started {

@@ -5,7 +5,7 @@ ghost use Rattle.iom_driver.specs.Attaching.{AnswersAttach, IsRootBelow, NoRootB
 ghost use Rattle.iom_driver.specs.Choices.{AreHighestFree};
 ghost use Rattle.iom_driver.specs.Devices.{is_used, IsLowestNumber};
 ghost use Rattle.iom_driver.specs.Entering.{MayEnter};
-ghost use Rattle.iom_driver.specs.Places.{IsPlaceOf};
+ghost use Rattle.iom_driver.specs.Places.{IsAttachmentPlace};
 ghost use Rattle.iom_driver.specs.Ready.{TablesStand, IsReady};
 ghost use Rattle.iom_driver.specs.Seen.{state_of};
 ghost use Rattle.iom_table_frames.specs.Marks.{HasFree};
@@ -96,7 +96,7 @@ impl Driver {
     )
         requires stand { TablesStand (state_of self.old) memory.old }
         requires may { MayEnter (state_of self.old) self.old.frames memory.old id stages pages.now }
-        requires place { IsPlaceOf self.old.devices.items id place }
+        requires place { IsAttachmentPlace self.old.devices.items id place }
         ensures effect { TakesRoot (state_of self.old) memory.old id stages.mode stages.ats (state_of self.new) memory.new }
         ensures stand { TablesStand (state_of self.new) memory.new }
         ensures ready { (r : Registers) → IsReady (state_of self.old) memory.old r → IsReady (state_of self.new) memory.new r }

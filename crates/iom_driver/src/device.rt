@@ -49,8 +49,8 @@ impl Device {
 
 impl Attachment {
     ghost use Rattle.std.specs.Prelude.{◌≡◌};
-    ghost use Rattle.iom_driver.specs.Confirmed.{has_left};
-    ghost use Rattle.iom_driver.specs.Devices.{attached_stages, owned_stages, has_ats};
+    ghost use Rattle.iom_driver.specs.Confirmed.{has_left_until};
+    ghost use Rattle.iom_driver.specs.Devices.{attached_stages, owned_stages, is_attached_with_ats};
 
     // The stages of an attached device.
     pub(crate) fn attached_stages(self) -> Option<Stages>
@@ -76,7 +76,7 @@ impl Attachment {
 
     // Whether the device may keep translations of its own: it is attached with ATS.
     pub(crate) fn asks_for_translations(self) -> bool
-        ensures { result ≡ has_ats self }
+        ensures { result ≡ is_attached_with_ats self }
     {
         match self {
             Attachment::Attached(stage) => stage.ats,
@@ -86,7 +86,7 @@ impl Attachment {
 
     // Whether it leaves under a ticket up to this one.
     pub(crate) fn has_left(self, done: u32) -> bool
-        ensures { result ≡ has_left done self }
+        ensures { result ≡ has_left_until done self }
     {
         match self {
             Attachment::Leaving { ticket, .. } => ticket <= done,

@@ -1,4 +1,4 @@
-ghost use Rattle.iom_driver.specs.ReadyIsFact.{sound_prop};
+ghost use Rattle.iom_driver.specs.ReadyIsFact.{sound_driver_prop};
 ghost use Rattle.iom_driver.specs.Sound.{IsSound};
 
 use crate::device::Device;
@@ -29,5 +29,5 @@ pub struct Driver {
     pub(crate) restarts: u32,
     /// The last ticket that was given when it restarted last: the ones up to it wait for the fence of that restart.
     pub(crate) restarted: u32,
-    ghost sound: { IsSound ledger marks devices.items frames levels started given confirmed restarts restarted } by { sound_prop ledger marks devices.items frames levels started given confirmed restarts restarted },
+    ghost sound: { IsSound ledger marks devices.items frames levels started given confirmed restarts restarted } by { sound_driver_prop ledger marks devices.items frames levels started given confirmed restarts restarted },
 }

@@ -2,9 +2,9 @@
 ghost use Rattle.std.specs.Prelude.{◌≡◌, ◌↔◌, ◌-◌, IsTrue, MatchOption, nat_lt, nat_le};
 ghost use Rattle.iom_table_frames.specs.Marks.{is_marked, AreSoMany};
 ghost use Rattle.iom_driver.specs.Calls.{IsFreeFrame};
-ghost use Rattle.iom_driver.specs.Devices.{device_of};
+ghost use Rattle.iom_driver.specs.Devices.{device_by_id};
 ghost use Rattle.iom_driver.specs.Fences.{last_fence};
-ghost use Rattle.iom_driver.specs.Places.{IsPlaceOf};
+ghost use Rattle.iom_driver.specs.Places.{IsAttachmentPlace};
 ghost use Rattle.iom_driver.specs.Seen.{state_of};
 
 use crate::device::Device;
@@ -13,7 +13,7 @@ use iom_base::DeviceId;
 
 /// Where the device with this id stands.
 pub(crate) fn place_of(devices: &[Device], id: DeviceId) -> Option<usize>
-    ensures { MatchOption result (device_of devices.now id ≡ None) (IsPlaceOf devices.now id) }
+    ensures { MatchOption result (device_by_id devices.now id ≡ None) (IsAttachmentPlace devices.now id) }
 {
     for k in 0..devices.len() {
         if devices[k].id == id {
@@ -26,7 +26,7 @@ pub(crate) fn place_of(devices: &[Device], id: DeviceId) -> Option<usize>
 impl Driver {
     /// The device with this id.
     pub(crate) fn device_of(&self, id: DeviceId) -> Option<Device>
-        ensures { result ≡ device_of self.now.devices.items id }
+        ensures { result ≡ device_by_id self.now.devices.items id }
     {
         let place = place_of(&self.devices, id)?;
         Some(self.devices[place])

@@ -5,7 +5,7 @@ ghost use Rattle.iom_ledger.specs.Confirmations.{ConfirmsFrom};
 ghost use Rattle.iom_ledger.specs.History.{History, confirmed_from};
 ghost use Rattle.iom_ledger.specs.Shown.{Agrees};
 ghost use Rattle.iom_phys_mem.specs.Words.{word_at};
-ghost use Rattle.iom_driver.specs.Confirmed.{once_confirmed, given_back, ClearsGone};
+ghost use Rattle.iom_driver.specs.Confirmed.{driven_once_confirmed, mark_given_back, ClearsGone};
 ghost use Rattle.iom_driver.specs.Devices.{HaveOwnIds};
 ghost use Rattle.iom_driver.specs.Polling.{AnswersPoll};
 ghost use Rattle.iom_driver.specs.Ready.{IsReady};
@@ -51,8 +51,8 @@ fn confirm_after(ledger: &mut Ledger, confirmed: u32, done: u32)
 fn let_go(devices: &mut Vec<Device>, marks: &mut TableFrames, memory: &mut Memory, done: u32)
     requires ids { HaveOwnIds devices.old.items }
     requires size { length marks.old ≡ length memory.old }
-    ensures devices { devices.new.items ≡ map (once_confirmed done) devices.old.items }
-    ensures marks { marks.new ≡ map (given_back done devices.old.items) marks.old }
+    ensures devices { devices.new.items ≡ map (driven_once_confirmed done) devices.old.items }
+    ensures marks { marks.new ≡ map (mark_given_back done devices.old.items) marks.old }
     ensures memory { ClearsGone done devices.old.items marks.old memory.old memory.new }
 {
     for place in 0..devices.len() {

@@ -4,7 +4,7 @@ use Rattle.std.specs.Int.{bit_at}
 use Rattle.std.proofs.lemmas.Bool.{cases_eq, eqb-true, eqb-false, eq-eqb}
 use Rattle.std.proofs.lemmas.List.{get_or-set_same, get_or-set_other}
 use Rattle.std.proofs.lemmas.Nat.Bits.{bit_at-zero, bit_at_ones}
-use Rattle.iom_frame_set.specs.Sets.{Words, nth_word, has, HasSame, Inserts, Removes}
+use Rattle.iom_frame_set.specs.Sets.{Words, nth_word, has, HasSame, InsertsFrame, RemovesFrame}
 use Rattle.iom_frame_set.specs.Spans.{KeepsWords}
 
 -- where each word is 0 there is no frame, and where each is all ones there is each frame
@@ -53,11 +53,11 @@ has-written words frame now v within bit others f = by (frame == f) refl (cases_
     by false e (inr other) = ap (λ w. bit_at w (f % 64) == 1) (get_or-set_other words.kept (frame / 64) (f / 64) now words.beyond other)
 
 pub Inserts-written : (words : Words) (frame now : ℕ) → frame / 64 < length words.kept → bit_at now (frame % 64) ≡ 1
-    → ((k : ℕ) → k ≢ frame % 64 → bit_at now k ≡ bit_at (nth_word words (frame / 64)) k) → Inserts words (written words (frame / 64) now) frame
+    → ((k : ℕ) → k ≢ frame % 64 → bit_at now k ≡ bit_at (nth_word words (frame / 64)) k) → InsertsFrame words (written words (frame / 64) now) frame
 Inserts-written words frame now within one others = has-written words frame now true within (eq-eqb _ 1 one) (λ k _ other. others k other)
 
 pub Removes-written : (words : Words) (frame now : ℕ) → frame / 64 < length words.kept → bit_at now (frame % 64) ≡ 0
-    → ((k : ℕ) → k < 64 → k ≢ frame % 64 → bit_at now k ≡ bit_at (nth_word words (frame / 64)) k) → Removes words (written words (frame / 64) now) frame
+    → ((k : ℕ) → k < 64 → k ≢ frame % 64 → bit_at now k ≡ bit_at (nth_word words (frame / 64)) k) → RemovesFrame words (written words (frame / 64) now) frame
 Removes-written words frame now within none others = has-written words frame now false within (ap (λ b. b == 1) none) others
 
 -- the same words have the same numbers

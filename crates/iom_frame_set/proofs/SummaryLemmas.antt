@@ -3,7 +3,7 @@ use Rattle.std.proofs.Common.{◌≡◌, ◌≢◌, ◌⊎◌, inl, inr, ℕ, su
 use Rattle.std.specs.Int.{bit_at}
 use Rattle.std.proofs.lemmas.Bool.{cases_eq, eqb-true, eqb-false, eq-eqb, ne_eqb, not-false, false≢true}
 use Rattle.std.proofs.lemmas.Nat.Bits.{bit_at-zero, bit_at-lt, same_from_bits_below}
-use Rattle.iom_frame_set.specs.Sets.{Words, nth_word, has, room, Inserts, Removes}
+use Rattle.iom_frame_set.specs.Sets.{Words, nth_word, has, room, InsertsFrame, RemovesFrame}
 use Rattle.iom_frame_set.specs.Spans.{KeepsWords, KeepsOtherWords, IsSummary}
 use Rattle.iom_frame_set.proofs.SetLemmas.{HasSame-words, has_place, has_zero}
 
@@ -43,8 +43,8 @@ IsSummary-same words now filled then_filled same same_filled roomy is = record {
 }
 
 -- a number more, and its word is filled
-pub IsSummary-inserted : (words now filled now_filled : Words) (frame : ℕ) → Inserts words now frame → KeepsOtherWords words now (frame / 64) → length now.kept ≡ length words.kept
-    → Inserts filled now_filled (frame / 64) → length now_filled.kept ≡ length filled.kept → IsSummary words filled → IsSummary now now_filled
+pub IsSummary-inserted : (words now filled now_filled : Words) (frame : ℕ) → InsertsFrame words now frame → KeepsOtherWords words now (frame / 64) → length now.kept ≡ length words.kept
+    → InsertsFrame filled now_filled (frame / 64) → length now_filled.kept ≡ length filled.kept → IsSummary words filled → IsSummary now now_filled
 IsSummary-inserted words now filled now_filled frame inserted others long filled_too long_too is = record {
   has_filled = λ i. filled_too i ∙ by i (frame / 64 == i) refl;
   roomy = let roomy = is.roomy in omega arith;
@@ -59,7 +59,7 @@ IsSummary-inserted words now filled now_filled frame inserted others long filled
     by i false e = is.has_filled i ∙ ap (λ w. not (w == 0)) (sym (others i (λ same. eqb-false (frame / 64) i e (sym same))))
 
 -- a number less, and its word still isn't 0
-pub IsSummary-left : (words now filled : Words) (frame word : ℕ) → Removes words now frame → KeepsOtherWords words now (frame / 64) → length now.kept ≡ length words.kept → word < 2 ^ 64
+pub IsSummary-left : (words now filled : Words) (frame word : ℕ) → RemovesFrame words now frame → KeepsOtherWords words now (frame / 64) → length now.kept ≡ length words.kept → word < 2 ^ 64
     → word ≡ nth_word now (frame / 64) → (word ≡ 0 → ⊥) → IsSummary words filled → IsSummary now filled
 IsSummary-left words now filled frame word removed others long fits at some is = record {
   has_filled = λ i. is.has_filled i ∙ by i (cases_eq i (frame / 64));

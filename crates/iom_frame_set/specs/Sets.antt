@@ -24,20 +24,20 @@ abbrev pub IsEmpty : Words → Type 0
 IsEmpty set = (f : ℕ) → has set f ≡ false
 
 -- each frame is in the set
-abbrev pub IsFull : Words → Type 0
-IsFull set = (f : ℕ) → has set f ≡ true
+abbrev pub HasEachFrame : Words → Type 0
+HasEachFrame set = (f : ℕ) → has set f ≡ true
 
 -- the same frames are in both
 abbrev pub HasSame : Words → Words → Type 0
 HasSame old new = (f : ℕ) → has new f ≡ has old f
 
 -- the frame is in the new set, and each other where it is in the old one
-abbrev pub Inserts : Words → Words → ℕ → Type 0
-Inserts old new frame = (f : ℕ) → has new f ≡ (if frame == f then true else has old f)
+abbrev pub InsertsFrame : Words → Words → ℕ → Type 0
+InsertsFrame old new frame = (f : ℕ) → has new f ≡ (if frame == f then true else has old f)
 
 -- the frame isn't in the new set, and each other is where it is in the old one
-abbrev pub Removes : Words → Words → ℕ → Type 0
-Removes old new frame = (f : ℕ) → has new f ≡ (if frame == f then false else has old f)
+abbrev pub RemovesFrame : Words → Words → ℕ → Type 0
+RemovesFrame old new frame = (f : ℕ) → has new f ≡ (if frame == f then false else has old f)
 
 -- whether the frame is in both sets
 abbrev pub in_both : Words → Words → ℕ → Bool

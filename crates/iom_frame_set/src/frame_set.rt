@@ -1,5 +1,5 @@
 ghost use Rattle.std.specs.Prelude.{◌≡◌, ◌+◌, ◌<◌, ◌≤◌, OnOk, MatchOption, length, max};
-ghost use Rattle.iom_frame_set.specs.Sets.{has, room, IsEmpty, IsFull, HasSame, Inserts, Removes, NoneIsCommon, IsHighestCommon, common_below};
+ghost use Rattle.iom_frame_set.specs.Sets.{has, room, IsEmpty, HasEachFrame, HasSame, InsertsFrame, RemovesFrame, NoneIsCommon, IsHighestCommon, common_below};
 ghost use Rattle.iom_frame_set.specs.Spans.{NoneIsInBoth, IsHighestInBoth};
 
 use crate::bits::BITS;
@@ -39,7 +39,7 @@ impl FrameSet {
 
     /// The set of all frames. Takes no memory.
     pub fn full(alloc: Global) -> FrameSet
-        ensures { IsFull result }
+        ensures { HasEachFrame result }
     {
         FrameSet {
             frames: NumberSet::full(alloc),
@@ -62,7 +62,7 @@ impl FrameSet {
     /// Puts the frame into the set.
     pub fn insert(&mut self, frame: u32)
         requires { frame < room self.old }
-        ensures inserted { Inserts self.old self.new frame }
+        ensures inserted { InsertsFrame self.old self.new frame }
         ensures room { room self.new ≡ room self.old }
     {
         self.frames.insert(frame);
@@ -72,7 +72,7 @@ impl FrameSet {
     /// Takes the frame out of the set, if it is there.
     pub fn remove(&mut self, frame: u32)
         requires { frame < room self.old }
-        ensures removed { Removes self.old self.new frame }
+        ensures removed { RemovesFrame self.old self.new frame }
         ensures room { room self.new ≡ room self.old }
     {
         self.frames.remove(frame);

@@ -1,6 +1,6 @@
 //! Sets of numbers, a bit for each in words of 64.
 ghost use Rattle.std.specs.Prelude.{◌≡◌, ◌+◌, ◌-◌, ◌*◌, ◌/◌, ◌^◌, ◌<◌, ◌≤◌, ℕ, OnOk, MatchOption, length, max};
-ghost use Rattle.iom_frame_set.specs.Sets.{nth_word, has, room, IsEmpty, IsFull, Inserts, Removes, common_below};
+ghost use Rattle.iom_frame_set.specs.Sets.{nth_word, has, room, IsEmpty, HasEachFrame, InsertsFrame, RemovesFrame, common_below};
 ghost use Rattle.iom_frame_set.specs.Spans.{KeepsWords, KeepsOtherWords, NoneIsInBoth, IsHighestInBoth};
 
 use crate::bits::{BITS, highest_bit, ones_below, with_bit, without_bit};
@@ -37,7 +37,7 @@ impl NumberSet {
 
     /// The set of all numbers. Takes no memory.
     pub(crate) fn full(alloc: Global) -> NumberSet
-        ensures full { IsFull result }
+        ensures full { HasEachFrame result }
         ensures ones { (i : ℕ) → nth_word result i ≡ 2 ^ 64 - 1 }
         ensures room { length result.kept ≡ 0 }
     {
@@ -64,7 +64,7 @@ impl NumberSet {
     /// Puts the number into the set.
     pub(crate) fn insert(&mut self, number: u32)
         requires { number < room self.old }
-        ensures inserted { Inserts self.old self.new number }
+        ensures inserted { InsertsFrame self.old self.new number }
         ensures others { KeepsOtherWords self.old self.new (number / 64) }
         ensures length { length self.new.kept ≡ length self.old.kept }
     {
@@ -75,7 +75,7 @@ impl NumberSet {
     /// Takes the number out of the set, if it is there.
     pub(crate) fn remove(&mut self, number: u32)
         requires { number < room self.old }
-        ensures removed { Removes self.old self.new number }
+        ensures removed { RemovesFrame self.old self.new number }
         ensures others { KeepsOtherWords self.old self.new (number / 64) }
         ensures length { length self.new.kept ≡ length self.old.kept }
     {

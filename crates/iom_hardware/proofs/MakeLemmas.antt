@@ -1,7 +1,7 @@
 -- What a commit would make.
 use Rattle.std.proofs.Common.{◌≡◌, ◌∙◌, inl, inr, ℕ, List, Option, None, Some, Result, Ok, Err, sym, ap}
 use Rattle.iom_base.specs.declared.refusal.Refusal.{Refusal}
-use Rattle.iom_inflight.specs.Calls.{Makes}
+use Rattle.iom_inflight.specs.Calls.{MakesOldestInFlight}
 use Rattle.iom_inflight.specs.Flights.{Flights, row_of, oldest_in, first_made, made_at}
 use Rattle.iom_inflight.specs.declared.made.MadeAt.{MadeAt}
 use Rattle.iom_inflight.proofs.Rows.{row_is_own}
@@ -10,7 +10,7 @@ use Rattle.iom_hardware.specs.Commits.{WouldMake}
 use Rattle.iom_hardware.specs.HardwareParts.{HardwareParts}
 
 -- the oldest access is the one that is made
-makes_oldest : (memory : List (List ℕ)) (flights : Flights) (id : ℕ) (made : Option MadeAt) (new_memory : List (List ℕ)) (new : Flights) → Makes memory flights id made new_memory new
+makes_oldest : (memory : List (List ℕ)) (flights : Flights) (id : ℕ) (made : Option MadeAt) (new_memory : List (List ℕ)) (new : Flights) → MakesOldestInFlight memory flights id made new_memory new
     → made ≡ oldest_in (row_of flights.rows id)
 makes_oldest memory flights id None new_memory new (idle, stays, same) =
     sym (ap oldest_in idle.stands ∙ ap (first_made idle.row.device) idle.idle)

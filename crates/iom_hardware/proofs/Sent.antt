@@ -13,7 +13,7 @@ use Rattle.iom_fabric.specs.declared.message.Message.TheVariants as sent
 use Rattle.iom_fabric.specs.Messages.{repeated}
 use Rattle.iom_iommu.specs.declared.fetched.Fetched.{Fetched}
 use Rattle.iom_iommu.specs.declared.fetched.Fetched.TheVariants.{Did, Waiting, Empty, Stopped}
-use Rattle.iom_hardware.specs.Messages.{with_message, with_opened, dropped_range}
+use Rattle.iom_hardware.specs.Messages.{with_message, with_opened, named_range}
 use Rattle.iom_hardware.specs.Sound.{IsOfPlugged, IsMessageOf}
 
 -- what a fabric sends
@@ -63,7 +63,7 @@ messages_repeated devices fabric place (Some on) at all = by (nat_lt (length fab
 
 -- a fetch sends a request to invalidate, or nothing
 pub messages_opened : (devices : List Device) (fabric : List OnLink) (fetched : Fetched) (last : ℕ) → All (IsMessageOf devices) fabric → All (IsMessageOf devices) (with_opened fetched last fabric)
-messages_opened devices fabric (Did (AtsInval device range)) last all = messages_sent devices fabric device (sent.InvReq last (dropped_range range)) all tt
+messages_opened devices fabric (Did (AtsInval device range)) last all = messages_sent devices fabric device (sent.InvReq last (named_range range)) all tt
 messages_opened devices fabric (Did (IotinvalVma gscid pscid page)) last all = all
 messages_opened devices fabric (Did (IotinvalGvma gscid page)) last all = all
 messages_opened devices fabric (Did (IofenceC store wsi pr pw)) last all = all

@@ -24,7 +24,7 @@ use Rattle.iom_inflight.specs.Flights.{FlightRow, Flights, new_row, row_of}
 use Rattle.iom_iommu.specs.Parts.{flights_of, AddsDevice}
 use Rattle.iom_hardware.specs.HardwareParts.{HardwareParts}
 use Rattle.iom_hardware.specs.OwnIommu.{Iommu}
-use Rattle.iom_hardware.specs.Plugging.{Adds, plugged_device, why_not_plugged, with_block_reset}
+use Rattle.iom_hardware.specs.Plugging.{StandsBehindOthers, newly_plugged, why_not_plugged, with_block_reset}
 use Rattle.iom_hardware.specs.Sound.{device_ids, flight_ids, AreOfOneId, IsOfPlugged, IsMessageOf, IsSoundHardware}
 use Rattle.iom_hardware.proofs.DeviceLists.{ids_set, ids_has, epoch_has, caches_has, caches_reset, epochs_reset}
 use Rattle.iom_hardware.proofs.SoundThen.{KeepsDevices}
@@ -158,7 +158,7 @@ new_epoch kind most = by (has_cache kind)
     by true = omega arith
     by false = omega arith
 
-its_cache : (id : ℕ) (what : NewDevice) → HasItsCache (plugged_device id what)
+its_cache : (id : ℕ) (what : NewDevice) → HasItsCache (newly_plugged id what)
 its_cache id what = by (has_cache (kind_of what))
   where
     by : (k : Bool) → is_some (if k then Some empty_cache else None) ≡ k
@@ -166,10 +166,10 @@ its_cache id what = by (has_cache (kind_of what))
     by false = refl
 
 -- A DEVICE IS PLUGGED IN
-pub adds_sound : (disks : List ℕ) (old new : HardwareParts) (events id : ℕ) (what : NewDevice) (left : List ℕ) → IsSoundHardware old events → Adds disks old id what new left
+pub adds_sound : (disks : List ℕ) (old new : HardwareParts) (events id : ℕ) (what : NewDevice) (left : List ℕ) → IsSoundHardware old events → StandsBehindOthers disks old id what new left
     → IsSoundHardware new (events + 1)
 adds_sound disks old new events id what left sound adds =
-    let one : Device = plugged_device id what in
+    let one : Device = newly_plugged id what in
     let few : length old.devices < 16 = few_of disks old id what adds.admitted in
     let long : length (old.devices ++ one ∷ []) ≡ length old.devices + 1 = length_pushed old.devices one in
     let rows_now : (flights_of new.iommu).rows ≡ (flights_of old.iommu).rows ++ new_row id ∷ [] = ap (λ (f : Flights). f.rows) adds.row.flights.2 in

@@ -17,7 +17,7 @@ use Rattle.iom_fabric.specs.declared.message.Translation.{Translation as Answer}
 use Rattle.iom_fabric.specs.declared.message.Translation.TheVariants.{Page, Refused}
 use Rattle.iom_fault_queue.specs.Fields.{translated_of}
 use Rattle.iom_fault_queue.specs.declared.transaction.Transaction.{Transaction}
-use Rattle.iom_inflight.specs.Calls.{IsAccepted, IsMade, Makes, Performs, with_access}
+use Rattle.iom_inflight.specs.Calls.{IsAccepted, IsMade, MakesOldestInFlight, Performs, with_access}
 use Rattle.iom_inflight.specs.Flights.{Flights, FlightRow, with_row}
 use Rattle.iom_inflight.specs.declared.made.MadeAt.{MadeAt}
 use Rattle.iom_iommu.specs.declared.fetched.Fetched.{Fetched}
@@ -35,11 +35,11 @@ use Rattle.iom_iommu.proofs.FetchLemmas.{store_length}
 use Rattle.iom_registers.specs.Queues.{is_processing_commands}
 use Rattle.iom_stage_walk.specs.declared.walked.WalkFault.{WalkFault}
 use Rattle.iom_tlb.specs.declared.trans_cache.Translation.{Translation}
-use Rattle.iom_tlb.specs.Content.{Content as Translations}
+use Rattle.iom_tlb.specs.Content.{Translations}
 use Rattle.iom_hardware.specs.HardwareParts.{HardwareParts}
 use Rattle.iom_hardware.specs.OwnIommu.{Iommu}
 use Rattle.iom_hardware.specs.Sound.{flight_ids, IsSoundHardware}
-use Rattle.iom_hardware.specs.ThroughCache.{frame_in_cache, LooksUp, GoesByCache}
+use Rattle.iom_hardware.specs.ThroughCache.{frame_in_cache, GoesByCachedFrame, GoesByCache}
 use Rattle.iom_hardware.specs.declared.answers.CacheReply.{CacheReply}
 use Rattle.iom_hardware.specs.declared.answers.CacheReply.TheVariants.{Miss, Replied}
 use Rattle.iom_hardware.proofs.SoundThen.{KeepsIommu, iommu_kept, devices_kept, fabric_kept, sound_more, sound_then}
@@ -92,7 +92,7 @@ goes_sound old new events id access reply sound goes memory = elim goes [
     still : new ≡ old → IsSoundHardware new (events + 1)
     still same = subst (λ parts. IsSoundHardware parts (events + 1)) (sym same) (sound_more old events sound)
 
-    by : (found : Option ℕ) (r : CacheReply) → LooksUp found id access old r new → IsSoundHardware new (events + 1)
+    by : (found : Option ℕ) (r : CacheReply) → GoesByCachedFrame found id access old r new → IsSoundHardware new (events + 1)
     by None Miss same = still same
     by None (Replied r) never = absurd never
     by (Some frame) Miss never = absurd never
@@ -111,7 +111,7 @@ performed_length : (kind : AccessKind) (memory new : List (List ℕ)) (made : Ac
 performed_length Read memory new made is = ap (λ m. length m) is
 performed_length Write memory new made (bytes, there, is) = ap (λ m. length m) is ∙ length-set memory made.frame (with_bytes bytes (offset_of made.access) made.access.bytes)
 
-pub made_length : (flights now : Flights) (id : ℕ) (made : Option MadeAt) (memory new : List (List ℕ)) → Makes memory flights id made new now → length new ≡ length memory
+pub made_length : (flights now : Flights) (id : ℕ) (made : Option MadeAt) (memory new : List (List ℕ)) → MakesOldestInFlight memory flights id made new now → length new ≡ length memory
 made_length flights now id None memory new makes = ap (λ m. length m) makes.1
 made_length flights now id (Some made) memory new makes = performed_length makes.oldest.accepted.access.kind memory new makes.oldest.accepted makes.performed
 

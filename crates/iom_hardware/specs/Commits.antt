@@ -8,7 +8,7 @@ use Rattle.iom_iommu.specs.declared.fetched.Fetched.{Fetched}
 use Rattle.iom_iommu.specs.Fetches.{FetchesCommand}
 use Rattle.iom_iommu.specs.Parts.{slots_of}
 use Rattle.iom_iommu.specs.Requests.{CommitsOldest}
-use Rattle.iom_iommu.specs.Timeouts.{TimesOut}
+use Rattle.iom_iommu.specs.Timeouts.{TimesFenceOut}
 use Rattle.iom_hardware.specs.ByDevice.{ByDevice}
 use Rattle.iom_hardware.specs.HardwareParts.{HardwareParts}
 use Rattle.iom_hardware.specs.Messages.{with_opened}
@@ -20,12 +20,12 @@ pub record MakesAccess (id : ℕ) (old : HardwareParts) (made : Option MadeAt) (
   pub fabric : new.fabric ≡ old.fabric
 
 -- A COMMIT of the device with the id
-abbrev pub Commits : HardwareParts → ℕ → Result (Option MadeAt) Refusal → HardwareParts → Type 0
-Commits old id answer new = ByDevice is_any_kind (MakesAccess id) old id answer new
+abbrev pub CommitsOldestAccess : HardwareParts → ℕ → Result (Option MadeAt) Refusal → HardwareParts → Type 0
+CommitsOldestAccess old id answer new = ByDevice is_any_kind (MakesAccess id) old id answer new
 
 -- what a commit of the device would make: whatever it leaves, it answers so
 abbrev pub WouldMake : HardwareParts → ℕ → Option MadeAt → Type 0
-WouldMake parts id made = (answer : Option MadeAt) (new : HardwareParts) → Commits parts id (Ok answer) new → answer ≡ made
+WouldMake parts id made = (answer : Option MadeAt) (new : HardwareParts) → CommitsOldestAccess parts id (Ok answer) new → answer ≡ made
 
 -- the bytes that stand in the frame where the access is made, from its offset on, as many as it is long
 pub record StandWhereMade (memory : List (List ℕ)) (made : MadeAt) (bytes : List ℕ) : Type 0 where
@@ -39,8 +39,8 @@ pub record ClearsCache (id : ℕ) (old : HardwareParts) (done : Unit {0}) (new :
   pub cleared : new ≡ record old { devices = with_reset old.devices id }
 
 -- A DEVICE IS RESET, of any kind
-abbrev pub Resets : HardwareParts → ℕ → Result (Unit {0}) Refusal → HardwareParts → Type 0
-Resets old id answer new = ByDevice is_any_kind (ClearsCache id) old id answer new
+abbrev pub ResetsAnyDevice : HardwareParts → ℕ → Result (Unit {0}) Refusal → HardwareParts → Type 0
+ResetsAnyDevice old id answer new = ByDevice is_any_kind (ClearsCache id) old id answer new
 
 -- THE IOMMU TAKES A COMMAND; where that opened a request to invalidate, it is sent to its device
 pub record TakesCommand (old : HardwareParts) (fetched : Fetched) (new : HardwareParts) : Type 0 where
@@ -50,7 +50,7 @@ pub record TakesCommand (old : HardwareParts) (fetched : Fetched) (new : Hardwar
 
 -- A FENCE that waits for devices is given up, if one does
 pub record GivesUpFence (old : HardwareParts) (has_effect : Bool) (new : HardwareParts) : Type 0 where
-  pub call : TimesOut old.iommu has_effect new.iommu
+  pub call : TimesFenceOut old.iommu has_effect new.iommu
   pub memory : new.memory ≡ old.memory
   pub devices : new.devices ≡ old.devices
   pub fabric : new.fabric ≡ old.fabric

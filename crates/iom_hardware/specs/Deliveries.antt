@@ -68,5 +68,5 @@ MessageArrivesIfAny None old others delivered new = (delivered ≡ NoMessage) ×
 MessageArrivesIfAny (Some on) old others delivered new = MessageArrives on.message old on.device others delivered new
 
 -- THE MESSAGE AT THE PLACE is delivered
-abbrev pub Delivers : HardwareParts → ℕ → Delivered → HardwareParts → Type 0
-Delivers old place delivered new = MessageArrivesIfAny (slice_get old.fabric place) old (remove old.fabric place) delivered new
+abbrev pub DeliversAtPlace : HardwareParts → ℕ → Delivered → HardwareParts → Type 0
+DeliversAtPlace old place delivered new = MessageArrivesIfAny (slice_get old.fabric place) old (remove old.fabric place) delivered new

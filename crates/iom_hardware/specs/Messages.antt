@@ -25,13 +25,13 @@ abbrev pub with_message : List OnLink → ℕ → Message → List OnLink
 with_message fabric device message = if nat_lt (length fabric) 64 then fabric ++ record { device = device; message = message } ∷ [] else fabric
 
 -- what a command asks a device to drop
-abbrev pub dropped_range : AtsRange → Range
-dropped_range (named.Page page) = ranges.Page page
-dropped_range named.Everything = ranges.Everything
+abbrev pub named_range : AtsRange → Range
+named_range (named.Page page) = ranges.Page page
+named_range named.Everything = ranges.Everything
 
 -- the request to invalidate that a command is, with the number that it was given, is sent to its device (Invalidate Request, section 10.3.1)
 abbrev pub with_invalidation : Command → ℕ → List OnLink → List OnLink
-with_invalidation (AtsInval device range) serial fabric = with_message fabric device (InvReq serial (dropped_range range))
+with_invalidation (AtsInval device range) serial fabric = with_message fabric device (InvReq serial (named_range range))
 with_invalidation (IotinvalVma gscid pscid page) serial fabric = fabric
 with_invalidation (IotinvalGvma gscid page) serial fabric = fabric
 with_invalidation (IofenceC store wsi pr pw) serial fabric = fabric

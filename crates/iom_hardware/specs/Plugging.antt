@@ -15,8 +15,8 @@ use Rattle.iom_hardware.specs.ByDevice.{ByDevice, FindsNoDevice, FindsWrongKind}
 use Rattle.iom_hardware.specs.HardwareParts.{HardwareParts}
 
 -- a device that is plugged in, with its disk, if it is a block device: its cache, where its kind has one, is empty
-abbrev pub plugged_device : ℕ → NewDevice → Device
-plugged_device id what = record { id = id; kind = kind_of what; has_disk = is_some (disk_of what); cache = new_cache (kind_of what) }
+abbrev pub newly_plugged : ℕ → NewDevice → Device
+newly_plugged id what = record { id = id; kind = kind_of what; has_disk = is_some (disk_of what); cache = new_cache (kind_of what) }
 
 -- why not, in this order: its id is taken, there are 16, or its disk isn't at hand
 abbrev pub why_not_plugged : List ℕ → HardwareParts → ℕ → NewDevice → List (Bool × Refusal)
@@ -24,10 +24,10 @@ why_not_plugged disks old id what =
     (is_some (kind_in old.devices id), AlreadyPlugged) ∷ (nat_le 16 (length old.devices), TooManyDevices) ∷ (is_missing disks (disk_of what), BadMedium) ∷ []
 
 -- it stands behind the others, and the IOMMU has a row for its accesses; its disk isn't at hand any more
-pub record Adds (disks : List ℕ) (old : HardwareParts) (id : ℕ) (what : NewDevice) (new : HardwareParts) (left : List ℕ) : Type 0 where
+pub record StandsBehindOthers (disks : List ℕ) (old : HardwareParts) (id : ℕ) (what : NewDevice) (new : HardwareParts) (left : List ℕ) : Type 0 where
   pub admitted : NoneApplies (why_not_plugged disks old id what)
   pub row : AddsDevice old.iommu id true new.iommu
-  pub devices : new.devices ≡ old.devices ++ plugged_device id what ∷ []
+  pub devices : new.devices ≡ old.devices ++ newly_plugged id what ∷ []
   pub memory : new.memory ≡ old.memory
   pub fabric : new.fabric ≡ old.fabric
   pub taken : left ≡ without_disk (disk_of what) disks
@@ -37,9 +37,9 @@ abbrev pub IsForWantOfMemory : Refusal → Type 0
 IsForWantOfMemory why = why ≡ Memory
 
 -- A DEVICE IS PLUGGED IN, where these disks were never in a device, and leaves these; it is refused by the first reason that applies, and then nothing changes
-abbrev pub Plugs : List ℕ → HardwareParts → ℕ → NewDevice → Result (Unit {0}) Refusal → HardwareParts → List ℕ → Type 0
-Plugs disks old id what (Ok done) new left = Adds disks old id what new left
-Plugs disks old id what (Err why) new left = IsRefusedBy (why_not_plugged disks old id what) IsForWantOfMemory why × (new ≡ old) × (left ≡ disks)
+abbrev pub PlugsNewDevice : List ℕ → HardwareParts → ℕ → NewDevice → Result (Unit {0}) Refusal → HardwareParts → List ℕ → Type 0
+PlugsNewDevice disks old id what (Ok done) new left = StandsBehindOthers disks old id what new left
+PlugsNewDevice disks old id what (Err why) new left = IsRefusedBy (why_not_plugged disks old id what) IsForWantOfMemory why × (new ≡ old) × (left ≡ disks)
 
 -- A DISK IS PUT INTO A BLOCK DEVICE
 
@@ -68,8 +68,8 @@ pub record TakesNoDisk (disks : List ℕ) (old : HardwareParts) (id disk : ℕ) 
   pub kept : left ≡ disks
 
 -- A DISK IS PUT INTO A DEVICE, where these were never in a device, and leaves these
-abbrev pub InsertsDisk : List ℕ → HardwareParts → (id disk : ℕ) → Result (Unit {0}) Refusal → HardwareParts → List ℕ → Type 0
-InsertsDisk disks old id disk answer new left =
+abbrev pub PutsDiskIntoDevice : List ℕ → HardwareParts → (id disk : ℕ) → Result (Unit {0}) Refusal → HardwareParts → List ℕ → Type 0
+PutsDiskIntoDevice disks old id disk answer new left =
     (FindsNoDevice old id answer new × (left ≡ disks)) ⊎ (FindsWrongKind is_block_device old id answer new × (left ≡ disks))
     ⊎ TakesNoDisk disks old id disk answer new left ⊎ TakesDisk disks old id disk answer new left
 

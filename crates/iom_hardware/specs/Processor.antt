@@ -20,9 +20,9 @@ pub record StoresBytes (old : List (List ℕ)) (address : ℕ) (bytes : List ℕ
   pub stored : new ≡ slice_set old (address / page_size) (with_bytes before (address % page_size) bytes)
 
 -- THE PROCESSOR WRITES
-abbrev pub Stores : List (List ℕ) → ℕ → List ℕ → Result (Unit {0}) NoPlace → List (List ℕ) → Type 0
-Stores old address bytes (Ok done) new = StoresBytes old address bytes new
-Stores old address bytes (Err why) new = HaveNoPlace old address (length bytes) why × (new ≡ old)
+abbrev pub ProcessorWrites : List (List ℕ) → ℕ → List ℕ → Result (Unit {0}) NoPlace → List (List ℕ) → Type 0
+ProcessorWrites old address bytes (Ok done) new = StoresBytes old address bytes new
+ProcessorWrites old address bytes (Err why) new = HaveNoPlace old address (length bytes) why × (new ≡ old)
 
 -- the bytes that stand there, so many
 pub record BytesStandAt (memory : List (List ℕ)) (address len : ℕ) (loaded : List ℕ) : Type 0 where

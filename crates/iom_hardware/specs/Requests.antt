@@ -23,6 +23,6 @@ RequestsAccess can old id access answer new =
     ByDevice can (λ old reply new. Replies (AnswersRequest old.memory old.iommu id access) old reply new) old id answer new
 
 -- A DEVICE SAYS of a request that it is translated already
-abbrev pub RequestsTranslated : HardwareParts → ℕ → Access → Result Reply Refusal → HardwareParts → Type 0
-RequestsTranslated old id access answer new =
+abbrev pub RequestsTranslatedAccess : HardwareParts → ℕ → Access → Result Reply Refusal → HardwareParts → Type 0
+RequestsTranslatedAccess old id access answer new =
     ByDevice forges (λ old reply new. Replies (AnswersTranslated old.memory old.iommu id access) old reply new) old id answer new

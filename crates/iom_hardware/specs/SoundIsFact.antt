@@ -19,5 +19,5 @@ plugged_prop is_plugged (sent.InvDone serial) = hlevel props
 message_prop : (devices : List Device) (on : OnLink) → IsProp (IsMessageOf devices on)
 message_prop devices on = plugged_prop (is_some (device_with devices on.device)) on.message
 
-pub sound_prop : (parts : HardwareParts) (events : ℕ) → IsProp (IsSoundHardware parts events)
-sound_prop parts events = hlevel (props, message_prop)
+pub sound_hardware_prop : (parts : HardwareParts) (events : ℕ) → IsProp (IsSoundHardware parts events)
+sound_hardware_prop parts events = hlevel (props, message_prop)

@@ -22,19 +22,19 @@ abbrev pub frame_in_cache : HardwareParts → ℕ → Access → Option ℕ
 frame_in_cache parts id access = option_and_then (λ (cache : Cache). frame_for cache (page_of access) access.kind) (cache_of parts.devices id)
 
 -- it misses exactly where the cache has none; else the device makes a translated request of it
-abbrev pub LooksUp : Option ℕ → ℕ → Access → HardwareParts → CacheReply → HardwareParts → Type 0
-LooksUp None id access old Miss new = new ≡ old
-LooksUp None id access old (Replied reply) new = ⊥
-LooksUp (Some frame) id access old Miss new = ⊥
-LooksUp (Some frame) id access old (Replied reply) new = Replies (AnswersTranslated old.memory old.iommu id (at_frame frame access)) old reply new
+abbrev pub GoesByCachedFrame : Option ℕ → ℕ → Access → HardwareParts → CacheReply → HardwareParts → Type 0
+GoesByCachedFrame None id access old Miss new = new ≡ old
+GoesByCachedFrame None id access old (Replied reply) new = ⊥
+GoesByCachedFrame (Some frame) id access old Miss new = ⊥
+GoesByCachedFrame (Some frame) id access old (Replied reply) new = Replies (AnswersTranslated old.memory old.iommu id (at_frame frame access)) old reply new
 
 -- the first that applies: the bytes are none or too many or leave their page, eight accesses are in flight, or the cache is asked
 abbrev pub GoesByCache : ℕ → Access → HardwareParts → CacheReply → HardwareParts → Type 0
 GoesByCache id access old reply new =
     ((¬ IsWithinPage access) × (reply ≡ Replied BadSpan) × (new ≡ old))
     ⊎ (IsWithinPage access × IsFull (flights_of old.iommu) id × (reply ≡ Replied Busy) × (new ≡ old))
-    ⊎ (IsWithinPage access × HasRoom (flights_of old.iommu) id × LooksUp (frame_in_cache old id access) id access old reply new)
+    ⊎ (IsWithinPage access × HasRoom (flights_of old.iommu) id × GoesByCachedFrame (frame_in_cache old id access) id access old reply new)
 
 -- A DEVICE ASKS for an access through its own cache, if it is of a kind that can
-abbrev pub RequestsThroughCache : (DeviceKind → Bool) → HardwareParts → ℕ → Access → Result CacheReply Refusal → HardwareParts → Type 0
-RequestsThroughCache can old id access answer new = ByDevice can (GoesByCache id access) old id answer new
+abbrev pub RequestsAccessThroughCache : (DeviceKind → Bool) → HardwareParts → ℕ → Access → Result CacheReply Refusal → HardwareParts → Type 0
+RequestsAccessThroughCache can old id access answer new = ByDevice can (GoesByCache id access) old id answer new

@@ -3,7 +3,7 @@ ghost use Rattle.std.specs.Prelude.{◌≡◌, ◌+◌, ◌<◌, ◌^◌, IfOk, 
 ghost use Rattle.iom_inflight.specs.Flights.{oldest_in, row_of};
 ghost use Rattle.iom_iommu.specs.Parts.{flights_of};
 ghost use Rattle.iom_iommu.specs.Requests.{IsWithinFrame};
-ghost use Rattle.iom_hardware.specs.Commits.{Commits, WouldMake, StandWhereMade};
+ghost use Rattle.iom_hardware.specs.Commits.{CommitsOldestAccess, WouldMake, StandWhereMade};
 ghost use Rattle.iom_hardware.specs.Counted.{IsCounted};
 ghost use Rattle.iom_hardware.specs.HardwareParts.{hardware_parts};
 ghost use Rattle.iom_hardware.specs.Sound.{IsSoundHardware};
@@ -21,7 +21,7 @@ impl Hardware {
     pub fn commit(&mut self, id: DeviceId) -> Result<Option<MadeAt>, Refusal>
         requires sound { IsSoundHardware (hardware_parts self.old) self.old.events }
         requires count { self.old.events + 1 < 2 ^ 64 }
-        ensures effect { Commits (hardware_parts self.old) id result (hardware_parts self.new) }
+        ensures effect { CommitsOldestAccess (hardware_parts self.old) id result (hardware_parts self.new) }
         ensures within { IfOk result (λ made. IfSome made (IsWithinFrame (length self.new.memory))) }
         ensures sound { IsSoundHardware (hardware_parts self.new) self.new.events }
         ensures counted { IsCounted self.old self.new }

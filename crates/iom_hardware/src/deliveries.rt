@@ -7,7 +7,7 @@ ghost use Rattle.iom_device.specs.Calls.{Obeys};
 ghost use Rattle.iom_fabric.specs.declared.fabric.OnLink.{OnLink};
 ghost use Rattle.iom_iommu.specs.Parts.{frames_of};
 ghost use Rattle.iom_hardware.specs.Counted.{IsCounted};
-ghost use Rattle.iom_hardware.specs.Deliveries.{TakesReply, MessageArrives, Delivers};
+ghost use Rattle.iom_hardware.specs.Deliveries.{TakesReply, MessageArrives, DeliversAtPlace};
 ghost use Rattle.iom_hardware.specs.HardwareParts.{hardware_parts};
 ghost use Rattle.iom_hardware.specs.Sound.{IsSoundHardware};
 
@@ -118,7 +118,7 @@ impl Hardware {
     pub fn deliver(&mut self, place: u64) -> Delivered
         requires sound { IsSoundHardware (hardware_parts self.old) self.old.events }
         requires count { self.old.events + 1 < 2 ^ 64 }
-        ensures effect { Delivers (hardware_parts self.old) place result (hardware_parts self.new) }
+        ensures effect { DeliversAtPlace (hardware_parts self.old) place result (hardware_parts self.new) }
         ensures sound { IsSoundHardware (hardware_parts self.new) self.new.events }
         ensures counted { IsCounted self.old self.new }
     {

@@ -3,7 +3,7 @@
 ghost use Rattle.std.specs.Prelude.{◌≡◌, ◌+◌, ◌<◌, ◌^◌};
 ghost use Rattle.iom_hardware.specs.Counted.{IsCounted};
 ghost use Rattle.iom_hardware.specs.HardwareParts.{hardware_parts};
-ghost use Rattle.iom_hardware.specs.Messages.{dropped_range, with_opened, AsksTranslation, ClaimsCompletion, LosesMessage, CopiesMessage};
+ghost use Rattle.iom_hardware.specs.Messages.{named_range, with_opened, AsksTranslation, ClaimsCompletion, LosesMessage, CopiesMessage};
 ghost use Rattle.iom_hardware.specs.Sound.{IsSoundHardware};
 
 use crate::hardware::Hardware;
@@ -15,7 +15,7 @@ use iom_iommu::Fetched;
 
 /// What a command asks a device to drop, as the request to it says.
 fn range_of(range: AtsRange) -> Range
-    ensures { result ≡ dropped_range range }
+    ensures { result ≡ named_range range }
 {
     match range {
         AtsRange::Page(page) => Range::Page(PageNumber::new(page.number()).unwrap()),

@@ -7,7 +7,7 @@ ghost use Rattle.iom_base.specs.declared.refusal.Refusal.TheVariants.{Memory};
 ghost use Rattle.iom_device.specs.Caches.{epoch_in, kind_in, with_has_disk};
 ghost use Rattle.iom_hardware.specs.Counted.{IsCounted};
 ghost use Rattle.iom_hardware.specs.HardwareParts.{hardware_parts, disks_at_hand};
-ghost use Rattle.iom_hardware.specs.Plugging.{why_not_plugged, with_block_reset, has_disk_in, Plugs, InsertsDisk, LosesDisk, CanTake};
+ghost use Rattle.iom_hardware.specs.Plugging.{why_not_plugged, with_block_reset, has_disk_in, PlugsNewDevice, PutsDiskIntoDevice, LosesDisk, CanTake};
 ghost use Rattle.iom_hardware.specs.Sound.{IsSoundHardware};
 
 use crate::disks::{is_among, is_missing, take_out};
@@ -71,7 +71,7 @@ impl Hardware {
     pub fn plug(&mut self, id: DeviceId, what: NewDevice) -> Result<(), Refusal>
         requires sound { IsSoundHardware (hardware_parts self.old) self.old.events }
         requires count { self.old.events + 1 < 2 ^ 64 }
-        ensures effect { Plugs (disks_at_hand self.old) (hardware_parts self.old) id what result
+        ensures effect { PlugsNewDevice (disks_at_hand self.old) (hardware_parts self.old) id what result
             (hardware_parts self.new) (disks_at_hand self.new) }
         ensures room { length (hardware_parts self.old).devices < vec_capacity self.old.devices → result ≢ Err Memory }
         ensures sound { IsSoundHardware (hardware_parts self.new) self.new.events }
@@ -117,7 +117,7 @@ impl Hardware {
     pub fn medium(&mut self, id: DeviceId, disk: u64) -> Result<(), Refusal>
         requires sound { IsSoundHardware (hardware_parts self.old) self.old.events }
         requires count { self.old.events + 1 < 2 ^ 64 }
-        ensures effect { InsertsDisk (disks_at_hand self.old) (hardware_parts self.old) id disk result
+        ensures effect { PutsDiskIntoDevice (disks_at_hand self.old) (hardware_parts self.old) id disk result
             (hardware_parts self.new) (disks_at_hand self.new) }
         ensures sound { IsSoundHardware (hardware_parts self.new) self.new.events }
         ensures events { self.new.events ≡ self.old.events + 1 }

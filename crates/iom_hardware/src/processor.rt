@@ -3,7 +3,7 @@ ghost use Rattle.std.specs.Prelude.{◌≡◌, ◌+◌, ◌<◌, ◌≤◌, ◌^
 ghost use Rattle.iom_base.specs.Bytes.{with_bytes};
 ghost use Rattle.iom_hardware.specs.Counted.{IsCounted};
 ghost use Rattle.iom_hardware.specs.HardwareParts.{hardware_parts};
-ghost use Rattle.iom_hardware.specs.Processor.{Stores, BytesStandAt, HaveNoPlace};
+ghost use Rattle.iom_hardware.specs.Processor.{ProcessorWrites, BytesStandAt, HaveNoPlace};
 ghost use Rattle.iom_hardware.specs.Sound.{IsSoundHardware};
 
 use crate::answers::NoPlace;
@@ -21,7 +21,7 @@ fn put_bytes(frame: &mut [u8], offset: usize, bytes: &[u8])
 
 /// The bytes stand in memory, where they have a place.
 fn store_bytes(memory: &mut Memory, address: u64, bytes: &[u8]) -> Result<(), NoPlace>
-    ensures { Stores memory.old address bytes.now result memory.new }
+    ensures { ProcessorWrites memory.old address bytes.now result memory.new }
 {
     if Span::new(address, bytes.len() as u64).is_none() {
         return Err(NoPlace::BadSpan);
@@ -41,7 +41,7 @@ impl Hardware {
     pub fn store(&mut self, address: u64, bytes: &[u8]) -> Result<(), NoPlace>
         requires sound { IsSoundHardware (hardware_parts self.old) self.old.events }
         requires count { self.old.events + 1 < 2 ^ 64 }
-        ensures effect { Stores self.old.memory address bytes.now result self.new.memory }
+        ensures effect { ProcessorWrites self.old.memory address bytes.now result self.new.memory }
         ensures rest { hardware_parts self.new ≡ record (hardware_parts self.old) { memory = self.new.memory } }
         ensures sound { IsSoundHardware (hardware_parts self.new) self.new.events }
         ensures counted { IsCounted self.old self.new }

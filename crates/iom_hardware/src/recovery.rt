@@ -1,6 +1,6 @@
 // What is done about a device that doesn't answer.
 ghost use Rattle.std.specs.Prelude.{◌+◌, ◌<◌, ◌^◌};
-ghost use Rattle.iom_hardware.specs.Commits.{GivesUpFence, Resets};
+ghost use Rattle.iom_hardware.specs.Commits.{GivesUpFence, ResetsAnyDevice};
 ghost use Rattle.iom_hardware.specs.Counted.{IsCounted};
 ghost use Rattle.iom_hardware.specs.HardwareParts.{hardware_parts};
 ghost use Rattle.iom_hardware.specs.Sound.{IsSoundHardware};
@@ -29,7 +29,7 @@ impl Hardware {
     pub fn reset(&mut self, id: DeviceId) -> Result<(), Refusal>
         requires sound { IsSoundHardware (hardware_parts self.old) self.old.events }
         requires count { self.old.events + 1 < 2 ^ 64 }
-        ensures effect { Resets (hardware_parts self.old) id result (hardware_parts self.new) }
+        ensures effect { ResetsAnyDevice (hardware_parts self.old) id result (hardware_parts self.new) }
         ensures sound { IsSoundHardware (hardware_parts self.new) self.new.events }
         ensures counted { IsCounted self.old self.new }
     {

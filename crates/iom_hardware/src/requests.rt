@@ -4,7 +4,7 @@ ghost use Rattle.iom_inflight.specs.Sound.{CarriesBytes};
 ghost use Rattle.iom_iommu.specs.Requests.{access_of};
 ghost use Rattle.iom_hardware.specs.Counted.{IsCounted};
 ghost use Rattle.iom_hardware.specs.HardwareParts.{hardware_parts};
-ghost use Rattle.iom_hardware.specs.Requests.{RequestsAccess, RequestsTranslated};
+ghost use Rattle.iom_hardware.specs.Requests.{RequestsAccess, RequestsTranslatedAccess};
 ghost use Rattle.iom_hardware.specs.Senders.{untranslated_by};
 ghost use Rattle.iom_hardware.specs.Sound.{IsSoundHardware};
 
@@ -60,7 +60,7 @@ impl Hardware {
         requires sound { IsSoundHardware (hardware_parts self.old) self.old.events }
         requires count { self.old.events + 1 < 2 ^ 64 }
         requires carries { CarriesBytes kind len bytes.now }
-        ensures effect { RequestsTranslated (hardware_parts self.old) id
+        ensures effect { RequestsTranslatedAccess (hardware_parts self.old) id
             (access_of address len kind bytes.now) result (hardware_parts self.new) }
         ensures sound { IsSoundHardware (hardware_parts self.new) self.new.events }
         ensures counted { IsCounted self.old self.new }

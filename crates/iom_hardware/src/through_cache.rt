@@ -12,7 +12,7 @@ ghost use Rattle.iom_hardware.specs.Counted.{IsCounted};
 ghost use Rattle.iom_hardware.specs.HardwareParts.{hardware_parts, disks_at_hand};
 ghost use Rattle.iom_hardware.specs.Senders.{cached_by};
 ghost use Rattle.iom_hardware.specs.Sound.{IsSoundHardware};
-ghost use Rattle.iom_hardware.specs.ThroughCache.{GoesByCache, RequestsThroughCache};
+ghost use Rattle.iom_hardware.specs.ThroughCache.{GoesByCache, RequestsAccessThroughCache};
 
 use crate::answers::CacheReply;
 use crate::hardware::Hardware;
@@ -83,7 +83,7 @@ impl Hardware {
         requires sound { IsSoundHardware (hardware_parts self.old) self.old.events }
         requires count { self.old.events + 1 < 2 ^ 64 }
         requires carries { CarriesBytes kind len bytes.now }
-        ensures effect { RequestsThroughCache (cached_by sender) (hardware_parts self.old) id
+        ensures effect { RequestsAccessThroughCache (cached_by sender) (hardware_parts self.old) id
             (access_of address len kind bytes.now) result (hardware_parts self.new) }
         ensures sound { IsSoundHardware (hardware_parts self.new) self.new.events }
         ensures counted { IsCounted self.old self.new }

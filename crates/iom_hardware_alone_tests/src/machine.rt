@@ -5,7 +5,7 @@
 ghost use Rattle.std.specs.Prelude.{◌+◌, ◌<◌, ◌^◌};
 ghost use Rattle.iom_hardware.specs.HardwareParts.{hardware_parts};
 ghost use Rattle.iom_hardware.specs.Sound.{IsSoundHardware};
-ghost use Rattle.iom_hardware.specs.SoundIsFact.{sound_prop};
+ghost use Rattle.iom_hardware.specs.SoundIsFact.{sound_hardware_prop};
 
 use crate::expect::expect;
 use crate::setup::{Answer, BASE_VALUE, CQB, CQCSR, FRAMES, RING, did, fetched_as, width_at};
@@ -64,7 +64,7 @@ pub(crate) enum Act<'a> {
 #[derive(Drop)]
 pub(crate) struct Machine {
     hardware: Hardware,
-    ghost sound: { IsSoundHardware (hardware_parts hardware) hardware.events } by { sound_prop (hardware_parts hardware) hardware.events },
+    ghost sound: { IsSoundHardware (hardware_parts hardware) hardware.events } by { sound_hardware_prop (hardware_parts hardware) hardware.events },
 }
 
 impl Machine {

@@ -14,7 +14,7 @@ use Rattle.iom_script.proofs.MeaningLemmas.{SayOne, HasFronts}
 use Rattle.iom_hardware_script.specs.declared.script.HardwareLine.{HardwareLine}
 use Rattle.iom_hardware_script.specs.declared.script.NumberedLine.{NumberedLine}
 use Rattle.iom_hardware_script.specs.declared.script.HardwareScript.{HardwareScript}
-use Rattle.iom_hardware_script.specs.Grammar.{IsHardwareLine, IsFrameCount, IsSetupLine, numbered, spoken_numbered, IsNumberedLine, Says, SayHardware, IsHardwareScript}
+use Rattle.iom_hardware_script.specs.Grammar.{IsHardwareLine, IsFrameCount, IsSetupLine, numbered_lines, spoken_numbered, IsNumberedLine, SaysHardwareScript, SayHardware, IsHardwareScript}
 use Rattle.iom_hardware_script.proofs.HardwareLineLemmas.{line_same}
 use Rattle.iom_hardware_script.proofs.SetupLemmas.{setup_same}
 
@@ -27,15 +27,15 @@ abbrev speaks : ℕ × List ℕ → Bool
 speaks line = is_spoken line.1
 
 -- lines behind others go on with the numbers
-numbered_on : (first : ℕ) (xs ys : List (List ℕ)) → numbered first (xs ++ ys) ≡ numbered first xs ++ numbered (first + length xs) ys
-numbered_on first [] ys = let same : first ≡ first + 0 = omega arith in ap (λ n. numbered n ys) same
+numbered_on : (first : ℕ) (xs ys : List (List ℕ)) → numbered_lines first (xs ++ ys) ≡ numbered_lines first xs ++ numbered_lines (first + length xs) ys
+numbered_on first [] ys = let same : first ≡ first + 0 = omega arith in ap (λ n. numbered_lines n ys) same
 numbered_on first (x ∷ xs) ys =
     let same : first + 1 + length xs ≡ first + length (x ∷ xs) = omega arith in
-    ap (λ t. as_number first x ∷ t) (numbered_on (first + 1) xs ys ∙ ap (λ n. numbered (first + 1) xs ++ numbered n ys) same)
+    ap (λ t. as_number first x ∷ t) (numbered_on (first + 1) xs ys ∙ ap (λ n. numbered_lines (first + 1) xs ++ numbered_lines n ys) same)
 
 -- the lines that say something, of some and of those behind them
-spoken_on : (xs ys : List (List ℕ)) → spoken_numbered (xs ++ ys) ≡ spoken_numbered xs ++ filter speaks (numbered (1 + length xs) ys)
-spoken_on xs ys = ap (filter speaks) (numbered_on 1 xs ys) ∙ filter-append speaks (numbered 1 xs) (numbered (1 + length xs) ys)
+spoken_on : (xs ys : List (List ℕ)) → spoken_numbered (xs ++ ys) ≡ spoken_numbered xs ++ filter speaks (numbered_lines (1 + length xs) ys)
+spoken_on xs ys = ap (filter speaks) (numbered_on 1 xs ys) ∙ filter-append speaks (numbered_lines 1 xs) (numbered_lines (1 + length xs) ys)
 
 -- a skipped line changes nothing
 spoken_skips : (lines : List (List ℕ)) (line : List ℕ) → is_spoken line ≡ false → spoken_numbered (lines ++ line ∷ []) ≡ spoken_numbered lines
@@ -52,27 +52,27 @@ spoken_adds lines line number count said =
 
 -- the first line that says something
 
-says_setup : (lines : List (ℕ × List ℕ)) (old new : HardwareScript) (line : ℕ × List ℕ) (frames : ℕ) → Says lines old → old.frames ≡ None → IsSetupLine line.1 frames
-    → new.frames ≡ Some frames → new.lines ≡ old.lines → Says (lines ++ line ∷ []) new
+says_setup : (lines : List (ℕ × List ℕ)) (old new : HardwareScript) (line : ℕ × List ℕ) (frames : ℕ) → SaysHardwareScript lines old → old.frames ≡ None → IsSetupLine line.1 frames
+    → new.frames ≡ Some frames → new.lines ≡ old.lines → SaysHardwareScript (lines ++ line ∷ []) new
 says_setup [] old new line frames say none here set others =
     (frames, set, here, subst (SayEach IsNumberedLine []) (sym (others ∙ say.1)) tt)
 says_setup (l ∷ ls) old new line frames say none here set others = absurd (none-some say.0 (sym none ∙ say.1))
 
-says_no_setup : (lines : List (ℕ × List ℕ)) (old script : HardwareScript) (line : ℕ × List ℕ) → Says lines old → old.frames ≡ None → Reads None (IsSetupLine line.1)
-    → Says (lines ++ line ∷ []) script → ⊥
+says_no_setup : (lines : List (ℕ × List ℕ)) (old script : HardwareScript) (line : ℕ × List ℕ) → SaysHardwareScript lines old → old.frames ≡ None → Reads None (IsSetupLine line.1)
+    → SaysHardwareScript (lines ++ line ∷ []) script → ⊥
 says_no_setup [] old script line say none nothing q = read_nothing (IsSetupLine line.1) q.0 nothing q.2
 says_no_setup (l ∷ ls) old script line say none nothing q = none-some say.0 (sym none ∙ say.1)
 
 -- a later line that says something
 
-says_more : (lines : List (ℕ × List ℕ)) (old new : HardwareScript) (frames : ℕ) (line : ℕ × List ℕ) (said : NumberedLine) → Says lines old → old.frames ≡ Some frames
-    → IsNumberedLine line said → new.frames ≡ old.frames → new.lines ≡ old.lines ++ said ∷ [] → Says (lines ++ line ∷ []) new
+says_more : (lines : List (ℕ × List ℕ)) (old new : HardwareScript) (frames : ℕ) (line : ℕ × List ℕ) (said : NumberedLine) → SaysHardwareScript lines old → old.frames ≡ Some frames
+    → IsNumberedLine line said → new.frames ≡ old.frames → new.lines ≡ old.lines ++ said ∷ [] → SaysHardwareScript (lines ++ line ∷ []) new
 says_more [] old new frames line said say some here set others = absurd (none-some frames (sym say.0 ∙ some))
 says_more (l ∷ ls) old new frames line said say some here set others =
     (say.0, set ∙ say.1, say.2, subst (SayEach IsNumberedLine (ls ++ line ∷ [])) (sym others) (more_said IsNumberedLine ls old.lines line said say.3 here))
 
-says_no_more : (lines : List (ℕ × List ℕ)) (old script : HardwareScript) (frames : ℕ) (line : ℕ × List ℕ) → Says lines old → old.frames ≡ Some frames
-    → Reads None (IsHardwareLine line.1) → Says (lines ++ line ∷ []) script → ⊥
+says_no_more : (lines : List (ℕ × List ℕ)) (old script : HardwareScript) (frames : ℕ) (line : ℕ × List ℕ) → SaysHardwareScript lines old → old.frames ≡ Some frames
+    → Reads None (IsHardwareLine line.1) → SaysHardwareScript (lines ++ line ∷ []) script → ⊥
 says_no_more [] old script frames line say some nothing q = none-some frames (sym say.0 ∙ some)
 says_no_more (l ∷ ls) old script frames line say some nothing q =
     let last = last_said IsNumberedLine ls script.lines line q.3 in read_nothing (IsHardwareLine line.1) last.0.line nothing last.1.1
@@ -80,29 +80,29 @@ says_no_more (l ∷ ls) old script frames line say some nothing q =
 -- the same, of a line in its place
 
 pub skipped : (old : HardwareScript) (number : ℕ) (line : List ℕ) → is_spoken line ≡ false → IsTakenAs SayHardware number old line old
-skipped old number line silent = λ lines count say. subst (λ ls. Says ls old) (sym (spoken_skips lines line silent)) say
+skipped old number line silent = λ lines count say. subst (λ ls. SaysHardwareScript ls old) (sym (spoken_skips lines line silent)) say
 
 pub setup_taken : (old new : HardwareScript) (number : ℕ) (line : List ℕ) (frames : ℕ) → is_spoken line ≡ true → old.frames ≡ None → Reads (Some frames) (IsSetupLine line)
     → new.frames ≡ Some frames → new.lines ≡ old.lines → IsTakenAs SayHardware number old line new
 setup_taken old new number line frames said none reads set others = λ lines count say.
-    subst (λ ls. Says ls new) (sym (spoken_adds lines line number count said))
+    subst (λ ls. SaysHardwareScript ls new) (sym (spoken_adds lines line number count said))
     (says_setup (spoken_numbered lines) old new (as_number number line) frames say none (read_holds (IsSetupLine line) frames reads) set others)
 
 pub setup_refused : (old : HardwareScript) (number : ℕ) (line : List ℕ) → is_spoken line ≡ true → old.frames ≡ None → Reads None (IsSetupLine line) → IsRefusedAs SayHardware number old line
 setup_refused old number line said none nothing = λ lines script count say q.
-    says_no_setup (spoken_numbered lines) old script (as_number number line) say none nothing (subst (λ ls. Says ls script) (spoken_adds lines line number count said) q)
+    says_no_setup (spoken_numbered lines) old script (as_number number line) say none nothing (subst (λ ls. SaysHardwareScript ls script) (spoken_adds lines line number count said) q)
 
 pub line_taken : (old new : HardwareScript) (frames number : ℕ) (line : List ℕ) (more : HardwareLine) (added : NumberedLine) → is_spoken line ≡ true → old.frames ≡ Some frames
     → Reads (Some more) (IsHardwareLine line) → added.number ≡ number → added.line ≡ more → new.frames ≡ old.frames → new.lines ≡ old.lines ++ added ∷ []
     → IsTakenAs SayHardware number old line new
 line_taken old new frames number line more added said some reads at is set others = λ lines count say.
-    subst (λ ls. Says ls new) (sym (spoken_adds lines line number count said))
+    subst (λ ls. SaysHardwareScript ls new) (sym (spoken_adds lines line number count said))
     (says_more (spoken_numbered lines) old new frames (as_number number line) added say some (at, subst (IsHardwareLine line) (sym is) (read_holds (IsHardwareLine line) more reads)) set others)
 
 pub line_refused : (old : HardwareScript) (frames number : ℕ) (line : List ℕ) → is_spoken line ≡ true → old.frames ≡ Some frames → Reads None (IsHardwareLine line)
     → IsRefusedAs SayHardware number old line
 line_refused old frames number line said some nothing = λ lines script count say q.
-    says_no_more (spoken_numbered lines) old script frames (as_number number line) say some nothing (subst (λ ls. Says ls script) (spoken_adds lines line number count said) q)
+    says_no_more (spoken_numbered lines) old script frames (as_number number line) say some nothing (subst (λ ls. SaysHardwareScript ls script) (spoken_adds lines line number count said) q)
 
 -- two lines with the same parts
 same_numbered : (x y : NumberedLine) → x.number ≡ y.number → x.line ≡ y.line → x ≡ y
@@ -120,7 +120,7 @@ same_script s t frames lines =
     ap (λ (f : Option ℕ). let a : HardwareScript = record { frames = f; lines = s.lines } in a) frames
     ∙ ap (λ (ls : List NumberedLine). let a : HardwareScript = record { frames = t.frames; lines = ls } in a) lines
 
-says_same : (lines : List (ℕ × List ℕ)) (s t : HardwareScript) → Says lines s → Says lines t → s ≡ t
+says_same : (lines : List (ℕ × List ℕ)) (s t : HardwareScript) → SaysHardwareScript lines s → SaysHardwareScript lines t → s ≡ t
 says_same [] s t p q = same_script s t (p.0 ∙ sym q.0) (p.1 ∙ sym q.1)
 says_same (l ∷ ls) s t p q =
     same_script s t (p.1 ∙ ap Some (setup_same l.1 p.0 q.0 p.2 q.2) ∙ sym q.1) (each_same IsNumberedLine numbered_same ls s.lines t.lines p.3 q.3)
@@ -129,7 +129,7 @@ says_same (l ∷ ls) s t p q =
 pub hardware_one : SayOne SayHardware
 hardware_one lines s t p q = says_same (spoken_numbered lines) s t p q
 
-says_front : (xs ys : List (ℕ × List ℕ)) (script : HardwareScript) → Says (xs ++ ys) script → (front : HardwareScript) × Says xs front
+says_front : (xs ys : List (ℕ × List ℕ)) (script : HardwareScript) → SaysHardwareScript (xs ++ ys) script → (front : HardwareScript) × SaysHardwareScript xs front
 says_front [] ys script say = let nothing : HardwareScript = record { frames = None; lines = [] } in (nothing, (refl, refl))
 says_front (x ∷ xs) ys script say =
     let others = each_front IsNumberedLine xs ys script.lines say.3 in
@@ -139,11 +139,11 @@ says_front (x ∷ xs) ys script say =
 -- a front of lines that say a script says one
 pub hardware_fronts : HasFronts SayHardware
 hardware_fronts xs ys script says =
-    says_front (spoken_numbered xs) (filter speaks (numbered (1 + length xs) ys)) script (subst (λ ls. Says ls script) (spoken_on xs ys) says)
+    says_front (spoken_numbered xs) (filter speaks (numbered_lines (1 + length xs) ys)) script (subst (λ ls. SaysHardwareScript ls script) (spoken_on xs ys) says)
 
 -- a script has memory of a size that there is
 
-said_frames : (lines : List (ℕ × List ℕ)) (script : HardwareScript) → Says lines script → IfSome script.frames IsFrameCount
+said_frames : (lines : List (ℕ × List ℕ)) (script : HardwareScript) → SaysHardwareScript lines script → IfSome script.frames IsFrameCount
 said_frames [] script says = subst (λ f. IfSome f IsFrameCount) (sym says.0) tt
 said_frames (line ∷ lines) script says = subst (λ f. IfSome f IsFrameCount) (sym says.1) says.2.2
 

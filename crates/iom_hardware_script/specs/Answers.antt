@@ -6,10 +6,10 @@ use Rattle.iom_hardware_script.specs.declared.answers.Answer.{Answer}
 use Rattle.iom_hardware_script.specs.declared.answers.Answer.TheVariants.{Value, BadOffset, BadWidth, NoSuchClaim, Claimed, Good}
 
 -- the text of an answer, without a line feed
-abbrev pub answer_text : Answer → List ℕ
-answer_text (Value value) = codes "value 0x" ++ hexadecimal value
-answer_text BadOffset = codes "refused 24 BadOffset"
-answer_text BadWidth = codes "refused 25 BadWidth"
-answer_text NoSuchClaim = codes "refused 26 NoSuchClaim"
-answer_text (Claimed number) = codes "claim " ++ decimal number
-answer_text Good = codes "good"
+abbrev pub hardware_answer_text : Answer → List ℕ
+hardware_answer_text (Value value) = codes "value 0x" ++ hexadecimal value
+hardware_answer_text BadOffset = codes "refused 24 BadOffset"
+hardware_answer_text BadWidth = codes "refused 25 BadWidth"
+hardware_answer_text NoSuchClaim = codes "refused 26 NoSuchClaim"
+hardware_answer_text (Claimed number) = codes "claim " ++ decimal number
+hardware_answer_text Good = codes "good"

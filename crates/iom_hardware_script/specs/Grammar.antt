@@ -100,27 +100,27 @@ IsSetupLine line frames =
     (f : List ℕ) × IsNumber f frames × IsFrameCount frames × (line ≡ codes "hardware" ␣ f)
 
 -- the lines with their numbers, the first of which is this
-abbrev pub numbered : ℕ → List (List ℕ) → List (ℕ × List ℕ)
-numbered first [] = []
-numbered first (line ∷ lines) = (first, line) ∷ numbered (first + 1) lines
+abbrev pub numbered_lines : ℕ → List (List ℕ) → List (ℕ × List ℕ)
+numbered_lines first [] = []
+numbered_lines first (line ∷ lines) = (first, line) ∷ numbered_lines (first + 1) lines
 
 -- the lines that say something, each with its number among all, from 1 on
 abbrev pub spoken_numbered : List (List ℕ) → List (ℕ × List ℕ)
-spoken_numbered lines = filter (λ line. is_spoken line.1) (numbered 1 lines)
+spoken_numbered lines = filter (λ line. is_spoken line.1) (numbered_lines 1 lines)
 
 -- the line with its number says this
 abbrev pub IsNumberedLine : ℕ × List ℕ → NumberedLine → Type 0
 IsNumberedLine line said = (said.number ≡ line.0) × IsHardwareLine line.1 said.line
 
 -- Lines that all say something make a script: none of them, or one that says how much memory there is, and then the others.
-abbrev pub Says : List (ℕ × List ℕ) → HardwareScript → Type 0
-Says [] script = (script.frames ≡ None) × (script.lines ≡ [])
-Says (line ∷ lines) script =
+abbrev pub SaysHardwareScript : List (ℕ × List ℕ) → HardwareScript → Type 0
+SaysHardwareScript [] script = (script.frames ≡ None) × (script.lines ≡ [])
+SaysHardwareScript (line ∷ lines) script =
     (frames : ℕ) × (script.frames ≡ Some frames) × IsSetupLine line.1 frames × SayEach IsNumberedLine lines script.lines
 
 -- the lines say the script, those that say something
 abbrev pub SayHardware : List (List ℕ) → HardwareScript → Type 0
-SayHardware lines script = Says (spoken_numbered lines) script
+SayHardware lines script = SaysHardwareScript (spoken_numbered lines) script
 
 -- the bytes are in the grammar, have 1,048,576 bytes at most, and say the script
 abbrev pub IsHardwareScript : List ℕ → HardwareScript → Type 0

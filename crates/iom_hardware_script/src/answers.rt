@@ -1,5 +1,5 @@
 ghost use Rattle.std.specs.Prelude.{◌≡◌, ◌+◌, ◌≤◌, ◌++◌, length};
-ghost use Rattle.iom_hardware_script.specs.Answers.{answer_text};
+ghost use Rattle.iom_hardware_script.specs.Answers.{hardware_answer_text};
 
 use iom_script::{BUFFER_SIZE, LineBuffer};
 
@@ -26,7 +26,7 @@ pub enum Answer {
 /// Appends the text of an answer, without a line feed. It takes no memory.
 pub fn append_answer(out: &mut LineBuffer, answer: &Answer)
     requires { length out.old + LONGEST_ANSWER ≤ BUFFER_SIZE }
-    ensures text { out.new ≡ out.old ++ answer_text answer.now }
+    ensures text { out.new ≡ out.old ++ hardware_answer_text answer.now }
     ensures short { length out.new ≤ length out.old + LONGEST_ANSWER }
 {
     match *answer {

@@ -12,13 +12,13 @@ use Rattle.iom_hardware_session.specs.Claiming.{is_made, claimed_after}
 use Rattle.iom_hardware_session.specs.Good.{IsCertain, HasClaimedWaysAlone, GoodMeans}
 use Rattle.iom_hardware_session.specs.Wrong.{SomebodyHolds, SomebodyLingers, ReachesBeyond, DoneIsWrong, HandOffIsWrong, WrongMeans, IfWrong}
 use Rattle.iom_ledger.specs.History.{May}
-use Rattle.iom_reach.specs.Scene.{Scene}
+use Rattle.iom_reach.specs.Scene.{HardwareScene}
 use Rattle.iom_way_survey.proofs.SafeLemmas.{reached_is_way}
-use Rattle.iom_way_survey.specs.Surveys.{InventsNone, reaches_in}
+use Rattle.iom_way_survey.specs.Surveys.{InventsNone, reaches_in_rows}
 use Rattle.iom_way_survey.specs.declared.findings.Survey.{Survey}
 
 -- that a claim is done: what it withdrew is this grant alone
-pub done_good : (scene : Scene) (claimed : Claimed) (number : ℕ) (own : Grant) (answer : ClaimAnswer)
+pub done_good : (scene : HardwareScene) (claimed : Claimed) (number : ℕ) (own : Grant) (answer : ClaimAnswer)
     → IsCertain scene × HasClaimedWaysAlone scene (after_done number claimed) own.device own.frame
     → ((grant : Grant) → IsOpen claimed.history (record { number = number; grant = grant }) → Some own ≡ Some grant)
     → answer ≡ found.Good → GoodMeans (claim.Done number) scene claimed (claimed_after (claim.Done number) answer claimed)
@@ -45,8 +45,8 @@ pub somebody_lingers : (claimed : Claimed) (frame : ℕ) (found : Option OpenCla
 somebody_lingers claimed frame (Some own) (same, opened) some = (own, same, opened)
 somebody_lingers claimed frame None opened some = absurd (cc)
 
-pub reaches_beyond : (survey : Survey) (scene : Scene) (claimed : Claimed) (device frame : ℕ) (kind : AccessKind) → InventsNone survey scene
-    → (reaches_in survey.devices.items device kind frame ≡ true) × ¬ May claimed.history device frame kind → ReachesBeyond scene claimed device frame kind
+pub reaches_beyond : (survey : Survey) (scene : HardwareScene) (claimed : Claimed) (device frame : ℕ) (kind : AccessKind) → InventsNone survey scene
+    → (reaches_in_rows survey.devices.items device kind frame ≡ true) × ¬ May claimed.history device frame kind → ReachesBeyond scene claimed device frame kind
 reaches_beyond survey scene claimed device frame kind invents (reached, never) = (reached_is_way survey scene device frame kind invents reached, never)
 
 -- that a claim is done isn't: what it withdrew is this grant

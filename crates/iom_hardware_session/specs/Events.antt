@@ -2,8 +2,8 @@
 use Rattle.std.specs.Prelude.{◌≡◌, ℕ, false, List, Option, Some, None, Result, Ok, Err}
 use Rattle.iom_base.specs.Accesses.{read_of, write_of}
 use Rattle.iom_hardware.specs.HardwareParts.{hardware_parts, disks_at_hand}
-use Rattle.iom_hardware.specs.Plugging.{Plugs}
-use Rattle.iom_hardware.specs.Processor.{Stores, BytesStandAt, HaveNoPlace}
+use Rattle.iom_hardware.specs.Plugging.{PlugsNewDevice}
+use Rattle.iom_hardware.specs.Processor.{ProcessorWrites, BytesStandAt, HaveNoPlace}
 use Rattle.iom_hardware.specs.declared.answers.NoPlace.{NoPlace}
 use Rattle.iom_hardware.specs.declared.hardware.Hardware.{Hardware}
 use Rattle.iom_hardware.specs.declared.sender.Sender.TheVariants.{Own}
@@ -55,8 +55,8 @@ Loads memory address len (Err why) = HaveNoPlace memory address len why
 -- WHAT AN EVENT DOES TO HARDWARE, by its answer. Events of the model's own driver aren't of hardware, nor are those of block devices
 abbrev pub EventDoes : Event → Answer → Hardware → Hardware → Type 0
 EventDoes (Plug device what) (answered.Plugged answer) old new =
-    Plugs (disks_at_hand old) (hardware_parts old) device what answer (hardware_parts new) (disks_at_hand new)
-EventDoes (Poke address bytes) (answered.Stored answer) old new = Stores old.memory address bytes answer new.memory × MemoryChanges old new
+    PlugsNewDevice (disks_at_hand old) (hardware_parts old) device what answer (hardware_parts new) (disks_at_hand new)
+EventDoes (Poke address bytes) (answered.Stored answer) old new = ProcessorWrites old.memory address bytes answer new.memory × MemoryChanges old new
 EventDoes (Peek address len) (answered.Loaded answer) old new = Loads old.memory address len answer × Stays old new
 EventDoes event answer old new = CallOrNothing (call_of event answer) old new
 

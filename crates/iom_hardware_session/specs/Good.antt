@@ -13,19 +13,19 @@ use Rattle.iom_hardware_ways.specs.Scenes.{scene_of}
 use Rattle.iom_ledger.specs.History.{May}
 use Rattle.iom_reach.specs.Laws.{IsOutOfReach}
 use Rattle.iom_reach.specs.Safe.{IsRead, IsSafe, AreTimely, HasWord}
-use Rattle.iom_reach.specs.Scene.{Scene}
+use Rattle.iom_reach.specs.Scene.{HardwareScene}
 use Rattle.iom_reach.specs.Ways.{Way}
 use Rattle.iom_way_survey.specs.Surveys.{is_among}
 
 -- what lies between devices and memory, where these devices are trusted with all memory
-abbrev pub scene_with : Hardware → List ℕ → Scene
+abbrev pub scene_with : Hardware → List ℕ → HardwareScene
 scene_with hardware trusted = scene_of (is_among trusted) (hardware_parts hardware)
 
-abbrev pub scene_in : Session → Scene
+abbrev pub scene_in : Session → HardwareScene
 scene_in session = scene_with session.hardware session.trusted.items
 
 -- Something can be certain: what hardware reads nobody but software writes, and no message is of an epoch to come
-abbrev pub IsCertain : Scene → Type 0
+abbrev pub IsCertain : HardwareScene → Type 0
 IsCertain scene = IsSafe scene × AreTimely scene
 
 -- nobody holds the frame, and no claim that withdrew it is open
@@ -35,15 +35,15 @@ IsNobodys claimed frame =
     × ((own : OpenClaim) → own.grant.frame ≡ frame → ¬ IsOpen claimed.history own)
 
 -- hardware doesn't read the frame, and the IOMMU stores no fault record and no word of a fence there
-abbrev pub IsUnused : Scene → ℕ → Type 0
+abbrev pub IsUnused : HardwareScene → ℕ → Type 0
 IsUnused scene frame = ¬ IsRead scene frame × ¬ Contains scene.fault_frames frame × ¬ HasWord scene frame
 
 -- each way of the device to the frame is one that what is claimed allows
-abbrev pub HasClaimedWaysAlone : Scene → Claimed → (device frame : ℕ) → Type 0
+abbrev pub HasClaimedWaysAlone : HardwareScene → Claimed → (device frame : ℕ) → Type 0
 HasClaimedWaysAlone scene claimed device frame = (kind : AccessKind) → Way scene device frame kind → May claimed.history device frame kind
 
 -- WHAT A GOOD CLAIM MEANS, by what was claimed before it and after it
-abbrev pub GoodMeans : Said → Scene → Claimed → Claimed → Type 0
+abbrev pub GoodMeans : Said → HardwareScene → Claimed → Claimed → Type 0
 GoodMeans (claim.Done number) scene before after =
     IsCertain scene × ((grant : Grant) → IsOpen before.history (record { number = number; grant = grant }) → HasClaimedWaysAlone scene after grant.device grant.frame)
 GoodMeans (claim.HandOff frame) scene before after = IsCertain scene × IsNobodys before frame × IsOutOfReach scene frame × IsUnused scene frame

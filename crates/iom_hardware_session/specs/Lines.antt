@@ -19,7 +19,7 @@ use Rattle.iom_hardware_session.specs.Good.{GoodMeans}
 use Rattle.iom_hardware_session.specs.Watching.{still_good, AreJudgedAgain, WatchesClaim}
 use Rattle.iom_hardware_session.specs.declared.watched.Watched.{Watched}
 use Rattle.iom_hardware_session.specs.Wrong.{WrongMeans, IfWrong}
-use Rattle.iom_reach.specs.Scene.{Scene}
+use Rattle.iom_reach.specs.Scene.{HardwareScene}
 use Rattle.iom_inflight.specs.declared.made.MadeAt.{MadeAt}
 use Rattle.iom_iommu.specs.Parts.{registers_of, after_write}
 use Rattle.iom_ledger.specs.History.{May}
@@ -108,7 +108,7 @@ TrustsBy (line.Claim said) (answered.Claim found) old new = Trusts said found ol
 TrustsBy said answer old new = new ≡ old
 
 -- what a claim that is answered well means
-abbrev pub IsGoodLine : HardwareLine → Answer → Scene → Claimed → Type 0
+abbrev pub IsGoodLine : HardwareLine → Answer → HardwareScene → Claimed → Type 0
 IsGoodLine (line.Claim said) (answered.Claim answer) scene before = answer ≡ found.Good → GoodMeans said scene before (claimed_after said answer before)
 IsGoodLine said answer scene before = ⊤
 

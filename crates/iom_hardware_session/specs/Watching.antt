@@ -15,7 +15,7 @@ use Rattle.iom_hardware_session.specs.Claiming.{is_made}
 use Rattle.iom_hardware_session.specs.Good.{scene_with, IsCertain, IsUnused, HasClaimedWaysAlone}
 use Rattle.iom_hardware_session.specs.Wrong.{DoneIsWrong, HandOffIsWrong}
 use Rattle.iom_reach.specs.Laws.{IsOutOfReach}
-use Rattle.iom_reach.specs.Scene.{Scene}
+use Rattle.iom_reach.specs.Scene.{HardwareScene}
 
 -- both are about the same frame, and of the same device where it is one's
 abbrev pub is_about_same : GoodClaim → GoodClaim → Bool
@@ -42,7 +42,7 @@ abbrev pub with_claim : GoodClaim → List Watched → List Watched
 with_claim claim watched = filter (λ (own : Watched). not (is_about_same claim own.claim)) watched ++ (record { claim = claim; why = None }) ∷ []
 
 -- what the claim says is so
-abbrev pub IsStillSo : GoodClaim → Scene → Claimed → Type 0
+abbrev pub IsStillSo : GoodClaim → HardwareScene → Claimed → Type 0
 IsStillSo (good.Done number device frame) scene claimed = HasClaimedWaysAlone scene claimed device frame
 IsStillSo (good.HandedOff frame) scene claimed = IsOutOfReach scene frame × IsUnused scene frame
 

@@ -16,7 +16,7 @@ use Rattle.iom_hardware_session.specs.declared.answer.Wrong.TheVariants as wrong
 use Rattle.iom_hardware_session.specs.Good.{scene_with}
 use Rattle.iom_hardware_session.specs.Timely.{IsTimelyMessage}
 use Rattle.iom_ledger.specs.History.{May}
-use Rattle.iom_reach.specs.Scene.{Scene}
+use Rattle.iom_reach.specs.Scene.{HardwareScene}
 use Rattle.iom_way_survey.specs.Surveys.{IsReachedAs, IsReadAs, IsStoredAs, IsClash}
 
 -- some message is of an epoch to come
@@ -28,7 +28,7 @@ abbrev pub IsUncertain : Hardware → List ℕ → Type 0
 IsUncertain hardware trusted = (4096 < length hardware.memory) ⊎ (IsClash (scene_with hardware trusted) ⊎ IsUntimely (hardware_parts hardware))
 
 -- hardware reads the frame, or the IOMMU stores a fault record or a fence's word there
-abbrev pub HardwareUses : Scene → ℕ → Type 0
+abbrev pub HardwareUses : HardwareScene → ℕ → Type 0
 HardwareUses scene frame = IsReadAs scene frame ⊎ IsStoredAs scene frame
 
 -- a device holds the frame
@@ -40,7 +40,7 @@ abbrev pub SomebodyLingers : Claimed → ℕ → Type 0
 SomebodyLingers claimed frame = (own : OpenClaim) × (own.grant.frame ≡ frame) × IsOpen claimed.history own
 
 -- the device has a way to the frame that what is claimed doesn't allow
-abbrev pub ReachesBeyond : Scene → Claimed → (device frame : ℕ) → AccessKind → Type 0
+abbrev pub ReachesBeyond : HardwareScene → Claimed → (device frame : ℕ) → AccessKind → Type 0
 ReachesBeyond scene claimed device frame kind = IsReachedAs scene device frame kind × ¬ May claimed.history device frame kind
 
 -- WHY IT ISN'T TRUE that no way of the device to the frame is left

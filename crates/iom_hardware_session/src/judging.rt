@@ -13,9 +13,9 @@ ghost use Rattle.iom_hardware_session.specs.Wrong.{IsUntimely, IsUncertain, Hard
 ghost use Rattle.iom_ledger.specs.History.{May};
 ghost use Rattle.iom_reach.specs.Laws.{IsOutOfReach};
 ghost use Rattle.iom_reach.specs.Safe.{AreTimely};
-ghost use Rattle.iom_reach.specs.Scene.{Scene};
+ghost use Rattle.iom_reach.specs.Scene.{HardwareScene};
 ghost use Rattle.iom_reach.specs.Ways.{Way};
-ghost use Rattle.iom_way_survey.specs.Surveys.{Surveys, InventsNone, IsSurveyOf, reaches_in};
+ghost use Rattle.iom_way_survey.specs.Surveys.{Surveys, InventsNone, IsSurveyOf, reaches_in_rows};
 
 use crate::answer::{ClaimAnswer, Wrong};
 use crate::state::Session;
@@ -40,10 +40,10 @@ impl Session {
 
     /// Whether the survey has a way of the device to the frame by this kind of access, and nothing that is claimed allows it.
     fn exceeds(&self, device: DeviceId, frame: u32, kind: AccessKind) -> bool
-        ensures within { (scene : Scene) (c : Claimed) → Surveys self.now.survey scene → ShowsClaimed self.now.claims c
+        ensures within { (scene : HardwareScene) (c : Claimed) → Surveys self.now.survey scene → ShowsClaimed self.now.claims c
             → result ≡ false → Way scene device frame kind → May c.history device frame kind }
         ensures beyond { (c : Claimed) → ShowsClaimed self.now.claims c
-            → IsTrue result → (reaches_in self.now.survey.devices.items device kind frame ≡ true) × ¬ May c.history device frame kind }
+            → IsTrue result → (reaches_in_rows self.now.survey.devices.items device kind frame ≡ true) × ¬ May c.history device frame kind }
     {
         if self.survey.reaches(device, u64::from(frame), kind) {
             !self.claims.may(device, frame, kind)
@@ -54,10 +54,10 @@ impl Session {
 
     /// The first kind of access by which the survey has a way of the device to the frame that nothing claimed allows.
     fn way_beyond(&self, device: DeviceId, frame: u32) -> Option<AccessKind>
-        ensures within { (scene : Scene) (c : Claimed) → Surveys self.now.survey scene → ShowsClaimed self.now.claims c
+        ensures within { (scene : HardwareScene) (c : Claimed) → Surveys self.now.survey scene → ShowsClaimed self.now.claims c
             → result ≡ None → HasClaimedWaysAlone scene c device frame }
         ensures beyond { (c : Claimed) → ShowsClaimed self.now.claims c
-            → IfSome result (λ kind. (reaches_in self.now.survey.devices.items device kind frame ≡ true) × ¬ May c.history device frame kind) }
+            → IfSome result (λ kind. (reaches_in_rows self.now.survey.devices.items device kind frame ≡ true) × ¬ May c.history device frame kind) }
     {
         if self.exceeds(device, frame, AccessKind::Read) {
             return Some(AccessKind::Read);
@@ -110,8 +110,8 @@ impl Session {
 
     /// Whether hardware reads the frame, or the IOMMU may store a fault record or a fence's word there.
     pub(crate) fn is_used(&self, frame: u32) -> bool
-        ensures unused { (scene : Scene) → Surveys self.now.survey scene → result ≡ false → IsUnused scene frame }
-        ensures used { (scene : Scene) → InventsNone self.now.survey scene → IsTrue result → HardwareUses scene frame }
+        ensures unused { (scene : HardwareScene) → Surveys self.now.survey scene → result ≡ false → IsUnused scene frame }
+        ensures used { (scene : HardwareScene) → InventsNone self.now.survey scene → IsTrue result → HardwareUses scene frame }
     {
         if self.survey.is_read_by_hardware(u64::from(frame)) {
             return true;
@@ -135,8 +135,8 @@ impl Session {
 
     /// The first kind of access by which the survey has a way of the device to the frame.
     fn way_to(&self, device: DeviceId, frame: u32) -> Option<AccessKind>
-        ensures none { (scene : Scene) → Surveys self.now.survey scene → result ≡ None → (kind : AccessKind) → ¬ Way scene device frame kind }
-        ensures some { IfSome result (λ kind. reaches_in self.now.survey.devices.items device kind frame ≡ true) }
+        ensures none { (scene : HardwareScene) → Surveys self.now.survey scene → result ≡ None → (kind : AccessKind) → ¬ Way scene device frame kind }
+        ensures some { IfSome result (λ kind. reaches_in_rows self.now.survey.devices.items device kind frame ≡ true) }
     {
         let frame = u64::from(frame);
         if self.survey.reaches(device, frame, AccessKind::Read) {
@@ -152,7 +152,7 @@ impl Session {
     fn first_way_to(&self, frame: u32) -> Option<(DeviceId, AccessKind)>
         requires looked { IsSurveyOf self.now.survey (scene_in self.now) }
         ensures none { result ≡ None → IsOutOfReach (scene_in self.now) frame }
-        ensures some { IfSome result (λ way. reaches_in self.now.survey.devices.items way.0 way.1 frame ≡ true) }
+        ensures some { IfSome result (λ way. reaches_in_rows self.now.survey.devices.items way.0 way.1 frame ≡ true) }
     {
         for place in 0..self.hardware.devices.len() {
             let id = self.hardware.devices[place].id;

@@ -1,6 +1,6 @@
 ghost use Rattle.iom_hardware.specs.HardwareParts.{hardware_parts};
 ghost use Rattle.iom_hardware.specs.Sound.{IsSoundHardware};
-ghost use Rattle.iom_hardware.specs.SoundIsFact.{sound_prop};
+ghost use Rattle.iom_hardware.specs.SoundIsFact.{sound_hardware_prop};
 
 use crate::watched::Watched;
 use iom_base::DeviceId;
@@ -21,5 +21,5 @@ pub struct Session {
     pub(crate) alloc: Global,
     /// Where the ways are looked for.
     pub(crate) survey: Survey,
-    ghost sound: { IsSoundHardware (hardware_parts hardware) hardware.events } by { sound_prop (hardware_parts hardware) hardware.events },
+    ghost sound: { IsSoundHardware (hardware_parts hardware) hardware.events } by { sound_hardware_prop (hardware_parts hardware) hardware.events },
 }

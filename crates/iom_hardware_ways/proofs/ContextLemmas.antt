@@ -9,7 +9,7 @@ use Rattle.iom_device_dir.specs.Located.{located_context}
 use Rattle.iom_device_dir.specs.Paths.{fits_directory}
 use Rattle.iom_hardware.specs.HardwareParts.{HardwareParts}
 use Rattle.iom_iommu.specs.Parts.{registers_of, contexts_of}
-use Rattle.iom_iommu.specs.Service.{found_context, context_for, letting_ats, ats_context_in, ats_context_for, KeepsLocated, KeepsIn, KeepsContext}
+use Rattle.iom_iommu.specs.Service.{found_context, context_or_cause, letting_ats, ats_context_in, ats_context_for, KeepsLocated, KeepsIn, KeepsContext}
 use Rattle.iom_registers.specs.declared.directory.DirectoryMode.{DirectoryMode}
 use Rattle.iom_registers.specs.declared.directory.DirectoryMode.TheVariants as mode
 use Rattle.iom_registers.specs.Queues.{directory_mode, directory_root}
@@ -92,7 +92,7 @@ abbrev pub HasDirectory : (ℕ → Bool) → HardwareParts → Type 0
 HasDirectory trusted parts = (tables : Tables) × ((scene_of trusted parts).directory ≡ At tables)
 
 pub may_find : (trusted : ℕ → Bool) (parts : HardwareParts) (id : ℕ) (context : DeviceContext) → HasDevice (scene_of trusted parts) id → HasDirectory trusted parts
-    → context_for parts.memory (registers_of parts.iommu) (contexts_of parts.iommu) id ≡ Ok context → MayFind (scene_of trusted parts) id (context_of context)
+    → context_or_cause parts.memory (registers_of parts.iommu) (contexts_of parts.iommu) id ≡ Ok context → MayFind (scene_of trusted parts) id (context_of context)
 may_find trusted parts id context plugged directory found =
     by (fits_directory (directory_mode (registers_of parts.iommu)) id) refl (contexts_of parts.iommu id) refl found
   where
@@ -123,14 +123,14 @@ pub may_find_ats : (trusted : ℕ → Bool) (parts : HardwareParts) (id : ℕ) (
     → MayFind (scene_of trusted parts) id (context_of context) × (context.en_ats ≡ true)
 may_find_ats trusted parts id context plugged found = by (directory_mode (registers_of parts.iommu)) refl found
   where
-    at : HasDirectory trusted parts → letting_ats (context_for parts.memory (registers_of parts.iommu) (contexts_of parts.iommu) id) ≡ Ok context
+    at : HasDirectory trusted parts → letting_ats (context_or_cause parts.memory (registers_of parts.iommu) (contexts_of parts.iommu) id) ≡ Ok context
         → MayFind (scene_of trusted parts) id (context_of context) × (context.en_ats ≡ true)
     at directory is =
-        let (own, set) = lets (context_for parts.memory (registers_of parts.iommu) (contexts_of parts.iommu) id) context is in
+        let (own, set) = lets (context_or_cause parts.memory (registers_of parts.iommu) (contexts_of parts.iommu) id) context is in
         (may_find trusted parts id context plugged directory own, set)
 
     by : (m : DirectoryMode) → m ≡ directory_mode (registers_of parts.iommu)
-        → ats_context_in m (context_for parts.memory (registers_of parts.iommu) (contexts_of parts.iommu) id) ≡ Ok context
+        → ats_context_in m (context_or_cause parts.memory (registers_of parts.iommu) (contexts_of parts.iommu) id) ≡ Ok context
         → MayFind (scene_of trusted parts) id (context_of context) × (context.en_ats ≡ true)
     by mode.Off is told = absurd (cc)
     by mode.Bare is told = absurd (cc)

@@ -3,7 +3,7 @@ use Rattle.std.proofs.Common.{◌≡◌, ◌⊎◌, ◌∙◌, ◌*◌, ◌/◌,
 use Rattle.std.specs.List.{All}
 use Rattle.std.proofs.lemmas.Bool.Decides.{eqb_tells}
 use Rattle.std.proofs.lemmas.List.Elements.{All-contains, Contains-push_cases}
-use Rattle.iom_ats_cache.specs.Cache.{Cache, covers, outside, with_room, with_entry}
+use Rattle.iom_ats_cache.specs.Cache.{Cache, range_covers, outside, with_room, with_entry}
 use Rattle.iom_ats_cache.specs.Calls.{TakesAnswer}
 use Rattle.iom_ats_cache.specs.declared.entry.Entry.{Entry}
 use Rattle.iom_ats_cache.specs.declared.taken.Taken.{Taken as HowTaken}
@@ -24,7 +24,7 @@ use Rattle.iom_fabric.specs.declared.message.Translation.TheVariants as told
 use Rattle.iom_fault_queue.specs.Fields.{Fields}
 use Rattle.iom_fault_queue.specs.Records.{record_of}
 use Rattle.iom_fault_queue.specs.declared.transaction.Transaction.TheVariants.{AtsRequest}
-use Rattle.iom_hardware.specs.Deliveries.{TakesReply, TakesReplied, ObeysInvalidation, TakesCompletion, AnswersAsk, MessageArrives, MessageArrivesIfAny, Delivers, with_delivery}
+use Rattle.iom_hardware.specs.Deliveries.{TakesReply, TakesReplied, ObeysInvalidation, TakesCompletion, AnswersAsk, MessageArrives, MessageArrivesIfAny, DeliversAtPlace, with_delivery}
 use Rattle.iom_hardware.specs.HardwareParts.{HardwareParts}
 use Rattle.iom_hardware.specs.Messages.{with_message}
 use Rattle.iom_hardware.specs.Sound.{IsMessageOf}
@@ -37,7 +37,7 @@ use Rattle.iom_iommu.specs.Requests.{faulted_of, fault_of}
 use Rattle.iom_iommu.specs.Service.{KeepsContext, ServesBy, ats_context_for}
 use Rattle.iom_registers.specs.declared.registers.Registers.{Registers}
 use Rattle.iom_registers.specs.Queues.{directory_mode}
-use Rattle.iom_tlb.specs.Content.{Content as Translations}
+use Rattle.iom_tlb.specs.Content.{Translations}
 use Rattle.iom_tlb.specs.declared.trans_cache.Translation.{Translation}
 use Rattle.iom_reach.specs.Memory.{DiffersAt}
 use Rattle.iom_reach.specs.Occurrences.{AreAmongWithOf, IsSendable, TranslatesTo, CarryMessages, DeliverAnswer}
@@ -181,7 +181,7 @@ with_entry_among entries own x c =
     let left = outside (range.Page own.page) entries in
     elim (Contains-push_cases (with_room left) own entry there) [
       | inl before ↦ inr (subst (Contains (map kept_entry entries)) is (contains_map kept_entry entries entry
-          (filter_among (λ (e : Entry). not (covers (range.Page own.page) e.page)) entries entry (room left entry before))))
+          (filter_among (λ (e : Entry). not (range_covers (range.Page own.page) e.page)) entries entry (room left entry before))))
       | inr same ↦ inl (sym is ∙ ap kept_entry (sym same))
     ]
   where
@@ -287,7 +287,7 @@ obeys trusted old place device serial range (Some done) fabric new after (Some c
     let left_is = does.left in
     in_succession (scene_of trusted old) (scene_of trusted between) (scene_of trusted new)
     (drops trusted old between device cache left at (ap (λ (c : Cache). c.epoch) left_is)
-    (λ x there. map_among kept_entry (outside range cache.entries) cache.entries (filter_among (λ (e : Entry). not (covers range e.page)) cache.entries) x
+    (λ x there. map_among kept_entry (outside range cache.entries) cache.entries (filter_among (λ (e : Entry). not (range_covers range e.page)) cache.entries) x
     (subst (λ (c : Cache). Contains (map kept_entry c.entries) x) left_is there)) refl)
     (carried trusted between new (with_message (remove old.fabric place) device done)
     (is ∙ ap (λ (c : Option Cache). with_delivery old device c fabric) same ∙ ap (λ (f : List OnLink). with_delivery old device (Some left) f) (sends done refl))
@@ -335,7 +335,7 @@ arrives trusted old place device (sent.InvDone serial) (NotClosed named) new ask
 arrives trusted old place device message _ new askers there never = absurd never
 
 pub delivers : (trusted : ℕ → Bool) (old : HardwareParts) (place : ℕ) (delivered : Delivered) (new : HardwareParts) → All (IsMessageOf old.devices) old.fabric
-    → Delivers old place delivered new → Comes (scene_of trusted old) (scene_of trusted new)
+    → DeliversAtPlace old place delivered new → Comes (scene_of trusted old) (scene_of trusted new)
 delivers trusted old place delivered new askers call = by (slice_get old.fabric place) refl call
   where
     by : (found : Option OnLink) → slice_get old.fabric place ≡ found → MessageArrivesIfAny found old (remove old.fabric place) delivered new → Comes (scene_of trusted old) (scene_of trusted new)

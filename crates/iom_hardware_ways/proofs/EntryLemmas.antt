@@ -7,9 +7,9 @@ use Rattle.iom_base.specs.declared.refusal.Refusal.{Refusal}
 use Rattle.iom_device.specs.declared.device.Device.{Device}
 use Rattle.iom_device.specs.Caches.{kind_in, cache_of, epoch_of, epoch_in, with_cache}
 use Rattle.iom_device.specs.Calls.{reset_of}
-use Rattle.iom_hardware.specs.Commits.{Resets, ClearsCache}
+use Rattle.iom_hardware.specs.Commits.{ResetsAnyDevice, ClearsCache}
 use Rattle.iom_hardware.specs.HardwareParts.{HardwareParts}
-use Rattle.iom_reach.specs.Occurrences.{AreSomeOf, raised, DropEntries}
+use Rattle.iom_reach.specs.Occurrences.{AreSomeOf, with_raised_epoch, DropEntries}
 use Rattle.iom_reach.specs.Scene.{AtsKind, AtsEntry}
 use Rattle.iom_hardware_ways.specs.Scenes.{ats_kind, kept_entry, kept_entries, scene_of}
 use Rattle.iom_hardware_ways.proofs.CarryLemmas.{by_device}
@@ -45,10 +45,10 @@ entries_among devices id cache left at among d x there = elim (eqb_tells d id) [
 
 -- where a device's epoch is the next, the epochs are raised
 pub epochs_raised : (devices : List Device) (id : ℕ) (cache left : Cache) → cache_of devices id ≡ Some cache → left.epoch ≡ cache.epoch + 1
-    → epoch_in (with_cache devices id (Some left)) ≡ raised (epoch_in devices) id
-epochs_raised devices id cache left at next = same_function (epoch_in (with_cache devices id (Some left))) (raised (epoch_in devices) id) (λ d. at_each d (eqb_tells id d))
+    → epoch_in (with_cache devices id (Some left)) ≡ with_raised_epoch (epoch_in devices) id
+epochs_raised devices id cache left at next = same_function (epoch_in (with_cache devices id (Some left))) (with_raised_epoch (epoch_in devices) id) (λ d. at_each d (eqb_tells id d))
   where
-    at_each : (d : ℕ) → (((id == d) ≡ true) × (id ≡ d)) ⊎ (((id == d) ≡ false) × (id ≢ d)) → epoch_in (with_cache devices id (Some left)) d ≡ raised (epoch_in devices) id d
+    at_each : (d : ℕ) → (((id == d) ≡ true) × (id ≡ d)) ⊎ (((id == d) ≡ false) × (id ≢ d)) → epoch_in (with_cache devices id (Some left)) d ≡ with_raised_epoch (epoch_in devices) id d
     at_each d (inl e) =
         let (device, found, own) = cache_there devices id cache at in
         let now : epoch_in (with_cache devices id (Some left)) d ≡ left.epoch = ap epoch_of (ap (λ k. cache_of (with_cache devices id (Some left)) k) (sym e.1) ∙ cache_set devices id (Some left) device found) in
@@ -70,7 +70,7 @@ drops trusted old new id cache left at next among is =
           ∙ ap (λ (e : ℕ → ℕ). record (scene_of trusted old) { ats_entries = entries_in (with_cache old.devices id (Some left)); epoch_of = e }) (epochs_raised old.devices id cache left at next),
     )
 
-pub resets : (trusted : ℕ → Bool) (old : HardwareParts) (id : ℕ) (answer : Result (Unit {0}) Refusal) (new : HardwareParts) → Resets old id answer new
+pub resets : (trusted : ℕ → Bool) (old : HardwareParts) (id : ℕ) (answer : Result (Unit {0}) Refusal) (new : HardwareParts) → ResetsAnyDevice old id answer new
     → Comes (scene_of trusted old) (scene_of trusted new)
 resets trusted old id answer new call =
     by_device trusted is_any_kind (ClearsCache id) old id answer new call (λ done able told does. by (cache_of old.devices id) refl does.cleared)

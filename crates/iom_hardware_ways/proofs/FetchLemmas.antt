@@ -18,7 +18,7 @@ use Rattle.iom_fabric.specs.declared.message.Message.{Message as Sent}
 use Rattle.iom_fabric.specs.declared.message.Message.TheVariants as sent
 use Rattle.iom_hardware.specs.Commits.{TakesCommand}
 use Rattle.iom_hardware.specs.HardwareParts.{HardwareParts}
-use Rattle.iom_hardware.specs.Messages.{dropped_range, with_message, with_opened}
+use Rattle.iom_hardware.specs.Messages.{named_range, with_message, with_opened}
 use Rattle.iom_hardware.specs.OwnIommu.{Iommu}
 use Rattle.iom_inflight.specs.Flights.{Flights}
 use Rattle.iom_iommu.specs.Fetches.{with_store, head_entry, covers_device}
@@ -33,7 +33,7 @@ use Rattle.iom_registers.specs.declared.registers.Registers.{Registers}
 use Rattle.iom_registers.specs.Queues.{command_base, command_entries, command_head, command_tail, next_index, directory_mode, is_command_queue_on, is_command_queue_stopped, is_processing_commands, with_command_done, with_fence_w_ip, with_cqmf, with_cmd_ill}
 use Rattle.iom_tlb.specs.Covers.{are_covering}
 use Rattle.iom_tlb.specs.Invalidations.{covers_of}
-use Rattle.iom_tlb.specs.Content.{Content as Translations, Key, Drops}
+use Rattle.iom_tlb.specs.Content.{Translations, Key, DropsWhere}
 use Rattle.iom_reach.specs.Memory.{DiffersAt}
 use Rattle.iom_reach.specs.Occurrences.{AreSomeOfOr, IsPartOf, IsMemoryBy, DoCommand}
 use Rattle.iom_reach.specs.Scene.{Other}
@@ -142,7 +142,7 @@ contexts_part m (IodirInvalDdt device) old new drops key value is = by (covers_d
         gone true never = cc
         gone false never = cc
 
-translations_part : (out : Key → Bool) (old new : Translations) → Drops out old new → IsPartOf (mappings_in new) (mappings_in old)
+translations_part : (out : Key → Bool) (old new : Translations) → DropsWhere out old new → IsPartOf (mappings_in new) (mappings_in old)
 translations_part out old new drops at value is = by (out (cached_key at)) (drops (cached_key at))
   where
     by : (b : Bool) → new (cached_key at) ≡ (if b then None else old (cached_key at)) → mappings_in old at ≡ Some value
@@ -164,7 +164,7 @@ opened_among (IotinvalGvma gscid page) last fabric message there = inr there
 opened_among (IofenceC store wsi pr pw) last fabric message there = inr there
 opened_among (IodirInvalDdt device) last fabric message there = inr there
 opened_among (AtsInval device range) last fabric message there =
-    sent_among fabric device (sent.InvReq last (dropped_range range)) refl message there
+    sent_among fabric device (sent.InvReq last (named_range range)) refl message there
 
 -- A COMMAND IS DONE
 

@@ -11,7 +11,7 @@ use Rattle.iom_base.specs.declared.access.AccessKind.TheVariants.{Read, Write}
 use Rattle.iom_base.specs.declared.refusal.Refusal.{Refusal}
 use Rattle.iom_device_dir.specs.Cached.{cached_contexts}
 use Rattle.iom_tlb.specs.Chosen.{ioatc}
-use Rattle.iom_hardware.specs.Commits.{Commits, MakesAccess}
+use Rattle.iom_hardware.specs.Commits.{CommitsOldestAccess, MakesAccess}
 use Rattle.iom_hardware.specs.HardwareParts.{HardwareParts}
 use Rattle.iom_inflight.specs.Calls.{Performs, with_access}
 use Rattle.iom_inflight.specs.Flights.{NumberedAccess, FlightRow, Flights, row_of, with_row}
@@ -118,7 +118,7 @@ makes trusted old id made new does harmless =
     as_flight : MadeAt → PendingAccess
     as_flight m = record { frame = m.frame; kind = m.kind }
 
-pub commits : (trusted : ℕ → Bool) (old : HardwareParts) (id : ℕ) (answer : Result (Option MadeAt) Refusal) (new : HardwareParts) → Commits old id answer new
+pub commits : (trusted : ℕ → Bool) (old : HardwareParts) (id : ℕ) (answer : Result (Option MadeAt) Refusal) (new : HardwareParts) → CommitsOldestAccess old id answer new
     → IsMadeHarmlessly trusted old id answer → Comes (scene_of trusted old) (scene_of trusted new)
 commits trusted old id answer new call harmless =
     by_device trusted is_any_kind (MakesAccess id) old id answer new call (λ given able told does. by given told does)

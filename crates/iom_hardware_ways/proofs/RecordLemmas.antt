@@ -18,7 +18,7 @@ use Rattle.iom_fault_queue.proofs.Lists.{below}
 use Rattle.iom_inflight.specs.Flights.{FlightRow}
 use Rattle.iom_registers.specs.Queues.{fault_entries, fault_tail, is_fault_queue_on, is_fault_queue_marked, with_fqof, with_fqmf, with_record_written}
 use Rattle.iom_registers.specs.declared.registers.Registers.{Registers}
-use Rattle.iom_tlb.specs.Content.{Content as Translations}
+use Rattle.iom_tlb.specs.Content.{Translations}
 use Rattle.iom_reach.specs.Memory.{DiffersAt}
 use Rattle.iom_hardware_ways.specs.Scenes.{fault_frames_of}
 use Rattle.iom_hardware_ways.proofs.FlightLemmas.{set_differs}

@@ -4,7 +4,7 @@ use Rattle.std.specs.List.{find, position_or_len}
 use Rattle.std.proofs.lemmas.List.Folds.{find_at}
 use Rattle.std.specs.Option.{option_and_then}
 use Rattle.std.proofs.lemmas.List.Elements.{All-contains}
-use Rattle.iom_ats_cache.specs.Cache.{Cache, entry_of, frame_if_allowed, frame_for}
+use Rattle.iom_ats_cache.specs.Cache.{Cache, entry_for_page, frame_if_allowed, frame_for}
 use Rattle.iom_ats_cache.specs.declared.entry.Entry.{Entry}
 use Rattle.iom_base.specs.Accesses.{page_of, at_frame}
 use Rattle.iom_base.specs.DeviceKinds.{forges, has_cache}
@@ -22,15 +22,15 @@ use Rattle.iom_fault_queue.specs.Fields.{untranslated_of, translated_of}
 use Rattle.iom_fault_queue.specs.Records.{record_of}
 use Rattle.iom_fault_queue.specs.declared.transaction.Transaction.{Transaction}
 use Rattle.iom_hardware.specs.HardwareParts.{HardwareParts}
-use Rattle.iom_hardware.specs.Requests.{Replies, RequestsAccess, RequestsTranslated}
-use Rattle.iom_hardware.specs.ThroughCache.{frame_in_cache, LooksUp, GoesByCache, RequestsThroughCache}
+use Rattle.iom_hardware.specs.Requests.{Replies, RequestsAccess, RequestsTranslatedAccess}
+use Rattle.iom_hardware.specs.ThroughCache.{frame_in_cache, GoesByCachedFrame, GoesByCache, RequestsAccessThroughCache}
 use Rattle.iom_hardware.specs.declared.answers.CacheReply.{CacheReply}
 use Rattle.iom_hardware.specs.declared.answers.CacheReply.TheVariants.{Miss, Replied}
 use Rattle.iom_inflight.specs.Calls.{with_access}
 use Rattle.iom_inflight.specs.Flights.{Flights, row_of, with_row}
 use Rattle.iom_iommu.specs.Parts.{registers_of, contexts_of, translations_of, flights_of}
-use Rattle.iom_iommu.specs.Requests.{Accepts, Refuses, Answers, AnswersRequest, ServesRequest, faulted_of, fault_of}
-use Rattle.iom_iommu.specs.Service.{context_for, ats_context_for, ServesBy, ServesIn}
+use Rattle.iom_iommu.specs.Requests.{IommuAccepts, Refuses, Answers, AnswersRequest, ServesRequest, faulted_of, fault_of}
+use Rattle.iom_iommu.specs.Service.{context_or_cause, ats_context_for, ServesBy, ServesIn}
 use Rattle.iom_iommu.specs.Translated.{physical_page, ServesTranslated, AnswersTranslated}
 use Rattle.iom_iommu.specs.declared.reply.Reply.{Reply}
 use Rattle.iom_iommu.specs.declared.reply.Reply.TheVariants.{Accepted, Busy, Fault, BadSpan}
@@ -38,11 +38,11 @@ use Rattle.iom_registers.specs.declared.directory.DirectoryMode.{DirectoryMode}
 use Rattle.iom_registers.specs.declared.directory.DirectoryMode.TheVariants as mode
 use Rattle.iom_registers.specs.Queues.{directory_mode, directory_root}
 use Rattle.iom_stage_walk.specs.declared.walked.WalkFault.{WalkFault}
-use Rattle.iom_tlb.specs.Content.{Content as Translations, Stays}
+use Rattle.iom_tlb.specs.Content.{Translations, TranslationsStay}
 use Rattle.iom_tlb.specs.declared.trans_cache.Translation.{Translation}
 use Rattle.iom_reach.specs.Memory.{WalkStep}
 use Rattle.iom_reach.specs.Occurrences.{IsAdmitted, InModeBare, Requested, FromEntry, Forged, Accept}
-use Rattle.iom_reach.specs.Scene.{Mapping, AddressSpace, SpacePage, PendingAccess, Forges, Caches, Message, Scene, HasDevice}
+use Rattle.iom_reach.specs.Scene.{Mapping, AddressSpace, SpacePage, PendingAccess, Forges, Caches, Message, HardwareScene, HasDevice}
 use Rattle.iom_reach.specs.Ways.{WalkBegins, AtRoot, PartWay}
 use Rattle.iom_hardware_ways.specs.Formats.{context_of}
 use Rattle.iom_hardware_ways.specs.Scenes.{ats_kind, directory_by, contexts_in, mappings_in, mapping_of, kept_entry, kept_entries, flights_in, scene_of}
@@ -61,12 +61,12 @@ pub plugged : (trusted : ℕ → Bool) (old : HardwareParts) (can : DeviceKind �
 plugged trusted old can id (kind, there, able) = (ats_kind kind, ap (option_map ats_kind) there)
 
 -- what is kept of a walk is so too where other accesses and messages are under way
-begins_so : (s : Scene) (f : ℕ → List PendingAccess) (m : List Message) (space : AddressSpace) (table : ℕ) (steps_to : ℕ → List WalkStep) → WalkBegins s space table steps_to
+begins_so : (s : HardwareScene) (f : ℕ → List PendingAccess) (m : List Message) (space : AddressSpace) (table : ℕ) (steps_to : ℕ → List WalkStep) → WalkBegins s space table steps_to
     → WalkBegins (record s { in_flight = f; messages = m }) space table steps_to
 begins_so s f m space table steps_to (AtRoot device context tables find is decide root all) = AtRoot device context tables find is decide root all
 begins_so s f m space table steps_to (PartWay device there) = PartWay device there
 
-pub change_so : (s : Scene) (f : ℕ → List PendingAccess) (m : List Message) (kept : SpacePage → Option Mapping) → TranslationsChange s kept
+pub change_so : (s : HardwareScene) (f : ℕ → List PendingAccess) (m : List Message) (kept : SpacePage → Option Mapping) → TranslationsChange s kept
     → TranslationsChange (record s { in_flight = f; messages = m }) kept
 change_so s f m kept (inl part) = inl part
 change_so s f m kept (inr (space, table, steps_to, page, mapping, begins, walked, part)) =
@@ -74,7 +74,7 @@ change_so s f m kept (inr (space, table, steps_to, page, mapping, begins, walked
 
 -- AN ACCESS IS ACCEPTED
 accepted : (trusted : ℕ → Bool) (old new : HardwareParts) (id : ℕ) (access : Access) (number : ℕ) (Served : Result Translation WalkFault → Translations → Type 0)
-    → HasDevice (scene_of trusted old) id → Accepts Served old.memory old.iommu id access number new.iommu → new.memory ≡ old.memory → new.devices ≡ old.devices → new.fabric ≡ old.fabric
+    → HasDevice (scene_of trusted old) id → IommuAccepts Served old.memory old.iommu id access number new.iommu → new.memory ≡ old.memory → new.devices ≡ old.devices → new.fabric ≡ old.fabric
     → ((answer : Translation) (kept : Translations) → Served (Ok answer) kept
     → IsAdmitted (scene_of trusted old) id answer.frame access.kind × TranslationsChange (scene_of trusted old) (mappings_in kept))
     → Comes (scene_of trusted old) (scene_of trusted new)
@@ -102,7 +102,7 @@ accepted trusted old new id access number Served there accepts memory devices fa
 -- IT IS REFUSED
 refused : (trusted : ℕ → Bool) (old new : HardwareParts) (id : ℕ) (access : Access) (cause : Cause) (Served : Result Translation WalkFault → Translations → Type 0) (transaction : Transaction)
     → HasDevice (scene_of trusted old) id → Refuses Served transaction old.memory old.iommu id access cause new.memory new.iommu → new.devices ≡ old.devices → new.fabric ≡ old.fabric
-    → ((fault : WalkFault) (kept : Translations) → Served (Err fault) kept → Stays (translations_of old.iommu) kept)
+    → ((fault : WalkFault) (kept : Translations) → Served (Err fault) kept → TranslationsStay (translations_of old.iommu) kept)
     → Comes (scene_of trusted old) (scene_of trusted new)
 refused trusted old new id access cause Served transaction there refuses devices fabric why =
     let s = scene_of trusted old in
@@ -132,7 +132,7 @@ answered : (trusted : ℕ → Bool) (old new : HardwareParts) (id : ℕ) (access
     → HasDevice (scene_of trusted old) id → Replies (Answers Served transaction old.memory old.iommu id access) old reply new
     → ((answer : Translation) (kept : Translations) → Served (Ok answer) kept
     → IsAdmitted (scene_of trusted old) id answer.frame access.kind × TranslationsChange (scene_of trusted old) (mappings_in kept))
-    → ((fault : WalkFault) (kept : Translations) → Served (Err fault) kept → Stays (translations_of old.iommu) kept)
+    → ((fault : WalkFault) (kept : Translations) → Served (Err fault) kept → TranslationsStay (translations_of old.iommu) kept)
     → Comes (scene_of trusted old) (scene_of trusted new)
 answered trusted old new id access Served transaction BadSpan there replies served faults = unchanged trusted old new replies.call.1 replies.call.2 replies.devices replies.fabric
 answered trusted old new id access Served transaction Busy there replies served faults = unchanged trusted old new replies.call.2 replies.call.3 replies.devices replies.fabric
@@ -145,7 +145,7 @@ answered trusted old new id access Served transaction (Fault cause) there replie
 
 -- by the context that was found
 served_by : (trusted : ℕ → Bool) (old : HardwareParts) (id address : ℕ) (kind : AccessKind) (sure : Bool) (found : Result DeviceContext Cause) (answer : Translation) (kept : Translations)
-    → HasDevice (scene_of trusted old) id → HasDirectory trusted old → found ≡ context_for old.memory (registers_of old.iommu) (contexts_of old.iommu) id
+    → HasDevice (scene_of trusted old) id → HasDirectory trusted old → found ≡ context_or_cause old.memory (registers_of old.iommu) (contexts_of old.iommu) id
     → ServesBy sure found old.memory address kind (translations_of old.iommu) (Ok answer) kept
     → IsAdmitted (scene_of trusted old) id answer.frame kind × TranslationsChange (scene_of trusted old) (mappings_in kept)
 served_by trusted old id address kind sure (Err cause) answer kept there directory is (told, stays) = absurd (cc)
@@ -156,28 +156,28 @@ served_by trusted old id address kind sure (Ok context) answer kept there direct
 
 served_in : (trusted : ℕ → Bool) (old : HardwareParts) (id address : ℕ) (kind : AccessKind) (sure : Bool) (answer : Translation) (kept : Translations)
     → HasDevice (scene_of trusted old) id → (m : DirectoryMode) → m ≡ directory_mode (registers_of old.iommu)
-    → ServesIn sure m (context_for old.memory (registers_of old.iommu) (contexts_of old.iommu) id) old.memory address kind (translations_of old.iommu) (Ok answer) kept
+    → ServesIn sure m (context_or_cause old.memory (registers_of old.iommu) (contexts_of old.iommu) id) old.memory address kind (translations_of old.iommu) (Ok answer) kept
     → IsAdmitted (scene_of trusted old) id answer.frame kind × TranslationsChange (scene_of trusted old) (mappings_in kept)
 served_in trusted old id address kind sure answer kept there mode.Off is (told, stays) = absurd (cc)
 served_in trusted old id address kind sure answer kept there mode.Bare is (told, stays) =
     (InModeBare there (ap (λ k. directory_by k (directory_root (registers_of old.iommu))) (sym is)), inl (stays_shown (translations_of old.iommu) kept stays))
 served_in trusted old id address kind sure answer kept there mode.OneLevel is serves =
-    served_by trusted old id address kind sure (context_for old.memory (registers_of old.iommu) (contexts_of old.iommu) id) answer kept there
+    served_by trusted old id address kind sure (context_or_cause old.memory (registers_of old.iommu) (contexts_of old.iommu) id) answer kept there
     (record { root = directory_root (registers_of old.iommu); levels = 1 }, ap (λ k. directory_by k (directory_root (registers_of old.iommu))) (sym is)) refl serves
 served_in trusted old id address kind sure answer kept there mode.TwoLevels is serves =
-    served_by trusted old id address kind sure (context_for old.memory (registers_of old.iommu) (contexts_of old.iommu) id) answer kept there
+    served_by trusted old id address kind sure (context_or_cause old.memory (registers_of old.iommu) (contexts_of old.iommu) id) answer kept there
     (record { root = directory_root (registers_of old.iommu); levels = 2 }, ap (λ k. directory_by k (directory_root (registers_of old.iommu))) (sym is)) refl serves
 served_in trusted old id address kind sure answer kept there mode.ThreeLevels is serves =
-    served_by trusted old id address kind sure (context_for old.memory (registers_of old.iommu) (contexts_of old.iommu) id) answer kept there
+    served_by trusted old id address kind sure (context_or_cause old.memory (registers_of old.iommu) (contexts_of old.iommu) id) answer kept there
     (record { root = directory_root (registers_of old.iommu); levels = 3 }, ap (λ k. directory_by k (directory_root (registers_of old.iommu))) (sym is)) refl serves
 
 pub faults_by : (sure : Bool) (found : Result DeviceContext Cause) (memory : List (List ℕ)) (address : ℕ) (kind : AccessKind) (old : Translations) (fault : WalkFault) (kept : Translations)
-    → ServesBy sure found memory address kind old (Err fault) kept → Stays old kept
+    → ServesBy sure found memory address kind old (Err fault) kept → TranslationsStay old kept
 faults_by sure (Err cause) memory address kind old fault kept (told, stays) = stays
 faults_by sure (Ok context) memory address kind old fault kept serves = faulted_by context context.first_stage context.second_stage sure memory address kind old kept fault serves
 
 faults_in : (sure : Bool) (m : DirectoryMode) (found : Result DeviceContext Cause) (memory : List (List ℕ)) (address : ℕ) (kind : AccessKind) (old : Translations) (fault : WalkFault) (kept : Translations)
-    → ServesIn sure m found memory address kind old (Err fault) kept → Stays old kept
+    → ServesIn sure m found memory address kind old (Err fault) kept → TranslationsStay old kept
 faults_in sure mode.Off found memory address kind old fault kept (told, stays) = stays
 faults_in sure mode.Bare found memory address kind old fault kept (told, stays) = stays
 faults_in sure mode.OneLevel found memory address kind old fault kept serves = faults_by sure found memory address kind old fault kept serves
@@ -190,7 +190,7 @@ requests trusted can old id access answer new call =
     by_device trusted can (λ old reply new. Replies (AnswersRequest old.memory old.iommu id access) old reply new) old id answer new call
     (λ reply able told replies. answered trusted old new id access (ServesRequest old.memory old.iommu id access) (untranslated_of access.kind) reply (plugged trusted old can id able) replies
     (λ found kept serves. served_in trusted old id access.address access.kind true found kept (plugged trusted old can id able) (directory_mode (registers_of old.iommu)) refl serves)
-    (λ fault kept serves. faults_in true (directory_mode (registers_of old.iommu)) (context_for old.memory (registers_of old.iommu) (contexts_of old.iommu) id) old.memory access.address access.kind
+    (λ fault kept serves. faults_in true (directory_mode (registers_of old.iommu)) (context_or_cause old.memory (registers_of old.iommu) (contexts_of old.iommu) id) old.memory access.address access.kind
     (translations_of old.iommu) fault kept serves))
 
 -- TRANSLATED REQUESTS
@@ -218,7 +218,7 @@ forges_all kinds.Block able = absurd (cc)
 forges_all kinds.CachedBlock able = absurd (cc)
 
 pub requests_translated : (trusted : ℕ → Bool) (old : HardwareParts) (id : ℕ) (access : Access) (answer : Result Reply Refusal) (new : HardwareParts)
-    → RequestsTranslated old id access answer new → Comes (scene_of trusted old) (scene_of trusted new)
+    → RequestsTranslatedAccess old id access answer new → Comes (scene_of trusted old) (scene_of trusted new)
 requests_translated trusted old id access answer new call =
     by_device trusted forges (λ old reply new. Replies (AnswersTranslated old.memory old.iommu id access) old reply new) old id answer new call
     (λ reply able told replies. translated trusted old id access (plugged trusted old forges id able)
@@ -274,14 +274,14 @@ back_at : (frame offset : ℕ) → (frame * 4096 + offset % 4096) / 4096 ≡ fra
 back_at frame offset = omega arith
 
 goes_by_cache : (trusted : ℕ → Bool) (old : HardwareParts) (id : ℕ) (access : Access) (there : HasDevice (scene_of trusted old) id) → HaveTheirCaches old.devices
-    → (found : Option ℕ) → found ≡ frame_in_cache old id access → (reply : CacheReply) (new : HardwareParts) → LooksUp found id access old reply new
+    → (found : Option ℕ) → found ≡ frame_in_cache old id access → (reply : CacheReply) (new : HardwareParts) → GoesByCachedFrame found id access old reply new
     → Comes (scene_of trusted old) (scene_of trusted new)
 goes_by_cache trusted old id access there caches None is Miss new same = nothing (scene_of trusted old) (scene_of trusted new) (ap (scene_of trusted) same)
 goes_by_cache trusted old id access there caches None is (Replied reply) new never = absurd never
 goes_by_cache trusted old id access there caches (Some frame) is Miss new never = absurd never
 goes_by_cache trusted old id access there caches (Some frame) is (Replied reply) new replies =
     let (cache, at, gives) = cache_gives old.devices id (page_of access) access.kind frame (sym is) in
-    let (entry, found, same, allowed) = entry_gives (entry_of cache.entries (page_of access)) access.kind frame gives in
+    let (entry, found, same, allowed) = entry_gives (entry_for_page cache.entries (page_of access)) access.kind frame gives in
     let kept : Contains (map kept_entry cache.entries) (kept_entry entry) =
     contains_map kept_entry cache.entries entry (found_there (λ (e : Entry). e.page == page_of access) cache.entries entry found) in
     translated trusted old id (at_frame frame access) there
@@ -292,7 +292,7 @@ goes_by_cache trusted old id access there caches (Some frame) is (Replied reply)
     reply new replies
 
 pub requests_through_cache : (trusted : ℕ → Bool) (can : DeviceKind → Bool) (old : HardwareParts) (id : ℕ) (access : Access) (answer : Result CacheReply Refusal) (new : HardwareParts)
-    → HaveTheirCaches old.devices → RequestsThroughCache can old id access answer new → Comes (scene_of trusted old) (scene_of trusted new)
+    → HaveTheirCaches old.devices → RequestsAccessThroughCache can old id access answer new → Comes (scene_of trusted old) (scene_of trusted new)
 requests_through_cache trusted can old id access answer new caches call =
     by_device trusted can (GoesByCache id access) old id answer new call (λ reply able told goes. by reply (plugged trusted old can id able) goes)
   where

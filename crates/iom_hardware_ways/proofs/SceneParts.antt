@@ -10,12 +10,12 @@ use Rattle.iom_inflight.specs.Flights.{FlightRow, row_of}
 use Rattle.iom_iommu.specs.Parts.{registers_of, contexts_of, translations_of, flights_of}
 use Rattle.iom_registers.specs.declared.registers.Registers.{Registers}
 use Rattle.iom_registers.specs.Queues.{directory_mode, directory_root}
-use Rattle.iom_tlb.specs.Content.{Content as Translations}
-use Rattle.iom_reach.specs.Scene.{Scene}
+use Rattle.iom_tlb.specs.Content.{Translations}
+use Rattle.iom_reach.specs.Scene.{HardwareScene}
 use Rattle.iom_hardware_ways.specs.Formats.{formats}
 use Rattle.iom_hardware_ways.specs.Scenes.{directory_by, waiting_places, fault_frames_of, ats_kind, contexts_in, mappings_in, kept_entries, message_of, flights_in, scene_of}
 
-abbrev pub scene_by : (ℕ → Bool) → List (List ℕ) → Registers → Content ℕ DeviceContext → Translations → List FlightRow → List Device → List OnLink → Scene
+abbrev pub scene_by : (ℕ → Bool) → List (List ℕ) → Registers → Content ℕ DeviceContext → Translations → List FlightRow → List Device → List OnLink → HardwareScene
 scene_by trusted memory r contexts translations rows devices fabric = record {
   formats = formats;
   memory = slice_get memory;

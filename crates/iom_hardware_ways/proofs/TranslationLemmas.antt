@@ -21,14 +21,14 @@ use Rattle.iom_stage_walk.specs.Entries.{entries}
 use Rattle.iom_stage_walk.specs.Paths.{first_widths, first_path, ReachesFirst, StopsFirst}
 use Rattle.iom_stage_walk.specs.Second.{second_widths, second_path, ReachesSecond, StopsSecond}
 use Rattle.iom_stage_walk.proofs.ServesBoth.{both_writes}
-use Rattle.iom_tlb.specs.Content.{Key, Content as Translations, Stays, Sets}
+use Rattle.iom_tlb.specs.Content.{Key, Translations, TranslationsStay, Sets}
 use Rattle.iom_tlb.specs.declared.space.Space.{Space}
 use Rattle.iom_tlb.specs.declared.space.Space.TheVariants as space
 use Rattle.iom_tlb.specs.declared.trans_cache.Translation.{Translation}
 use Rattle.iom_tlb.proofs.KeyLemmas.{one_or_other}
 use Rattle.iom_reach.specs.Memory.{WalkStep}
 use Rattle.iom_reach.specs.Occurrences.{IsPartOf, IsPartWith, WalkGives, TranslatesTo, ToItself, ByCache, ByWalk}
-use Rattle.iom_reach.specs.Scene.{Mapping, AddressSpace, First as InFirst, Second as InSecond, Both as InBoth, SpacePage, Context, Scene}
+use Rattle.iom_reach.specs.Scene.{Mapping, AddressSpace, First as InFirst, Second as InSecond, Both as InBoth, SpacePage, Context, HardwareScene}
 use Rattle.iom_reach.specs.Ways.{space_of, tables_of, MayFind, WalkBegins, AtRoot}
 use Rattle.iom_hardware_ways.specs.Formats.{steps_along, steps_in, stages_in, context_of}
 use Rattle.iom_hardware_ways.specs.Scenes.{cached_space, cached_key, mapping_from, mapping_of, mappings_in, scene_of}
@@ -58,7 +58,7 @@ same_page one other same =
 
 -- CACHED TRANSLATIONS
 
-pub stays_shown : (old new : Translations) → Stays old new → IsPartOf (mappings_in new) (mappings_in old)
+pub stays_shown : (old new : Translations) → TranslationsStay old new → IsPartOf (mappings_in new) (mappings_in old)
 stays_shown old new stays at value is = ap (option_map mapping_of) (sym (stays (cached_key at))) ∙ is
 
 none_mapped : (cached : Option Translation) (value : Mapping) → cached ≡ None → option_map mapping_of cached ≡ Some value → ⊥
@@ -94,7 +94,7 @@ used (Some found) kind own is = by (allows found.rights kind) refl is
 -- WALKS
 
 -- what a walk of the context's stages reaches is what a walk of a scene gives, and allows the access
-abbrev IsWalkOf : Scene → ℕ → (ℕ → List WalkStep) → AccessKind → Walked → Type 0
+abbrev IsWalkOf : HardwareScene → ℕ → (ℕ → List WalkStep) → AccessKind → Walked → Type 0
 IsWalkOf scene table steps_to kind walked = WalkGives scene table steps_to (mapping_of (translation_of walked)) × (allows walked.rights kind ≡ true)
 
 first_walked : (trusted : ℕ → Bool) (parts : HardwareParts) (levels root address : ℕ) (kind : AccessKind) (walked : Walked)
@@ -132,7 +132,7 @@ both_walked trusted parts levels levels' guest root address kind walked reaches 
 -- WHAT IS ANSWERED
 
 -- the page is translated so, for an access that the right allows, and these are cached then
-pub record IsAnswered (scene : Scene) (context : Context) (page : ℕ) (kind : AccessKind) (answer : Translation) (kept : SpacePage → Option Mapping) : Type 0 where
+pub record IsAnswered (scene : HardwareScene) (context : Context) (page : ℕ) (kind : AccessKind) (answer : Translation) (kept : SpacePage → Option Mapping) : Type 0 where
   pub translates : TranslatesTo scene context page (mapping_of answer)
   pub allowed : allows answer.rights kind ≡ true
   pub change : TranslationsChange scene kept
@@ -226,12 +226,12 @@ answered_by trusted parts id context (first.Tables size guest) (second.Tables si
 
 -- a fault keeps nothing
 faulted : (Reaches : Walked → Type 0) (Stops : WalkFault → Type 0) (sure : Bool) (key : Key) (old new : Translations) (fault : WalkFault) (cached : Option Translation)
-    → LooksOrWalks sure cached Reaches Stops key old (Err fault) new → Stays old new
+    → LooksOrWalks sure cached Reaches Stops key old (Err fault) new → TranslationsStay old new
 faulted Reaches Stops sure key old new fault None (stops, stays) = stays
 faulted Reaches Stops sure key old new fault (Some own) (told, stays) = stays
 
 pub faulted_by : (context : DeviceContext) (one : First) (two : Second) (sure : Bool) (memory : List (List ℕ)) (address : ℕ) (kind : AccessKind) (old new : Translations) (fault : WalkFault)
-    → TranslatesBy sure one two context memory address kind old (Err fault) new → Stays old new
+    → TranslatesBy sure one two context memory address kind old (Err fault) new → TranslationsStay old new
 faulted_by context first.Bare second.Bare sure memory address kind old new fault (told, stays) = stays
 faulted_by context (first.Tables size root) second.Bare sure memory address kind old new fault serves =
     faulted (ReachesFirst (levels_of size) memory root.number address kind) (StopsFirst (levels_of size) memory root.number address kind) sure (first_key context address) old new fault

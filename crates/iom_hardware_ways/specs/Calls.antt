@@ -3,14 +3,14 @@ use Rattle.std.specs.Prelude.{◌≡◌, ℕ, ◌+◌, Bool, List, [], ◌∷◌
 use Rattle.iom_base.specs.declared.access.Access.{Access}
 use Rattle.iom_base.specs.declared.refusal.Refusal.{Refusal}
 use Rattle.iom_fabric.specs.declared.fabric.Repeat.{Repeat as Repeated}
-use Rattle.iom_hardware.specs.Commits.{Commits, Resets, TakesCommand, GivesUpFence}
-use Rattle.iom_hardware.specs.Deliveries.{Delivers}
+use Rattle.iom_hardware.specs.Commits.{CommitsOldestAccess, ResetsAnyDevice, TakesCommand, GivesUpFence}
+use Rattle.iom_hardware.specs.Deliveries.{DeliversAtPlace}
 use Rattle.iom_hardware.specs.HardwareParts.{HardwareParts}
 use Rattle.iom_hardware.specs.Messages.{AsksTranslation, ClaimsCompletion, LosesMessage, CopiesMessage}
-use Rattle.iom_hardware.specs.Requests.{RequestsAccess, RequestsTranslated}
+use Rattle.iom_hardware.specs.Requests.{RequestsAccess, RequestsTranslatedAccess}
 use Rattle.iom_hardware.specs.Senders.{untranslated_by, cached_by}
 use Rattle.iom_hardware.specs.Sound.{IsSoundHardware}
-use Rattle.iom_hardware.specs.ThroughCache.{RequestsThroughCache}
+use Rattle.iom_hardware.specs.ThroughCache.{RequestsAccessThroughCache}
 use Rattle.iom_hardware.specs.declared.answers.CacheReply.{CacheReply}
 use Rattle.iom_hardware.specs.declared.answers.Delivered.{Delivered}
 use Rattle.iom_hardware.specs.declared.sender.Sender.{Sender}
@@ -37,17 +37,17 @@ pub data HardwareCall : Type 0 where
 -- what each does is said of hardware itself
 abbrev pub CallDoes : HardwareCall → HardwareParts → HardwareParts → Type 0
 CallDoes (Request sender id access answer) old new = RequestsAccess (untranslated_by sender) old id access answer new
-CallDoes (Translated id access answer) old new = RequestsTranslated old id access answer new
-CallDoes (ThroughCache sender id access answer) old new = RequestsThroughCache (cached_by sender) old id access answer new
+CallDoes (Translated id access answer) old new = RequestsTranslatedAccess old id access answer new
+CallDoes (ThroughCache sender id access answer) old new = RequestsAccessThroughCache (cached_by sender) old id access answer new
 CallDoes (Ask id page answer) old new = AsksTranslation old id page answer new
 CallDoes (Forge id serial answer) old new = ClaimsCompletion old id serial answer new
 CallDoes (Fetch fetched) old new = TakesCommand old fetched new
 CallDoes (Timeout has_effect) old new = GivesUpFence old has_effect new
-CallDoes (Deliver place delivered) old new = Delivers old place delivered new
+CallDoes (Deliver place delivered) old new = DeliversAtPlace old place delivered new
 CallDoes (Drop place found) old new = LosesMessage old place found new
 CallDoes (Repeat place repeated) old new = CopiesMessage old place repeated new
-CallDoes (Commit id answer) old new = Commits old id answer new
-CallDoes (Reset id answer) old new = Resets old id answer new
+CallDoes (Commit id answer) old new = CommitsOldestAccess old id answer new
+CallDoes (Reset id answer) old new = ResetsAnyDevice old id answer new
 
 -- a device that software trusts writes nothing of what hardware reads
 abbrev pub IsMadeHarmlessly : (ℕ → Bool) → HardwareParts → ℕ → Result (Option MadeAt) Refusal → Type 0

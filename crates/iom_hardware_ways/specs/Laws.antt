@@ -12,7 +12,7 @@ use Rattle.iom_stage_walk.specs.declared.walked.Walked.{Walked}
 use Rattle.iom_stage_walk.specs.Paths.{ReachesFirst, IsInMemory, path_of, first_widths}
 use Rattle.iom_stage_walk.specs.Second.{ReachesSecond, second_widths}
 use Rattle.iom_stage_walk.specs.Both.{ReachesBoth}
-use Rattle.iom_hardware.specs.Commits.{Commits}
+use Rattle.iom_hardware.specs.Commits.{CommitsOldestAccess}
 use Rattle.iom_hardware.specs.HardwareParts.{HardwareParts, hardware_parts}
 use Rattle.iom_hardware.specs.PowerOn.{IsHardwareAtPowerOn}
 use Rattle.iom_hardware.specs.Sound.{IsSoundHardware}
@@ -24,7 +24,7 @@ use Rattle.iom_reach.specs.Memory.{Tables, Ends}
 use Rattle.iom_reach.specs.Occurrences.{Occurrence, ComeInTurn}
 use Rattle.iom_reach.specs.Safe.{IsSafe, AreTimely}
 use Rattle.iom_reach.specs.Scene.{Mapping, Context, At}
-use Rattle.iom_reach.specs.Ways.{LeadsTo, Way}
+use Rattle.iom_reach.specs.Ways.{LeadsToMapping, Way}
 use Rattle.iom_hardware_ways.specs.Formats.{steps_along, steps_of, context_of, formats}
 use Rattle.iom_hardware_ways.specs.Scenes.{directory_by, mapping_from, scene_of}
 use Rattle.iom_hardware_ways.specs.Calls.{HardwareCall, CallDoes, DoesHarmlessly, IsMadeHarmlessly, DoInTurn}
@@ -39,32 +39,32 @@ without_guest mapping = record { frame = mapping.frame; rights = mapping.rights;
 abbrev pub FirstStagesLead : Type 0
 FirstStagesLead = (levels : ℕ) (memory : List (List ℕ)) (root address : ℕ) (kind : AccessKind) (walked : Walked)
     → ReachesFirst levels memory root address kind walked
-    → LeadsTo formats (slice_get memory) root (λ page. steps_along (first_widths levels) page) (mapping_from walked.frame walked.rights)
+    → LeadsToMapping formats (slice_get memory) root (λ page. steps_along (first_widths levels) page) (mapping_from walked.frame walked.rights)
 
 -- the same of a second stage
 abbrev pub SecondStagesLead : Type 0
 SecondStagesLead = (levels : ℕ) (memory : List (List ℕ)) (root address : ℕ) (kind : AccessKind) (walked : Walked)
     → ReachesSecond levels memory root address kind walked
-    → LeadsTo formats (slice_get memory) root (λ page. steps_along (second_widths levels) page) (mapping_from walked.frame walked.rights)
+    → LeadsToMapping formats (slice_get memory) root (λ page. steps_along (second_widths levels) page) (mapping_from walked.frame walked.rights)
 
 -- of both a walk of the second leads to the frame, and allows at least as much
 abbrev pub BothStagesLead : Type 0
 BothStagesLead = (levels levels' : ℕ) (memory : List (List ℕ)) (guest root address : ℕ) (kind : AccessKind) (walked : Walked)
     → ReachesBoth levels levels' memory guest root address kind walked
-    → (rights : Rights) × LeadsTo formats (slice_get memory) root (λ page. steps_along (second_widths levels') page) (mapping_from walked.frame rights)
+    → (rights : Rights) × LeadsToMapping formats (slice_get memory) root (λ page. steps_along (second_widths levels') page) (mapping_from walked.frame rights)
     × ((k : AccessKind) → allows walked.rights k ≡ true → allows rights k ≡ true)
 
 -- And the other way round: to each mapping within memory to which a walk by the formats leads the path of some address reaches, for each kind of access that
 -- it allows. So no leaf is one too many
 abbrev pub FirstStagesAreReached : Type 0
 FirstStagesAreReached = (size : Size) (memory : List (List ℕ)) (root : ℕ) (kind : AccessKind) (mapping : Mapping)
-    → LeadsTo formats (slice_get memory) root (λ page. steps_along (first_widths (levels_of size)) page) mapping
+    → LeadsToMapping formats (slice_get memory) root (λ page. steps_along (first_widths (levels_of size)) page) mapping
     → IsInMemory memory mapping.frame → allows mapping.rights kind ≡ true
     → (address : ℕ) × ReachesFirst (levels_of size) memory root address kind (without_guest mapping)
 
 abbrev pub SecondStagesAreReached : Type 0
 SecondStagesAreReached = (size : Size) (memory : List (List ℕ)) (root : ℕ) (kind : AccessKind) (mapping : Mapping)
-    → LeadsTo formats (slice_get memory) root (λ page. steps_along (second_widths (levels_of size)) page) mapping
+    → LeadsToMapping formats (slice_get memory) root (λ page. steps_along (second_widths (levels_of size)) page) mapping
     → IsInMemory memory mapping.frame → allows mapping.rights kind ≡ true
     → (address : ℕ) × ReachesSecond (levels_of size) memory root address kind (without_guest mapping)
 
@@ -116,7 +116,7 @@ CallsAddNoWay = (trusted : ℕ → Bool) (calls : List HardwareCall) (events : �
 
 -- a commit makes this access, and a device that is trusted makes it harmlessly
 abbrev pub MakesIn : (ℕ → Bool) → HardwareParts → ℕ → MadeAt → HardwareParts → Type 0
-MakesIn trusted old id made new = Commits old id (Ok (Some made)) new × IsMadeHarmlessly trusted old id (Ok (Some made))
+MakesIn trusted old id made new = CommitsOldestAccess old id (Ok (Some made)) new × IsMadeHarmlessly trusted old id (Ok (Some made))
 
 -- each access that is made after any list of calls had its way at the beginning
 abbrev pub MadeAccessesHadWays : Type 0

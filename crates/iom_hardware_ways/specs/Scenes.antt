@@ -27,8 +27,8 @@ use Rattle.iom_registers.specs.Queues.{command_base, command_entries, command_he
 use Rattle.iom_tlb.specs.declared.space.Space.{Space}
 use Rattle.iom_tlb.specs.declared.space.Space.TheVariants as space
 use Rattle.iom_tlb.specs.declared.trans_cache.Translation.{Translation}
-use Rattle.iom_tlb.specs.Content.{Key, Content as Translations}
-use Rattle.iom_reach.specs.Scene.{Mapping, AddressSpace, First, Second, Both, Context, Directory, Off, Bare, At, AtsKind, Forges, Caches, Plain, SpacePage, AtsEntry, PendingAccess, Message, Question, Answer, Other, Place, Scene}
+use Rattle.iom_tlb.specs.Content.{Key, Translations}
+use Rattle.iom_reach.specs.Scene.{Mapping, AddressSpace, First, Second, Both, Context, Directory, Off, Bare, At, AtsKind, Forges, Caches, Plain, SpacePage, AtsEntry, PendingAccess, Message, Question, Answer, Other, Place, HardwareScene}
 use Rattle.iom_hardware_ways.specs.Formats.{context_of, formats}
 
 -- ddtp
@@ -114,7 +114,7 @@ abbrev pub mappings_in : Translations → SpacePage → Option Mapping
 mappings_in content at = option_map mapping_of (content (cached_key at))
 
 -- THE SCENE of hardware, where software entrusts these devices with all memory. Walks are whole, so no part of one is under way; and no pointer is cached
-abbrev pub scene_of : (ℕ → Bool) → HardwareParts → Scene
+abbrev pub scene_of : (ℕ → Bool) → HardwareParts → HardwareScene
 scene_of trusted parts = record {
   formats = formats;
   memory = slice_get parts.memory;

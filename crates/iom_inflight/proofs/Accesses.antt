@@ -7,28 +7,28 @@ use Rattle.iom_base.specs.declared.access.AccessKind.{AccessKind}
 use Rattle.circular_buffer.specs.Buffer.{Buffer, buffer, keep_last}
 use Rattle.iom_inflight.specs.declared.header.AccessHeader.{AccessHeader}
 use Rattle.iom_inflight.specs.Flights.{made_in, has_access, first_made, is_awaited}
-use Rattle.iom_inflight.specs.Rings.{kept_bytes, access_with, accesses_of, bytes_kept, AreShort, AreRings, is_header_awaited}
+use Rattle.iom_inflight.specs.Rings.{kept_bytes, access_with, accesses_with_bytes, bytes_kept, AreShort, AreRings, is_header_awaited}
 
 -- each header has its access
-pub length-accesses_of : (waiting : List AccessHeader) (bytes : List ℕ) → length (accesses_of waiting bytes) ≡ length waiting
+pub length-accesses_of : (waiting : List AccessHeader) (bytes : List ℕ) → length (accesses_with_bytes waiting bytes) ≡ length waiting
 length-accesses_of [] bytes = refl
 length-accesses_of (a ∷ later) bytes = ap suc (length-accesses_of later (drop (kept_bytes a.kind a.len) bytes))
 
 -- there is an access where there is a header
-pub has_access_of : (waiting : List AccessHeader) (bytes : List ℕ) → has_access (accesses_of waiting bytes) ≡ not (length waiting == 0)
+pub has_access_of : (waiting : List AccessHeader) (bytes : List ℕ) → has_access (accesses_with_bytes waiting bytes) ≡ not (length waiting == 0)
 has_access_of [] bytes = refl
 has_access_of (a ∷ later) bytes = elim (eqb_tells (suc (length later)) 0) [ inl e ↦ absurd (omega (arith, e.1)) | inr ne ↦ sym (ap not ne.0) ]
 
 -- the oldest access is that of the oldest header
 pub oldest_of : (device : ℕ) (waiting : List AccessHeader) (bytes : List ℕ)
-    → first_made device (accesses_of waiting bytes)
+    → first_made device (accesses_with_bytes waiting bytes)
     ≡ option_map (λ (a : AccessHeader). record { device = device; frame = a.frame; offset = a.address % 4096; len = a.len; kind = a.kind }) (slice_get waiting 0)
 oldest_of device [] bytes = refl
 oldest_of device (a ∷ later) bytes = refl
 
 -- the access at a place is that of the header there
 pub made_of : (device place : ℕ) (waiting : List AccessHeader) (bytes : List ℕ)
-    → made_in device (accesses_of waiting bytes) place
+    → made_in device (accesses_with_bytes waiting bytes) place
     ≡ option_map (λ (a : AccessHeader). record { device = device; frame = a.frame; offset = a.address % 4096; len = a.len; kind = a.kind }) (slice_get waiting place)
 made_of device place [] bytes = refl
 made_of device zero (a ∷ later) bytes = refl
@@ -36,22 +36,22 @@ made_of device (suc place) (a ∷ later) bytes = made_of device place later (dro
 
 -- none is awaited where no header is
 pub drained_of : (before : ℕ) (kind : AccessKind) (waiting : List AccessHeader) (bytes : List ℕ)
-    → list_all (λ a. not (is_header_awaited before kind a)) waiting ≡ list_all (λ a. not (is_awaited before kind a)) (accesses_of waiting bytes)
+    → list_all (λ a. not (is_header_awaited before kind a)) waiting ≡ list_all (λ a. not (is_awaited before kind a)) (accesses_with_bytes waiting bytes)
 drained_of before kind [] bytes = refl
 drained_of before kind (a ∷ later) bytes =
     ap (λ rest. not (is_header_awaited before kind a) && rest) (drained_of before kind later (drop (kept_bytes a.kind a.len) bytes))
 
 -- one more at the end
 pub accesses_of-append : (waiting : List AccessHeader) (a : AccessHeader) (bytes own : List ℕ) → length bytes ≡ bytes_kept waiting → length own ≡ kept_bytes a.kind a.len
-    → accesses_of (waiting ++ a ∷ []) (bytes ++ own) ≡ accesses_of waiting bytes ++ access_with a own ∷ []
+    → accesses_with_bytes (waiting ++ a ∷ []) (bytes ++ own) ≡ accesses_with_bytes waiting bytes ++ access_with a own ∷ []
 accesses_of-append [] a [] own all long = ap (λ bs. access_with a bs ∷ []) (take_all (kept_bytes a.kind a.len) own (omega (arith, long)))
 accesses_of-append [] a (b ∷ bytes) own all long = absurd (omega (arith, all))
 accesses_of-append (first ∷ later) a bytes own all long =
     let kept : ℕ = kept_bytes first.kind first.len in
     let enough : kept ≤ length bytes = omega (arith, all) in
     let rest : length (drop kept bytes) ≡ bytes_kept later = omega (arith, length-drop kept bytes, all) in
-    ap (λ bs. access_with first bs ∷ accesses_of (later ++ a ∷ []) (drop kept (bytes ++ own))) (take-append-le kept bytes own enough)
-    ∙ ap (λ bs. access_with first (take kept bytes) ∷ accesses_of (later ++ a ∷ []) bs) (drop-append-le kept bytes own enough)
+    ap (λ bs. access_with first bs ∷ accesses_with_bytes (later ++ a ∷ []) (drop kept (bytes ++ own))) (take-append-le kept bytes own enough)
+    ∙ ap (λ bs. access_with first (take kept bytes) ∷ accesses_with_bytes (later ++ a ∷ []) bs) (drop-append-le kept bytes own enough)
     ∙ ap (λ rest. access_with first (take kept bytes) ∷ rest) (accesses_of-append later a (drop kept bytes) own rest long)
 
 -- the bytes that are kept with one more
@@ -109,10 +109,10 @@ rings_after_read waiting now bytes a rings kept is few = rw (pushed waiting now 
 -- it goes last
 pub accesses_after_read : (waiting now : Buffer AccessHeader) (bytes : Buffer ℕ) (a : AccessHeader) → AreRings waiting bytes → kept_bytes a.kind a.len ≡ 0
     → now ≡ buffer (keep_last waiting.capacity (waiting.items ++ a ∷ [])) waiting.capacity → length waiting.items < 8
-    → accesses_of now.items bytes.items ≡ accesses_of waiting.items bytes.items ++ access_with a [] ∷ []
+    → accesses_with_bytes now.items bytes.items ≡ accesses_with_bytes waiting.items bytes.items ++ access_with a [] ∷ []
 accesses_after_read waiting now bytes a rings kept is few =
-    ap (λ (w : Buffer AccessHeader). accesses_of w.items bytes.items) (pushed waiting now a is rings.places few)
-    ∙ ap (λ bs. accesses_of (waiting.items ++ a ∷ []) bs) (sym (append-nil bytes.items))
+    ap (λ (w : Buffer AccessHeader). accesses_with_bytes w.items bytes.items) (pushed waiting now a is rings.places few)
+    ∙ ap (λ bs. accesses_with_bytes (waiting.items ++ a ∷ []) bs) (sym (append-nil bytes.items))
     ∙ accesses_of-append waiting.items a bytes.items [] rings.all_kept (sym kept)
 
 module _ (waiting now : Buffer AccessHeader) (bytes then : Buffer ℕ) (a : AccessHeader) (own : List ℕ) (count : ℕ) (rings : AreRings waiting bytes) (kept : length own ≡ kept_bytes a.kind a.len) (le : length own ≤ 4096)
@@ -126,6 +126,6 @@ module _ (waiting now : Buffer AccessHeader) (bytes then : Buffer ℕ) (a : Acce
   rings_after_write = rw (pushed waiting now a is rings.places few, written) (rings_after waiting bytes a own rings (omega (arith, kept, le)) kept)
 
   -- it goes last, with them
-  pub accesses_after_write : accesses_of now.items then.items ≡ accesses_of waiting.items bytes.items ++ access_with a own ∷ []
+  pub accesses_after_write : accesses_with_bytes now.items then.items ≡ accesses_with_bytes waiting.items bytes.items ++ access_with a own ∷ []
   accesses_after_write =
       rw (pushed waiting now a is rings.places few, written) (accesses_of-append waiting.items a bytes.items own rings.all_kept kept)

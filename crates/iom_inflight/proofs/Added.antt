@@ -1,11 +1,11 @@
 -- What is left where a spare row becomes that of a device.
 use Rattle.std.proofs.Common.{◌≡◌, ◌+◌, ◌∙◌, ◌++◌, ℕ, false, List, [], ◌∷◌, length, Option, Some, None, is_some, MatchOption, Result, Ok, Err, is_ok, sym, ap, arith, subst, length-append, if◌then◌else◌}
 use Rattle.iom_inflight.specs.Flights.{FlightRow, new_row, row_of}
-use Rattle.iom_inflight.specs.Rows.{StandsAt}
+use Rattle.iom_inflight.specs.Rows.{RowStandsAt}
 use Rattle.iom_inflight.specs.Sound.{AreFlights}
 use Rattle.iom_inflight.proofs.Kept.{sound_added}
 
-pub none_found : (rows : List FlightRow) (device : ℕ) (found : Option ℕ) → false ≡ is_some found → MatchOption found (row_of rows device ≡ None) (StandsAt rows device) → row_of rows device ≡ None
+pub none_found : (rows : List FlightRow) (device : ℕ) (found : Option ℕ) → false ≡ is_some found → MatchOption found (row_of rows device ≡ None) (RowStandsAt rows device) → row_of rows device ≡ None
 none_found rows device None is found = found
 none_found rows device (Some place) is found = cc
 

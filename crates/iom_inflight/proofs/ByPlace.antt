@@ -6,8 +6,8 @@ use Rattle.iom_base.specs.Accesses.{IsWithinPage}
 use Rattle.iom_base.specs.declared.access.AcceptedAccess.{AcceptedAccess}
 use Rattle.iom_inflight.specs.declared.made.MadeAt.{MadeAt}
 use Rattle.iom_inflight.specs.Flights.{NumberedAccess, FlightRow, Flights, row_of, with_row, made_at}
-use Rattle.iom_inflight.specs.Calls.{with_access, with_accepted, IsAccepted, Accepts, Makes, IsFirstIn, IsReady}
-use Rattle.iom_inflight.specs.Rows.{StandsAt, RowAccepts, RowMakes, IsMakeable}
+use Rattle.iom_inflight.specs.Calls.{with_access, flights_with_accepted, IsAccepted, Accepts, MakesOldestInFlight, IsFirstIn, IsReadyToCommit}
+use Rattle.iom_inflight.specs.Rows.{RowStandsAt, RowAccepts, RowMakes, IsMakeable}
 use Rattle.iom_inflight.specs.Sound.{CarriesBytes, AreSoundAccesses, AreFlights}
 use Rattle.iom_inflight.proofs.Kept.{sound_row, sound_accepted, sound_made}
 
@@ -15,9 +15,9 @@ use Rattle.iom_inflight.proofs.Kept.{sound_row, sound_accepted, sound_made}
 abbrev pub put_at : Flights → ℕ → FlightRow → Flights
 put_at flights place row = record flights { rows = set flights.rows place row }
 
-module _ (flights self : Flights) (view : flights ≡ self) (device place : ℕ) (found : FlightRow) (at_place : StandsAt self.rows device place) (read : found ≡ get_or flights.rows place found) where
-  stands : StandsAt flights.rows device place
-  stands = subst (λ (f : Flights). StandsAt f.rows device place) (sym view) at_place
+module _ (flights self : Flights) (view : flights ≡ self) (device place : ℕ) (found : FlightRow) (at_place : RowStandsAt self.rows device place) (read : found ≡ get_or flights.rows place found) where
+  stands : RowStandsAt flights.rows device place
+  stands = subst (λ (f : Flights). RowStandsAt f.rows device place) (sym view) at_place
 
   is_row : found ≡ stands.row
   is_row = read ∙ get_or_from_slice_get flights.rows place stands.row found stands.there
@@ -43,7 +43,7 @@ module _ (flights self : Flights) (view : flights ≡ self) (device place : ℕ)
 
   -- an access is accepted
   after_accepts : (accepted : AcceptedAccess) (new : FlightRow) → new ≡ with_access found accepted (flights.so_far + 1)
-      → ◌≡◌ {A = Flights} (record { rows = set flights.rows place new; so_far = flights.so_far + 1 }) (with_accepted flights found accepted)
+      → ◌≡◌ {A = Flights} (record { rows = set flights.rows place new; so_far = flights.so_far + 1 }) (flights_with_accepted flights found accepted)
   after_accepts accepted new is =
       ap (λ (rs : List FlightRow). record { rows = rs; so_far = flights.so_far + 1 }) (put_own new (with_access found accepted (flights.so_far + 1)) is refl)
 
@@ -54,7 +54,7 @@ module _ (flights self : Flights) (view : flights ≡ self) (device place : ℕ)
     stands = subst (λ (f : Flights). row_of f.rows device ≡ Some found) view found_row;
     room = is.0;
     counted = is.1;
-    after = after_accepts accepted new is.2 ∙ ap (λ (f : Flights). with_accepted f found accepted) view;
+    after = after_accepts accepted new is.2 ∙ ap (λ (f : Flights). flights_with_accepted f found accepted) view;
   }
 
   pub sound_accepts_at : (accepted : AcceptedAccess) (number : ℕ) (new : FlightRow) → RowAccepts found accepted (flights.so_far + 1) (Some number) new → AreFlights flights
@@ -73,7 +73,7 @@ module _ (flights self : Flights) (view : flights ≡ self) (device place : ℕ)
       → ◌≡◌ {A = Flights} (put_at flights place new) (record flights { rows = with_row flights.rows (record found { waiting = later }) })
   after_makes later new is = ap (λ (rs : List FlightRow). record flights { rows = rs }) (put_own new (record found { waiting = later }) is refl)
 
-  pub makes_at : (memory new_memory : List (List ℕ)) (made : Option MadeAt) (new : FlightRow) → RowMakes memory found made new_memory new → Makes memory self device made new_memory (put_at flights place new)
+  pub makes_at : (memory new_memory : List (List ℕ)) (made : Option MadeAt) (new : FlightRow) → RowMakes memory found made new_memory new → MakesOldestInFlight memory self device made new_memory (put_at flights place new)
   makes_at memory new_memory None new is =
       (record { row = found; stands = subst (λ (f : Flights). row_of f.rows device ≡ Some found) view found_row; idle = is.0 }, is.1, put_back new is.2 ∙ view)
   makes_at memory new_memory (Some made) new is = record {
@@ -95,9 +95,9 @@ module _ (flights self : Flights) (view : flights ≡ self) (device place : ℕ)
       subst AreFlights (sym (after_makes is.later new is.after)) (sound_made flights device found is.oldest is.later sound found_row is.waiting)
 
   -- the oldest access can be made
-  pub makeable_at : (frames : ℕ) → AreFlights flights → IsReady frames (row_of self.rows device) → IsMakeable frames found.waiting
+  pub makeable_at : (frames : ℕ) → AreFlights flights → IsReadyToCommit frames (row_of self.rows device) → IsMakeable frames found.waiting
   makeable_at frames sound ready =
-      let own_ready : IsReady frames (Some found) = subst (IsReady frames) found_row (subst (λ (f : Flights). IsReady frames (row_of f.rows device)) (sym view) ready) in
+      let own_ready : IsReadyToCommit frames (Some found) = subst (IsReadyToCommit frames) found_row (subst (λ (f : Flights). IsReadyToCommit frames (row_of f.rows device)) (sym view) ready) in
       by found.waiting (sound_row flights.so_far flights.rows device found sound.rows found_row).accesses own_ready
     where
       by : (waiting : List NumberedAccess) → AreSoundAccesses flights.so_far waiting → IsFirstIn frames waiting → IsMakeable frames waiting

@@ -5,7 +5,7 @@ use Rattle.std.proofs.lemmas.Bool.{false≢true}
 use Rattle.iom_base.specs.declared.access.AcceptedAccess.{AcceptedAccess}
 use Rattle.iom_inflight.specs.declared.made.MadeAt.{MadeAt}
 use Rattle.iom_inflight.specs.Flights.{NumberedAccess, FlightRow, Flights, new_row, row_of, with_row}
-use Rattle.iom_inflight.specs.Calls.{Adds, IsAccepted, Makes, IsFirstIn, IsReady, with_access}
+use Rattle.iom_inflight.specs.Calls.{Adds, IsAccepted, MakesOldestInFlight, IsFirstIn, IsReadyToCommit, with_access}
 use Rattle.iom_inflight.specs.Sound.{AreAccessesIn, AreRowsIn}
 
 -- those of a device's row are
@@ -51,7 +51,7 @@ accepted_in_memory frames old device accepted number new is lt all =
 
 -- THE OLDEST ACCESS is made
 pub makes_in_memory : (frames : ℕ) (memory : List (List ℕ)) (old : Flights) (device : ℕ) (made : Option MadeAt) (new_memory : List (List ℕ)) (new : Flights)
-    → Makes memory old device made new_memory new → AreRowsIn frames old.rows → AreRowsIn frames new.rows
+    → MakesOldestInFlight memory old device made new_memory new → AreRowsIn frames old.rows → AreRowsIn frames new.rows
 makes_in_memory frames memory old device None new_memory new makes all = subst (λ (f : Flights). AreRowsIn frames f.rows) (sym makes.2) all
 makes_in_memory frames memory old device (Some made) new_memory new makes all =
     let later = rest_in frames makes.row.waiting makes.oldest makes.later makes.waiting (row_in_memory frames old.rows device makes.row all makes.stands) in
@@ -62,9 +62,9 @@ first_in frames [] all = tt
 first_in frames (oldest ∷ later) all = all.0
 
 -- a device that was added is ready
-pub ready_in_memory : (frames : ℕ) (rows : List FlightRow) (device : ℕ) → IsSome (row_of rows device) → AreRowsIn frames rows → IsReady frames (row_of rows device)
+pub ready_in_memory : (frames : ℕ) (rows : List FlightRow) (device : ℕ) → IsSome (row_of rows device) → AreRowsIn frames rows → IsReadyToCommit frames (row_of rows device)
 ready_in_memory frames rows device there all = by (row_of rows device) there (λ row at. row_in_memory frames rows device row all at)
   where
-    by : (found : Option FlightRow) → IsSome found → ((row : FlightRow) → found ≡ Some row → AreAccessesIn frames row.waiting) → IsReady frames found
+    by : (found : Option FlightRow) → IsSome found → ((row : FlightRow) → found ≡ Some row → AreAccessesIn frames row.waiting) → IsReadyToCommit frames found
     by None there each = absurd (false≢true there)
     by (Some row) there each = first_in frames row.waiting (each row refl)

@@ -4,7 +4,7 @@ use Rattle.std.proofs.lemmas.Bool.Decides.{eqb_tells}
 use Rattle.iom_base.specs.declared.access.AcceptedAccess.{AcceptedAccess}
 use Rattle.iom_base.specs.Accesses.{IsWithinPage}
 use Rattle.iom_inflight.specs.Flights.{NumberedAccess, FlightRow, Flights, new_row, row_of, with_row}
-use Rattle.iom_inflight.specs.Calls.{with_access, with_accepted}
+use Rattle.iom_inflight.specs.Calls.{with_access, flights_with_accepted}
 use Rattle.iom_inflight.specs.Sound.{CarriesBytes, IsSoundAccess, AreSoundAccesses, IsSoundRow, AreSoundRows, AreDistinct, AreFlights}
 use Rattle.iom_inflight.proofs.Rows.{differs, length-with_row, row_of_append_other}
 
@@ -82,7 +82,7 @@ sound_added flights device sound none few = record {
 
 -- ONE MORE ACCESS
 pub sound_accepted : (flights : Flights) (device : ℕ) (row : FlightRow) (accepted : AcceptedAccess) → AreFlights flights → row_of flights.rows device ≡ Some row → length row.waiting < 8
-    → IsWithinPage accepted.access → CarriesBytes accepted.access.kind accepted.access.len accepted.access.bytes → AreFlights (with_accepted flights row accepted)
+    → IsWithinPage accepted.access → CarriesBytes accepted.access.kind accepted.access.len accepted.access.bytes → AreFlights (flights_with_accepted flights row accepted)
 sound_accepted flights device row accepted sound at few within carries =
     let n : ℕ = flights.so_far + 1 in
     let own = sound_row flights.so_far flights.rows device row sound.rows at in

@@ -8,13 +8,13 @@ use Rattle.iom_base.specs.declared.access.AccessKind.TheVariants.{Write}
 use Rattle.iom_inflight.specs.declared.made.MadeAt.{MadeAt}
 use Rattle.iom_inflight.specs.Flights.{NumberedAccess, FlightRow, first_made, made_at}
 use Rattle.iom_inflight.specs.Calls.{Performs}
-use Rattle.iom_inflight.specs.Rings.{kept_bytes, access_with, accesses_of, AreRings}
+use Rattle.iom_inflight.specs.Rings.{kept_bytes, access_with, accesses_with_bytes, AreRings}
 use Rattle.iom_inflight.specs.Rows.{RowAccepts, RowMakesOne, IsMakeable}
 use Rattle.iom_inflight.proofs.Accesses.{length-accesses_of, accesses_after_read, accesses_after_write}
 
 -- the row that stands in these rings
 abbrev pub row_in : ℕ → ℕ → List AccessHeader → List ℕ → FlightRow
-row_in device accepted waiting bytes = record { device = device; accepted = accepted; waiting = accesses_of waiting bytes }
+row_in device accepted waiting bytes = record { device = device; accepted = accepted; waiting = accesses_with_bytes waiting bytes }
 
 pub full_row : (device accepted : ℕ) (waiting : List AccessHeader) (bytes : List ℕ) (row : FlightRow) → row_in device accepted waiting bytes ≡ row → 8 ≤ length waiting → 8 ≤ length row.waiting
 full_row device accepted waiting bytes row view le = subst (λ (r : FlightRow). 8 ≤ length r.waiting) view (rw (length-accesses_of waiting bytes) le)
@@ -31,7 +31,7 @@ pub accepts_read : (device accepted : ℕ) (waiting now : Buffer AccessHeader) (
     → now ≡ buffer (keep_last waiting.capacity (waiting.items ++ a ∷ [])) waiting.capacity → length waiting.items < 8
     → RowAccepts row (access_with a []).accepted a.number (Some (accepted + 1)) (row_in device (accepted + 1) now.items bytes.items)
 accepts_read device accepted waiting now bytes a row view rings kept is few =
-    let few_of : length (accesses_of waiting.items bytes.items) < 8 = rw (length-accesses_of waiting.items bytes.items) few in
+    let few_of : length (accesses_with_bytes waiting.items bytes.items) < 8 = rw (length-accesses_of waiting.items bytes.items) few in
     subst (λ (r : FlightRow). RowAccepts r (access_with a []).accepted a.number (Some (accepted + 1)) (row_in device (accepted + 1) now.items bytes.items)) view (
       few_of,
       refl,
@@ -45,7 +45,7 @@ pub accepts_write : (device accepted : ℕ) (waiting now : Buffer AccessHeader) 
     → count ≡ min (length own) (bytes.capacity - length bytes.items) → then ≡ buffer (bytes.items ++ take count own) bytes.capacity
     → RowAccepts row (access_with a own).accepted a.number (Some (accepted + 1)) (row_in device (accepted + 1) now.items then.items)
 accepts_write device accepted waiting now bytes then a own count row view rings kept le few is counted after =
-    let few_of : length (accesses_of waiting.items bytes.items) < 8 = rw (length-accesses_of waiting.items bytes.items) few in
+    let few_of : length (accesses_with_bytes waiting.items bytes.items) < 8 = rw (length-accesses_of waiting.items bytes.items) few in
     subst (λ (r : FlightRow). RowAccepts r (access_with a own).accepted a.number (Some (accepted + 1)) (row_in device (accepted + 1) now.items then.items)) view (
       few_of,
       refl,

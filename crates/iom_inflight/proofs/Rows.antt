@@ -3,7 +3,7 @@ use Rattle.std.proofs.Common.{suc, zero, ◌≡◌, ◌≢◌, ◌==◌, ◌<◌
 use Rattle.std.proofs.lemmas.Bool.Decides.{eqb_tells}
 use Rattle.std.proofs.lemmas.Bool.{eq-eqb, false≢true}
 use Rattle.iom_inflight.specs.Flights.{FlightRow, row_of, with_row, count_all, has_access, first_busy}
-use Rattle.iom_inflight.specs.Rows.{StandsAt}
+use Rattle.iom_inflight.specs.Rows.{RowStandsAt}
 
 -- two different numbers don't compare equal
 pub differs : (a b : ℕ) → a ≢ b → (a == b) ≡ false
@@ -17,7 +17,7 @@ absent (row ∷ rows) device none =
 
 -- the first row of a device
 pub stands_at : (rows : List FlightRow) (device place : ℕ) (row : FlightRow) → slice_get rows place ≡ Some row → row.device ≡ device
-    → ((k : ℕ) (other : FlightRow) → k < place → slice_get rows k ≡ Some other → other.device ≢ device) → StandsAt rows device place
+    → ((k : ℕ) (other : FlightRow) → k < place → slice_get rows k ≡ Some other → other.device ≢ device) → RowStandsAt rows device place
 stands_at [] device place row at own none = cc
 stands_at (first ∷ others) device zero row at own none =
     let same : first ≡ row = cc in

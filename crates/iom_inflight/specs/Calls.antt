@@ -23,8 +23,8 @@ with_access row accepted number = record row {
 }
 
 -- all of them, where one more of this row was accepted
-abbrev pub with_accepted : Flights → FlightRow → AcceptedAccess → Flights
-with_accepted flights row accepted = record {
+abbrev pub flights_with_accepted : Flights → FlightRow → AcceptedAccess → Flights
+flights_with_accepted flights row accepted = record {
   rows = with_row flights.rows (with_access row accepted (flights.so_far + 1));
   so_far = flights.so_far + 1;
 }
@@ -35,7 +35,7 @@ pub record IsAccepted (old : Flights) (device : ℕ) (accepted : AcceptedAccess)
   pub stands : row_of old.rows device ≡ Some row
   pub room : length row.waiting < in_flight_limit
   pub counted : number ≡ row.accepted + 1
-  pub after : new ≡ with_accepted old row accepted
+  pub after : new ≡ flights_with_accepted old row accepted
 
 -- eight accesses of the device are in flight
 pub record IsFull (old : Flights) (device : ℕ) : Type 0 where
@@ -81,9 +81,9 @@ pub record IsIdle (old : Flights) (device : ℕ) : Type 0 where
   pub idle : row.waiting ≡ []
 
 -- THE OLDEST ACCESS of the device is made, if there is one
-abbrev pub Makes : List (List ℕ) → Flights → ℕ → Option MadeAt → List (List ℕ) → Flights → Type 0
-Makes memory old device None new_memory new = IsIdle old device × (new_memory ≡ memory) × (new ≡ old)
-Makes memory old device (Some made) new_memory new = IsMade memory old device made new_memory new
+abbrev pub MakesOldestInFlight : List (List ℕ) → Flights → ℕ → Option MadeAt → List (List ℕ) → Flights → Type 0
+MakesOldestInFlight memory old device None new_memory new = IsIdle old device × (new_memory ≡ memory) × (new ≡ old)
+MakesOldestInFlight memory old device (Some made) new_memory new = IsMade memory old device made new_memory new
 
 -- the frame of the oldest of these is one of so many
 abbrev pub IsFirstIn : ℕ → List NumberedAccess → Type 0
@@ -91,6 +91,6 @@ IsFirstIn frames [] = Unit {0}
 IsFirstIn frames (oldest ∷ later) = oldest.accepted.frame < frames
 
 -- the device was added, and the frame of its oldest access is one of so many
-abbrev pub IsReady : ℕ → Option FlightRow → Type 0
-IsReady frames None = ⊥
-IsReady frames (Some row) = IsFirstIn frames row.waiting
+abbrev pub IsReadyToCommit : ℕ → Option FlightRow → Type 0
+IsReadyToCommit frames None = ⊥
+IsReadyToCommit frames (Some row) = IsFirstIn frames row.waiting

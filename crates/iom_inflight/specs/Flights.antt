@@ -41,8 +41,8 @@ with_row [] own = []
 with_row (row ∷ rows) own = if row.device == own.device then own ∷ rows else row ∷ with_row rows own
 
 -- the device was added
-abbrev pub IsAdded : Flights → ℕ → Type 0
-IsAdded flights device = IsSome (row_of flights.rows device)
+abbrev pub IsAddedTo : Flights → ℕ → Type 0
+IsAddedTo flights device = IsSome (row_of flights.rows device)
 
 -- what is made of an access when its device makes it
 abbrev pub made_at : ℕ → AcceptedAccess → MadeAt

@@ -20,10 +20,10 @@ access_with a bytes = record {
 }
 
 -- the accesses, each with its bytes off the front
-abbrev pub accesses_of : List AccessHeader → List ℕ → List NumberedAccess
-accesses_of [] bytes = []
-accesses_of (a ∷ later) bytes =
-    access_with a (take (kept_bytes a.kind a.len) bytes) ∷ accesses_of later (drop (kept_bytes a.kind a.len) bytes)
+abbrev pub accesses_with_bytes : List AccessHeader → List ℕ → List NumberedAccess
+accesses_with_bytes [] bytes = []
+accesses_with_bytes (a ∷ later) bytes =
+    access_with a (take (kept_bytes a.kind a.len) bytes) ∷ accesses_with_bytes later (drop (kept_bytes a.kind a.len) bytes)
 
 -- how many bytes all of them keep
 abbrev pub bytes_kept : List AccessHeader → ℕ

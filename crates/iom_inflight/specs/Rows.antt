@@ -10,7 +10,7 @@ use Rattle.iom_inflight.specs.Calls.{with_access, Performs}
 use Rattle.iom_inflight.specs.Sound.{CarriesBytes}
 
 -- the row of the device stands at this place: it is the first of the device, and a row that is put there replaces it
-pub record StandsAt (rows : List FlightRow) (device place : ℕ) : Type 0 where
+pub record RowStandsAt (rows : List FlightRow) (device place : ℕ) : Type 0 where
   pub row : FlightRow
   pub own : row.device ≡ device
   pub there : slice_get rows place ≡ Some row

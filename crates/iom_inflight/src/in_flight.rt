@@ -2,9 +2,9 @@ ghost use Rattle.std.specs.Prelude.{◌≡◌, ◌↔◌, ◌<◌, ◌≤◌, �
 ghost use Rattle.iom_base.specs.Accesses.{read_of, write_of};
 ghost use Rattle.iom_base.specs.Sizes.{in_flight_limit, device_limit};
 ghost use Rattle.iom_base.specs.Spans.{FitsInPage};
-ghost use Rattle.iom_inflight.specs.Flights.{Flights, no_flights, row_of, IsAdded, count_in, accepted_in, count_all, waiting_at, oldest_in, first_busy, some_in_flight, are_drained};
-ghost use Rattle.iom_inflight.specs.Calls.{Adds, Accepts, Makes, IsReady};
-ghost use Rattle.iom_inflight.specs.Rows.{StandsAt};
+ghost use Rattle.iom_inflight.specs.Flights.{Flights, no_flights, row_of, IsAddedTo, count_in, accepted_in, count_all, waiting_at, oldest_in, first_busy, some_in_flight, are_drained};
+ghost use Rattle.iom_inflight.specs.Calls.{Adds, Accepts, MakesOldestInFlight, IsReadyToCommit};
+ghost use Rattle.iom_inflight.specs.Rows.{RowStandsAt};
 ghost use Rattle.iom_inflight.specs.Sound.{AreFlights};
 
 use crate::made::MadeAt;
@@ -42,7 +42,7 @@ impl Model for InFlight {
 
 /// The place of the device's row, where it has one.
 fn find(rows: &[Row], device: DeviceId) -> Option<usize>
-    ensures { MatchOption result (row_of rows.now device ≡ None) (StandsAt rows.now device) }
+    ensures { MatchOption result (row_of rows.now device ≡ None) (RowStandsAt rows.now device) }
 {
     for place in 0..rows.len() {
         if rows[place].device() == device {
@@ -135,8 +135,8 @@ impl InFlight {
 
     /// The place of the device's row, by which the calls below find it without a search.
     pub fn place_of(&self, device: DeviceId) -> usize
-        requires { IsAdded self.now device }
-        ensures { StandsAt self.now.rows device result }
+        requires { IsAddedTo self.now device }
+        ensures { RowStandsAt self.now.rows device result }
     {
         find(&self.rows, device).unwrap()
     }
@@ -220,7 +220,7 @@ impl InFlight {
 
     /// Whether eight accesses of the device are in flight, whose row stands at this place.
     pub fn is_full_at(&self, device: DeviceId, place: usize) -> bool
-        requires { StandsAt self.now.rows device place }
+        requires { RowStandsAt self.now.rows device place }
         ensures { result ≡ nat_le in_flight_limit (count_in (row_of self.now.rows device)) }
     {
         self.rows[place].count() >= MAX_IN_FLIGHT
@@ -235,7 +235,7 @@ impl InFlight {
         len: u16,
         frame: u32,
     ) -> Option<u64>
-        requires stands { StandsAt self.old.rows device place }
+        requires stands { RowStandsAt self.old.rows device place }
         requires within { FitsInPage address len }
         requires room { self.old.so_far + 1 < 2 ^ 64 }
         ensures { Accepts self.old device (record { access = read_of address len; frame = frame }) result self.new }
@@ -258,7 +258,7 @@ impl InFlight {
         bytes: &[u8],
         frame: u32,
     ) -> Option<u64>
-        requires stands { StandsAt self.old.rows device place }
+        requires stands { RowStandsAt self.old.rows device place }
         requires within { FitsInPage address (length bytes.now) }
         requires room { self.old.so_far + 1 < 2 ^ 64 }
         ensures { Accepts self.old device (record { access = write_of address bytes.now; frame = frame }) result self.new }
@@ -279,7 +279,7 @@ impl InFlight {
         len: u16,
         frame: u32,
     ) -> Option<u64>
-        requires added { IsAdded self.old device }
+        requires added { IsAddedTo self.old device }
         requires within { FitsInPage address len }
         requires room { self.old.so_far + 1 < 2 ^ 64 }
         ensures { Accepts self.old device (record { access = read_of address len; frame = frame }) result self.new }
@@ -297,7 +297,7 @@ impl InFlight {
         bytes: &[u8],
         frame: u32,
     ) -> Option<u64>
-        requires added { IsAdded self.old device }
+        requires added { IsAddedTo self.old device }
         requires within { FitsInPage address (length bytes.now) }
         requires room { self.old.so_far + 1 < 2 ^ 64 }
         ensures { Accepts self.old device (record { access = write_of address bytes.now; frame = frame }) result self.new }
@@ -310,8 +310,8 @@ impl InFlight {
     /// its bytes in its frame. None exactly where nothing of the device is in flight, and then nothing
     /// changes.
     pub fn make(&mut self, device: DeviceId, memory: &mut Memory) -> Option<MadeAt>
-        requires { IsReady (length memory.old) (row_of self.old.rows device) }
-        ensures { Makes memory.old self.old device result memory.new self.new }
+        requires { IsReadyToCommit (length memory.old) (row_of self.old.rows device) }
+        ensures { MakesOldestInFlight memory.old self.old device result memory.new self.new }
     {
         let place = self.place_of(device);
         let row = &mut self.rows[place];

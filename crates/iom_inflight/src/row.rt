@@ -33,9 +33,9 @@ impl Model for Row {
 
     ghost Value = { FlightRow };
 
-    ghost use Rattle.iom_inflight.specs.Rings.{accesses_of, AreRings};
+    ghost use Rattle.iom_inflight.specs.Rings.{accesses_with_bytes, AreRings};
 
-    ghost view = { λ r. record { device = r.device; accepted = r.accepted; waiting = accesses_of r.waiting.items r.bytes.items } };
+    ghost view = { λ r. record { device = r.device; accepted = r.accepted; waiting = accesses_with_bytes r.waiting.items r.bytes.items } };
 
     ghost invariant = { λ r. AreRings r.waiting r.bytes };
 }

@@ -15,7 +15,7 @@ use Rattle.iom_iommu.specs.declared.fetched.Fetched.{Fetched}
 use Rattle.iom_iommu.specs.declared.fetched.Fetched.TheVariants.{Did, Waiting, Empty, Stopped}
 use Rattle.iom_iommu.specs.Parts.{registers_of, contexts_of, translations_of, flights_of, fence_snapshot_of, waits_of, slots_of, frames_of}
 use Rattle.iom_iommu.specs.Fetches.{head_entry, counted_in, has_open, are_full, waits_with, after_command, with_interrupt, InvalidatesTranslations, InvalidatesContexts, EndsFence, FencesBy, OpensRequest, ExecutesCommand, FetchesFrom, FetchesCommand}
-use Rattle.iom_iommu.specs.Effects.{is_held, IsLeft, WaitsAt, StopsAtEntry, StopsFetching, after_fetched, fence_snapshot_at, waits_at, FetchesByAnswer}
+use Rattle.iom_iommu.specs.Effects.{is_held_back, IsLeft, WaitsAt, StopsAtEntry, StopsFetching, after_fetched, fence_snapshot_at, waits_at, FetchesByAnswer}
 
 module _ {C : Type 0} {c : Cache C} (m n : List (List ℕ)) (i j : Iommu C c) where
   -- WHAT A COMMAND LEAVES once it is done
@@ -81,7 +81,7 @@ module _ {C : Type 0} {c : Cache C} (m n : List (List ℕ)) (i j : Iommu C c) wh
 
   module _ (on : is_processing_commands (registers_of i) ≡ true) where
     -- a command that waits
-    waits : (command : Command) (snapshot : Option ℕ) (waiting : Bool) → head_entry m (registers_of i) ≡ Some (stands.Command command) → is_held command i ≡ true → n ≡ m
+    waits : (command : Command) (snapshot : Option ℕ) (waiting : Bool) → head_entry m (registers_of i) ≡ Some (stands.Command command) → is_held_back command i ≡ true → n ≡ m
         → snapshot ≡ fence_snapshot_at (Some (stands.Command command)) i → waiting ≡ waits_at (Some (stands.Command command)) i
         → j ≡ after_fetched i (registers_of i) snapshot waiting → FetchesByAnswer m i Waiting n j
     waits command snapshot waiting at held memory counted so is = (
@@ -98,7 +98,7 @@ module _ {C : Type 0} {c : Cache C} (m n : List (List ℕ)) (i j : Iommu C c) wh
 
     module _ (answer : Fetched) where
       ends : (store : Option FenceStore) (wsi pr pw : Bool) → head_entry m (registers_of i) ≡ Some (stands.Command (IofenceC store wsi pr pw)) → has_open (slots_of i) ≡ false
-          → is_held (IofenceC store wsi pr pw) i ≡ false → EndsFence store wsi pr pw m i answer n j → FetchesByAnswer m i answer n j
+          → is_held_back (IofenceC store wsi pr pw) i ≡ false → EndsFence store wsi pr pw m i answer n j → FetchesByAnswer m i answer n j
       ends store wsi pr pw at none free is = elim is [
         | inl (same, stored, goes) ↦ subst (λ a. FetchesByAnswer m i a n j) (sym same) (on, at, free, stored.0, stored.1, fence_left store wsi pr pw goes)
         | inr (same, stored, halts) ↦ subst (λ a. FetchesByAnswer m i a n j) (sym same)

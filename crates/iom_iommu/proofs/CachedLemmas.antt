@@ -19,16 +19,16 @@ use Rattle.iom_stage_walk.specs.Second.{ReachesSecond, StopsSecond}
 use Rattle.iom_stage_walk.specs.Both.{ReachesBoth, StopsBoth}
 use Rattle.iom_device_dir.specs.Contents.{Content as Contexts}
 use Rattle.iom_tlb.specs.declared.trans_cache.Translation.{Translation}
-use Rattle.iom_tlb.specs.Content.{Key, Content, HasNothing, Stays, Keeps, Drops}
+use Rattle.iom_tlb.specs.Content.{Key, Translations, HasNothing, TranslationsStay, Keeps, DropsWhere}
 use Rattle.iom_tlb.proofs.ContentLemmas.{found_before_look, found_by_keep, found_before_drop}
 use Rattle.iom_iommu.specs.Cached.{AreTranslationsIn}
-use Rattle.iom_iommu.specs.Service.{Walks, LooksOrWalks, Translates, ServesBy, ServesIn, Serves, cached_for, translation_of, first_key, second_key, both_key, context_for}
+use Rattle.iom_iommu.specs.Service.{Walks, LooksOrWalks, Translates, ServesBy, ServesIn, Serves, cached_for, translation_of, first_key, second_key, both_key, context_or_cause}
 
-pub none_outside : (frames : ℕ) (content : Content) → HasNothing content → AreTranslationsIn frames content
+pub none_outside : (frames : ℕ) (content : Translations) → HasNothing content → AreTranslationsIn frames content
 none_outside frames content empty key t found = absurd (let e : content key ≡ None = empty key in cc)
 
-module _ (frames : ℕ) (old new : Content) (inside : AreTranslationsIn frames old) where
-  pub look_inside : Stays old new → AreTranslationsIn frames new
+module _ (frames : ℕ) (old new : Translations) (inside : AreTranslationsIn frames old) where
+  pub look_inside : TranslationsStay old new → AreTranslationsIn frames new
   look_inside stays key t found = inside key t (found_before_look old new key t found stays)
 
   pub keep_inside : (sure : Bool) (at : Key) (kept : Translation) → kept.frame < frames → Keeps sure old at kept new → AreTranslationsIn frames new
@@ -37,7 +37,7 @@ module _ (frames : ℕ) (old new : Content) (inside : AreTranslationsIn frames o
     | inr was ↦ inside key t was.1
   ]
 
-  pub drop_inside : (is_out : Key → Bool) → Drops is_out old new → AreTranslationsIn frames new
+  pub drop_inside : (is_out : Key → Bool) → DropsWhere is_out old new → AreTranslationsIn frames new
   drop_inside is_out drops key t found = inside key t (found_before_drop old new key t found is_out drops).1
 
   module _ (sure : Bool) (Reaches : Walked → Type 0) (Stops : WalkFault → Type 0) (key : Key) where
@@ -80,8 +80,8 @@ module _ (frames : ℕ) (old new : Content) (inside : AreTranslationsIn frames o
     by_mode mode.ThreeLevels found answer lt s = served_by_inside found answer lt s
 
 -- A REQUEST that is served keeps it, where its own frame is one of memory
-pub serve_inside : (frames : ℕ) (sure : Bool) (memory : List (List ℕ)) (r : Registers) (contexts : Contexts ℕ Context) (id address : ℕ) (kind : AccessKind) (old : Content)
-    (answer : Result Translation WalkFault) (new : Content) → AreTranslationsIn frames old → IfOk answer (λ translation. translation.frame < frames) → Serves sure memory r contexts id address kind old answer new
+pub serve_inside : (frames : ℕ) (sure : Bool) (memory : List (List ℕ)) (r : Registers) (contexts : Contexts ℕ Context) (id address : ℕ) (kind : AccessKind) (old : Translations)
+    (answer : Result Translation WalkFault) (new : Translations) → AreTranslationsIn frames old → IfOk answer (λ translation. translation.frame < frames) → Serves sure memory r contexts id address kind old answer new
     → AreTranslationsIn frames new
 serve_inside frames sure memory r contexts id address kind old answer new inside lt s =
-    by_mode frames old new inside sure memory address kind (directory_mode r) (context_for memory r contexts id) answer lt s
+    by_mode frames old new inside sure memory address kind (directory_mode r) (context_or_cause memory r contexts id) answer lt s

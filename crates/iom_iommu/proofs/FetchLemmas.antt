@@ -23,7 +23,7 @@ use Rattle.iom_iommu.specs.declared.fetched.Fetched.{Fetched}
 use Rattle.iom_iommu.specs.declared.fetched.Fetched.TheVariants.{Did, Waiting, Empty, Stopped}
 use Rattle.iom_tlb.specs.declared.trans_cache.TransCache.{Ghosts as Cache}
 use Rattle.iom_iommu.specs.Parts.{registers_of, slots_of}
-use Rattle.iom_iommu.specs.Timeouts.{TimesOut}
+use Rattle.iom_iommu.specs.Timeouts.{TimesFenceOut}
 use Rattle.iom_iommu.specs.Fetches.{counted_in, with_store, head_entry}
 use Rattle.iom_iommu.specs.Effects.{slots_by, is_waiting_fence, after_fetched, fence_snapshot_at, waits_at, store_of, asks_for_interrupt, with_done, IsStoredIn, IsOffRing, WaitsAt, StopsAtEntry, StopsFetching, FetchesByAnswer, LeavesFaultQueue}
 
@@ -112,7 +112,7 @@ leaves_list m n i j Stopped f not_done =
     ap (λ x. commands_in x (registers_of j)) f.1 ∙ stop_list (is_processing_commands (registers_of i)) m i j f.0
 
 -- A TIMEOUT leaves the list
-pub timeout_list : {C : Type 0} {c : Cache C} (m : List (List ℕ)) (i j : Iommu C c) → TimesOut i true j → commands_in m (registers_of j) ≡ commands_in m (registers_of i)
+pub timeout_list : {C : Type 0} {c : Cache C} (m : List (List ℕ)) (i j : Iommu C c) → TimesFenceOut i true j → commands_in m (registers_of j) ≡ commands_in m (registers_of i)
 timeout_list m i j t = ap (λ x. commands_in m (registers_of x)) t.1 ∙ same_ring m (with_cmd_to (registers_of i)) (registers_of i) refl refl refl refl
 
 none_first : (xs : List QueueEntry) → slice_get xs 0 ≡ None → xs ≡ []

@@ -1,7 +1,7 @@
 -- The access that is made lies within one frame.
 use Rattle.std.proofs.Common.{◌≡◌, ◌==◌, ℕ, Bool, true, false, List, [], ◌∷◌, Option, None, Some, IfSome, sym, subst, if◌then◌else◌}
 use Rattle.iom_inflight.specs.declared.made.MadeAt.{MadeAt}
-use Rattle.iom_inflight.specs.Calls.{Makes}
+use Rattle.iom_inflight.specs.Calls.{MakesOldestInFlight}
 use Rattle.iom_inflight.specs.Flights.{FlightRow, Flights, row_of}
 use Rattle.iom_inflight.specs.Sound.{AreFlights, AreSoundRows, AreSoundAccesses, IsSoundRow, AreRowsIn, AreAccessesIn}
 use Rattle.iom_iommu.specs.Requests.{IsWithinFrame}
@@ -24,7 +24,7 @@ row_in frames (first ∷ rows) device row inside stands = by (first.device == de
     by false is later = later is
 
 pub made_within : (frames : ℕ) (memory : List (List ℕ)) (old : Flights) (device : ℕ) (result : Option MadeAt) (new_memory : List (List ℕ)) (new : Flights) → AreFlights old → AreRowsIn frames old.rows
-    → Makes memory old device result new_memory new → IfSome result (IsWithinFrame frames)
+    → MakesOldestInFlight memory old device result new_memory new → IfSome result (IsWithinFrame frames)
 made_within frames memory old device None new_memory new flights inside makes = tt
 made_within frames memory old device (Some made) new_memory new flights inside makes =
     let sound = row_sound old.so_far old.rows device makes.row flights.rows makes.stands in

@@ -13,7 +13,7 @@ use Rattle.iom_iommu.specs.declared.fetched.Fetched.{Fetched}
 use Rattle.iom_iommu.specs.declared.fetched.Fetched.TheVariants.{Did, Waiting, Empty, Stopped}
 use Rattle.iom_iommu.specs.Parts.{registers_of, contexts_of}
 use Rattle.iom_iommu.specs.Fetches.{head_entry}
-use Rattle.iom_iommu.specs.Effects.{is_held, IsLeft, DropsContexts, WaitsAt, StopsAtEntry, StopsFetching, FetchesByAnswer, AreAlike}
+use Rattle.iom_iommu.specs.Effects.{is_held_back, IsLeft, DropsContexts, WaitsAt, StopsAtEntry, StopsFetching, FetchesByAnswer, AreAlike}
 
 dropped_alike : (command : Command) (old one other : Content ℕ Context) → DropsContexts command old one → DropsContexts command old other → IsSameContent one other
 dropped_alike (IotinvalVma gscid pscid page) old one other d e = λ key. e key ∙ sym (d key)
@@ -51,7 +51,7 @@ module _ {C : Type 0} {c : Cache C} (m : List (List ℕ)) (i : Iommu C c) where
   }
 
   -- What stands at the head waits, stops processing or is done
-  not_held : (command : Command) → is_held command i ≡ false → ¬ WaitsAt (Some (stands.Command command)) i
+  not_held : (command : Command) → is_held_back command i ≡ false → ¬ WaitsAt (Some (stands.Command command)) i
   not_held command free held = let both = sym free ∙ held in cc
 
   waits_or_stops : (entry : Option QueueEntry) (j : Iommu C c) → WaitsAt entry i → ¬ StopsAtEntry m entry i j

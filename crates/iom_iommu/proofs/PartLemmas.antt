@@ -21,7 +21,7 @@ use Rattle.iom_device_dir.specs.declared.cache.DirCache.{DirCache}
 use Rattle.iom_device_dir.specs.Cached.{cached_contexts}
 use Rattle.iom_device_dir.specs.Contents.{DropsCovered}
 use Rattle.iom_tlb.specs.declared.cover.Cover.{Cover}
-use Rattle.iom_tlb.specs.Content.{Drops}
+use Rattle.iom_tlb.specs.Content.{DropsWhere}
 use Rattle.iom_tlb.specs.Covers.{are_covering}
 
 some_open : (waits : Bool) (open_slots : List Slot) → waits ≡ true → ¬ (open_slots ≡ []) → (waits && not (length open_slots == 0)) ≡ true
@@ -119,7 +119,7 @@ module _ {C : Type 0} {c : Cache C} (i : Iommu C c) where
   -- cached translations go, once the head went on
   abbrev Cleared : List Cover → Iommu C c → Type 0
   Cleared covers k = (translations : C) (inside : AreRowsIn k.frames k.in_flight.rows) (cached : AreTranslationsIn k.frames (c.content translations))
-      → Drops (are_covering covers) (c.content k.translations) (c.content translations)
+      → DropsWhere (are_covering covers) (c.content k.translations) (c.content translations)
       → InvalidatesTranslations covers i (record k { translations = translations; inside = inside; cached = cached })
 
   pub cleared : (covers : List Cover) (k : Iommu C c) → k ≡ after_command i → Cleared covers k

@@ -14,8 +14,8 @@ use Rattle.iom_device_dir.specs.Contents.{Content, LooksUp}
 use Rattle.iom_device_dir.specs.Located.{located_context}
 use Rattle.iom_device_dir.specs.Paths.{fits_directory}
 use Rattle.iom_device_dir.proofs.Ends.{located-too_wide}
-use Rattle.iom_tlb.specs.Content.{Content as Translations}
-use Rattle.iom_iommu.specs.Service.{found_context, context_for, ats_context_in, ats_context_for, ServesIn, Serves, ServesBy, KeepsLocated, KeepsIn, KeepsContext}
+use Rattle.iom_tlb.specs.Content.{Translations}
+use Rattle.iom_iommu.specs.Service.{found_context, context_or_cause, ats_context_in, ats_context_for, ServesIn, Serves, ServesBy, KeepsLocated, KeepsIn, KeepsContext}
 
 pub kept_after_look : (old looked new : Content ℕ Context) (id : ℕ) (found : Option Context) (located answer : Result Context Cause) → LooksUp old id found looked → found ≡ None
     → answer ≡ located → KeepsLocated None answer looked id new → KeepsLocated (old id) located old id new
@@ -29,7 +29,7 @@ pub too_wide : (own m : DirectoryMode) (id : ℕ) (fits : Bool) → m ≡ own �
 too_wide own m id fits is tested not_fits = ap (λ (k : DirectoryMode). fits_directory k id) (sym is) ∙ sym tested ∙ not_fits
 
 module _ (memory : List (List ℕ)) (r : Registers) (contexts : Content ℕ Context) (id : ℕ) (wide : fits_directory (directory_mode r) id ≡ false) where
-  no_context : context_for memory r contexts id ≡ Err TransactionTypeDisallowed
+  no_context : context_or_cause memory r contexts id ≡ Err TransactionTypeDisallowed
   no_context = ap (λ b. if b then found_context (contexts id) (located_context memory r.ddtp id) else Err TransactionTypeDisallowed) wide
 
   -- a request of it faults
@@ -46,7 +46,7 @@ module _ (memory : List (List ℕ)) (r : Registers) (contexts : Content ℕ Cont
 
   pub wide_refused : (sure : Bool) (address : ℕ) (kind : AccessKind) (old : Translations) (fault : WalkFault) → fault ≡ plain TransactionTypeDisallowed
       → Serves sure memory r contexts id address kind old (Err fault) old
-  wide_refused sure address kind old fault told = refused_in (directory_mode r) wide (context_for memory r contexts id) no_context sure address kind old fault told
+  wide_refused sure address kind old fault told = refused_in (directory_mode r) wide (context_or_cause memory r contexts id) no_context sure address kind old fault told
 
   -- and so does a transaction of ATS
   disallowed_in : (m : DirectoryMode) → fits_directory m id ≡ false → (found : Result Context Cause) → found ≡ Err TransactionTypeDisallowed
@@ -58,7 +58,7 @@ module _ (memory : List (List ℕ)) (r : Registers) (contexts : Content ℕ Cont
   disallowed_in mode.ThreeLevels too found none = rw none refl
 
   pub wide_disallowed : ats_context_for memory r contexts id ≡ Err TransactionTypeDisallowed
-  wide_disallowed = disallowed_in (directory_mode r) wide (context_for memory r contexts id) no_context
+  wide_disallowed = disallowed_in (directory_mode r) wide (context_or_cause memory r contexts id) no_context
 
   -- nothing is kept for it
   none_located : (cached : Option Context) (located : Result Context Cause) → located ≡ Err TransactionTypeDisallowed → KeepsLocated cached located contexts id contexts

@@ -19,7 +19,7 @@ use Rattle.iom_device_dir.specs.declared.values.GuestRoot.{GuestRoot}
 use Rattle.iom_tlb.specs.declared.space.Space.{Space}
 use Rattle.iom_tlb.specs.declared.trans_cache.Translation.{Translation}
 use Rattle.iom_tlb.specs.declared.space.Space.TheVariants as space
-use Rattle.iom_tlb.specs.Content.{Key, Content, Stays}
+use Rattle.iom_tlb.specs.Content.{Key, Translations, TranslationsStay}
 use Rattle.iom_iommu.specs.Service.{own_page, cached_for, Walks, LooksOrWalks, Translates}
 use Rattle.iom_iommu.specs.Stages.{space_through, ReachesThrough, StopsThrough}
 
@@ -68,22 +68,22 @@ module _ (memory : List (List ℕ)) (address : ℕ) (kind : AccessKind) (first_s
       rw (one, two) (subst (λ n. IfOk result (ReachesBoth (levels_of first_size) (levels_of second_size) memory first.number n address kind) × IfErr result (StopsBoth (levels_of first_size) (levels_of second_size) memory first.number n address kind)) rooted
       (ok_of (ReachesBoth (levels_of first_size) (levels_of second_size) memory first.number number address kind) result reached, err_of (StopsBoth (levels_of first_size) (levels_of second_size) memory first.number number address kind) result stopped))
 
-module _ (sure : Bool) (Reaches : Walked → Type 0) (Stops : WalkFault → Type 0) (kind : AccessKind) (key : Key) (old : Content) (found : Option Translation) (is : found ≡ cached_for (old key) kind) where
+module _ (sure : Bool) (Reaches : Walked → Type 0) (Stops : WalkFault → Type 0) (kind : AccessKind) (key : Key) (old : Translations) (found : Option Translation) (is : found ≡ cached_for (old key) kind) where
   -- by the translation that was found
-  pub looked : (cached : Translation) (new : Content) → found ≡ Some cached → Stays old new → LooksOrWalks sure (cached_for (old key) kind) Reaches Stops key old (Ok cached) new
+  pub looked : (cached : Translation) (new : Translations) → found ≡ Some cached → TranslationsStay old new → LooksOrWalks sure (cached_for (old key) kind) Reaches Stops key old (Ok cached) new
   looked cached new some stays =
       subst (λ (o : Option Translation). LooksOrWalks sure o Reaches Stops key old (Ok cached) new) (sym some ∙ is) (refl, stays)
 
   -- by a walk, where none was: the look before it changes nothing of what a keep leaves
-  pub walked : (between new : Content) (answer : Result Translation WalkFault) → found ≡ None → Stays old between → Walks sure Reaches Stops key between answer new
+  pub walked : (between new : Translations) (answer : Result Translation WalkFault) → found ≡ None → TranslationsStay old between → Walks sure Reaches Stops key between answer new
       → LooksOrWalks sure (cached_for (old key) kind) Reaches Stops key old answer new
   walked between new answer none stays walks =
       let unchanged : between ≡ old = λ i k. stays k i in
       subst (λ (o : Option Translation). LooksOrWalks sure o Reaches Stops key old answer new) (sym none ∙ is)
-      (subst (λ (content : Content). Walks sure Reaches Stops key content answer new) unchanged walks)
+      (subst (λ (content : Translations). Walks sure Reaches Stops key content answer new) unchanged walks)
 
 -- BY THE STAGES of a context: in the address space that they translate, or where both are Bare in none
-module _ (sure : Bool) (context : Context) (memory : List (List ℕ)) (address : ℕ) (kind : AccessKind) (old : Content) (answer : Result Translation WalkFault) (new : Content) where
+module _ (sure : Bool) (context : Context) (memory : List (List ℕ)) (address : ℕ) (kind : AccessKind) (old : Translations) (answer : Result Translation WalkFault) (new : Translations) where
   abbrev LooksOrWalksIn : (Walked → Type 0) → (WalkFault → Type 0) → Space → Type 0
   LooksOrWalksIn Reaches Stops at = LooksOrWalks sure (cached_for (old (at, address / 4096)) kind) Reaches Stops (at, address / 4096) old answer new
 
@@ -104,7 +104,7 @@ module _ (sure : Bool) (context : Context) (memory : List (List ℕ)) (address :
       (StopsBoth (levels_of first_size) (levels_of second_size) memory first.number second.number address kind)) same l
 
   pub through_none : (first_stage : FirstStage) (second_stage : SecondStage) → space_through first_stage second_stage context ≡ None
-      → answer ≡ own_page memory address kind → Stays old new → Translates sure first_stage second_stage context memory address kind old answer new
+      → answer ≡ own_page memory address kind → TranslationsStay old new → Translates sure first_stage second_stage context memory address kind old answer new
   through_none Bare second.Bare none is stays = (is, stays)
   through_none (Tables size root) second.Bare none is stays = absurd (cc)
   through_none Bare (second.Tables size root) none is stays = absurd (cc)

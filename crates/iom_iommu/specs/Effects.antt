@@ -18,7 +18,7 @@ use Rattle.iom_device_dir.specs.declared.context.Context.{Context}
 use Rattle.iom_device_dir.specs.Contents.{Content, IsSameContent, DropsCovered}
 use Rattle.iom_inflight.specs.Flights.{Flights}
 use Rattle.iom_tlb.specs.declared.trans_cache.TransCache.{Ghosts as Cache}
-use Rattle.iom_tlb.specs.Content.{Content as Translations, Stays, Drops}
+use Rattle.iom_tlb.specs.Content.{Translations, TranslationsStay, DropsWhere}
 use Rattle.iom_tlb.specs.Covers.{are_covering}
 use Rattle.iom_tlb.specs.Invalidations.{covers_of}
 use Rattle.iom_iommu.specs.Parts.{registers_of, contexts_of, translations_of, flights_of, fence_snapshot_of, waits_of, slots_of, frames_of}
@@ -53,8 +53,8 @@ abbrev pub must_wait : Command → Flights → ℕ → OpenSlots → Bool
 must_wait command flights before slots = waits_for_slots command slots || waits_for_accesses command flights before
 
 -- the same of a command at the head
-abbrev pub is_held : {C : Type 0} {c : Cache C} → Command → Iommu C c → Bool
-is_held command iommu = must_wait command (flights_of iommu) (counted_in iommu) (slots_of iommu)
+abbrev pub is_held_back : {C : Type 0} {c : Cache C} → Command → Iommu C c → Bool
+is_held_back command iommu = must_wait command (flights_of iommu) (counted_in iommu) (slots_of iommu)
 
 -- the word that a command stores: that of a fence with AV
 abbrev pub store_of : Command → Option FenceStore
@@ -94,7 +94,7 @@ abbrev pub WaitsAt : {C : Type 0} {c : Cache C} → Option QueueEntry → Iommu 
 WaitsAt None iommu = ⊥
 WaitsAt (Some stands.Outside) iommu = ⊥
 WaitsAt (Some (stands.Illegal reason)) iommu = ⊥
-WaitsAt (Some (stands.Command command)) iommu = is_held command iommu ≡ true
+WaitsAt (Some (stands.Command command)) iommu = is_held_back command iommu ≡ true
 
 -- what it counted once it waits: nothing yet where it waits for invalidation requests
 abbrev pub fence_snapshot_at : {C : Type 0} {c : Cache C} → Option QueueEntry → Iommu C c → Option ℕ
@@ -125,7 +125,7 @@ StopsAtEntry memory None old new = ⊥
 StopsAtEntry memory (Some stands.Outside) old new = new ≡ after_nothing old (with_cqmf (registers_of old))
 StopsAtEntry memory (Some (stands.Illegal reason)) old new = new ≡ after_nothing old (with_cmd_ill (registers_of old))
 StopsAtEntry memory (Some (stands.Command command)) old new =
-    (is_held command old ≡ false) × (¬ IsStorable memory (store_of command))
+    (is_held_back command old ≡ false) × (¬ IsStorable memory (store_of command))
     × (new ≡ after_fetched old (with_cqmf (registers_of old)) (Some (counted_in old)) (is_waiting_fence command (slots_of old)))
 
 -- the cached contexts once the command is done: IODIR.INVAL_DDT drops those that it names, and no other command drops any
@@ -138,7 +138,7 @@ DropsContexts (AtsInval device range) old new = IsSameContent old new
 
 -- the cached translations once the command is done: those that IOTINVAL covers are gone, and no others
 abbrev pub DropsTranslations : Command → Translations → Translations → Type 0
-DropsTranslations command old new = Drops (are_covering (covers_of command)) old new
+DropsTranslations command old new = DropsWhere (are_covering (covers_of command)) old new
 
 -- the open requests once it is done: ATS.INVAL opens one
 abbrev pub slots_by : Command → OpenSlots → OpenSlots
@@ -169,7 +169,7 @@ abbrev pub FetchesByAnswer : {C : Type 0} {c : Cache C} → List (List ℕ) → 
 FetchesByAnswer memory iommu (Did command) new_memory new_iommu =
     (is_processing_commands (registers_of iommu) ≡ true)
     × (head_entry memory (registers_of iommu) ≡ Some (stands.Command command))
-    × (is_held command iommu ≡ false)
+    × (is_held_back command iommu ≡ false)
     × IsStorable memory (store_of command)
     × (new_memory ≡ with_store memory (store_of command))
     × IsLeft command iommu new_iommu
@@ -192,7 +192,7 @@ FetchesByAnswer memory iommu Stopped new_memory new_iommu =
 pub record AreAlike {C : Type 0} {c : Cache C} (one other : Iommu C c) : Type 0 where
   pub registers : registers_of one ≡ registers_of other
   pub contexts : IsSameContent (contexts_of one) (contexts_of other)
-  pub translations : Stays (translations_of one) (translations_of other)
+  pub translations : TranslationsStay (translations_of one) (translations_of other)
   pub fence_snapshot : fence_snapshot_of one ≡ fence_snapshot_of other
   pub waits : waits_of one ≡ waits_of other
   pub slots : slots_of one ≡ slots_of other

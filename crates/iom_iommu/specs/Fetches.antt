@@ -16,7 +16,7 @@ use Rattle.iom_device_dir.specs.Contents.{DropsCovered}
 use Rattle.iom_inflight.specs.Flights.{Flights, are_drained}
 use Rattle.iom_tlb.specs.declared.cover.Cover.{Cover}
 use Rattle.iom_tlb.specs.declared.trans_cache.TransCache.{Ghosts as Cache}
-use Rattle.iom_tlb.specs.Content.{Drops}
+use Rattle.iom_tlb.specs.Content.{DropsWhere}
 use Rattle.iom_tlb.specs.Covers.{are_covering}
 use Rattle.iom_tlb.specs.Invalidations.{vma_covers, gvma_covers}
 use Rattle.iom_iommu.specs.declared.iommu.Iommu.{Iommu}
@@ -39,7 +39,7 @@ after_command iommu = record (without_fence iommu) { registers = with_command_do
 
 -- IOTINVAL.VMA and IOTINVAL.GVMA (section 3.1.1, "IOMMU Page-Table cache invalidation commands"): the cached translations that it covers go, and no others
 pub record InvalidatesTranslations {C : Type 0} {c : Cache C} (covers : List Cover) (old new : Iommu C c) : Type 0 where
-  pub dropped : Drops (are_covering covers) (translations_of old) (translations_of new)
+  pub dropped : DropsWhere (are_covering covers) (translations_of old) (translations_of new)
   pub cached : AreTranslationsIn old.frames (translations_of new)
   pub rest : new ≡ record (after_command old) { translations = new.translations; cached = cached }
 

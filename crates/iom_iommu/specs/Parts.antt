@@ -9,10 +9,10 @@ use Rattle.iom_command_queue.specs.OpenSlots.{OpenSlots, no_slots}
 use Rattle.iom_device_dir.specs.declared.context.Context.{Context}
 use Rattle.iom_device_dir.specs.Cached.{cached_contexts, contexts_in_order}
 use Rattle.iom_device_dir.specs.Contents.{Content, IsEmptyContent}
-use Rattle.iom_inflight.specs.Flights.{Flights, no_flights, IsAdded as IsAddedTo}
+use Rattle.iom_inflight.specs.Flights.{Flights, no_flights, IsAddedTo}
 use Rattle.iom_inflight.specs.Calls.{Adds}
 use Rattle.iom_tlb.specs.declared.trans_cache.TransCache.{Ghosts as Cache}
-use Rattle.iom_tlb.specs.Content.{Content as Translations, HasNothing}
+use Rattle.iom_tlb.specs.Content.{Translations, HasNothing}
 use Rattle.iom_iommu.specs.declared.iommu.Iommu.{Iommu}
 
 abbrev pub registers_of : {C : Type 0} {c : Cache C} → Iommu C c → Registers
@@ -27,8 +27,8 @@ abbrev pub context_order_of : {C : Type 0} {c : Cache C} → Iommu C c → List 
 context_order_of iommu = contexts_in_order iommu.contexts
 
 -- the cache of translations, with all that it has beside its content
-abbrev pub cache_of : {C : Type 0} {c : Cache C} → Iommu C c → C
-cache_of iommu = iommu.translations
+abbrev pub translation_cache_of : {C : Type 0} {c : Cache C} → Iommu C c → C
+translation_cache_of iommu = iommu.translations
 
 -- the translations that are cached, by page of an address space
 abbrev pub translations_of : {C : Type 0} {c : Cache C} → Iommu C c → Translations

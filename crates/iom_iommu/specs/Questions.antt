@@ -18,7 +18,7 @@ use Rattle.iom_registers.specs.declared.registers.Registers.{Registers}
 use Rattle.iom_stage_walk.specs.declared.walked.WalkFault.{WalkFault}
 use Rattle.iom_tlb.specs.declared.trans_cache.TransCache.{Ghosts as Cache}
 use Rattle.iom_tlb.specs.declared.trans_cache.Translation.{Translation}
-use Rattle.iom_tlb.specs.Content.{Content as Translations}
+use Rattle.iom_tlb.specs.Content.{Translations}
 use Rattle.iom_iommu.specs.Parts.{registers_of, contexts_of, translations_of, flights_of, fence_snapshot_of, waits_of, slots_of, frames_of}
 use Rattle.iom_iommu.specs.Requests.{faulted_of, fault_of}
 use Rattle.iom_iommu.specs.Service.{ServesBy, KeepsContext, ats_context_for}

@@ -14,14 +14,14 @@ use Rattle.iom_fault_queue.specs.Calls.{PutsRecord}
 use Rattle.iom_fault_queue.specs.Fields.{untranslated_of}
 use Rattle.iom_fault_queue.specs.Records.{record_of}
 use Rattle.iom_inflight.specs.declared.made.MadeAt.{MadeAt}
-use Rattle.iom_inflight.specs.Calls.{IsAccepted, IsFull, HasRoom, Makes}
+use Rattle.iom_inflight.specs.Calls.{IsAccepted, IsFull, HasRoom, MakesOldestInFlight}
 use Rattle.iom_iommu.specs.declared.iommu.Iommu.{Iommu}
 use Rattle.iom_iommu.specs.declared.reply.Reply.{Reply}
 use Rattle.iom_iommu.specs.declared.reply.Reply.TheVariants.{Accepted, Busy, Fault, BadSpan}
 use Rattle.iom_stage_walk.specs.declared.walked.WalkFault.{WalkFault}
 use Rattle.iom_tlb.specs.declared.trans_cache.TransCache.{Ghosts as Cache}
 use Rattle.iom_tlb.specs.declared.trans_cache.Translation.{Translation}
-use Rattle.iom_tlb.specs.Content.{Content as Translations}
+use Rattle.iom_tlb.specs.Content.{Translations}
 use Rattle.iom_iommu.specs.Parts.{registers_of, contexts_of, translations_of, flights_of, fence_snapshot_of, waits_of, slots_of, frames_of}
 use Rattle.iom_iommu.specs.Service.{Serves, KeepsContext}
 
@@ -33,7 +33,7 @@ access_of address len kind bytes = record { address = address; len = len; kind =
 -- these translations cached then
 
 -- it goes last in the device's row with this number, on the frame of its translation
-pub record Accepts {C : Type 0} {c : Cache C} (Served : Result Translation WalkFault → Translations → Type 0) (memory : List (List ℕ)) (old : Iommu C c)
+pub record IommuAccepts {C : Type 0} {c : Cache C} (Served : Result Translation WalkFault → Translations → Type 0) (memory : List (List ℕ)) (old : Iommu C c)
     (id : ℕ) (access : Access) (number : ℕ) (new : Iommu C c) : Type 0 where
   pub within : IsWithinPage access
   pub frame : ℕ
@@ -80,7 +80,7 @@ Answers Served transaction memory old id access BadSpan new_memory new = (¬ IsW
 Answers Served transaction memory old id access Busy new_memory new =
     IsWithinPage access × IsFull (flights_of old) id × (new ≡ old) × (new_memory ≡ memory)
 Answers Served transaction memory old id access (Accepted number) new_memory new =
-    Accepts Served memory old id access number new × (new_memory ≡ memory)
+    IommuAccepts Served memory old id access number new × (new_memory ≡ memory)
 Answers Served transaction memory old id access (Fault cause) new_memory new = Refuses Served transaction memory old id access cause new_memory new
 
 -- A DEVICE ASKS for an access by an untranslated request: it is served by the translation of its address
@@ -89,7 +89,7 @@ ServesRequest {c = c} memory old id access answer new =
     Serves c.SURE memory (registers_of old) (contexts_of old) id access.address access.kind (translations_of old) answer new
 
 abbrev pub AcceptsRequest : {C : Type 0} {c : Cache C} → List (List ℕ) → Iommu C c → ℕ → Access → ℕ → Iommu C c → Type 0
-AcceptsRequest memory old id access number new = Accepts (ServesRequest memory old id access) memory old id access number new
+AcceptsRequest memory old id access number new = IommuAccepts (ServesRequest memory old id access) memory old id access number new
 
 abbrev pub RefusesRequest : {C : Type 0} {c : Cache C} → List (List ℕ) → Iommu C c → ℕ → Access → Cause → List (List ℕ) → Iommu C c → Type 0
 RefusesRequest memory old id access cause new_memory new =
@@ -106,7 +106,7 @@ pub record IsWithinFrame (frames : ℕ) (made : MadeAt) : Type 0 where
 
 -- THE OLDEST ACCESS of a device is made, if there is one
 pub record CommitsOldest {C : Type 0} {c : Cache C} (memory : List (List ℕ)) (old : Iommu C c) (id : ℕ) (made : Option MadeAt) (new_memory : List (List ℕ)) (new : Iommu C c) : Type 0 where
-  pub makes : Makes memory (flights_of old) id made new_memory (flights_of new)
+  pub makes : MakesOldestInFlight memory (flights_of old) id made new_memory (flights_of new)
   pub contexts : new.contexts ≡ old.contexts
   pub translations : new.translations ≡ old.translations
   pub registers : registers_of new ≡ registers_of old

@@ -26,7 +26,7 @@ use Rattle.iom_device_dir.specs.Located.{located_context}
 use Rattle.iom_device_dir.specs.Paths.{fits_directory}
 use Rattle.iom_tlb.specs.declared.space.Space.TheVariants as space
 use Rattle.iom_tlb.specs.declared.trans_cache.Translation.{Translation}
-use Rattle.iom_tlb.specs.Content.{Key, Content as Translations, Stays, Keeps}
+use Rattle.iom_tlb.specs.Content.{Key, Translations, TranslationsStay, Keeps}
 
 -- the cached context; where there is none, the one that the directory has
 abbrev pub found_context : Option Context → Result Context Cause → Result Context Cause
@@ -35,8 +35,8 @@ found_context (Some cached) located = Ok cached
 
 -- the context of a device, or the cause for which there is none. The width of the id is asked first (section 2.3.1): one that is too wide for the
 -- directory has none, also where one is cached for it
-abbrev pub context_for : List (List ℕ) → Registers → Content ℕ Context → ℕ → Result Context Cause
-context_for memory r content id =
+abbrev pub context_or_cause : List (List ℕ) → Registers → Content ℕ Context → ℕ → Result Context Cause
+context_or_cause memory r content id =
     if fits_directory (directory_mode r) id then found_context (content id) (located_context memory r.ddtp id) else Err TransactionTypeDisallowed
 
 -- the same where the transaction is of ATS, a question or a translated request: none is let through in the modes Off and Bare, nor by a context that
@@ -53,7 +53,7 @@ ats_context_in mode.TwoLevels found = letting_ats found
 ats_context_in mode.ThreeLevels found = letting_ats found
 
 abbrev pub ats_context_for : List (List ℕ) → Registers → Content ℕ Context → ℕ → Result Context Cause
-ats_context_for memory r content id = ats_context_in (directory_mode r) (context_for memory r content id)
+ats_context_for memory r content id = ats_context_in (directory_mode r) (context_or_cause memory r content id)
 
 -- the frame of the address itself, if there is one, to be read and written
 abbrev pub own_page : List (List ℕ) → ℕ → AccessKind → Result Translation WalkFault
@@ -86,18 +86,18 @@ translation_of walked = record { frame = walked.frame; rights = walked.rights }
 abbrev pub Walks : Bool → (Walked → Type 0) → (WalkFault → Type 0) → Key → Translations → Result Translation WalkFault → Translations → Type 0
 Walks sure Reaches Stops key old (Ok translation) new =
     (walked : Walked) × Reaches walked × (translation ≡ translation_of walked) × Keeps sure old key (translation_of walked) new
-Walks sure Reaches Stops key old (Err fault) new = Stops fault × Stays old new
+Walks sure Reaches Stops key old (Err fault) new = Stops fault × TranslationsStay old new
 
 -- by a cached translation, if there is one; else by the walk
 abbrev pub LooksOrWalks : Bool → Option Translation → (Walked → Type 0) → (WalkFault → Type 0) → Key → Translations → Result Translation WalkFault
     → Translations → Type 0
-LooksOrWalks sure (Some cached) Reaches Stops key old answer new = (answer ≡ Ok cached) × Stays old new
+LooksOrWalks sure (Some cached) Reaches Stops key old answer new = (answer ≡ Ok cached) × TranslationsStay old new
 LooksOrWalks sure None Reaches Stops key old answer new = Walks sure Reaches Stops key old answer new
 
 -- by the stages of a context: where both are Bare, the address is that of memory, and nothing is cached
 abbrev pub Translates : Bool → FirstStage → SecondStage → Context → List (List ℕ) → ℕ → AccessKind → Translations → Result Translation WalkFault
     → Translations → Type 0
-Translates sure Bare second.Bare context memory address kind old answer new = (answer ≡ own_page memory address kind) × Stays old new
+Translates sure Bare second.Bare context memory address kind old answer new = (answer ≡ own_page memory address kind) × TranslationsStay old new
 Translates sure (Tables size root) second.Bare context memory address kind old answer new =
     LooksOrWalks sure (cached_for (old (first_key context address)) kind)
     (ReachesFirst (levels_of size) memory root.number address kind) (StopsFirst (levels_of size) memory root.number address kind)
@@ -116,13 +116,13 @@ Translates sure (Tables first_size first) (second.Tables second_size second) con
 abbrev pub ServesBy : Bool → Result Context Cause → List (List ℕ) → ℕ → AccessKind → Translations → Result Translation WalkFault → Translations → Type 0
 ServesBy sure (Ok context) memory address kind old answer new =
     Translates sure context.first_stage context.second_stage context memory address kind old answer new
-ServesBy sure (Err cause) memory address kind old answer new = (answer ≡ Err (plain cause)) × Stays old new
+ServesBy sure (Err cause) memory address kind old answer new = (answer ≡ Err (plain cause)) × TranslationsStay old new
 
 -- by ddtp's mode: no transaction is allowed, or none is translated, or each by its context
 abbrev pub ServesIn : Bool → DirectoryMode → Result Context Cause → List (List ℕ) → ℕ → AccessKind → Translations → Result Translation WalkFault
     → Translations → Type 0
-ServesIn sure mode.Off found memory address kind old answer new = (answer ≡ Err (plain AllInboundDisallowed)) × Stays old new
-ServesIn sure mode.Bare found memory address kind old answer new = (answer ≡ own_page memory address kind) × Stays old new
+ServesIn sure mode.Off found memory address kind old answer new = (answer ≡ Err (plain AllInboundDisallowed)) × TranslationsStay old new
+ServesIn sure mode.Bare found memory address kind old answer new = (answer ≡ own_page memory address kind) × TranslationsStay old new
 ServesIn sure mode.OneLevel found memory address kind old answer new = ServesBy sure found memory address kind old answer new
 ServesIn sure mode.TwoLevels found memory address kind old answer new = ServesBy sure found memory address kind old answer new
 ServesIn sure mode.ThreeLevels found memory address kind old answer new = ServesBy sure found memory address kind old answer new
@@ -132,7 +132,7 @@ ServesIn sure mode.ThreeLevels found memory address kind old answer new = Serves
 abbrev pub Serves : Bool → List (List ℕ) → Registers → Content ℕ Context → ℕ → ℕ → AccessKind → Translations → Result Translation WalkFault
     → Translations → Type 0
 Serves sure memory r contexts id address kind old answer new =
-    ServesIn sure (directory_mode r) (context_for memory r contexts id) memory address kind old answer new
+    ServesIn sure (directory_mode r) (context_or_cause memory r contexts id) memory address kind old answer new
 
 -- a context that was located is kept, where none was cached. An id that is too wide for the directory has none there: nothing is kept for it
 abbrev pub KeepsLocated : Option Context → Result Context Cause → Content ℕ Context → ℕ → Content ℕ Context → Type 0

@@ -20,6 +20,6 @@ timed_out iommu = record iommu {
 }
 
 -- A TIMEOUT has its effect exactly where a fence waits so, and changes nothing else
-abbrev pub TimesOut : {C : Type 0} {c : Cache C} → Iommu C c → Bool → Iommu C c → Type 0
-TimesOut old true new = (can_time_out old ≡ true) × (new ≡ timed_out old)
-TimesOut old false new = (can_time_out old ≡ false) × (new ≡ old)
+abbrev pub TimesFenceOut : {C : Type 0} {c : Cache C} → Iommu C c → Bool → Iommu C c → Type 0
+TimesFenceOut old true new = (can_time_out old ≡ true) × (new ≡ timed_out old)
+TimesFenceOut old false new = (can_time_out old ≡ false) × (new ≡ old)

@@ -3,7 +3,7 @@ ghost use Rattle.std.specs.Prelude.{◌≡◌, IfOk, is_some};
 ghost use Rattle.iom_inflight.specs.Flights.{row_of, waiting_at};
 ghost use Rattle.iom_inflight.specs.Sound.{AreFlights, AreRowsIn};
 ghost use Rattle.iom_tlb.specs.Content.{HasNothing};
-ghost use Rattle.iom_iommu.specs.Parts.{IsAtPowerOn, cache_of, contexts_of, AddsDevice, flights_of, frames_of};
+ghost use Rattle.iom_iommu.specs.Parts.{IsAtPowerOn, translation_cache_of, contexts_of, AddsDevice, flights_of, frames_of};
 
 use crate::iommu::Iommu;
 use iom_base::DeviceId;
@@ -20,7 +20,7 @@ impl<C: TransCache + Drop> Iommu<C> {
     pub fn new(alloc: Global, frames: u32, translations: C) -> Result<Iommu<C>, AllocError>
         requires { HasNothing (C.content translations) }
         ensures power_on { IfOk result (IsAtPowerOn frames) }
-        ensures cache { IfOk result (λ iommu. cache_of iommu ≡ translations) }
+        ensures cache { IfOk result (λ iommu. translation_cache_of iommu ≡ translations) }
     {
         Ok(Iommu {
             registers: Registers::new(),
@@ -60,7 +60,7 @@ impl<C: TransCache> Iommu<C> {
 
     /// The cache of translations.
     pub fn translations(&self) -> &C
-        ensures { result.now ≡ cache_of self.now }
+        ensures { result.now ≡ translation_cache_of self.now }
     {
         &self.translations
     }

@@ -6,7 +6,7 @@ ghost use Rattle.iom_registers.specs.declared.directory.DirectoryMode.TheVariant
 ghost use Rattle.iom_device_dir.specs.Cached.{cached_contexts};
 ghost use Rattle.iom_device_dir.specs.Located.{located_context};
 ghost use Rattle.iom_device_dir.specs.Paths.{fits_directory};
-ghost use Rattle.iom_iommu.specs.Service.{context_for, ats_context_for, letting_ats, KeepsLocated, KeepsContext};
+ghost use Rattle.iom_iommu.specs.Service.{context_or_cause, ats_context_for, letting_ats, KeepsLocated, KeepsContext};
 
 use iom_base::{Cause, DeviceId};
 use iom_device_dir::{Context, DirCache, fits_directory, locate};
@@ -45,7 +45,7 @@ pub(crate) fn find_context(
 ) -> Result<Context, Cause>
     requires mode { directory_mode registers.now ≢ Bare }
     requires width { fits_directory (directory_mode registers.now) device ≡ true }
-    ensures found { result ≡ context_for memory.now registers.now (cached_contexts contexts.old) device }
+    ensures found { result ≡ context_or_cause memory.now registers.now (cached_contexts contexts.old) device }
     ensures kept { KeepsLocated (cached_contexts contexts.old device) (located_context memory.now registers.now.ddtp device)
         (cached_contexts contexts.old) device (cached_contexts contexts.new) }
 {

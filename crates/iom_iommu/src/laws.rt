@@ -7,7 +7,7 @@ ghost use Rattle.iom_command_queue.specs.Waiting.{commands_in};
 ghost use Rattle.iom_iommu.specs.declared.fetched.Fetched.{Fetched as Answer};
 ghost use Rattle.iom_iommu.specs.declared.iommu.Iommu.{Iommu};
 ghost use Rattle.iom_iommu.specs.Parts.{registers_of, slots_of};
-ghost use Rattle.iom_iommu.specs.Timeouts.{TimesOut};
+ghost use Rattle.iom_iommu.specs.Timeouts.{TimesFenceOut};
 ghost use Rattle.iom_iommu.specs.Fetches.{FetchesCommand};
 ghost use Rattle.iom_iommu.specs.Effects.{FetchesByAnswer, AreAlike, store_of, IsStoredIn, IsOffRing, LeavesFaultQueue};
 
@@ -87,9 +87,9 @@ pub fn opens_one<C: TransCache>()
 /// software changes the registers. The commands still wait, the fence that was given up first among them, and its
 /// word isn't stored.
 pub fn stops_after_timeout<C: TransCache>()
-    ensures stopped { (i j : Iommu C C.TransCache) → TimesOut i true j → is_processing_commands (registers_of j) ≡ false }
-    ensures list { (m : List (List ℕ)) (i j : Iommu C C.TransCache) → TimesOut i true j
+    ensures stopped { (i j : Iommu C C.TransCache) → TimesFenceOut i true j → is_processing_commands (registers_of j) ≡ false }
+    ensures list { (m : List (List ℕ)) (i j : Iommu C C.TransCache) → TimesFenceOut i true j
         → commands_in m (registers_of j) ≡ commands_in m (registers_of i) }
-    ensures fetch { (m n : List (List ℕ)) (i j k : Iommu C C.TransCache) (answer : Answer) → TimesOut i true j
+    ensures fetch { (m n : List (List ℕ)) (i j k : Iommu C C.TransCache) (answer : Answer) → TimesFenceOut i true j
         → FetchesCommand m j answer n k → (answer ≡ Fetched.Stopped) × (n ≡ m) × (k ≡ j) }
 {}

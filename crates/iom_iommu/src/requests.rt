@@ -4,7 +4,7 @@ ghost use Rattle.iom_base.specs.Sizes.{in_flight_limit, device_limit};
 ghost use Rattle.iom_inflight.specs.Flights.{count_in, accepted_in, count_all, first_busy, oldest_in, row_of};
 ghost use Rattle.iom_inflight.specs.Sound.{CarriesBytes};
 ghost use Rattle.iom_inflight.specs.Calls.{IsAccepted};
-ghost use Rattle.iom_inflight.specs.Rows.{StandsAt};
+ghost use Rattle.iom_inflight.specs.Rows.{RowStandsAt};
 ghost use Rattle.iom_base.specs.Spans.{FitsInPage};
 ghost use Rattle.iom_iommu.specs.Parts.{IsAdded, flights_of, frames_of, registers_of};
 ghost use Rattle.iom_iommu.specs.Requests.{access_of, AnswersRequest, CommitsOldest, IsWithinFrame};
@@ -32,7 +32,7 @@ pub(crate) fn accept(
     bytes: &[u8],
     frame: u32,
 ) -> u64
-    requires stands { StandsAt in_flight.old.rows device place }
+    requires stands { RowStandsAt in_flight.old.rows device place }
     requires room { count_in (row_of in_flight.old.rows device) < in_flight_limit }
     requires within { FitsInPage address len }
     requires carries { CarriesBytes kind len bytes.now }

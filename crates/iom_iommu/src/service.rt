@@ -4,7 +4,7 @@ ghost use Rattle.iom_device_dir.specs.Cached.{cached_contexts};
 ghost use Rattle.iom_device_dir.specs.Located.{located_context};
 ghost use Rattle.iom_device_dir.specs.Paths.{fits_directory};
 ghost use Rattle.iom_iommu.specs.Cached.{AreTranslationsIn};
-ghost use Rattle.iom_iommu.specs.Service.{context_for, Serves, ServesBy, KeepsContext, KeepsLocated};
+ghost use Rattle.iom_iommu.specs.Service.{context_or_cause, Serves, ServesBy, KeepsContext, KeepsLocated};
 ghost use Rattle.iom_registers.specs.Queues.{directory_mode};
 ghost use Rattle.iom_registers.specs.declared.directory.DirectoryMode.TheVariants.{Bare};
 
@@ -32,7 +32,7 @@ fn serve_by_search<C: TransCache>(
     requires inside { AreTranslationsIn (length memory.now) (C.content translations.old) }
     requires mode { directory_mode registers.now ≢ Bare }
     requires width { fits_directory (directory_mode registers.now) device ≡ true }
-    ensures served { ServesBy C.SURE (context_for memory.now registers.now (cached_contexts contexts.old) device) memory.now address kind
+    ensures served { ServesBy C.SURE (context_or_cause memory.now registers.now (cached_contexts contexts.old) device) memory.now address kind
         (C.content translations.old) result (C.content translations.new) }
     ensures kept { KeepsLocated (cached_contexts contexts.old device) (located_context memory.now registers.now.ddtp device)
         (cached_contexts contexts.old) device (cached_contexts contexts.new) }

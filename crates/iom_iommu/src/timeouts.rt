@@ -1,6 +1,6 @@
 // A fence that waits too long is given up (IOMMU specification, section 3.1.4, "IOMMU Address-translation services
 // (ATS) commands").
-ghost use Rattle.iom_iommu.specs.Timeouts.{TimesOut};
+ghost use Rattle.iom_iommu.specs.Timeouts.{TimesFenceOut};
 
 use crate::iommu::Iommu;
 use iom_tlb::TransCache;
@@ -11,7 +11,7 @@ impl<C: TransCache> Iommu<C> {
     /// by a write of 1 or by turning the queue off and on; all requests are closed, and the head stays at the fence, whose word isn't stored. False
     /// where no fence waits so, and then nothing changes.
     pub fn timeout(&mut self) -> bool
-        ensures { TimesOut self.old result self.new }
+        ensures { TimesFenceOut self.old result self.new }
     {
         if !self.fence_waits || self.slots.is_empty() {
             return false;

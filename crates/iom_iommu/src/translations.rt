@@ -3,7 +3,7 @@
 ghost use Rattle.std.specs.Prelude.{◌≡◌, ◌<◌, ◌/◌, length, IfOk, IfErr, IsSome};
 ghost use Rattle.iom_base.specs.Sizes.{page_size};
 ghost use Rattle.iom_stage_walk.specs.Both.{plain};
-ghost use Rattle.iom_tlb.specs.Content.{Stays};
+ghost use Rattle.iom_tlb.specs.Content.{TranslationsStay};
 ghost use Rattle.iom_iommu.specs.Cached.{AreTranslationsIn};
 ghost use Rattle.iom_iommu.specs.Service.{own_page, cached_for, Walks, Translates, ServesBy};
 ghost use Rattle.iom_iommu.specs.Stages.{space_through, ReachesThrough, StopsThrough};
@@ -140,7 +140,7 @@ fn find_cached<C: TransCache>(
     kind: AccessKind,
 ) -> Option<Translation>
     ensures found { result ≡ cached_for (C.content translations.old (space, page)) kind }
-    ensures stays { Stays (C.content translations.old) (C.content translations.new) }
+    ensures stays { TranslationsStay (C.content translations.old) (C.content translations.new) }
 {
     let cached = translations.look(space, page)?;
     if cached.rights.allows(kind) {

@@ -10,12 +10,12 @@ use Rattle.iom_machine.proofs.ReclaimLemmas.{reclaims}
 use Rattle.iom_script.specs.declared.script.WorldSize.{WorldSize}
 use Rattle.iom_script.specs.Grammar.{is_spoken, spoken}
 use Rattle.iom_script.specs.Words.{IsWithout}
-use Rattle.iom_known.specs.Allowed.{Past, IsTrueOf, state_of}
+use Rattle.iom_known.specs.Allowed.{Past, IsTrueOf, known_state}
 use Rattle.iom_known.specs.Starts.{IsPowerOn, SomeAreAllowed}
-use Rattle.iom_trace_lines.specs.Taken.{AreLines, Holds, HasTaken}
+use Rattle.iom_trace_lines.specs.Taken.{AreLines, BufferHolds, HasTaken}
 use Rattle.iom_trace_lines.specs.TraceLines.{Said, SaysLine, Nothing, World, Step}
-use Rattle.iom_judge.specs.Certificates.{is_lawful, four_disks, opening_of, SaysStep, SaySteps, AreOfRun, AreLawful, IsLawfulTrace}
-use Rattle.iom_judge.specs.Certified.{IsCertifiedBy, Certify, CertifyBehind, CertifyIf, Follows, GoesOn, HasJudged}
+use Rattle.iom_judge.specs.Certificates.{is_lawful, four_disks, opening_of, SaysStep, SaySteps, AreOfRun, AreLawfulLines, IsLawfulTrace}
+use Rattle.iom_judge.specs.Certified.{IsCertifiedBy, Certify, CertifyBehind, CertifyIf, BeliefFollows, GoesOn, HasJudged}
 use Rattle.iom_judge.specs.declared.belief.Belief.{Belief}
 use Rattle.iom_judge.specs.declared.verdict.Verdict.{Verdict}
 use Rattle.iom_doubts.proofs.FollowSteps.{none_of_none}
@@ -43,7 +43,7 @@ spoken_same lines line says = filter-append is_spoken lines (line ∷ []) ∙ ap
 
 -- what is certified goes on being so
 certify_more : (old new : Belief) (lines : List (List ℕ)) (line : List ℕ) (event : Event) (outcome : Outcome)
-    → Certify (Some old) lines → SaysStep line event outcome → Follows old new event outcome
+    → Certify (Some old) lines → SaysStep line event outcome → BeliefFollows old new event outcome
     → Certify (Some new) (lines ++ line ∷ [])
 certify_more old new [] line event outcome never step follows = absurd never
 certify_more old new (first ∷ rest) line event outcome (size, says, by) step follows = (
@@ -109,9 +109,9 @@ of_run belief size lines by possible =
       events = by.events;
       outcomes = by.outcomes;
       say = by.say;
-      last = state_of known certified.past.history some.0;
+      last = known_state known certified.past.history some.0;
       run = run;
-      reclaims = reclaims (opening_of size) by.events by.outcomes (state_of known certified.past.history some.0) ([], [], (size.frames, size.levels, four_disks, refl)) run;
+      reclaims = reclaims (opening_of size) by.events by.outcomes (known_state known certified.past.history some.0) ([], [], (size.frames, size.levels, four_disks, refl)) run;
     }
 
 -- after the last line
@@ -120,7 +120,7 @@ pub all_said : (belief : Option Belief) (lines : List (List ℕ)) (text : List �
 all_said belief lines text certified possible are =
     record { lines = lines; whole = are.0; is_text = are.1; lawful = by belief (spoken lines) certified possible }
   where
-    by : (b : Option Belief) (ls : List (List ℕ)) → Certify b ls → IfSome b (λ it. (past : Past) → IsTrueOf it.known past → SomeAreAllowed it.known past) → AreLawful ls
+    by : (b : Option Belief) (ls : List (List ℕ)) → Certify b ls → IfSome b (λ it. (past : Past) → IsTrueOf it.known past → SomeAreAllowed it.known past) → AreLawfulLines ls
     by None [] told so = tt
     by None (l ∷ ls) never so = absurd never
     by (Some b) [] never so = absurd never
@@ -179,7 +179,7 @@ of_reader None lines are lawful = tt
 of_reader (Some text) lines are lawful = lawful text are
 
 -- before the first line
-pub nothing_taken : (certain : Bool) (belief : Option Belief) (window : List (List ℕ)) (buffer : List ℕ) (start end : ℕ) (first : Option (List ℕ)) → Holds buffer start end []
+pub nothing_taken : (certain : Bool) (belief : Option Belief) (window : List (List ℕ)) (buffer : List ℕ) (start end : ℕ) (first : Option (List ℕ)) → BufferHolds buffer start end []
     → CertifyBehind certain belief window [] → HasJudged certain belief window buffer start end first first
 nothing_taken certain belief window buffer start end first holds certified =
     ([], record { whole = All-nil (IsWithout 10); read = []; consumed = Consumes-nil first; waiting = []; holds = holds; is_read = refl }, certified)

@@ -6,7 +6,7 @@ use Rattle.iom_machine.specs.declared.state.Device.{Device}
 use Rattle.iom_machine.specs.declared.state.State.{State}
 use Rattle.iom_machine.specs.Machine.{Run, Step}
 use Rattle.iom_script.specs.declared.script.WorldSize.{WorldSize}
-use Rattle.iom_known.specs.Allowed.{Past, IsTrueOf, state_of}
+use Rattle.iom_known.specs.Allowed.{Past, IsTrueOf, known_state}
 use Rattle.iom_known.specs.declared.known.Known.{Known}
 use Rattle.iom_doubts.specs.Followed.{IsFollowed, StepsBy}
 use Rattle.iom_doubts.specs.declared.doubts.Doubt.{Doubt}
@@ -42,7 +42,7 @@ certified_anyway known doubts size events outcomes certified = record {
   past = certified.past;
   is_true = certified.is_true;
   runs = λ frames allowed.
-      subst (λ (s : State). Run (opening_of size) events outcomes s) (own_flown (state_of known certified.past.history frames))
+      subst (λ (s : State). Run (opening_of size) events outcomes s) (own_flown (known_state known certified.past.history frames))
       (certified.runs (own_flights known.devices) frames (own_fly doubts known.devices) allowed);
 }
 
@@ -53,6 +53,6 @@ certified_settled known doubts size events outcomes none certified = record {
   past = certified.past;
   is_true = certified.is_true;
   runs = λ flights frames fly allowed.
-      subst (λ (ds : List Device). Run (opening_of size) events outcomes (record (state_of known certified.past.history frames) { devices = ds }))
+      subst (λ (ds : List Device). Run (opening_of size) events outcomes (record (known_state known certified.past.history frames) { devices = ds }))
       (sym (same_devices doubts known.devices flights none fly)) (certified.runs frames allowed);
 }

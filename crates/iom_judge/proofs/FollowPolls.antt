@@ -10,7 +10,7 @@ use Rattle.iom_machine.specs.declared.event.Event.TheVariants.{Poll}
 use Rattle.iom_machine.specs.declared.outcome.Outcome.TheVariants.{Confirmed}
 use Rattle.iom_machine.specs.declared.state.State.{State}
 use Rattle.iom_machine.proofs.InFlightLemmas.{All-at}
-use Rattle.iom_known.specs.Allowed.{Past, IsTrueOf, state_of}
+use Rattle.iom_known.specs.Allowed.{Past, IsTrueOf, known_state}
 use Rattle.iom_known_acts.specs.Leaves.{ConfirmsNext, past_confirmed}
 use Rattle.iom_known.specs.Reached.{CanReach}
 use Rattle.iom_known.specs.Steps.{IsLedBack}
@@ -71,6 +71,6 @@ poll_follows old mid new doubts first last timed_out past confirms reached led =
           let history = ap (λ (s : State). s.history) step.1 in
           let may = subst (λ (h : History). DoubtsMay doubts h) (sym history) (reached_may mid doubts (past_confirmed past first last) confirms.is_true reached) in
           let all = all_flights_may doubts explained.after.history new.devices flights may step.2 fly in
-          let flew = poll_flies doubts flights (state_of old past.history came.frames) first last timed_out (state_of new explained.after.history frames) all fly step in
+          let flew = poll_flies doubts flights (known_state old past.history came.frames) first last timed_out (known_state new explained.after.history frames) all fly step in
           record { flights = flew.0; frames = came.frames; flew = flew.1; allowed = came.allowed; step = (came.step.0, flew.2) };
     }

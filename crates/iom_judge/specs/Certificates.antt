@@ -59,13 +59,13 @@ pub record AreOfRun (size : WorldSize) (lines : List (List ℕ)) : Type 0 where
   pub reclaims : Reclaims (opening_of size) events outcomes last run
 
 -- Lines that all say something are lawful: none of them, or one that says how large the world is, and then those of a run.
-abbrev pub AreLawful : List (List ℕ) → Type 0
-AreLawful [] = ⊤
-AreLawful (line ∷ lines) = (size : WorldSize) × SaysLine line (World size) [] × AreOfRun size lines
+abbrev pub AreLawfulLines : List (List ℕ) → Type 0
+AreLawfulLines [] = ⊤
+AreLawfulLines (line ∷ lines) = (size : WorldSize) × SaysLine line (World size) [] × AreOfRun size lines
 
 -- The text is lines, each ended by its line feed, and those that say something are lawful.
 pub record IsLawfulTrace (text : List ℕ) : Type 0 where
   pub lines : List (List ℕ)
   pub whole : All (IsWithout 10) lines
   pub is_text : text ≡ bytes_of_lines lines
-  pub lawful : AreLawful (spoken lines)
+  pub lawful : AreLawfulLines (spoken lines)

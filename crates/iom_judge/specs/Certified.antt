@@ -8,7 +8,7 @@ use Rattle.iom_machine.specs.declared.state.Frame.{Frame}
 use Rattle.iom_machine.specs.Machine.{Run}
 use Rattle.iom_script.specs.declared.script.WorldSize.{WorldSize}
 use Rattle.iom_script.specs.Grammar.{is_spoken, spoken}
-use Rattle.iom_known.specs.Allowed.{Past, IsTrueOf, AreAllowed, state_of}
+use Rattle.iom_known.specs.Allowed.{Past, IsTrueOf, AreAllowed, known_state}
 use Rattle.iom_known.specs.declared.known.Known.{Known}
 use Rattle.iom_trace_lines.specs.Taken.{HasTaken}
 use Rattle.iom_trace_lines.specs.TraceLines.{Said, SaysLine, Nothing, World}
@@ -24,7 +24,7 @@ pub record IsCertified (known : Known) (size : WorldSize) (events : List Event) 
   pub past : Past
   pub is_true : IsTrueOf known past
   pub runs : (frames : List Frame) → AreAllowed known past frames
-      → Run (opening_of size) events outcomes (state_of known past.history frames)
+      → Run (opening_of size) events outcomes (known_state known past.history frames)
 
 -- There is a past that is true of what is known, and with that each state that is allowed, whatever frames the accesses in doubt are on, is one to which the
 -- machine runs from power-on by these events with these outcomes.
@@ -32,7 +32,7 @@ pub record IsCertifiedWith (known : Known) (doubts : List Doubt) (size : WorldSi
   pub past : Past
   pub is_true : IsTrueOf known past
   pub runs : (flights : List (List AcceptedAccess)) (frames : List Frame) → MayFly doubts known.devices flights → AreAllowed known past frames
-      → Run (opening_of size) events outcomes (flown flights (state_of known past.history frames))
+      → Run (opening_of size) events outcomes (flown flights (known_state known past.history frames))
 
 -- what is believed is certified by what the lines say
 pub record IsCertifiedBy (belief : Belief) (size : WorldSize) (lines : List (List ℕ)) : Type 0 where
@@ -56,14 +56,14 @@ abbrev pub CertifyBehind : Bool → Option Belief → List (List ℕ) → List (
 CertifyBehind is_certified belief window lines = (judged : List (List ℕ)) × (lines ≡ judged ++ window) × CertifyIf is_certified belief judged
 
 -- What is believed after the event with this outcome is followed from what was believed before, with each past that was true of that.
-abbrev pub Follows : Belief → Belief → Event → Outcome → Type 0
-Follows old new event outcome =
+abbrev pub BeliefFollows : Belief → Belief → Event → Outcome → Type 0
+BeliefFollows old new event outcome =
     (past : Past) → IsTrueOf old.known past → IsFollowed old.known old.doubts.all.items new.known new.doubts.all.items (StepsBy event outcome) past
 
 -- What is certified after the event with this outcome was so before, and what is believed is followed from that.
 abbrev pub GoesOn : Bool → Option Belief → Event → Outcome → Bool → Option Belief → Type 0
 GoesOn was (Some old) event outcome is (Some new) =
-    IsTrue is → IsTrue was × Follows old new event outcome
+    IsTrue is → IsTrue was × BeliefFollows old new event outcome
 GoesOn was _ event outcome is _ = ⊥
 
 -- The judges have taken these lines, but for the window the one that certifies, and what it certifies is so by them.

@@ -1,7 +1,7 @@
 // The access that a line's event asks for, which both judges take.
 ghost use Rattle.std.specs.Prelude.{◌≡◌, IfOk, IfSome};
 ghost use Rattle.iom_base.specs.Accesses.{write_of};
-ghost use Rattle.iom_known.specs.Asked.{IsAskedBy};
+ghost use Rattle.iom_known.specs.Asked.{IsAskedInWay};
 
 use iom_base::{Access, AccessKind, Sequence};
 use iom_known::Way;
@@ -28,7 +28,7 @@ fn write(alloc: Global, address: u64, bytes: &[u8]) -> Result<Access, AllocError
 
 /// The write that the event asks for, if it does.
 pub(crate) fn write_by(alloc: Global, event: &Event) -> Result<Option<Asked>, AllocError>
-    ensures { IfOk result (λ found. IfSome found (λ asked. IsAskedBy event.now asked.way asked.device asked.access)) }
+    ensures { IfOk result (λ found. IfSome found (λ asked. IsAskedInWay event.now asked.way asked.device asked.access)) }
 {
     let (way, device, address, bytes) = match event {
         Event::Write {

@@ -3,13 +3,13 @@ ghost use Rattle.std.specs.Prelude.{◌≡◌, ◌↔◌, ◌≤◌, [], All, Is
 ghost use Rattle.iom_machine.specs.declared.event.Event.{Event};
 ghost use Rattle.iom_machine.specs.declared.event.Event.TheVariants as events;
 ghost use Rattle.iom_known.specs.Allowed.{Past, IsTrueOf};
-ghost use Rattle.iom_known.specs.Asked.{IsAskedBy};
+ghost use Rattle.iom_known.specs.Asked.{IsAskedInWay};
 ghost use Rattle.iom_known.specs.Starts.{IsPowerOn};
 ghost use Rattle.iom_known.specs.Steps.{IsExplained};
 ghost use Rattle.iom_judge.specs.Certificates.{four_disks};
-ghost use Rattle.iom_doubts.specs.Doubted.{AreAmong, IsAllReached, IsNotAbout};
+ghost use Rattle.iom_doubts.specs.Doubted.{DoubtsAreAmong, IsAllReached, IsNotAbout};
 ghost use Rattle.iom_doubts.specs.Followed.{IsReadyFor};
-ghost use Rattle.iom_judge.specs.Certified.{Follows};
+ghost use Rattle.iom_judge.specs.Certified.{BeliefFollows};
 
 use crate::asking::write_by;
 use crate::in_doubt::act_in_doubt;
@@ -195,11 +195,11 @@ impl Belief {
         on: Option<u32>,
     ) -> Result<bool, AllocError>
         ensures explained { IfOk result (λ may. IsTrue may
-            → (event : Event) → IsAskedBy event asked.way asked.device asked.access
+            → (event : Event) → IsAskedInWay event asked.way asked.device asked.access
             → (past : Past) → IsTrueOf self.old.known past
             → IsExplained self.old.known self.new.known event outcome.now past) }
         ensures followed { IfOk result (λ may. IsTrue may → IsTrue self.new.is_followed
-            → (event : Event) → IsAskedBy event asked.way asked.device asked.access → Follows self.old self.new event outcome.now) }
+            → (event : Event) → IsAskedInWay event asked.way asked.device asked.access → BeliefFollows self.old self.new event outcome.now) }
     {
         if leaves_flights(outcome) {
             return request(&mut self.known, asked, outcome, 0);
@@ -222,7 +222,7 @@ impl Belief {
 
     /// A poll. One that confirms tickets is followed where each access in doubt may still reach all of its frames.
     fn poll(&mut self, alloc: Global, outcome: &Outcome) -> Result<bool, AllocError>
-        ensures { IfOk result (λ may. IsTrue may → IsTrue self.new.is_followed → Follows self.old self.new events.Poll outcome.now) }
+        ensures { IfOk result (λ may. IsTrue may → IsTrue self.new.is_followed → BeliefFollows self.old self.new events.Poll outcome.now) }
     {
         if leaves_flights(outcome) {
             return Ok(poll(alloc, &mut self.known, outcome));
@@ -255,7 +255,7 @@ impl Belief {
         ensures explained { self.old.doubts.all.items ≡ [] → self.old.memory.unseen.all.items ≡ [] → self.old.memory.versions.all.items ≡ []
             → IfOk result (λ may. IsTrue may → (past : Past) → IsTrueOf self.old.known past
             → IsExplained self.old.known self.new.known event.now outcome.now past) }
-        ensures followed { IfOk result (λ may. IsTrue may → IsTrue self.new.is_followed → Follows self.old self.new event.now outcome.now) }
+        ensures followed { IfOk result (λ may. IsTrue may → IsTrue self.new.is_followed → BeliefFollows self.old self.new event.now outcome.now) }
     {
         if let Event::Step { device } = event {
             return self.step_block(alloc, *device, outcome, shown.on, shown.began);
@@ -280,7 +280,7 @@ impl Belief {
     ) -> Result<bool, AllocError>
         ensures explained { IfOk result (λ may. IsTrue may → (past : Past) → IsTrueOf self.old.known past
             → IsExplained self.old.known self.new.known (events.Step id) outcome.now past) }
-        ensures followed { IfOk result (λ may. IsTrue may → IsTrue self.new.is_followed → Follows self.old self.new (events.Step id) outcome.now) }
+        ensures followed { IfOk result (λ may. IsTrue may → IsTrue self.new.is_followed → BeliefFollows self.old self.new (events.Step id) outcome.now) }
     {
         if let Outcome::Accepted(number) = outcome {
             let is_followed = self.follows_new(id, *number);
@@ -306,7 +306,7 @@ impl Belief {
         ensures explained { self.old.doubts.all.items ≡ [] → self.old.memory.unseen.all.items ≡ [] → self.old.memory.versions.all.items ≡ []
             → IfOk result (λ may. IsTrue may → (past : Past) → IsTrueOf self.old.known past
             → IsExplained self.old.known self.new.known event.now outcome.now past) }
-        ensures followed { IfOk result (λ may. IsTrue may → IsTrue self.new.is_followed → Follows self.old self.new event.now outcome.now) }
+        ensures followed { IfOk result (λ may. IsTrue may → IsTrue self.new.is_followed → BeliefFollows self.old self.new event.now outcome.now) }
     {
         let question = self.question_of(event, outcome);
         if self.is_settled() {
@@ -358,7 +358,7 @@ impl Belief {
         outcome: &Outcome,
     ) -> Result<bool, AllocError>
         ensures { IfOk result (λ ready. IsTrue ready → IsReadyFor self.old.known self.old.doubts.all.items self.new.known event.now outcome.now
-            × AreAmong self.new.doubts.all.items self.old.doubts.all.items) }
+            × DoubtsAreAmong self.new.doubts.all.items self.old.doubts.all.items) }
     {
         if !self.is_followed {
             return Ok(false);
@@ -417,7 +417,7 @@ impl Belief {
         ensures explained { self.old.doubts.all.items ≡ [] → self.old.memory.unseen.all.items ≡ [] → self.old.memory.versions.all.items ≡ []
             → IfOk result (λ may. IsTrue may → (past : Past) → IsTrueOf self.old.known past
             → IsExplained self.old.known self.new.known event.now outcome.now past) }
-        ensures followed { IfOk result (λ may. IsTrue may → IsTrue self.new.is_followed → Follows self.old self.new event.now outcome.now) }
+        ensures followed { IfOk result (λ may. IsTrue may → IsTrue self.new.is_followed → BeliefFollows self.old self.new event.now outcome.now) }
     {
         let may_come = self.act(alloc, event, outcome, tables)?;
         if may_come {

@@ -12,7 +12,7 @@ use Rattle.iom_machine.specs.Machine.{Step, ChosenStep, Requests, RequestsTransl
 use Rattle.iom_known.specs.declared.known.Known.{Known}
 use Rattle.iom_known.specs.declared.way.Way.TheVariants.{Untranslated, Forged, Cached}
 use Rattle.iom_known.specs.Allowed.{Past}
-use Rattle.iom_known.specs.Asked.{event_asking, asked_access, IsAskedBy}
+use Rattle.iom_known.specs.Asked.{event_asking, asked_access, IsAskedInWay}
 use Rattle.iom_known.specs.Steps.{IsLedBack, IsExplained}
 
 -- what is led back by steps is led back by others that these are
@@ -29,7 +29,7 @@ led_as old new past P Q leads led = record {
 abbrev on_frame : ℕ → Choice
 on_frame frame = record { directory = []; taken = []; frame = frame; device = 0; page = 0; access = read_of 0 1 }
 
-pub untranslated_explained : (old new : Known) (past : Past) (event : Event) (id frame : ℕ) (access : Access) (outcome : Outcome) → IsAskedBy event Untranslated id access
+pub untranslated_explained : (old new : Known) (past : Past) (event : Event) (id frame : ℕ) (access : Access) (outcome : Outcome) → IsAskedInWay event Untranslated id access
     → IsLedBack old new (λ before after. Requests frame before id access outcome after) past → IsExplained old new event outcome past
 untranslated_explained old new past event id frame access outcome asked led =
     led_as old new past (λ before after. Requests frame before id access outcome after) (λ before after. Step before event outcome after)
@@ -42,7 +42,7 @@ untranslated_explained old new past event id frame access outcome asked led =
     by before after Write e a step =
         subst (λ (ev : Event). ChosenStep (on_frame frame) before ev outcome after) (sym e) (subst (λ (x : Access). Requests frame before id x outcome after) a step)
 
-pub forged_explained : (old new : Known) (past : Past) (event : Event) (id : ℕ) (access : Access) (outcome : Outcome) → IsAskedBy event Forged id access
+pub forged_explained : (old new : Known) (past : Past) (event : Event) (id : ℕ) (access : Access) (outcome : Outcome) → IsAskedInWay event Forged id access
     → IsLedBack old new (λ before after. RequestsTranslated before id access outcome after) past → IsExplained old new event outcome past
 forged_explained old new past event id access outcome asked led =
     led_as old new past (λ before after. RequestsTranslated before id access outcome after) (λ before after. Step before event outcome after)
@@ -55,7 +55,7 @@ forged_explained old new past event id access outcome asked led =
     by before after Write e a step =
         subst (λ (ev : Event). ChosenStep (on_frame 0) before ev outcome after) (sym e) (subst (λ (x : Access). RequestsTranslated before id x outcome after) a step)
 
-pub cached_explained : (old new : Known) (past : Past) (event : Event) (id frame : ℕ) (access : Access) (outcome : Outcome) → IsAskedBy event Cached id access
+pub cached_explained : (old new : Known) (past : Past) (event : Event) (id frame : ℕ) (access : Access) (outcome : Outcome) → IsAskedInWay event Cached id access
     → IsLedBack old new (λ before after. RequestsThroughCache frame before id access outcome after) past → IsExplained old new event outcome past
 cached_explained old new past event id frame access outcome asked led =
     led_as old new past (λ before after. RequestsThroughCache frame before id access outcome after) (λ before after. Step before event outcome after)

@@ -14,7 +14,7 @@ use Rattle.iom_machine.specs.declared.state.Device.{Device}
 use Rattle.iom_machine.specs.declared.state.Frame.{Frame}
 use Rattle.iom_machine.proofs.CallLemmas.{detached_as, cut_off_as, revived_as}
 use Rattle.iom_known.specs.declared.known.Known.{Known}
-use Rattle.iom_known.specs.Allowed.{Past, IsTrueOf, AreInOrder, HadBytes, ids_of, state_of}
+use Rattle.iom_known.specs.Allowed.{Past, IsTrueOf, AreInOrder, HadBytes, ids_of, known_state}
 use Rattle.iom_known.specs.Steps.{IsExplained}
 use Rattle.iom_known.proofs.StayLemmas.{any_choice, allowed_by_ids, same_ids}
 
@@ -63,7 +63,7 @@ pub keeps_ids : (olds devices : List Device) (place : ℕ) (device now : Device)
 keeps_ids olds devices place device now at d same = ap ids_of d ∙ same_ids olds place device now at same
 
 pub detach_explained : (old : Known) (past : Past) (id place ticket : ℕ) (device : Device) (devices : List Device)
-    → IsTrueOf old past → ((frames : List Frame) → NoneApplies (detach_reasons (state_of old past.history frames) id))
+    → IsTrueOf old past → ((frames : List Frame) → NoneApplies (detach_reasons (known_state old past.history frames) id))
     → ticket ≡ old.last_ticket + 1 → StandsAt old.devices id place → slice_get old.devices place ≡ Some device
     → devices ≡ slice_set old.devices place (record device { has_disk = false; attachment = leaving_under ticket device.attachment })
     → IsExplained old (with_devices old devices ticket) (Detach id) (Ticket ticket) past
@@ -75,13 +75,13 @@ detach_explained old past id place ticket device devices is_true none next is_pl
     allowed = allowed_by_ids old (with_devices old devices ticket) past past frames refl (keeps_ids old.devices devices place device _ at d refl) (λ n o bs. refl) allowed;
     step = (
       any_choice,
-      (detached_as ticket (state_of old past.history frames) id place device devices (none frames) next is_place at d (state_of (with_devices old devices ticket) past.history frames)).0 refl,
+      (detached_as ticket (known_state old past.history frames) id place device devices (none frames) next is_place at d (known_state (with_devices old devices ticket) past.history frames)).0 refl,
     );
   };
 }
 
 pub revive_explained : (old : Known) (past : Past) (id place : ℕ) (device : Device) (devices : List Device)
-    → IsTrueOf old past → ((frames : List Frame) → NoneApplies (revive_reasons (state_of old past.history frames) id))
+    → IsTrueOf old past → ((frames : List Frame) → NoneApplies (revive_reasons (known_state old past.history frames) id))
     → StandsAt old.devices id place → slice_get old.devices place ≡ Some device
     → devices ≡ slice_set old.devices place (record device { attachment = attached_again device.attachment })
     → IsExplained old (with_devices old devices old.last_ticket) (Revive id) Done past
@@ -93,7 +93,7 @@ revive_explained old past id place device devices is_true none is_place at d = r
     allowed = allowed_by_ids old (with_devices old devices old.last_ticket) past past frames refl (keeps_ids old.devices devices place device _ at d refl) (λ n o bs. refl) allowed;
     step = (
       any_choice,
-      (revived_as (state_of old past.history frames) id place device devices (none frames) is_place at d (state_of (with_devices old devices old.last_ticket) past.history frames)).0 refl,
+      (revived_as (known_state old past.history frames) id place device devices (none frames) is_place at d (known_state (with_devices old devices old.last_ticket) past.history frames)).0 refl,
     );
   };
 }
@@ -112,7 +112,7 @@ with_ledger old ledger devices ticket = record {
 }
 
 pub release_explained : (old : Known) (past : Past) (ledger : Ledger) (id page ticket : ℕ)
-    → IsTrueOf old past → ((frames : List Frame) → NoneApplies (release_reasons (state_of old past.history frames) id page))
+    → IsTrueOf old past → ((frames : List Frame) → NoneApplies (release_reasons (known_state old past.history frames) id page))
     → ticket ≡ old.last_ticket + 1 → Agrees ledger (entries.Released id page ticket ∷ past.history)
     → IsExplained old (with_ledger old ledger old.devices ticket) (Release id page) (Ticket ticket) past
 release_explained old past ledger id page ticket is_true none next agrees = record {
@@ -134,7 +134,7 @@ release_explained old past ledger id page ticket is_true none next agrees = reco
 }
 
 pub quarantine_explained : (old : Known) (past : Past) (ledger : Ledger) (id place ticket : ℕ) (device : Device) (devices : List Device)
-    → IsTrueOf old past → ((frames : List Frame) → NoneApplies (quarantine_reasons (state_of old past.history frames) id))
+    → IsTrueOf old past → ((frames : List Frame) → NoneApplies (quarantine_reasons (known_state old past.history frames) id))
     → ticket ≡ old.last_ticket + 1 → StandsAt old.devices id place → slice_get old.devices place ≡ Some device
     → devices ≡ slice_set old.devices place (record device { attachment = cut_off_under ticket device.attachment })
     → Agrees ledger (entries.AllReleased id ticket ∷ past.history)
@@ -156,8 +156,8 @@ quarantine_explained old past ledger id place ticket device devices is_true none
     allowed = allowed_by_ids old (with_ledger old ledger devices ticket) past _ frames refl (keeps_ids old.devices devices place device _ at d refl) (λ n o bs. refl) allowed;
     step = (
       any_choice,
-      (cut_off_as ticket (state_of old past.history frames) id place device (entries.AllReleased id ticket ∷ past.history) devices (none frames) next is_place at refl d
-          (state_of (with_ledger old ledger devices ticket) (entries.AllReleased id ticket ∷ past.history) frames)).0 refl,
+      (cut_off_as ticket (known_state old past.history frames) id place device (entries.AllReleased id ticket ∷ past.history) devices (none frames) next is_place at refl d
+          (known_state (with_ledger old ledger devices ticket) (entries.AllReleased id ticket ∷ past.history) frames)).0 refl,
     );
   };
 }

@@ -20,7 +20,7 @@ use Rattle.iom_machine.proofs.ByteLemmas.{slice_get-set_same, slice_get-set_othe
 use Rattle.iom_machine.proofs.HeadlineLemmas.{element_at}
 use Rattle.iom_known.specs.declared.known.Known.{Known}
 use Rattle.iom_known.specs.declared.frames.BelievedFrame.{BelievedFrame}
-use Rattle.iom_known.specs.Allowed.{Past, IsTrueOf, AreAllowed, IsAsBelieved, MayOwn, ids_of, state_of}
+use Rattle.iom_known.specs.Allowed.{Past, IsTrueOf, AreAllowed, IsAsBelieved, MayOwn, ids_of, known_state}
 use Rattle.iom_known.specs.Steps.{IsExplained}
 use Rattle.iom_known.proofs.StayLemmas.{any_choice, stays}
 
@@ -142,7 +142,7 @@ only_nobody ids (Some (OneDevice id)) may =
 
 -- the frame that is told free is nobody's
 pub free_explained : (old : Known) (past : Past) (number : ℕ) (b : BelievedFrame) → IsTrueOf old past → slice_get old.frames number ≡ Some b → bit_at b.owners 0 ≡ 1
-    → NoneMayReach past.history number → ((frames : List Frame) → length frames ≡ length old.frames → NoneApplies (frame_reasons (state_of old past.history frames) number))
+    → NoneMayReach past.history number → ((frames : List Frame) → length frames ≡ length old.frames → NoneApplies (frame_reasons (known_state old past.history frames) number))
     → IsExplained old (with_frames old (slice_set old.frames number (record b { owners = 1 }))) (events.Free number) (outcomes.Free true) past
 free_explained old past number b is_true there nobody unreached none = record {
   after = past;
@@ -167,7 +167,7 @@ free_explained old past number b is_true there nobody unreached none = record {
 
 -- a frame that a device may reach isn't free
 pub reached_explained : (old : Known) (past : Past) (number : ℕ) → IsTrueOf old past → (NoneMayReach past.history number → ⊥)
-    → ((frames : List Frame) → length frames ≡ length old.frames → NoneApplies (frame_reasons (state_of old past.history frames) number))
+    → ((frames : List Frame) → length frames ≡ length old.frames → NoneApplies (frame_reasons (known_state old past.history frames) number))
     → IsExplained old old (events.Free number) (outcomes.Free false) past
 reached_explained old past number is_true reached none =
     stays old (events.Free number) (outcomes.Free false) past is_true
@@ -176,7 +176,7 @@ reached_explained old past number is_true reached none =
 -- the frame that is told not to be free, though no device reaches it, is somebody's
 pub taken_explained : (old : Known) (past : Past) (number owners : ℕ) (b : BelievedFrame) → IsTrueOf old past → slice_get old.frames number ≡ Some b
     → bit_at owners 0 ≡ 0 → ((k : ℕ) → k < 64 → k ≢ 0 → bit_at owners k ≡ bit_at b.owners k)
-    → ((frames : List Frame) → length frames ≡ length old.frames → NoneApplies (frame_reasons (state_of old past.history frames) number))
+    → ((frames : List Frame) → length frames ≡ length old.frames → NoneApplies (frame_reasons (known_state old past.history frames) number))
     → IsExplained old (with_frames old (slice_set old.frames number (record b { owners = owners }))) (events.Free number) (outcomes.Free false) past
 taken_explained old past number owners b is_true there nobody others none = record {
   after = past;

@@ -12,8 +12,8 @@ use Rattle.iom_machine.specs.declared.state.Attachment.{Attachment}
 use Rattle.iom_machine.specs.declared.state.Attachment.TheVariants.{Detached, Attached, Quarantined, Leaving}
 use Rattle.iom_machine.specs.declared.state.Device.{Device}
 use Rattle.iom_machine.specs.declared.state.Frame.{Frame}
-use Rattle.iom_known.specs.Allowed.{Past, IsTrueOf, state_of}
-use Rattle.iom_known.specs.Reached.{IsReached, AreReached, IsServed, HasBothStages}
+use Rattle.iom_known.specs.Allowed.{Past, IsTrueOf, known_state}
+use Rattle.iom_known.specs.Reached.{IsWithinReach, AreReached, IsServed, HasBothStages}
 use Rattle.iom_known.specs.declared.known.Known.{Known}
 
 pub lingering_pair : (found : Option Pair) (known : Known) (id page : ℕ) (with_held : Bool) → ((h : History) → Agrees known.ledger h → (pair : Pair) → (found ≡ Some pair) ↔ Lingers h id page pair)
@@ -23,7 +23,7 @@ lingering_pair (Some pair) known id page with_held tells = λ past is. inr ((tel
 
 -- a pair with a right that allows the kind reaches its frame
 pub reached_by : (with_held : Bool) (history : History) (id page : ℕ) (kind : AccessKind) (pair : Pair) → ((with_held ≡ true) × Holds history id page pair) ⊎ Lingers history id page pair
-    → allows pair.1 kind ≡ true → IsReached with_held history id kind pair.0
+    → allows pair.1 kind ≡ true → IsWithinReach with_held history id kind pair.0
 reached_by true history id page kind pair (inl held) right = (page, pair.1, inl held.1, right)
 reached_by true history id page kind pair (inr lingers) right = (page, pair.1, inr lingers, right)
 reached_by false history id page kind pair (inl held) right = absurd (never held.0)
@@ -34,8 +34,8 @@ reached_by false history id page kind pair (inr lingers) right = (page, pair.1, 
 
 -- one frame more
 pub reached_too : (with_held : Bool) (known : Known) (id : ℕ) (kind : AccessKind) (frames : List ℕ) (added : ℕ) → AreReached with_held known id kind frames
-    → ((past : Past) → IsTrueOf known past → IsReached with_held past.history id kind added) → AreReached with_held known id kind (frames ++ added ∷ [])
-reached_too with_held known id kind [] added each more zero frame at = λ past is. subst (λ (f : ℕ). IsReached with_held past.history id kind f) (same added frame at) (more past is)
+    → ((past : Past) → IsTrueOf known past → IsWithinReach with_held past.history id kind added) → AreReached with_held known id kind (frames ++ added ∷ [])
+reached_too with_held known id kind [] added each more zero frame at = λ past is. subst (λ (f : ℕ). IsWithinReach with_held past.history id kind f) (same added frame at) (more past is)
   where
     same : (a b : ℕ) → ◌≡◌ {A = Option ℕ} (Some a) (Some b) → a ≡ b
     same a b e = cc
@@ -49,7 +49,7 @@ reached_too with_held known id kind (f ∷ fs) added each more (suc k) frame at 
 -- where a device is translated in both stages, a request of it may be accepted on any frame on which one may be served, or go through
 pub accepted_in_both : (attachment : Attachment) (known : Known) (past : Past) (frames : List Frame) (id : ℕ) (access : Access) (frame : ℕ) → HasBothStages attachment
     → IsServed attachment past.history id access.kind frame
-    → MayAccept attachment (state_of known past.history frames) id access frame × MayGoThrough attachment (state_of known past.history frames) id access frame
+    → MayAccept attachment (known_state known past.history frames) id access frame × MayGoThrough attachment (known_state known past.history frames) id access frame
 accepted_in_both Detached known past frames id access frame both served = absurd both
 accepted_in_both (Attached (Both size) ats) known past frames id access frame both served = (served, served)
 accepted_in_both (Attached (First size) ats) known past frames id access frame both served = cc
@@ -71,8 +71,8 @@ ok_weaker (Err fault) P Q told weaker = tt
 
 pub accepted_there : (here device : Device) (known : Known) (past : Past) (frames : List Frame) (id : ℕ) (access : Access) (frame : ℕ) → here ≡ device → device.id ≡ id
     → HasBothStages here.attachment → IsServed here.attachment past.history here.id access.kind frame
-    → MayAccept device.attachment (state_of known past.history frames) id access frame × MayGoThrough device.attachment (state_of known past.history frames) id access frame
+    → MayAccept device.attachment (known_state known past.history frames) id access frame × MayGoThrough device.attachment (known_state known past.history frames) id access frame
 accepted_there here device known past frames id access frame same own both served =
-    subst (λ (i : ℕ). MayAccept device.attachment (state_of known past.history frames) i access frame × MayGoThrough device.attachment (state_of known past.history frames) i access frame) own
-    (subst (λ (d : Device). MayAccept d.attachment (state_of known past.history frames) d.id access frame × MayGoThrough d.attachment (state_of known past.history frames) d.id access frame) same
+    subst (λ (i : ℕ). MayAccept device.attachment (known_state known past.history frames) i access frame × MayGoThrough device.attachment (known_state known past.history frames) i access frame) own
+    (subst (λ (d : Device). MayAccept d.attachment (known_state known past.history frames) d.id access frame × MayGoThrough d.attachment (known_state known past.history frames) d.id access frame) same
     (accepted_in_both here.attachment known past frames here.id access frame both served))

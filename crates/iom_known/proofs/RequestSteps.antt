@@ -17,7 +17,7 @@ use Rattle.iom_machine.specs.declared.state.Frame.{Frame}
 use Rattle.iom_machine.specs.declared.state.State.{State}
 use Rattle.iom_machine.proofs.StepLemmas.{own_place}
 use Rattle.iom_known.specs.declared.known.Known.{Known}
-use Rattle.iom_known.specs.Allowed.{Past, IsTrueOf, state_of}
+use Rattle.iom_known.specs.Allowed.{Past, IsTrueOf, known_state}
 use Rattle.iom_known.specs.Steps.{IsLedBack}
 use Rattle.iom_known.proofs.CallSteps.{with_devices, still_true, keeps_ids}
 use Rattle.iom_known.proofs.StayLemmas.{allowed_by_ids}
@@ -37,7 +37,7 @@ able_step can Q old new id outcome device there able fact = rw (there, able) fac
 
 -- a step that leaves each state that is allowed
 pub led_stays : (known : Known) (IsStep : State → State → Type 0) (past : Past) → IsTrueOf known past
-    → ((frames : List Frame) → IsStep (state_of known past.history frames) (state_of known past.history frames)) → IsLedBack known known IsStep past
+    → ((frames : List Frame) → IsStep (known_state known past.history frames) (known_state known past.history frames)) → IsLedBack known known IsStep past
 led_stays known IsStep past is_true steps = record {
   after = past;
   is_true = is_true;
@@ -63,16 +63,16 @@ one_more device number access frame = record device { accepted = number; in_flig
 accepted_state : (old : Known) (past : Past) (frames : List Frame) (devices : List Device) (id place number frame : ℕ) (access : Access) (device : Device)
     → StandsAt old.devices id place → slice_get old.devices place ≡ Some device → number ≡ device.accepted + 1
     → devices ≡ slice_set old.devices place (one_more device number access frame)
-    → state_of (with_devices old devices old.last_ticket) past.history frames ≡ with_accepted (state_of old past.history frames) device access frame
+    → known_state (with_devices old devices old.last_ticket) past.history frames ≡ with_accepted (known_state old past.history frames) device access frame
 accepted_state old past frames devices id place number frame access device is_place at next d =
     let own = own_place old.devices id place device is_place at in
     let now = one_more device (device.accepted + 1) access frame in
-    ap (λ (ds : List Device). state_of (with_devices old ds old.last_ticket) past.history frames)
+    ap (λ (ds : List Device). known_state (with_devices old ds old.last_ticket) past.history frames)
     (d ∙ ap (λ (n : ℕ). slice_set old.devices place (one_more device n access frame)) next ∙ sym (own.2 now))
 
 -- what is led back by steps is led back by others that these are, from the states that are known
 pub led_from : (old new : Known) (past : Past) (P Q : State → State → Type 0)
-    → ((frames : List Frame) (after : State) → P (state_of old past.history frames) after → Q (state_of old past.history frames) after)
+    → ((frames : List Frame) (after : State) → P (known_state old past.history frames) after → Q (known_state old past.history frames) after)
     → IsLedBack old new P past → IsLedBack old new Q past
 led_from old new past P Q leads led = record {
   after = led.after;
@@ -88,12 +88,12 @@ pub acts_led : (can : DeviceKind → Bool) (old new : Known) (past : Past) (id p
     → IsLedBack old new (λ before after. Acts can (λ dev. Q before dev after) before id outcome after) past
 acts_led can old new past id place outcome device Q is_place at able led =
     led_from old new past (λ before after. Q before device after) (λ before after. Acts can (λ dev. Q before dev after) before id outcome after)
-    (λ frames after does. able_step can (λ dev. Q (state_of old past.history frames) dev after) (state_of old past.history frames) after id outcome device (is_place.1 ∙ at) able does)
+    (λ frames after does. able_step can (λ dev. Q (known_state old past.history frames) dev after) (known_state old past.history frames) after id outcome device (is_place.1 ∙ at) able does)
     led
 
 pub accepted_led : (old : Known) (past : Past) (devices : List Device) (place number frame : ℕ) (access : Access) (device : Device) (outcome : Outcome)
     → IsTrueOf old past → StandsAt old.devices device.id place → slice_get old.devices place ≡ Some device
-    → ((frames : List Frame) → MayAnswer (state_of old past.history frames) device access frame outcome) → outcome ≡ Accepted number → number ≡ device.accepted + 1
+    → ((frames : List Frame) → MayAnswer (known_state old past.history frames) device access frame outcome) → outcome ≡ Accepted number → number ≡ device.accepted + 1
     → devices ≡ slice_set old.devices place (one_more device number access frame)
     → IsLedBack old (with_devices old devices old.last_ticket) (λ before after. IsAnswered false before device access frame outcome after) past
 accepted_led old past devices place number frame access device outcome is_true is_place at answers is next d = record {
@@ -105,14 +105,14 @@ accepted_led old past devices place number frame access device outcome is_true i
     step = (
       answers frames,
       accepted_state old past frames devices device.id place number frame access device is_place at next d
-          ∙ ap (λ (o : Outcome). state_after (state_of old past.history frames) device access frame o) (sym is),
+          ∙ ap (λ (o : Outcome). state_after (known_state old past.history frames) device access frame o) (sym is),
     );
   };
 }
 
 pub accepted_cached_led : (old : Known) (past : Past) (devices : List Device) (place number frame : ℕ) (access : Access) (device : Device) (outcome : Outcome)
     → IsTrueOf old past → StandsAt old.devices device.id place → slice_get old.devices place ≡ Some device
-    → ((frames : List Frame) → MayAnswerThroughCache (state_of old past.history frames) device access frame outcome) → outcome ≡ Accepted number → number ≡ device.accepted + 1
+    → ((frames : List Frame) → MayAnswerThroughCache (known_state old past.history frames) device access frame outcome) → outcome ≡ Accepted number → number ≡ device.accepted + 1
     → devices ≡ slice_set old.devices place (one_more device number (at_frame frame access) frame)
     → IsLedBack old (with_devices old devices old.last_ticket) (λ before after. IsAnswered true before device access frame outcome after) past
 accepted_cached_led old past devices place number frame access device outcome is_true is_place at answers is next d = record {
@@ -124,7 +124,7 @@ accepted_cached_led old past devices place number frame access device outcome is
     step = (
       answers frames,
       accepted_state old past frames devices device.id place number frame (at_frame frame access) device is_place at next d
-          ∙ ap (λ (o : Outcome). state_after_cached (state_of old past.history frames) device access frame o) (sym is),
+          ∙ ap (λ (o : Outcome). state_after_cached (known_state old past.history frames) device access frame o) (sym is),
     );
   };
 }

@@ -13,7 +13,7 @@ use Rattle.iom_machine.specs.declared.state.State.{State}
 use Rattle.iom_machine.specs.Machine.{ChosenStep}
 use Rattle.iom_known.specs.declared.known.Known.{Known}
 use Rattle.iom_known.specs.declared.frames.BelievedFrame.{BelievedFrame}
-use Rattle.iom_known.specs.Allowed.{Past, IsTrueOf, AreAllowed, MayOwn, MayHaveBytes, ids_of, state_of}
+use Rattle.iom_known.specs.Allowed.{Past, IsTrueOf, AreAllowed, MayOwn, MayHaveBytes, ids_of, known_state}
 use Rattle.iom_known.specs.Steps.{IsExplained}
 
 -- a choice, where nothing is chosen
@@ -25,7 +25,7 @@ same_state state = refl
 
 -- a step that leaves each state that is allowed
 pub stays : (known : Known) (event : Event) (outcome : Outcome) (past : Past) → IsTrueOf known past
-    → ((frames : List Frame) → AreAllowed known past frames → ChosenStep any_choice (state_of known past.history frames) event outcome (state_of known past.history frames))
+    → ((frames : List Frame) → AreAllowed known past frames → ChosenStep any_choice (known_state known past.history frames) event outcome (known_state known past.history frames))
     → IsExplained known known event outcome past
 stays known event outcome past is_true steps = record {
   after = past;

@@ -76,8 +76,8 @@ pub record AreAllowed (known : Known) (past : Past) (frames : List Frame) : Type
       → slice_get known.frames number ≡ Some believed → slice_get frames number ≡ Some frame → IsAsBelieved (ids_of known.devices) past number believed frame
 
 -- the state that is known, with this history and these frames
-abbrev pub state_of : Known → History → List Frame → State
-state_of known history frames = record {
+abbrev pub known_state : Known → History → List Frame → State
+known_state known history frames = record {
   levels = known.levels;
   frames = frames;
   history = history;

@@ -24,6 +24,6 @@ asked_access Read access = read_of access.address access.len
 asked_access Write access = write_of access.address access.bytes
 
 -- By the event the device asks so for the access.
-abbrev pub IsAskedBy : Event → Way → ℕ → Access → Type 0
-IsAskedBy event way id access =
+abbrev pub IsAskedInWay : Event → Way → ℕ → Access → Type 0
+IsAskedInWay event way id access =
     (event ≡ event_asking way access.kind id access) × (access ≡ asked_access access.kind access)

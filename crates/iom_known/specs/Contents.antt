@@ -6,18 +6,18 @@ use Rattle.iom_known.specs.Allowed.{bytes_believed}
 use Rattle.iom_known.specs.declared.frames.BelievedFrame.{BelievedFrame}
 
 -- bytes that the frame may have where it is nobody's
-abbrev pub MayHold : BelievedFrame → List ℕ → Type 0
-MayHold believed bytes = (bytes ≡ bytes_believed believed.bytes) ⊎ IsSomeAnd believed.other (λ other. bytes ≡ bytes_believed other)
+abbrev pub MayHaveWhereNobodys : BelievedFrame → List ℕ → Type 0
+MayHaveWhereNobodys believed bytes = (bytes ≡ bytes_believed believed.bytes) ⊎ IsSomeAnd believed.other (λ other. bytes ≡ bytes_believed other)
 
 -- Bytes that the frame may have now it might have before, and in each such the shown ones stand, from the offset on.
 abbrev pub OnlyShows : BelievedFrame → BelievedFrame → ℕ → List ℕ → Type 0
 OnlyShows old new offset shown =
-    (bytes : List ℕ) → MayHold new bytes → MayHold old bytes × (shown ≡ slice_range bytes offset (offset + length shown))
+    (bytes : List ℕ) → MayHaveWhereNobodys new bytes → MayHaveWhereNobodys old bytes × (shown ≡ slice_range bytes offset (offset + length shown))
 
 -- Bytes that the frame may have now are such as it might have before, with the written ones in them, from the offset on.
 abbrev pub IsWritten : BelievedFrame → BelievedFrame → ℕ → List ℕ → Type 0
 IsWritten old new offset written =
-    (bytes : List ℕ) → MayHold new bytes → (before : List ℕ) × MayHold old before × (bytes ≡ with_bytes before offset written)
+    (bytes : List ℕ) → MayHaveWhereNobodys new bytes → (before : List ℕ) × MayHaveWhereNobodys old before × (bytes ≡ with_bytes before offset written)
 
 -- what is believed of the frame of this number changed so, and of no other frame anything
 pub record ChangesAt (number : ℕ) (old new : List BelievedFrame) (How : BelievedFrame → BelievedFrame → Type 0) : Type 0 where

@@ -4,7 +4,7 @@ use Rattle.iom_machine.specs.declared.event.Event.{Event}
 use Rattle.iom_machine.specs.declared.outcome.Outcome.{Outcome}
 use Rattle.iom_machine.specs.declared.state.Frame.{Frame}
 use Rattle.iom_machine.specs.Machine.{Run}
-use Rattle.iom_known.specs.Allowed.{Past, AreAllowed, state_of}
+use Rattle.iom_known.specs.Allowed.{Past, AreAllowed, known_state}
 use Rattle.iom_known.specs.Steps.{IsExplained}
 use Rattle.iom_known.specs.declared.known.Known.{Known}
 
@@ -20,7 +20,7 @@ AreExplained old before (event ∷ events) [] new after = ⊥
 pub record RunsFrom (old : Known) (before : Past) (events : List Event) (outcomes : List Outcome) (new : Known) (after : Past) (frames : List Frame) : Type 0 where
   pub at_first : List Frame
   pub allowed : AreAllowed old before at_first
-  pub run : Run (state_of old before.history at_first) events outcomes (state_of new after.history frames)
+  pub run : Run (known_state old before.history at_first) events outcomes (known_state new after.history frames)
 
 -- Where each change is explained, each state that is allowed afterwards is one to which the machine runs by all the events, from one that was allowed before.
 abbrev pub ExplainedLinesAreARun : Type 0

@@ -10,14 +10,14 @@ use Rattle.iom_known.specs.Allowed.{Past, IsTrueOf}
 use Rattle.iom_known.specs.declared.known.Known.{Known}
 
 -- the device may reach the frame by an access of this kind: it lingers, or, where that counts, is held
-abbrev pub IsReached : Bool → History → ℕ → AccessKind → ℕ → Type 0
-IsReached true history id kind frame = May history id frame kind
-IsReached false history id kind frame = LingersSomewhere history id frame kind
+abbrev pub IsWithinReach : Bool → History → ℕ → AccessKind → ℕ → Type 0
+IsWithinReach true history id kind frame = May history id frame kind
+IsWithinReach false history id kind frame = LingersSomewhere history id frame kind
 
 -- each of the frames is such
 abbrev pub AreReached : Bool → Known → ℕ → AccessKind → List ℕ → Type 0
 AreReached with_held known id kind frames =
-    (k frame : ℕ) → slice_get frames k ≡ Some frame → (past : Past) → IsTrueOf known past → IsReached with_held past.history id kind frame
+    (k frame : ℕ) → slice_get frames k ≡ Some frame → (past : Past) → IsTrueOf known past → IsWithinReach with_held past.history id kind frame
 
 -- the device may reach the frame by an access of this kind
 abbrev pub CanReach : Known → ℕ → AccessKind → ℕ → Type 0

@@ -5,12 +5,12 @@ use Rattle.iom_base.specs.declared.refusal.Refusal.{Refusal}
 use Rattle.iom_base.specs.declared.refusal.Refusal.TheVariants.{NoSuchDevice, AlreadyAttached, NotAttached, FrameOutOfRange, IovaOutOfRange, IovaBusy, NotGranted, StillGranted, TooManyPending}
 use Rattle.iom_machine.specs.Refusals.{attachment_reasons, is_plugged, attachment_of, is_detached, is_leaving, is_attached}
 use Rattle.iom_machine.specs.declared.state.State.{State}
-use Rattle.iom_known.specs.Allowed.{state_of}
+use Rattle.iom_known.specs.Allowed.{known_state}
 use Rattle.iom_known.specs.declared.known.Known.{Known}
 
 -- what is known of the state, without its history and its frames
 abbrev pub bare : Known → State
-bare known = state_of known [] []
+bare known = known_state known [] []
 
 -- too many tickets are pending
 abbrev pub ticket_reasons : ℕ → ℕ → List (Bool × Refusal)

@@ -4,7 +4,7 @@ use Rattle.std.specs.Int.{bit_at}
 use Rattle.iom_base.specs.Sizes.{device_limit}
 use Rattle.iom_machine.specs.PowerOn.{opening}
 use Rattle.iom_machine.specs.declared.state.Frame.{Frame}
-use Rattle.iom_known.specs.Allowed.{Past, IsTrueOf, AreAllowed, state_of}
+use Rattle.iom_known.specs.Allowed.{Past, IsTrueOf, AreAllowed, known_state}
 use Rattle.iom_known.specs.declared.frames.BelievedFrame.{BelievedFrame}
 use Rattle.iom_known.specs.declared.known.Known.{Known}
 
@@ -18,7 +18,7 @@ pub record IsPowerOn (known : Known) (frames levels : ℕ) (disks : List ℕ) : 
   pub starts : past.history ≡ []
   pub is_true : IsTrueOf known past
   pub is_allowed : AreAllowed known past (opening frames levels disks).frames
-  pub is_opening : (all : List Frame) → AreAllowed known past all → state_of known past.history all ≡ opening frames levels disks
+  pub is_opening : (all : List Frame) → AreAllowed known past all → known_state known past.history all ≡ opening frames levels disks
 
 -- some frames are allowed
 abbrev pub SomeAreAllowed : Known → Past → Type 0

@@ -3,7 +3,7 @@ ghost use Rattle.std.specs.Prelude.{◌≡◌, IsTrue, IfOk, IfSome, MatchResult
 ghost use Rattle.iom_base.specs.Accesses.{read_of, write_of};
 ghost use Rattle.iom_machine.specs.declared.event.Event.{Event};
 ghost use Rattle.iom_known.specs.Allowed.{Past, IsTrueOf};
-ghost use Rattle.iom_known.specs.Asked.{IsAskedBy};
+ghost use Rattle.iom_known.specs.Asked.{IsAskedInWay};
 ghost use Rattle.iom_known.specs.Steps.{IsExplained};
 
 use crate::known::Known;
@@ -44,7 +44,7 @@ fn write(address: u64, bytes: Sequence<u8>) -> Access
 
 /// The read that the event asks for, if it does.
 pub fn read_by(alloc: Global, event: &Event) -> Option<Asked>
-    ensures { IfSome result (λ asked. IsAskedBy event.now asked.way asked.device asked.access) }
+    ensures { IfSome result (λ asked. IsAskedInWay event.now asked.way asked.device asked.access) }
 {
     let (way, device, access) = match event {
         Event::Read {
@@ -73,7 +73,7 @@ pub fn read_by(alloc: Global, event: &Event) -> Option<Asked>
 
 /// The write that the event asks for, which takes its bytes; or the event, where it asks for none.
 pub fn write_by(event: Event) -> Result<Asked, Event>
-    ensures { MatchResult result (λ asked. IsAskedBy event asked.way asked.device asked.access) (λ other. other ≡ event) }
+    ensures { MatchResult result (λ asked. IsAskedInWay event asked.way asked.device asked.access) (λ other. other ≡ event) }
 {
     match event {
         Event::Write {
@@ -114,7 +114,7 @@ pub fn request(
     outcome: &Outcome,
     frame: u32,
 ) -> Result<bool, AllocError>
-    ensures { IfOk result (λ may. IsTrue may → (event : Event) → IsAskedBy event asked.way asked.device asked.access
+    ensures { IfOk result (λ may. IsTrue may → (event : Event) → IsAskedInWay event asked.way asked.device asked.access
         → (past : Past) → IsTrueOf known.old past
         → IsExplained known.old known.new event outcome.now past) }
 {

@@ -4,7 +4,7 @@ ghost use Rattle.iom_machine.specs.declared.state.Frame.{Frame};
 ghost use Rattle.iom_machine.specs.Requests.{IsForwarded};
 ghost use Rattle.iom_machine.specs.Translated.{MayLackContext, MayFindNoContext, MayFaultTranslated, MayAnswerTranslated};
 ghost use Rattle.iom_machine.specs.ThroughCache.{MayHaveCached, MayGoThrough, MayAnswerThroughCache};
-ghost use Rattle.iom_known.specs.Allowed.{Past, IsTrueOf, state_of};
+ghost use Rattle.iom_known.specs.Allowed.{Past, IsTrueOf, known_state};
 ghost use Rattle.iom_known.specs.Reasons.{bare};
 
 use crate::known::Known;
@@ -88,7 +88,7 @@ fn may_have_cached(known: &Known, id: DeviceId, access: &Access, frame: u32) -> 
 /// Whether the access may go through, on the frame.
 pub fn may_go_through(known: &Known, device: &Device, access: &Access, frame: u32) -> bool
     ensures { IsTrue result → (past : Past) (frames : List Frame) → IsTrueOf known.now past
-        → MayGoThrough device.now.attachment (state_of known.now past.history frames) device.now.id access.now frame }
+        → MayGoThrough device.now.attachment (known_state known.now past.history frames) device.now.id access.now frame }
 {
     let id = device.id;
     match device.attachment {
@@ -110,7 +110,7 @@ pub fn may_go_through(known: &Known, device: &Device, access: &Access, frame: u3
 fn goes_through(known: &Known, device: &Device, access: &Access, frame: u32, number: u64) -> bool
     ensures { IsTrue result → (past : Past) (frames : List Frame) → IsTrueOf known.now past
         → IsForwarded device.now.in_flight access.now.address access.now.len
-        × MayGoThrough device.now.attachment (state_of known.now past.history frames) device.now.id access.now frame × (number ≡ device.now.accepted + 1) }
+        × MayGoThrough device.now.attachment (known_state known.now past.history frames) device.now.id access.now frame × (number ≡ device.now.accepted + 1) }
 {
     if !is_forwarded(device, access) {
         return false;
@@ -140,7 +140,7 @@ pub fn may_answer_cached(
     outcome: &Outcome,
 ) -> bool
     ensures { IsTrue result → (past : Past) (frames : List Frame) → IsTrueOf known.now past
-        → MayAnswerThroughCache (state_of known.now past.history frames) device.now access.now frame outcome.now }
+        → MayAnswerThroughCache (known_state known.now past.history frames) device.now access.now frame outcome.now }
 {
     match outcome {
         Outcome::BadSpan => !is_within_page(access),

@@ -6,8 +6,8 @@ ghost use Rattle.iom_machine.specs.Requests.{MayAccept};
 ghost use Rattle.iom_machine.specs.ThroughCache.{MayGoThrough};
 ghost use Rattle.iom_machine.specs.declared.state.Device.{Device};
 ghost use Rattle.iom_machine.specs.declared.state.Frame.{Frame};
-ghost use Rattle.iom_known.specs.Allowed.{Past, IsTrueOf, state_of};
-ghost use Rattle.iom_known.specs.Reached.{IsReached, AreReached, IsServed, AreServed, HasBothStages};
+ghost use Rattle.iom_known.specs.Allowed.{Past, IsTrueOf, known_state};
+ghost use Rattle.iom_known.specs.Reached.{IsWithinReach, AreReached, IsServed, AreServed, HasBothStages};
 
 use crate::devices::place_of;
 use crate::known::Known;
@@ -102,7 +102,7 @@ pub fn marks_of(
 /// Whether a request of a device that is attached so may be served, and if so, whether by what it holds too.
 fn serves_held(known: &Known, attachment: Attachment) -> Option<bool>
     ensures { IfSome result (λ with_held. (id : ℕ) (kind : AccessKind) (frame : ℕ) (past : Past) → IsTrueOf known.now past
-        → IsReached with_held past.history id kind frame → IsServed attachment past.history id kind frame) }
+        → IsWithinReach with_held past.history id kind frame → IsServed attachment past.history id kind frame) }
 {
     match attachment {
         Attachment::Detached => None,
@@ -157,8 +157,8 @@ pub fn possible_frames(
 ) -> Result<Vec<u32>, AllocError>
     ensures { IfOk result (λ found. (device : Device) → find (λ it. it.id == id) known.now.devices ≡ Some device
         → (k frame : ℕ) → slice_get found.items k ≡ Some frame → (past : Past) (frames : List Frame) → IsTrueOf known.now past
-        → MayAccept device.attachment (state_of known.now past.history frames) id access.now frame
-        × MayGoThrough device.attachment (state_of known.now past.history frames) id access.now frame) }
+        → MayAccept device.attachment (known_state known.now past.history frames) id access.now frame
+        × MayGoThrough device.attachment (known_state known.now past.history frames) id access.now frame) }
 {
     let Some(place) = place_of(known.devices.as_slice(), id) else {
         return Ok(Vec::new(alloc));

@@ -8,7 +8,7 @@ ghost use Rattle.iom_known.specs.Reasons.{bare, early_grant_reasons, late_grant_
 ghost use Rattle.iom_machine.specs.Refusals.{plug_reasons, attach_reasons, detach_reasons, grant_reasons, release_reasons, quarantine_reasons, revive_reasons, frame_reasons};
 ghost use Rattle.iom_machine.specs.Refusals.{is_plugged, attachment_of, is_trusted, id_limit, is_too_wide, is_held, is_lingering, has_grants, may_still_reach};
 ghost use Rattle.iom_machine.specs.Refusals.{is_detached, is_leaving, is_quarantined, is_attached, page_limit_at, table_limit_at};
-ghost use Rattle.iom_known.specs.Allowed.{Past, IsTrueOf, state_of};
+ghost use Rattle.iom_known.specs.Allowed.{Past, IsTrueOf, known_state};
 
 use crate::devices::{attachment_in, device_with};
 use crate::disks::is_missing;
@@ -58,7 +58,7 @@ fn attached(attachment: Attachment) -> bool
 /// Whether the device holds something at the page.
 fn held(known: &Known, id: DeviceId, page: u64) -> bool
     ensures { (past : Past) (frames : List Frame) → IsTrueOf known.now past
-        → result ≡ is_held (state_of known.now past.history frames) id page }
+        → result ≡ is_held (known_state known.now past.history frames) id page }
 {
     known.ledger.holds(id, page).is_some()
 }
@@ -108,7 +108,7 @@ fn either(first: bool, second: bool) -> bool
 /// Whether the device holds something, or something lingers for it.
 fn still_granted(known: &Known, id: DeviceId) -> bool
     ensures { (past : Past) (frames : List Frame) → IsTrueOf known.now past
-        → result ≡ has_grants (state_of known.now past.history frames) id }
+        → result ≡ has_grants (known_state known.now past.history frames) id }
 {
     let held = known.ledger.holds_anything(id);
     let lingering = known.ledger.lingers_anything(id);
@@ -176,7 +176,7 @@ fn detach_refusal_by(known: &Known, id: DeviceId, granted: bool) -> Option<Refus
 
 pub fn detach_refusal(known: &Known, id: DeviceId) -> Option<Refusal>
     ensures { (past : Past) (frames : List Frame) → IsTrueOf known.now past
-        → result ≡ first_that_applies (detach_reasons (state_of known.now past.history frames) id) }
+        → result ≡ first_that_applies (detach_reasons (known_state known.now past.history frames) id) }
 {
     let granted = still_granted(known, id);
     detach_refusal_by(known, id, granted)
@@ -203,8 +203,8 @@ pub fn early_grant_refusal(known: &Known, id: DeviceId, frame: u64) -> Option<Re
 /// Whether something is held at the page, or lingers there.
 fn busy(known: &Known, id: DeviceId, page: u64) -> bool
     ensures { (past : Past) (frames : List Frame) → IsTrueOf known.now past
-        → result ≡ (is_held (state_of known.now past.history frames) id page
-        || is_lingering (state_of known.now past.history frames) id page) }
+        → result ≡ (is_held (known_state known.now past.history frames) id page
+        || is_lingering (known_state known.now past.history frames) id page) }
 {
     !known.ledger.is_vacant(id, page)
 }
@@ -225,8 +225,8 @@ fn late_grant_refusal_by(limit: u64, page: u64, is_busy: bool) -> Option<Refusal
 pub fn late_grant_refusal(known: &Known, id: DeviceId, page: u64) -> Option<Refusal>
     ensures { (past : Past) (frames : List Frame) → IsTrueOf known.now past
         → result ≡ first_that_applies (late_grant_reasons_by (page_limit_at (attachment_of (bare known.now) id)) page
-        (is_held (state_of known.now past.history frames) id page
-        || is_lingering (state_of known.now past.history frames) id page)) }
+        (is_held (known_state known.now past.history frames) id page
+        || is_lingering (known_state known.now past.history frames) id page)) }
 {
     let limit = attachment(known, id).page_limit();
     let is_busy = busy(known, id, page);
@@ -244,7 +244,7 @@ pub fn most_tables(known: &Known, id: DeviceId) -> u32
 pub fn may_grant(known: &Known, id: DeviceId, page: u64, frame: u64) -> bool
     ensures { IsTrue result → (past : Past) (frames : List Frame) → IsTrueOf known.now past
         → length frames ≡ length known.now.frames
-        → is_reserved frames frame ≡ false → NoneApplies (grant_reasons (state_of known.now past.history frames) id page frame) }
+        → is_reserved frames frame ≡ false → NoneApplies (grant_reasons (known_state known.now past.history frames) id page frame) }
 {
     if early_grant_refusal(known, id, frame).is_some() {
         return false;
@@ -276,7 +276,7 @@ fn release_refusal_by(known: &Known, id: DeviceId, is_held: bool) -> Option<Refu
 
 pub fn release_refusal(known: &Known, id: DeviceId, page: u64) -> Option<Refusal>
     ensures { (past : Past) (frames : List Frame) → IsTrueOf known.now past
-        → result ≡ first_that_applies (release_reasons (state_of known.now past.history frames) id page) }
+        → result ≡ first_that_applies (release_reasons (known_state known.now past.history frames) id page) }
 {
     let is_held = held(known, id, page);
     release_refusal_by(known, id, is_held)
@@ -301,7 +301,7 @@ fn quarantine_refusal_by(known: &Known, id: DeviceId) -> Option<Refusal>
 
 pub fn quarantine_refusal(known: &Known, id: DeviceId) -> Option<Refusal>
     ensures { (past : Past) (frames : List Frame) → IsTrueOf known.now past
-        → result ≡ first_that_applies (quarantine_reasons (state_of known.now past.history frames) id) }
+        → result ≡ first_that_applies (quarantine_reasons (known_state known.now past.history frames) id) }
 {
     quarantine_refusal_by(known, id)
 }
@@ -325,7 +325,7 @@ fn revive_refusal_by(known: &Known, id: DeviceId, reaching: bool) -> Option<Refu
 
 pub fn revive_refusal(known: &Known, id: DeviceId) -> Option<Refusal>
     ensures { (past : Past) (frames : List Frame) → IsTrueOf known.now past
-        → result ≡ first_that_applies (revive_reasons (state_of known.now past.history frames) id) }
+        → result ≡ first_that_applies (revive_reasons (known_state known.now past.history frames) id) }
 {
     let reaching = may_still_reach(known, attachment(known, id));
     revive_refusal_by(known, id, reaching)
@@ -333,7 +333,7 @@ pub fn revive_refusal(known: &Known, id: DeviceId) -> Option<Refusal>
 
 pub fn frame_refusal(known: &Known, frame: u64) -> Option<Refusal>
     ensures { (past : Past) (frames : List Frame) → length frames ≡ length known.now.frames
-        → result ≡ first_that_applies (frame_reasons (state_of known.now past.history frames) frame) }
+        → result ≡ first_that_applies (frame_reasons (known_state known.now past.history frames) frame) }
 {
     if frame >= known.frame_count() {
         Some(Refusal::FrameOutOfRange)

@@ -6,7 +6,7 @@ ghost use Rattle.iom_machine.specs.declared.outcome.Outcome.TheVariants.{Refused
 ghost use Rattle.iom_machine.specs.declared.state.Frame.{Frame};
 ghost use Rattle.iom_machine.specs.Requests.{IsBusy, IsForwarded, IsPageFaultOf, IsPageFaultOfEither, cause_without_context};
 ghost use Rattle.iom_machine.specs.Requests.{HoldsNoneFor, MayAcceptInOneStage, MayAcceptCutOff, MayAccept, MayFaultCutOff, MayFault, MayAnswer};
-ghost use Rattle.iom_known.specs.Allowed.{Past, IsTrueOf, state_of};
+ghost use Rattle.iom_known.specs.Allowed.{Past, IsTrueOf, known_state};
 ghost use Rattle.iom_known.specs.Reasons.{bare};
 
 use crate::known::Known;
@@ -145,7 +145,7 @@ pub fn accepts_cut_off(
 /// Whether the IOMMU may accept the access, on the frame.
 pub fn may_accept(known: &Known, device: &Device, access: &Access, frame: u32) -> bool
     ensures { IsTrue result → (past : Past) (frames : List Frame) → IsTrueOf known.now past
-        → MayAccept device.now.attachment (state_of known.now past.history frames) device.now.id access.now frame }
+        → MayAccept device.now.attachment (known_state known.now past.history frames) device.now.id access.now frame }
 {
     let id = device.id;
     match device.attachment {
@@ -190,7 +190,7 @@ fn faults_cut_off(
     cause: Cause,
 ) -> bool
     ensures { IsTrue result → (past : Past) (frames : List Frame) → IsTrueOf known.now past
-        → MayFaultCutOff ticket mode (state_of known.now past.history frames) id access.now cause }
+        → MayFaultCutOff ticket mode (known_state known.now past.history frames) id access.now cause }
 {
     if is_same_cause(cause, cause_without_context(known, id)) {
         return true;
@@ -204,7 +204,7 @@ fn faults_cut_off(
 /// Whether the IOMMU may refuse the access, with the cause.
 pub fn may_fault(known: &Known, device: &Device, access: &Access, cause: Cause) -> bool
     ensures { IsTrue result → (past : Past) (frames : List Frame) → IsTrueOf known.now past
-        → MayFault device.now.attachment (state_of known.now past.history frames) device.now.id access.now cause }
+        → MayFault device.now.attachment (known_state known.now past.history frames) device.now.id access.now cause }
 {
     let id = device.id;
     let kind = access.kind;
@@ -235,7 +235,7 @@ pub fn may_fault(known: &Known, device: &Device, access: &Access, cause: Cause) 
 fn accepts(known: &Known, device: &Device, access: &Access, frame: u32, number: u64) -> bool
     ensures { IsTrue result → (past : Past) (frames : List Frame) → IsTrueOf known.now past
         → IsForwarded device.now.in_flight access.now.address access.now.len
-        × MayAccept device.now.attachment (state_of known.now past.history frames) device.now.id access.now frame × (number ≡ device.now.accepted + 1) }
+        × MayAccept device.now.attachment (known_state known.now past.history frames) device.now.id access.now frame × (number ≡ device.now.accepted + 1) }
 {
     if !is_forwarded(device, access) {
         return false;
@@ -249,7 +249,7 @@ fn accepts(known: &Known, device: &Device, access: &Access, frame: u32, number: 
 fn faults(known: &Known, device: &Device, access: &Access, cause: Cause) -> bool
     ensures { IsTrue result → (past : Past) (frames : List Frame) → IsTrueOf known.now past
         → IsForwarded device.now.in_flight access.now.address access.now.len
-        × MayFault device.now.attachment (state_of known.now past.history frames) device.now.id access.now cause }
+        × MayFault device.now.attachment (known_state known.now past.history frames) device.now.id access.now cause }
 {
     if !is_forwarded(device, access) {
         return false;
@@ -266,7 +266,7 @@ pub fn may_answer(
     outcome: &Outcome,
 ) -> bool
     ensures { IsTrue result → (past : Past) (frames : List Frame) → IsTrueOf known.now past
-        → MayAnswer (state_of known.now past.history frames) device.now access.now frame outcome.now }
+        → MayAnswer (known_state known.now past.history frames) device.now access.now frame outcome.now }
 {
     match outcome {
         Outcome::BadSpan => !is_within_page(access),

@@ -36,8 +36,8 @@ use Rattle.iom_machine.proofs.SoundLemmas.{none_applies}
 use Rattle.iom_machine.proofs.StepLemmas.{own_place}
 use Rattle.iom_known.specs.declared.known.Known.{Known}
 use Rattle.iom_known.specs.declared.frames.BelievedFrame.{BelievedFrame}
-use Rattle.iom_known.specs.Allowed.{Past, IsTrueOf, AreInOrder, HadBytes, AreAllowed, IsAsBelieved, MayOwn, MayHaveBytes, ids_of, state_of}
-use Rattle.iom_known.specs.Contents.{ChangesAt, IsNobodysNow, IsSomebodysNow, OnlyShows, IsWritten, MayHold}
+use Rattle.iom_known.specs.Allowed.{Past, IsTrueOf, AreInOrder, HadBytes, AreAllowed, IsAsBelieved, MayOwn, MayHaveBytes, ids_of, known_state}
+use Rattle.iom_known.specs.Contents.{ChangesAt, IsNobodysNow, IsSomebodysNow, OnlyShows, IsWritten, MayHaveWhereNobodys}
 use Rattle.iom_known.specs.Steps.{IsExplained, IsLedBack}
 use Rattle.iom_known.proofs.CallSteps.{keeps_ids}
 use Rattle.iom_known.proofs.FrameSteps.{AreFewer, fewer_owners, believed_there}
@@ -149,7 +149,7 @@ pub record NobodysFrame (old : Known) (past : Past) (number : ℕ) (now : Believ
   pub frame : Frame
   pub there : slice_get frames number ≡ Some frame
   pub owner : frame.owner ≡ None
-  pub bytes : MayHold now frame.bytes
+  pub bytes : MayHaveWhereNobodys now frame.bytes
 
 pub nobodys_frame : (old : Known) (past : Past) (devices : List Device) (number : ℕ) (b now : BelievedFrame) (frames : List Frame) → slice_get old.frames number ≡ Some b → now.owners ≡ 1
     → AreAllowed (with_both old devices (slice_set old.frames number now)) past frames → NobodysFrame old past number now frames
@@ -166,7 +166,7 @@ nobodys_frame old past devices number b now frames there nobodys allowed =
     }
 
 -- as it was believed to be before
-as_before : (ids : List ℕ) (past : Past) (number : ℕ) (b : BelievedFrame) (frame : Frame) → bit_at b.owners 0 ≡ 1 → frame.owner ≡ None → MayHold b frame.bytes
+as_before : (ids : List ℕ) (past : Past) (number : ℕ) (b : BelievedFrame) (frame : Frame) → bit_at b.owners 0 ≡ 1 → frame.owner ≡ None → MayHaveWhereNobodys b frame.bytes
     → IsAsBelieved ids past number b frame
 as_before ids past number b frame might owner bytes = record {
   owner = subst (λ (o : Option Owner). MayOwn ids b.owners o) (sym owner) might;
@@ -196,10 +196,10 @@ made_keeps_ids old id place devices device made is = keeps_ids old.devices devic
 -- what is left of the devices
 made_leaves : (old : Known) (past : Past) (id place : ℕ) (devices : List Device) (device : Device) (made : AcceptedAccess) (before after : List Frame) (frames : List BelievedFrame)
     → IsMade old id place devices device made
-    → state_of (with_both old devices frames) past.history after ≡ record (with_oldest_made (state_of old past.history before) device) { frames = after }
+    → known_state (with_both old devices frames) past.history after ≡ record (with_oldest_made (known_state old past.history before) device) { frames = after }
 made_leaves old past id place devices device made before after frames is =
     let own = own_place old.devices id place device is.stands is.there in
-    ap (λ (ds : List Device). state_of (with_both old ds frames) past.history after) (is.left ∙ sym (own.2 (oldest_made device)))
+    ap (λ (ds : List Device). known_state (with_both old ds frames) past.history after) (is.left ∙ sym (own.2 (oldest_made device)))
 
 pub read_explained : (old : Known) (past : Past) (id place : ℕ) (devices : List Device) (device : Device) (made : AcceptedAccess) (frames : List BelievedFrame) (bytes : Outcome) (shown : List ℕ)
     → IsMade old id place devices device made → IsTrueOf old past
@@ -217,8 +217,8 @@ read_explained old past id place devices device made frames bytes shown is_made 
       from_before = λ fs allowed.
           let it = nobodys_frame old past devices made.frame b now fs changes.there changes.how.0.1 allowed in
           let shows = changes.how.1 it.frame.bytes it.bytes in
-          let state = state_of old past.history fs in
-          let new = state_of (with_both old devices (slice_set old.frames made.frame now)) past.history fs in
+          let state = known_state old past.history fs in
+          let new = known_state (with_both old devices (slice_set old.frames made.frame now)) past.history fs in
           let range : shown ≡ slice_range (bytes_of fs made.frame) (offset_of made.access) (offset_of made.access + made.access.len) =
           shows.1 ∙ ap (λ (n : ℕ). slice_range it.frame.bytes (offset_of made.access) (offset_of made.access + n)) long
           ∙ ap (λ (l : List ℕ). slice_range l (offset_of made.access) (offset_of made.access + made.access.len)) (sym (bytes_there fs made.frame it.frame it.there)) in
@@ -285,8 +285,8 @@ write_explained old past id place len devices device made frames is_made is_true
       is_true = still_true_of old past devices made.frame b now ids changes.there (nobody_is_fewer now.owners b.owners changes.how.0.0 changes.how.0.1) is_true;
       from_before = λ fs allowed.
           let from = written_from old past devices made.frame (offset_of made.access) made.access.bytes frames fs ids changes allowed in
-          let state = state_of old past.history from.before in
-          let new = state_of (with_both old devices (slice_set old.frames made.frame now)) past.history fs in
+          let state = known_state old past.history from.before in
+          let new = known_state (with_both old devices (slice_set old.frames made.frame now)) past.history fs in
           let makes : MakesWrite state device.id made len = (writes, may, long) in
           let left : new ≡ record (with_oldest_made state device) { frames = stored from.before made.frame (offset_of made.access) made.access.bytes } =
           made_leaves old past id place devices device made from.before fs (slice_set old.frames made.frame now) is_made
@@ -303,7 +303,7 @@ pub none_explained : (old : Known) (past : Past) (id place : ℕ) (device : Devi
     → device.in_flight ≡ [] → IsExplained old old (events.Commit id) outcomes.NothingInFlight past
 none_explained old past id place device is_true is_place at none =
     stays old (events.Commit id) outcomes.NothingInFlight past is_true
-    (λ frames allowed. commit_step (state_of old past.history frames) (state_of old past.history frames) id place device outcomes.NothingInFlight is_place at (none, refl))
+    (λ frames allowed. commit_step (known_state old past.history frames) (known_state old past.history frames) id place device outcomes.NothingInFlight is_place at (none, refl))
 
 -- a device that isn't plugged in
 pub absent_explained : (old : Known) (past : Past) (id : ℕ) (outcome : Outcome) → IsTrueOf old past → find (λ d. d.id == id) old.devices ≡ None → outcome ≡ outcomes.Refused NoSuchDevice
@@ -311,7 +311,7 @@ pub absent_explained : (old : Known) (past : Past) (id : ℕ) (outcome : Outcome
 absent_explained old past id outcome is_true absent is =
     stays old (events.Commit id) outcome past is_true
     (λ frames allowed.
-    let state = state_of old past.history frames in
+    let state = known_state old past.history frames in
     absent_step is_any_kind (λ d. Makes state d outcome state) state id outcome absent is)
 
 -- No reason refuses a poke of a frame of the memory that isn't reserved.
@@ -346,7 +346,7 @@ poke_outside state frame why first = by (nat_le (length state.frames) frame) ref
 
 -- a poke that is done
 pub poke_explained : (old : Known) (past : Past) (address : ℕ) (bytes : List ℕ) (frames : List BelievedFrame) → IsTrueOf old past → FitsInPage address (length bytes)
-    → ((fs : List Frame) → length fs ≡ length old.frames → NoneApplies (frame_reasons (state_of old past.history fs) (address / page_size)))
+    → ((fs : List Frame) → length fs ≡ length old.frames → NoneApplies (frame_reasons (known_state old past.history fs) (address / page_size)))
     → ChangesAt (address / page_size) old.frames frames (λ b now. IsNobodysNow b now × IsWritten b now (address % page_size) bytes)
     → IsLedBack old (with_both old old.devices frames) (λ before after. Pokes before address bytes outcomes.Done after) past
 poke_explained old past address bytes frames is_true fits none changes =
@@ -358,14 +358,14 @@ poke_explained old past address bytes frames is_true fits none changes =
       is_true = still_true_of old past old.devices number b now refl changes.there (nobody_is_fewer now.owners b.owners changes.how.0.0 changes.how.0.1) is_true;
       from_before = λ fs allowed.
           let from = written_from old past old.devices number (address % page_size) bytes frames fs refl changes allowed in
-          let state = state_of old past.history from.before in
+          let state = known_state old past.history from.before in
           record {
             frames = from.before;
             allowed = from.allowed;
             step = (
               fits,
               poke_none state number (none from.before from.allowed.count) from.open_frame,
-              ap (λ (xs : List Frame). state_of old past.history xs) (sym from.stores),
+              ap (λ (xs : List Frame). known_state old past.history xs) (sym from.stores),
             );
           };
     })
@@ -375,7 +375,7 @@ pub narrowed_at : (old : Known) (past : Past) (number : ℕ) (b now : BelievedFr
     → IsTrueOf old past → slice_get old.frames number ≡ Some b → AreFewer now.owners b.owners
     → ((frame : Frame) → IsAsBelieved (ids_of old.devices) past number now frame → IsAsBelieved (ids_of old.devices) past number b frame × Is frame)
     → ((frames : List Frame) (frame : Frame) → length frames ≡ length old.frames → slice_get frames number ≡ Some frame → Is frame
-    → IsStep (state_of old past.history frames) (state_of old past.history frames))
+    → IsStep (known_state old past.history frames) (known_state old past.history frames))
     → IsLedBack old (with_both old old.devices (slice_set old.frames number now)) IsStep past
 narrowed_at old past number b now Is IsStep is_true there fewer back steps = record {
   after = past;
@@ -402,7 +402,7 @@ taken_is_reserved frames number frame there taken = ap (λ (f : Option Frame). o
 -- where a frame is somebody's from now on
 pub somebodys_explained : (old : Known) (past : Past) (number : ℕ) (frames : List BelievedFrame) (IsStep : State → State → Type 0) → IsTrueOf old past
     → ChangesAt number old.frames frames IsSomebodysNow
-    → ((fs : List Frame) → length fs ≡ length old.frames → is_reserved fs number ≡ true → IsStep (state_of old past.history fs) (state_of old past.history fs))
+    → ((fs : List Frame) → length fs ≡ length old.frames → is_reserved fs number ≡ true → IsStep (known_state old past.history fs) (known_state old past.history fs))
     → IsLedBack old (with_both old old.devices frames) IsStep past
 somebodys_explained old past number frames IsStep is_true changes steps =
     subst (λ (fs : List BelievedFrame). IsLedBack old (with_both old old.devices fs) IsStep past) (sym changes.changed)
@@ -425,16 +425,16 @@ somebodys_explained old past number frames IsStep is_true changes steps =
 
 -- a poke that is refused since the frame is somebody's
 pub poke_reserved_explained : (old : Known) (past : Past) (number : ℕ) (frames : List BelievedFrame) → IsTrueOf old past
-    → ((fs : List Frame) → length fs ≡ length old.frames → NoneApplies (frame_reasons (state_of old past.history fs) number))
+    → ((fs : List Frame) → length fs ≡ length old.frames → NoneApplies (frame_reasons (known_state old past.history fs) number))
     → ChangesAt number old.frames frames IsSomebodysNow
     → IsLedBack old (with_both old old.devices frames) (λ before after. IsRefusedBy (poke_reasons before number) NeverElse FrameReserved × (after ≡ before)) past
 poke_reserved_explained old past number frames is_true none changes =
     somebodys_explained old past number frames (λ before after. IsRefusedBy (poke_reasons before number) NeverElse FrameReserved × (after ≡ before)) is_true changes
-    (λ fs count reserved. (poke_reserved (state_of old past.history fs) number (none fs count) reserved, refl))
+    (λ fs count reserved. (poke_reserved (known_state old past.history fs) number (none fs count) reserved, refl))
 
 -- a poke that is refused since there is no such frame
 pub poke_outside_explained : (old : Known) (past : Past) (number : ℕ) (why first : Refusal) → IsTrueOf old past
-    → ((fs : List Frame) → length fs ≡ length old.frames → Some first ≡ first_that_applies (frame_reasons (state_of old past.history fs) number))
+    → ((fs : List Frame) → length fs ≡ length old.frames → Some first ≡ first_that_applies (frame_reasons (known_state old past.history fs) number))
     → why ≡ first
     → IsLedBack old old (λ before after. IsRefusedBy (poke_reasons before number) NeverElse why × (after ≡ before)) past
 poke_outside_explained old past number why first is_true refused is = record {
@@ -443,20 +443,20 @@ poke_outside_explained old past number why first is_true refused is = record {
   from_before = λ fs allowed. record {
     frames = fs;
     allowed = allowed;
-    step = (poke_outside (state_of old past.history fs) number why (sym (refused fs allowed.count) ∙ ap (λ (r : Refusal). Some r) (sym is)), refl);
+    step = (poke_outside (known_state old past.history fs) number why (sym (refused fs allowed.count) ∙ ap (λ (r : Refusal). Some r) (sym is)), refl);
   };
 }
 
 -- bytes that a frame shows, where it isn't reserved
 pub peek_kept_explained : (old : Known) (past : Past) (address len : ℕ) (frames : List BelievedFrame) (bytes : Outcome) (shown : List ℕ) → IsTrueOf old past → FitsInPage address len → length shown ≡ len
-    → ((fs : List Frame) → length fs ≡ length old.frames → NoneApplies (frame_reasons (state_of old past.history fs) (address / page_size)))
+    → ((fs : List Frame) → length fs ≡ length old.frames → NoneApplies (frame_reasons (known_state old past.history fs) (address / page_size)))
     → ChangesAt (address / page_size) old.frames frames (λ b now. (now.owners ≡ b.owners) × OnlyShows b now (address % page_size) shown)
     → ((state : State) → FitsInPage address len × NoneApplies (frame_reasons state (address / page_size)) × ShowsBytes state address len shown × (state ≡ state) → Peeks state address len bytes state)
     → IsLedBack old (with_both old old.devices frames) (λ before after. Peeks before address len bytes after) past
 peek_kept_explained old past address len frames bytes shown is_true fits long none changes peeks =
     subst (λ (fs : List BelievedFrame). IsLedBack old (with_both old old.devices fs) (λ before after. Peeks before address len bytes after) past) (sym changes.changed)
     (narrowed_at old past number changes.before changes.now Shows (λ before after. Peeks before address len bytes after) is_true changes.there fewer back
-    (λ fs frame count there shows. peeks (state_of old past.history fs) (fits, none fs count, (long, (λ open_frame. range fs frame there (shows (sym (reserved fs frame there) ∙ open_frame)))), refl)))
+    (λ fs frame count there shows. peeks (known_state old past.history fs) (fits, none fs count, (long, (λ open_frame. range fs frame there (shows (sym (reserved fs frame there) ∙ open_frame)))), refl)))
   where
     number : ℕ
     number = address / page_size
@@ -489,13 +489,13 @@ peek_kept_explained old past address len frames bytes shown is_true fits long no
 
 -- any bytes, of a frame that is somebody's
 pub peek_reserved_explained : (old : Known) (past : Past) (address len : ℕ) (frames : List BelievedFrame) (bytes : Outcome) (shown : List ℕ) → IsTrueOf old past → FitsInPage address len → length shown ≡ len
-    → ((fs : List Frame) → length fs ≡ length old.frames → NoneApplies (frame_reasons (state_of old past.history fs) (address / page_size)))
+    → ((fs : List Frame) → length fs ≡ length old.frames → NoneApplies (frame_reasons (known_state old past.history fs) (address / page_size)))
     → ChangesAt (address / page_size) old.frames frames IsSomebodysNow
     → ((state : State) → FitsInPage address len × NoneApplies (frame_reasons state (address / page_size)) × ShowsBytes state address len shown × (state ≡ state) → Peeks state address len bytes state)
     → IsLedBack old (with_both old old.devices frames) (λ before after. Peeks before address len bytes after) past
 peek_reserved_explained old past address len frames bytes shown is_true fits long none changes peeks =
     somebodys_explained old past (address / page_size) frames (λ before after. Peeks before address len bytes after) is_true changes
-    (λ fs count reserved. peeks (state_of old past.history fs) (fits, none fs count, (long, (λ open_frame. absurd (false≢true (sym open_frame ∙ reserved)))), refl))
+    (λ fs count reserved. peeks (known_state old past.history fs) (fits, none fs count, (long, (λ open_frame. absurd (false≢true (sym open_frame ∙ reserved)))), refl))
 
 -- what follows of each step
 pub led_as : (old new : Known) (past : Past) (This That : State → State → Type 0) → ((before after : State) → This before after → That before after) → IsLedBack old new This past
@@ -507,7 +507,7 @@ led_as old new past This That says led = record {
       let came = led.from_before frames allowed in record {
         frames = came.frames;
         allowed = came.allowed;
-        step = says (state_of old past.history came.frames) (state_of new led.after.history frames) came.step;
+        step = says (known_state old past.history came.frames) (known_state new led.after.history frames) came.step;
       };
 }
 

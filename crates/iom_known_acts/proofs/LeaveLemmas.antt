@@ -15,7 +15,7 @@ use Rattle.iom_machine.proofs.HeadlineLemmas.{element_at}
 use Rattle.iom_known.specs.declared.frames.BelievedFrame.{BelievedFrame}
 use Rattle.iom_known.specs.declared.known.Known.{Known}
 use Rattle.iom_known.specs.Allowed.{Past, IsTrueOf, ids_of}
-use Rattle.iom_known_acts.specs.Leaves.{is_confirmed_by, has_left_by, once_confirmed_by, device_once_by, AreBelieved, WasGivenBack, GivesBack, AreGivenBack}
+use Rattle.iom_known_acts.specs.Leaves.{is_confirmed_by, has_left_by, once_confirmed_by, device_once_by, AreBelieved, WasGivenBack, GivesBackBelieved, AreGivenBack}
 
 -- which tickets are confirmed, by the last one
 pub confirmed_same : (known : Known) (past : Past) (ticket : ℕ) → IsTrueOf known past → confirms past.history ticket ≡ is_confirmed_by known.last_confirmed ticket
@@ -58,7 +58,7 @@ same_believed : (a b : BelievedFrame) → ◌≡◌ {A = Option BelievedFrame} (
 same_believed a b e = cc
 
 -- where nobody has left, a frame stays
-gives_itself : (HasLeft : ℕ → Type 0) (b : BelievedFrame) → ((place : ℕ) → HasLeft place → ⊥) → GivesBack HasLeft b b
+gives_itself : (HasLeft : ℕ → Type 0) (b : BelievedFrame) → ((place : ℕ) → HasLeft place → ⊥) → GivesBackBelieved HasLeft b b
 gives_itself HasLeft b none = record {
   nobodys = λ bytes open_frame are. inl (open_frame, are);
   somebodys = λ k some low bit. (bit, (λ place left. absurd (none place left)));
@@ -67,10 +67,10 @@ gives_itself HasLeft b none = record {
 pub none_given_back : (HasLeft : ℕ → Type 0) (frames : List BelievedFrame) → ((place : ℕ) → HasLeft place → ⊥) → AreGivenBack HasLeft frames frames
 none_given_back HasLeft frames none = record {
   count = refl;
-  each = λ n before after at got. subst (λ (x : BelievedFrame). GivesBack HasLeft before x) (same_believed before after (sym at ∙ got)) (gives_itself HasLeft before none);
+  each = λ n before after at got. subst (λ (x : BelievedFrame). GivesBackBelieved HasLeft before x) (same_believed before after (sym at ∙ got)) (gives_itself HasLeft before none);
 }
 
-gives_then : (These Those : ℕ → Type 0) (a b c : BelievedFrame) → GivesBack These a b → GivesBack Those b c → GivesBack (λ p. These p ⊎ Those p) a c
+gives_then : (These Those : ℕ → Type 0) (a b c : BelievedFrame) → GivesBackBelieved These a b → GivesBackBelieved Those b c → GivesBackBelieved (λ p. These p ⊎ Those p) a c
 gives_then These Those a b c one two = record {
   nobodys = λ bytes open_frame are. late bytes (two.nobodys bytes open_frame are);
   somebodys = λ k some low bit.
@@ -105,7 +105,7 @@ given_back_then These Those first second third one two = record {
 
 -- the same of those that have left, by another word
 gives_as : (These Those : ℕ → Type 0) (a b : BelievedFrame) → ((p : ℕ) → p < device_limit → These p → Those p) → ((p : ℕ) → p < device_limit → Those p → These p)
-    → GivesBack These a b → GivesBack Those a b
+    → GivesBackBelieved These a b → GivesBackBelieved Those a b
 gives_as These Those a b there back is = record {
   nobodys = λ bytes open_frame are. by bytes (is.nobodys bytes open_frame are);
   somebodys = λ k some low bit.
@@ -168,7 +168,7 @@ so_far_more R old now next number b after so there written is = record {
 }
 
 -- a device's bit and nobody's, once it has left
-pub left_alone : (device : ℕ) (b : BelievedFrame) → device < device_limit → (bit_at b.owners (device + 2) ≡ 1 → ⊥) → GivesBack (λ p. p ≡ device) b b
+pub left_alone : (device : ℕ) (b : BelievedFrame) → device < device_limit → (bit_at b.owners (device + 2) ≡ 1 → ⊥) → GivesBackBelieved (λ p. p ≡ device) b b
 left_alone device b low none = record {
   nobodys = λ bytes open_frame are. inl (open_frame, are);
   somebodys = λ k some small bit. (bit, (λ place same apart. none (subst (λ (j : ℕ). bit_at b.owners j ≡ 1) (apart ∙ ap (λ (p : ℕ). p + 2) same) bit)));
@@ -178,7 +178,7 @@ left_alone device b low none = record {
 pub once_left : (device : ℕ) (old new : BelievedFrame) → device < device_limit → bit_at old.owners (device + 2) ≡ 1
     → bit_at new.owners 0 ≡ 1 → ((k : ℕ) → 0 < k → k < device_limit + 2 → bit_at new.owners k ≡ 1 → (bit_at old.owners k ≡ 1) × (k ≢ device + 2))
     → ((bytes : List ℕ) → AreBelieved new bytes → ((bit_at old.owners 0 ≡ 1) × AreBelieved old bytes) ⊎ (bytes ≡ replicate page_size 0))
-    → GivesBack (λ p. p ≡ device) old new
+    → GivesBackBelieved (λ p. p ≡ device) old new
 once_left device old new low bit nobody others bytes_then = record {
   nobodys = λ bytes open_frame are. by bytes (bytes_then bytes are);
   somebodys = λ k some small has.

@@ -21,8 +21,8 @@ use Rattle.iom_machine.proofs.HeadlineLemmas.{element_at}
 use Rattle.iom_machine.proofs.LeavingLemmas.{devices_may, frames_left}
 use Rattle.iom_known.specs.declared.frames.BelievedFrame.{BelievedFrame}
 use Rattle.iom_known.specs.declared.known.Known.{Known}
-use Rattle.iom_known.specs.Allowed.{Past, IsTrueOf, AreInOrder, HadBytes, IsAsBelieved, MayOwn, MayHaveBytes, ids_of, state_of}
-use Rattle.iom_known_acts.specs.Leaves.{has_left_by, HasLeftFrom, WasGivenBack, AreBelieved, GivesBack, AreGivenBack, ConfirmsNext, with_confirmed_up_to, past_confirmed}
+use Rattle.iom_known.specs.Allowed.{Past, IsTrueOf, AreInOrder, HadBytes, IsAsBelieved, MayOwn, MayHaveBytes, ids_of, known_state}
+use Rattle.iom_known_acts.specs.Leaves.{has_left_by, HasLeftFrom, WasGivenBack, AreBelieved, GivesBackBelieved, AreGivenBack, ConfirmsNext, with_confirmed_up_to, past_confirmed}
 use Rattle.iom_known.specs.Steps.{IsLedBack, IsExplained}
 use Rattle.iom_known_acts.proofs.LeaveLemmas.{left_same, ids_once}
 use Rattle.iom_known.proofs.ListLemmas.{chosen}
@@ -64,7 +64,7 @@ abbrev pub WasBefore : Known → Past → ℕ → BelievedFrame → Frame → Fr
 WasBefore known past n b new frame =
     IsAsBelieved (ids_of known.devices) past n b frame × (given_back (is_of_left_in past.history known.devices frame.owner) frame ≡ new)
 
-was_somebodys : (known : Known) (past : Past) (n : ℕ) (b now : BelievedFrame) (new : Frame) (owner : Owner) → IsTrueOf known past → GivesBack (HasLeftFrom known.devices known.last_confirmed) b now
+was_somebodys : (known : Known) (past : Past) (n : ℕ) (b now : BelievedFrame) (new : Frame) (owner : Owner) → IsTrueOf known past → GivesBackBelieved (HasLeftFrom known.devices known.last_confirmed) b now
     → new.owner ≡ Some owner → MayOwn (ids_of known.devices) now.owners (Some owner) → MayHaveBytes past n now (Some owner) new.bytes
     → (frame : Frame) × WasBefore known past n b new frame
 was_somebodys known past n b now new System is gives own may has = (
@@ -95,7 +95,7 @@ was_somebodys known past n b now new (OneDevice i) is gives own (p, low, there, 
     stays true never = absurd (never refl)
 
 was_nobodys : (known : Known) (past : Past) (n : ℕ) (b now : BelievedFrame) (new : Frame) → IsTrueOf known past → slice_get known.frames n ≡ Some b
-    → GivesBack (HasLeftFrom known.devices known.last_confirmed) b now → new.owner ≡ None → bit_at now.owners 0 ≡ 1 → AreBelieved now new.bytes
+    → GivesBackBelieved (HasLeftFrom known.devices known.last_confirmed) b now → new.owner ≡ None → bit_at now.owners 0 ≡ 1 → AreBelieved now new.bytes
     → (frame : Frame) × WasBefore known past n b new frame
 was_nobodys known past n b now new is at gives own open_frame has = by (gives.nobodys new.bytes open_frame has)
   where
@@ -122,7 +122,7 @@ was_nobodys known past n b now new is at gives own open_frame has = by (gives.no
         )
 
 was_before : (known : Known) (past : Past) (n : ℕ) (b now : BelievedFrame) (new : Frame) → IsTrueOf known past → slice_get known.frames n ≡ Some b
-    → GivesBack (HasLeftFrom known.devices known.last_confirmed) b now → IsAsBelieved (ids_of known.devices) past n now new → (frame : Frame) × WasBefore known past n b new frame
+    → GivesBackBelieved (HasLeftFrom known.devices known.last_confirmed) b now → IsAsBelieved (ids_of known.devices) past n now new → (frame : Frame) × WasBefore known past n b new frame
 was_before known past n b now new is at gives believed = by new.owner refl believed.owner believed.bytes
   where
     by : (owner : Option Owner) → new.owner ≡ owner → MayOwn (ids_of known.devices) now.owners owner → MayHaveBytes past n now owner new.bytes → (frame : Frame) × WasBefore known past n b new frame
@@ -181,7 +181,7 @@ true_once_left old past devices frames exact is ids given = record {
       is.had_bytes n b.0 owner b.1 (by b.0 now (given.each n b.0 now b.1 at) owner may));
 }
   where
-    by : (b now : BelievedFrame) → GivesBack (HasLeftFrom old.devices old.last_confirmed) b now → (owner : Owner) → MayOwn (ids_of old.devices) now.owners (Some owner)
+    by : (b now : BelievedFrame) → GivesBackBelieved (HasLeftFrom old.devices old.last_confirmed) b now → (owner : Owner) → MayOwn (ids_of old.devices) now.owners (Some owner)
         → MayOwn (ids_of old.devices) b.owners (Some owner)
     by b now gives System may = (gives.somebodys 1 (omega arith) (omega arith) may).0
     by b now gives (OneDevice i) (p, low, there, bit) = (p, low, there, (gives.somebodys (p + 2) (omega arith) (omega (arith, low)) bit).0)
@@ -226,11 +226,11 @@ left_explained old past devices frames exact is d given may =
     led : (old : Known) (past : Past) (devices : List Device) (frames : List BelievedFrame) (exact : Bool) (before new : List Frame) → devices ≡ map (device_once_confirmed past.history) old.devices
         → All (DeviceMay past.history) old.devices
         → map (λ (frame : Frame). given_back (is_of_left_in past.history old.devices frame.owner) frame) before ≡ new
-        → (state_of (once_left_known old devices frames exact) past.history new ≡ with_left (state_of old past.history before)) × EachInFlightMay (state_of (once_left_known old devices frames exact) past.history new)
+        → (known_state (once_left_known old devices frames exact) past.history new ≡ with_left (known_state old past.history before)) × EachInFlightMay (known_state (once_left_known old devices frames exact) past.history new)
     led old past devices frames exact before new d may same = (
-      ap (λ (ds : List Device). state_of (once_left_known old ds frames exact) past.history new) d
-          ∙ ap (λ (fs : List Frame). state_of (once_left_known old (map (device_once_confirmed past.history) old.devices) frames exact) past.history fs)
-          (sym same ∙ frames_left (state_of old past.history before) before),
+      ap (λ (ds : List Device). known_state (once_left_known old ds frames exact) past.history new) d
+          ∙ ap (λ (fs : List Frame). known_state (once_left_known old (map (device_once_confirmed past.history) old.devices) frames exact) past.history fs)
+          (sym same ∙ frames_left (known_state old past.history before) before),
       subst (λ (ds : List Device). All (DeviceMay past.history) ds) (sym d) ((devices_may past.history old.devices).0 may),
     )
 
@@ -250,7 +250,7 @@ poll_explained old mid new past first last timed_out confirms led = record {
           any_choice,
           (
             confirms.tickets came.frames,
-            came.step.0 ∙ ap (λ (k : Known). with_left (state_of k (past_confirmed past first last).history came.frames)) same,
+            came.step.0 ∙ ap (λ (k : Known). with_left (known_state k (past_confirmed past first last).history came.frames)) same,
             came.step.1,
           ),
         );

@@ -24,7 +24,7 @@ use Rattle.iom_machine.specs.Refusals.{attach_reasons, grant_reasons, MayRefuseA
 use Rattle.iom_machine.proofs.HeadlineLemmas.{element_at}
 use Rattle.iom_known.specs.declared.known.Known.{Known}
 use Rattle.iom_known.specs.declared.frames.BelievedFrame.{BelievedFrame}
-use Rattle.iom_known.specs.Allowed.{Past, IsTrueOf, AreAllowed, IsAsBelieved, MayOwn, MayHaveBytes, bytes_believed, ids_of, state_of}
+use Rattle.iom_known.specs.Allowed.{Past, IsTrueOf, AreAllowed, IsAsBelieved, MayOwn, MayHaveBytes, bytes_believed, ids_of, known_state}
 use Rattle.iom_known_acts.specs.Owners.{MayBeFree, MayBeFreeRun, MustLack, Becomes, AreTaken, IsNoTaker, with_belief}
 use Rattle.iom_known.specs.Reasons.{bare}
 use Rattle.iom_known.specs.Steps.{IsExplained}
@@ -108,7 +108,7 @@ open_believed ids past new frames n low each inside open_frame =
 
 -- what is free in a state that is allowed may be free by what is known
 pub free_believed : (old : Known) (past : Past) (new : List BelievedFrame) (exact : Bool) (frames : List Frame) (n : ℕ) → IsTrueOf old past
-    → AreAllowed (with_belief old new exact) past frames → IsFree (state_of old past.history frames) n → MayBeFree new old.ledger None n
+    → AreAllowed (with_belief old new exact) past frames → IsFree (known_state old past.history frames) n → MayBeFree new old.ledger None n
 free_believed old past new exact frames n is allowed free = (
   open_believed (ids_of old.devices) past new frames n (subst (λ (k : ℕ). n < k) allowed.count free.0) allowed.each free.0 free.1,
   ungranted old.ledger past.history n is.grants free.2,
@@ -116,11 +116,11 @@ free_believed old past new exact frames n is allowed free = (
 )
 
 pub lack_believed : (old : Known) (past : Past) (new : List BelievedFrame) (exact : Bool) (frames : List Frame) (mode : Mode) → IsTrueOf old past
-    → AreAllowed (with_belief old new exact) past frames → MustLack new old.ledger mode → MayLackFrames (state_of old past.history frames) mode
+    → AreAllowed (with_belief old new exact) past frames → MustLack new old.ledger mode → MayLackFrames (known_state old past.history frames) mode
 lack_believed old past new exact frames (First size) is allowed lack =
-    fewer_weaker 3 (MayBeFree new old.ledger None) (IsFree (state_of old past.history frames)) (λ n free. free_believed old past new exact frames n is allowed free) lack
+    fewer_weaker 3 (MayBeFree new old.ledger None) (IsFree (known_state old past.history frames)) (λ n free. free_believed old past new exact frames n is allowed free) lack
 lack_believed old past new exact frames (Second size) is allowed lack =
-    fewer_weaker 3 (MayBeFreeRun new old.ledger) (IsFreeRun (state_of old past.history frames))
+    fewer_weaker 3 (MayBeFreeRun new old.ledger) (IsFreeRun (known_state old past.history frames))
     (λ n free. (
       free_believed old past new exact frames _ is allowed free.0,
       free_believed old past new exact frames _ is allowed free.1,
@@ -128,7 +128,7 @@ lack_believed old past new exact frames (Second size) is allowed lack =
       free_believed old past new exact frames _ is allowed free.3,
     )) lack
 lack_believed old past new exact frames (Both size) is allowed lack =
-    fewer_weaker 3 (MayBeFreeRun new old.ledger) (IsFreeRun (state_of old past.history frames))
+    fewer_weaker 3 (MayBeFreeRun new old.ledger) (IsFreeRun (known_state old past.history frames))
     (λ n free. (
       free_believed old past new exact frames _ is allowed free.0,
       free_believed old past new exact frames _ is allowed free.1,
@@ -152,7 +152,7 @@ attach_lacks old past new exact May id mode ats is none taken lack = record {
     step = (
       any_choice,
       (
-        no_reason (attach_reasons (state_of old past.history frames) id ats) (MayRefuseAttach (state_of old past.history frames) mode) NoFrames none
+        no_reason (attach_reasons (known_state old past.history frames) id ats) (MayRefuseAttach (known_state old past.history frames) mode) NoFrames none
             (lack_believed old past new exact frames mode is allowed lack),
         refl,
       ),
@@ -164,7 +164,7 @@ attach_lacks old past new exact May id mode ats is none taken lack = record {
 pub grant_reserved : (old : Known) (past : Past) (new : List BelievedFrame) (May : ℕ → Type 0) (id page frame : ℕ) (rights : GrantRights) (why : Refusal) (now : BelievedFrame) → IsTrueOf old past
     → AreTaken IsNoTaker May old.frames new → slice_get new frame ≡ Some now → bit_at now.owners 0 ≡ 0
     → ((frames : List Frame) → length frames ≡ length old.frames → is_reserved frames frame ≡ true
-    → IsRefusedBy (grant_reasons (state_of old past.history frames) id page frame) (MayRefuseGrant (state_of old past.history frames) id frame) why)
+    → IsRefusedBy (grant_reasons (known_state old past.history frames) id page frame) (MayRefuseGrant (known_state old past.history frames) id frame) why)
     → IsExplained old (with_belief old new old.is_exact) (Grant id page frame rights) (Refused why) past
 grant_reserved old past new May id page frame rights why now is taken there nobody refused = record {
   after = past;
@@ -185,7 +185,7 @@ grant_reserved old past new May id page frame rights why now is taken there nobo
 pub grant_refused : (old : Known) (past : Past) (new : List BelievedFrame) (exact : Bool) (May : ℕ → Type 0) (id page frame : ℕ) (rights : GrantRights) (why : Refusal) (now : BelievedFrame) → IsTrueOf old past
     → AreTaken IsNoTaker May old.frames new → slice_get new frame ≡ Some now → ((k : ℕ) → k < device_limit + 2 → bit_at now.owners k ≡ 1 → k ≡ 0)
     → ((frames : List Frame) → AreAllowed (with_belief old new exact) past frames → is_reserved frames frame ≡ false
-    → IsRefusedBy (grant_reasons (state_of old past.history frames) id page frame) (MayRefuseGrant (state_of old past.history frames) id frame) why)
+    → IsRefusedBy (grant_reasons (known_state old past.history frames) id page frame) (MayRefuseGrant (known_state old past.history frames) id frame) why)
     → IsExplained old (with_belief old new exact) (Grant id page frame rights) (Refused why) past
 grant_refused old past new exact May id page frame rights why now is taken there alone refused = record {
   after = past;
@@ -202,9 +202,9 @@ grant_refused old past new exact May id page frame rights why now is taken there
 -- too few frames are free besides the granted one, where fewer may be free by what was known before it was nobody's
 pub lack_besides : (old : Known) (past : Past) (mid new : List BelievedFrame) (exact : Bool) (count frame : ℕ) (frames : List Frame) → IsTrueOf old past
     → AreAllowed (with_belief old new exact) past frames → ((n : ℕ) → n ≢ frame → slice_get new n ≡ slice_get mid n)
-    → FewerThan count (MayBeFree mid old.ledger (Some frame)) → FewerThan count (IsFreeBesides (state_of old past.history frames) (Some frame))
+    → FewerThan count (MayBeFree mid old.ledger (Some frame)) → FewerThan count (IsFreeBesides (known_state old past.history frames) (Some frame))
 lack_besides old past mid new exact count frame frames is allowed others lack =
-    fewer_weaker count (MayBeFree mid old.ledger (Some frame)) (IsFreeBesides (state_of old past.history frames) (Some frame))
+    fewer_weaker count (MayBeFree mid old.ledger (Some frame)) (IsFreeBesides (known_state old past.history frames) (Some frame))
     (λ n free.
     let may = free_believed old past new exact frames n is allowed free.0 in
     (subst (λ (o : Option BelievedFrame). IsSomeAnd o (λ (x : BelievedFrame). bit_at x.owners 0 ≡ 1)) (others n free.1) may.0, may.1, free.1)) lack

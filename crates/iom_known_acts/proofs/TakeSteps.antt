@@ -31,7 +31,7 @@ use Rattle.iom_machine.proofs.HeadlineLemmas.{element_at}
 use Rattle.iom_machine.proofs.InFlightLemmas.{found_device}
 use Rattle.iom_known.specs.declared.known.Known.{Known}
 use Rattle.iom_known.specs.declared.frames.BelievedFrame.{BelievedFrame}
-use Rattle.iom_known.specs.Allowed.{Past, IsTrueOf, AreInOrder, HadBytes, AreAllowed, IsAsBelieved, MayOwn, ids_of, state_of}
+use Rattle.iom_known.specs.Allowed.{Past, IsTrueOf, AreInOrder, HadBytes, AreAllowed, IsAsBelieved, MayOwn, ids_of, known_state}
 use Rattle.iom_known_acts.specs.Owners.{MayBeFree, IsTaker, AreTaken}
 use Rattle.iom_known.specs.Reasons.{bare}
 use Rattle.iom_known.specs.Steps.{IsExplained}
@@ -94,7 +94,7 @@ pub free_before : (old : Known) (past : Past) (history : History) (ledger : Ledg
     → IsTaking system (ids_of old.devices) id place (MayBeFree old.frames old.ledger named) old.frames new → ids_of devices ≡ ids_of old.devices
     → AreAllowed (become old ledger devices new) (past_after past history old.frames id place) frames
     → slice_get frames n ≡ Some frame → is_taken old.frames id place n frame.owner ≡ true
-    → IsFreeBesides (state_of old past.history (frames_before old.frames id place frames)) named n
+    → IsFreeBesides (known_state old past.history (frames_before old.frames id place frames)) named n
 free_before old past history ledger devices new system id place named frames n frame is_true t ids allowed at taken =
     let inside : n < length frames = slice_get_within frames n frame at in
     let now = element_at new n (subst (λ (k : ℕ). n < k) allowed.count inside) in
@@ -114,9 +114,9 @@ free_before old past history ledger devices new system id place named frames n f
 pub systems_were_free : (old : Known) (past : Past) (history : History) (ledger : Ledger) (devices : List Device) (new : List BelievedFrame) (system : Bool) (id place : ℕ) (named : Option ℕ)
     (frames : List Frame) → IsTrueOf old past → IsTaking system (ids_of old.devices) id place (MayBeFree old.frames old.ledger named) old.frames new → ids_of devices ≡ ids_of old.devices
     → AreAllowed (become old ledger devices new) (past_after past history old.frames id place) frames
-    → All (IsFreeBesides (state_of old past.history (frames_before old.frames id place frames)) named) (systems_now old.frames frames)
+    → All (IsFreeBesides (known_state old past.history (frames_before old.frames id place frames)) named) (systems_now old.frames frames)
 systems_were_free old past history ledger devices new system id place named frames is_true t ids allowed =
-    all_numbered (IsFreeBesides (state_of old past.history (frames_before old.frames id place frames)) named) (λ n (frame : Frame). is_systems_now old.frames n frame.owner) frames 0
+    all_numbered (IsFreeBesides (known_state old past.history (frames_before old.frames id place frames)) named) (λ n (frame : Frame). is_systems_now old.frames n frame.owner) frames 0
     (λ m k frame same at passes.
     let number : k ≡ m = omega (arith, same) in
     free_before old past history ledger devices new system id place named frames m frame is_true t ids allowed (subst (λ (i : ℕ). slice_get frames i ≡ Some frame) number at)
@@ -125,9 +125,9 @@ systems_were_free old past history ledger devices new system id place named fram
 pub devices_were_free : (old : Known) (past : Past) (history : History) (ledger : Ledger) (devices : List Device) (new : List BelievedFrame) (system : Bool) (id place : ℕ) (named : Option ℕ)
     (frames : List Frame) → IsTrueOf old past → IsTaking system (ids_of old.devices) id place (MayBeFree old.frames old.ledger named) old.frames new → ids_of devices ≡ ids_of old.devices
     → AreAllowed (become old ledger devices new) (past_after past history old.frames id place) frames
-    → All (IsFreeBesides (state_of old past.history (frames_before old.frames id place frames)) named) (devices_now old.frames id place frames)
+    → All (IsFreeBesides (known_state old past.history (frames_before old.frames id place frames)) named) (devices_now old.frames id place frames)
 devices_were_free old past history ledger devices new system id place named frames is_true t ids allowed =
-    all_numbered (IsFreeBesides (state_of old past.history (frames_before old.frames id place frames)) named) (λ n (frame : Frame). is_devices_now old.frames id place n frame.owner) frames 0
+    all_numbered (IsFreeBesides (known_state old past.history (frames_before old.frames id place frames)) named) (λ n (frame : Frame). is_devices_now old.frames id place n frame.owner) frames 0
     (λ m k frame same at passes.
     let number : k ≡ m = omega (arith, same) in
     free_before old past history ledger devices new system id place named frames m frame is_true t ids allowed (subst (λ (i : ℕ). slice_get frames i ≡ Some frame) number at)
@@ -175,7 +175,7 @@ attach_explained old past id place mode ats device devices new is_true none is_p
       from_before = λ frames allowed.
           let pages = systems_now old.frames frames in
           let tables = devices_now old.frames id place frames in
-          let state = state_of old past.history (frames_before old.frames id place frames) in
+          let state = known_state old past.history (frames_before old.frames id place frames) in
           record {
             frames = frames_before old.frames id place frames;
             allowed = allowed_before old past past.history old.ledger devices new true id place (MayBeFree old.frames old.ledger None) frames t ids allowed;
@@ -185,7 +185,7 @@ attach_explained old past id place mode ats device devices new is_true none is_p
                   (both_free state pages tables
                   (systems_were_free old past past.history old.ledger devices new true id place None frames is_true t ids allowed)
                   (devices_were_free old past past.history old.ledger devices new true id place None frames is_true t ids allowed))
-                  is_place at d (are_reserved old.frames id place frames) (state_of (become old old.ledger devices new) past.history frames)).0 refl,
+                  is_place at d (are_reserved old.frames id place frames) (known_state (become old old.ledger devices new) past.history frames)).0 refl,
             );
           };
     }
@@ -229,7 +229,7 @@ nobody_alone ids owners alone (Some (OneDevice i)) (p, low, there, bit) = absurd
 
 pub grant_explained : (old : Known) (past : Past) (id place page frame : ℕ) (rights : GrantRights) (device : Device) (ledger : Ledger) (new : List BelievedFrame) (granted : BelievedFrame)
     → IsTrueOf old past
-    → ((frames : List Frame) → length frames ≡ length old.frames → is_reserved frames frame ≡ false → NoneApplies (grant_reasons (state_of old past.history frames) id page frame))
+    → ((frames : List Frame) → length frames ≡ length old.frames → is_reserved frames frame ≡ false → NoneApplies (grant_reasons (known_state old past.history frames) id page frame))
     → StandsAt old.devices id place → slice_get old.devices place ≡ Some device → place < device_limit
     → AreTaken (IsTaker false place) (MayBeFree old.frames old.ledger (Some frame)) old.frames new
     → slice_get new frame ≡ Some granted → ((k : ℕ) → k < device_limit + 2 → bit_at granted.owners k ≡ 1 → k ≡ 0)
@@ -268,9 +268,9 @@ grant_explained old past id place page frame rights device ledger new granted is
             allowed = was;
             step = (
               record { directory = []; taken = tables; frame = 0; device = 0; page = 0; access = read_of 0 1 },
-              (granted_as tables (state_of old past.history before) id page frame rights history frames (none before was.count open_frame)
+              (granted_as tables (known_state old past.history before) id page frame rights history frames (none before was.count open_frame)
                   (devices_were_free old past history ledger old.devices new false id place (Some frame) frames is_true t refl allowed)
-                  refl same (state_of (become old ledger old.devices new) history frames)).0 refl,
+                  refl same (known_state (become old ledger old.devices new) history frames)).0 refl,
             );
           };
     }

@@ -10,7 +10,7 @@ use Rattle.iom_machine.specs.declared.state.Attachment.{Attachment}
 use Rattle.iom_machine.specs.declared.state.Attachment.TheVariants.{Detached, Attached, Quarantined, Leaving}
 use Rattle.iom_machine.specs.declared.state.Device.{Device}
 use Rattle.iom_machine.specs.declared.state.Frame.{Frame}
-use Rattle.iom_known.specs.Allowed.{Past, IsTrueOf, bytes_believed, state_of}
+use Rattle.iom_known.specs.Allowed.{Past, IsTrueOf, bytes_believed, known_state}
 use Rattle.iom_known.specs.declared.frames.BelievedFrame.{BelievedFrame}
 use Rattle.iom_known.specs.declared.known.Known.{Known}
 
@@ -52,7 +52,7 @@ WasGivenBack HasLeft owners bytes =
 
 -- Where a frame is nobody's afterwards, it was so before with these bytes, or it was given back. Where it is somebody's, it was so before, and not of one
 -- that has left.
-pub record GivesBack (HasLeft : ℕ → Type 0) (old new : BelievedFrame) : Type 0 where
+pub record GivesBackBelieved (HasLeft : ℕ → Type 0) (old new : BelievedFrame) : Type 0 where
   pub nobodys : (bytes : List ℕ) → bit_at new.owners 0 ≡ 1 → AreBelieved new bytes
       → ((bit_at old.owners 0 ≡ 1) × AreBelieved old bytes) ⊎ WasGivenBack HasLeft old.owners bytes
   pub somebodys : (k : ℕ) → 0 < k → k < device_limit + 2 → bit_at new.owners k ≡ 1
@@ -61,7 +61,7 @@ pub record GivesBack (HasLeft : ℕ → Type 0) (old new : BelievedFrame) : Type
 -- each frame is so
 pub record AreGivenBack (HasLeft : ℕ → Type 0) (old new : List BelievedFrame) : Type 0 where
   pub count : length new ≡ length old
-  pub each : (number : ℕ) (before after : BelievedFrame) → slice_get old number ≡ Some before → slice_get new number ≡ Some after → GivesBack HasLeft before after
+  pub each : (number : ℕ) (before after : BelievedFrame) → slice_get old number ≡ Some before → slice_get new number ≡ Some after → GivesBackBelieved HasLeft before after
 
 -- what is known, with other grants, where the tickets up to this one are confirmed
 abbrev pub with_confirmed_up_to : Known → Ledger → ℕ → Known
@@ -82,6 +82,6 @@ past_confirmed past first last = record { history = confirmed_from first (suc (l
 
 -- These are the next tickets, and what is known afterwards is true where they are confirmed.
 pub record ConfirmsNext (old new : Known) (first last : ℕ) (past : Past) : Type 0 where
-  pub tickets : (frames : List Frame) → AreNextTickets (state_of old past.history frames) first last
+  pub tickets : (frames : List Frame) → AreNextTickets (known_state old past.history frames) first last
   pub same : new ≡ with_confirmed_up_to old new.ledger last
   pub is_true : IsTrueOf new (past_confirmed past first last)

@@ -5,7 +5,7 @@ ghost use Rattle.std.specs.Int.{bit_at};
 ghost use Rattle.iom_machine.specs.declared.state.Device.{Device};
 ghost use Rattle.iom_known.specs.Allowed.{bytes_believed};
 ghost use Rattle.iom_known.specs.declared.frames.BelievedFrame.{BelievedFrame};
-ghost use Rattle.iom_known_acts.specs.Leaves.{is_confirmed_by, has_left_by, once_confirmed_by, device_once_by, HasLeftFrom, GivesBack, AreGivenBack};
+ghost use Rattle.iom_known_acts.specs.Leaves.{is_confirmed_by, has_left_by, once_confirmed_by, device_once_by, HasLeftFrom, GivesBackBelieved, AreGivenBack};
 
 use iom_base::{MAX_DEVICES, Sequence};
 use iom_known::BelievedFrame;
@@ -97,7 +97,7 @@ fn zero_too(alloc: Global, other: &mut Option<Sequence<u8>>) -> bool
 /// The frame, once the device has left. False where one of the ways in which it may hold bytes was left out.
 fn give_back(alloc: Global, believed: &mut BelievedFrame, device: usize) -> bool
     requires { device < 16 }
-    ensures { GivesBack (λ place. place ≡ device) believed.old believed.new }
+    ensures { GivesBackBelieved (λ place. place ≡ device) believed.old believed.new }
 {
     if !has_bit(believed.owners, place_of_owner(device)) {
         return true;
@@ -124,7 +124,7 @@ fn give_back_one(
 ) -> bool
     requires { (number < length frames.old) × (device < 16) }
     ensures { (believed : BelievedFrame) → slice_get frames.old number ≡ Some believed
-        → (now : BelievedFrame) × (frames.new ≡ slice_set frames.old number now) × GivesBack (λ place. place ≡ device) believed now }
+        → (now : BelievedFrame) × (frames.new ≡ slice_set frames.old number now) × GivesBackBelieved (λ place. place ≡ device) believed now }
 {
     give_back(alloc, frames.item_mut(number), device)
 }

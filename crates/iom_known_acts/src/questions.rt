@@ -10,7 +10,7 @@ ghost use Rattle.iom_machine.specs.declared.state.Frame.{Frame};
 ghost use Rattle.iom_machine.specs.Requests.{LingersSomewhere};
 ghost use Rattle.iom_machine.specs.Questions.{HoldsNothing, MayShow, MayTellInOneStage, IsForEachKind, MayTellInBoth};
 ghost use Rattle.iom_machine.specs.Questions.{MayShowFormerly, MayTellFormerly, MayTellCutOff, MayTell};
-ghost use Rattle.iom_known.specs.Allowed.{Past, IsTrueOf, state_of};
+ghost use Rattle.iom_known.specs.Allowed.{Past, IsTrueOf, known_state};
 ghost use Rattle.iom_known.specs.Steps.{IsExplained};
 
 use iom_base::{AccessKind, Cause, DeviceId, Mode, Rights};
@@ -159,7 +159,7 @@ fn tells_in_both(known: &Known, id: DeviceId, told: Translation) -> bool
 /// Whether an attached device with ATS may be told so.
 fn tells_attached(mode: Mode, known: &Known, id: DeviceId, page: u64, told: Translation) -> bool
     ensures { IsTrue result → (past : Past) (frames : List Frame) → IsTrueOf known.now past
-        → MayTell (Attached mode true) (state_of known.now past.history frames) id page told }
+        → MayTell (Attached mode true) (known_state known.now past.history frames) id page told }
 {
     match mode {
         Mode::First(_) => tells_in_one_stage(Cause::ReadPageFault, known, id, page, told),
@@ -207,7 +207,7 @@ fn tells_cut_off(
     told: Translation,
 ) -> bool
     ensures { IsTrue result → (past : Past) (frames : List Frame) → IsTrueOf known.now past
-        → MayTellCutOff ticket mode ats (state_of known.now past.history frames) id page told }
+        → MayTellCutOff ticket mode ats (known_state known.now past.history frames) id page told }
 {
     if is_refused_with(told, cause_without_context(known, id)) {
         return true;
@@ -230,7 +230,7 @@ fn may_tell(
     told: Translation,
 ) -> bool
     ensures { IsTrue result → (past : Past) (frames : List Frame) → IsTrueOf known.now past
-        → MayTell attachment (state_of known.now past.history frames) id page told }
+        → MayTell attachment (known_state known.now past.history frames) id page told }
 {
     match attachment {
         Attachment::Detached => is_refused_with(told, cause_without_context(known, id)),

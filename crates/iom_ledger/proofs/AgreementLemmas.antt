@@ -14,7 +14,7 @@ use Rattle.iom_ledger.specs.declared.entry.HistoryEntry.TheVariants.{Confirmed}
 use Rattle.iom_ledger.specs.declared.ledger.Ledger.{Ledger}
 use Rattle.iom_ledger.specs.History.{History, Pair, confirms, released_at, Holds, Lingers, May}
 use Rattle.iom_ledger.specs.Pending.{tickets_of}
-use Rattle.iom_ledger.specs.Rows.{Devices, row_at, pair_of, held_of, released_of, unless_released, if_released, waits_for}
+use Rattle.iom_ledger.specs.Rows.{Devices, row_at, pair_in_row, held_of, released_of, unless_released, if_released, waits_for}
 use Rattle.iom_ledger.specs.Rows.{is_granted, has_granted_right, AllGranted}
 use Rattle.iom_ledger.specs.RowChanges.{unless_waiting, DropsRows}
 use Rattle.iom_ledger.specs.Shown.{AgreesAt, Agrees, IsFreeIn, held_in, released_in}
@@ -31,23 +31,23 @@ allows-granted rights granted = by (rights.0 == 1) (rights.0 == 3) refl refl gra
     by false false e f either = absurd (false≢true either)
 
 -- the row of a pair that is held
-row_of_held : (row : Option PageRow) (pair : Pair) → held_of row ≡ Some pair → (r : PageRow) × (row ≡ Some r) × (pair_of r ≡ pair)
+row_of_held : (row : Option PageRow) (pair : Pair) → held_of row ≡ Some pair → (r : PageRow) × (row ≡ Some r) × (pair_in_row r ≡ pair)
 row_of_held None pair held = cc
 row_of_held (Some row) pair held = by row.ticket row.frame row.rights held
   where
     by : (t : Option ℕ) (frame : ℕ) (rights : Rights) → unless_released t (frame, rights) ≡ Some pair
-        → (r : PageRow) × (◌≡◌ {A = Option PageRow} (Some (record { frame = frame; rights = rights; ticket = t })) (Some r)) × (pair_of r ≡ pair)
+        → (r : PageRow) × (◌≡◌ {A = Option PageRow} (Some (record { frame = frame; rights = rights; ticket = t })) (Some r)) × (pair_in_row r ≡ pair)
     by None frame rights held = (record { frame = frame; rights = rights; ticket = None }, refl, cc)
     by (Some t) frame rights held = cc
 
 -- the row of a pair that lingers
 row_of_lingering : (row : Option PageRow) (ticket : ℕ) (pair : Pair) → Contains (option_to_list (released_of row)) (ticket, pair)
-    → (r : PageRow) × (row ≡ Some r) × (pair_of r ≡ pair) × (is_some r.ticket ≡ true)
+    → (r : PageRow) × (row ≡ Some r) × (pair_in_row r ≡ pair) × (is_some r.ticket ≡ true)
 row_of_lingering None ticket pair (k, below, at) = absurd (omega arith)
 row_of_lingering (Some row) ticket pair lingers = by row.ticket row.frame row.rights lingers
   where
     by : (t : Option ℕ) (frame : ℕ) (rights : Rights) → Contains (option_to_list (if_released t (frame, rights))) (ticket, pair)
-        → (r : PageRow) × (◌≡◌ {A = Option PageRow} (Some (record { frame = frame; rights = rights; ticket = t })) (Some r)) × (pair_of r ≡ pair) × (is_some r.ticket ≡ true)
+        → (r : PageRow) × (◌≡◌ {A = Option PageRow} (Some (record { frame = frame; rights = rights; ticket = t })) (Some r)) × (pair_in_row r ≡ pair) × (is_some r.ticket ≡ true)
     by None frame rights (k, below, at) = absurd (omega arith)
     by (Some t) frame rights lingers =
         elim (Contains-push_cases [] (t, (frame, rights)) (ticket, pair) lingers) [
@@ -57,7 +57,7 @@ row_of_lingering (Some row) ticket pair lingers = by row.ticket row.frame row.ri
 
 -- a row's pair is held or lingers
 reached_from_row : (h : History) (device page : ℕ) (row : PageRow) → AgreesAt (held_of (Some row)) (released_of (Some row)) h device page
-    → Holds h device page (pair_of row) ⊎ ((is_some row.ticket ≡ true) × Lingers h device page (pair_of row))
+    → Holds h device page (pair_in_row row) ⊎ ((is_some row.ticket ≡ true) × Lingers h device page (pair_in_row row))
 reached_from_row h device page row shows = by row.ticket row.frame row.rights shows
   where
     by : (t : Option ℕ) (frame : ℕ) (rights : Rights) → AgreesAt (unless_released t (frame, rights)) (if_released t (frame, rights)) h device page
@@ -103,7 +103,7 @@ May_from_some_row ledger h agrees granted frame (device, page, row, at, same) =
 
 -- a released row lingers, and what lingers has a released row
 pub lingers_from_row : (ledger : Ledger) (h : History) → Agrees ledger h → (device page : ℕ) (row : PageRow) → row_at ledger.devices device page ≡ Some row → is_some row.ticket ≡ true
-    → Lingers h device page (pair_of row)
+    → Lingers h device page (pair_in_row row)
 unfolding held_in released_in
 lingers_from_row ledger h agrees device page row at released =
     by row.ticket row.frame row.rights released (subst (λ r. AgreesAt (held_of r) (released_of r) h device page) at (agrees.pages device page))
@@ -122,12 +122,12 @@ row_from_lingers ledger h agrees device page pair lingers =
     (r, at, released)
 
 -- the row of a pair that a ledger shows as lingering
-row_of_released : (row : Option PageRow) (pair : Pair) → option_map (λ released. released.1) (released_of row) ≡ Some pair → (r : PageRow) × (row ≡ Some r) × (pair_of r ≡ pair)
+row_of_released : (row : Option PageRow) (pair : Pair) → option_map (λ released. released.1) (released_of row) ≡ Some pair → (r : PageRow) × (row ≡ Some r) × (pair_in_row r ≡ pair)
 row_of_released None pair lingers = cc
 row_of_released (Some row) pair lingers = by row.ticket row.frame row.rights lingers
   where
     by : (t : Option ℕ) (frame : ℕ) (rights : Rights) → option_map (λ released. released.1) (if_released t (frame, rights)) ≡ Some pair
-        → (r : PageRow) × (◌≡◌ {A = Option PageRow} (Some (record { frame = frame; rights = rights; ticket = t })) (Some r)) × (pair_of r ≡ pair)
+        → (r : PageRow) × (◌≡◌ {A = Option PageRow} (Some (record { frame = frame; rights = rights; ticket = t })) (Some r)) × (pair_in_row r ≡ pair)
     by None frame rights lingers = cc
     by (Some t) frame rights lingers = (record { frame = frame; rights = rights; ticket = Some t }, refl, cc)
 

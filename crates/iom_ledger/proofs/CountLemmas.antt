@@ -11,7 +11,7 @@ use Rattle.iom_ledger.specs.declared.row.Row.{Row}
 use Rattle.iom_ledger.specs.FrameRows.{IsFreeRow}
 use Rattle.iom_ledger.specs.Rows.{Devices, row_at, waits_for}
 use Rattle.iom_ledger.specs.RowChanges.{released_row, released_row_if_any, ticket_after, held_frame, KeepsRows, SetsRow, ReleasesRow}
-use Rattle.iom_ledger.specs.Counts.{holds_frame, lingers_on, has_page, AreOnceEach, AreNumbered, ArePages, IsCountOf, CountsRows, row_of, AreCounted, KeepsCounts, ChangesRow, granted, released, confirmed}
+use Rattle.iom_ledger.specs.Counts.{holds_frame, lingers_on, has_page, AreOnceEach, AreNumbered, ArePages, IsCountOf, CountsRows, row_of_frame, AreCounted, KeepsCounts, ChangesRow, granted, released, confirmed}
 use Rattle.iom_ledger.proofs.AgreementLemmas.{SomeRowNames}
 
 -- the pages but this one
@@ -224,16 +224,16 @@ own_frame b frame is = and_from b (frame == frame) is (eq-eqb frame frame refl)
 -- a page's row that isn't released counts among the grants of its frame, and one that is among the releases
 grants_positive : (devices : Devices) (c : List Row) (d a : ℕ) (row : PageRow) → row_at devices d a ≡ Some row
     → row.ticket ≡ None → AreCounted devices c
-    → 0 < (row_of c row.frame).grants
+    → 0 < (row_of_frame c row.frame).grants
 grants_positive devices c d a row at held counted =
-    count_positive (λ x b. holds_frame (row_at devices x b) row.frame) d a (row_of c row.frame).grants
+    count_positive (λ x b. holds_frame (row_at devices x b) row.frame) d a (row_of_frame c row.frame).grants
     (ap (λ r. holds_frame r row.frame) at ∙ own_frame (is_none row.ticket) row.frame (ap is_none held)) (counted.grants row.frame)
 
 pub pending_positive : (devices : Devices) (c : List Row) (d a : ℕ) (row : PageRow)
     → row_at devices d a ≡ Some row → is_some row.ticket ≡ true → AreCounted devices c
-    → 0 < (row_of c row.frame).pending
+    → 0 < (row_of_frame c row.frame).pending
 pending_positive devices c d a row at released counted =
-    count_positive (λ x b. lingers_on (row_at devices x b) row.frame) d a (row_of c row.frame).pending
+    count_positive (λ x b. lingers_on (row_at devices x b) row.frame) d a (row_of_frame c row.frame).pending
     (ap (λ r. lingers_on r row.frame) at ∙ own_frame (is_some row.ticket) row.frame released) (counted.pending row.frame)
 
 -- the row of a frame, where it or another's is changed
@@ -267,16 +267,16 @@ pub AreCounted-granted : (old new : Devices) (c e : List Row) (d a : ℕ) (row :
 AreCounted-granted old new c e d a row device page absent held sets changes counted = record {
   grants =
       CountsRows-set holds_frame old new _ _ d a (Some row) (λ f was is. (device, page)) sets
-      (λ f. ap (λ r. r.grants) (changes f) ∙ grants_changed (row.frame == f) granted (row_of c f)
-      ∙ moved_up (row.frame == f) (row_of c f).grants
-      ∙ ap (λ r. moved (holds_frame r f) (row.frame == f) (row_of c f).grants) (sym absent)
-      ∙ ap (λ t. moved (holds_frame (row_at old d a) f) (is_none t && (row.frame == f)) (row_of c f).grants) (sym held)) counted.grants;
+      (λ f. ap (λ r. r.grants) (changes f) ∙ grants_changed (row.frame == f) granted (row_of_frame c f)
+      ∙ moved_up (row.frame == f) (row_of_frame c f).grants
+      ∙ ap (λ r. moved (holds_frame r f) (row.frame == f) (row_of_frame c f).grants) (sym absent)
+      ∙ ap (λ t. moved (holds_frame (row_at old d a) f) (is_none t && (row.frame == f)) (row_of_frame c f).grants) (sym held)) counted.grants;
   pending =
       CountsRows-set lingers_on old new _ _ d a (Some row) (λ f was is. (device, page)) sets
-      (λ f. ap (λ r. r.pending) (changes f) ∙ pending_changed (row.frame == f) granted (row_of c f)
-      ∙ moved_nowhere (row.frame == f) (row_of c f).pending
-      ∙ ap (λ r. moved (lingers_on r f) false (row_of c f).pending) (sym absent)
-      ∙ ap (λ t. moved (lingers_on (row_at old d a) f) (is_some t && (row.frame == f)) (row_of c f).pending) (sym held)) counted.pending;
+      (λ f. ap (λ r. r.pending) (changes f) ∙ pending_changed (row.frame == f) granted (row_of_frame c f)
+      ∙ moved_nowhere (row.frame == f) (row_of_frame c f).pending
+      ∙ ap (λ r. moved (lingers_on r f) false (row_of_frame c f).pending) (sym absent)
+      ∙ ap (λ t. moved (lingers_on (row_at old d a) f) (is_some t && (row.frame == f)) (row_of_frame c f).pending) (sym held)) counted.pending;
 }
 
 -- a page that had a row that wasn't released has it released, and one of its frame's grants is
@@ -286,16 +286,16 @@ AreCounted-released : (old new : Devices) (c e : List Row) (d a ticket : ℕ) (r
 AreCounted-released old new c e d a ticket row had held releases changes counted = record {
   grants =
       CountsRows-set holds_frame old new _ _ d a (Some now) (λ f was is. numbers) sets
-      (λ f. ap (λ r. r.grants) (changes f) ∙ grants_changed (row.frame == f) released (row_of c f)
-      ∙ moved_down (row.frame == f) (row_of c f).grants
-      ∙ ap (λ t. moved (is_none t && (row.frame == f)) (is_none (ticket_after t ticket) && (row.frame == f)) (row_of c f).grants) (sym held)
-      ∙ ap (λ r. moved (holds_frame r f) (holds_frame (Some now) f) (row_of c f).grants) (sym had)) counted.grants;
+      (λ f. ap (λ r. r.grants) (changes f) ∙ grants_changed (row.frame == f) released (row_of_frame c f)
+      ∙ moved_down (row.frame == f) (row_of_frame c f).grants
+      ∙ ap (λ t. moved (is_none t && (row.frame == f)) (is_none (ticket_after t ticket) && (row.frame == f)) (row_of_frame c f).grants) (sym held)
+      ∙ ap (λ r. moved (holds_frame r f) (holds_frame (Some now) f) (row_of_frame c f).grants) (sym had)) counted.grants;
   pending =
       CountsRows-set lingers_on old new _ _ d a (Some now) (λ f was is. numbers) sets
-      (λ f. ap (λ r. r.pending) (changes f) ∙ pending_changed (row.frame == f) released (row_of c f)
-      ∙ moved_up (row.frame == f) (row_of c f).pending
-      ∙ ap (λ t. moved (is_some t && (row.frame == f)) (is_some (ticket_after t ticket) && (row.frame == f)) (row_of c f).pending) (sym held)
-      ∙ ap (λ r. moved (lingers_on r f) (lingers_on (Some now) f) (row_of c f).pending) (sym had)) counted.pending;
+      (λ f. ap (λ r. r.pending) (changes f) ∙ pending_changed (row.frame == f) released (row_of_frame c f)
+      ∙ moved_up (row.frame == f) (row_of_frame c f).pending
+      ∙ ap (λ t. moved (is_some t && (row.frame == f)) (is_some (ticket_after t ticket) && (row.frame == f)) (row_of_frame c f).pending) (sym held)
+      ∙ ap (λ r. moved (lingers_on r f) (lingers_on (Some now) f) (row_of_frame c f).pending) (sym had)) counted.pending;
 }
   where
     now : PageRow
@@ -303,7 +303,7 @@ AreCounted-released old new c e d a ticket row had held releases changes counted
 
     numbers : (d < 2 ^ 32) × (a < 2 ^ 64)
     numbers =
-        count_numbered (λ x b. holds_frame (row_at old x b) row.frame) d a (row_of c row.frame).grants
+        count_numbered (λ x b. holds_frame (row_at old x b) row.frame) d a (row_of_frame c row.frame).grants
         (ap (λ r. holds_frame r row.frame) had ∙ own_frame (is_none row.ticket) row.frame (ap is_none held)) (counted.grants row.frame)
 
     sets : (x b : ℕ) → row_at new x b ≡ (if (d == x) && (a == b) then Some now else row_at old x b)
@@ -329,10 +329,10 @@ held_row (Some row) frame is = by row.ticket row.frame row.rights is
     by (Some t) own rights is = cc
 
 pub held_positive : (devices : Devices) (c : List Row) (d a frame : ℕ)
-    → Some frame ≡ held_frame (row_at devices d a) → AreCounted devices c → 0 < (row_of c frame).grants
+    → Some frame ≡ held_frame (row_at devices d a) → AreCounted devices c → 0 < (row_of_frame c frame).grants
 held_positive devices c d a frame is counted =
     let (row, had, held, same) = held_row (row_at devices d a) frame is in
-    subst (λ f. 0 < (row_of c f).grants) same (grants_positive devices c d a row had held counted)
+    subst (λ f. 0 < (row_of_frame c f).grants) same (grants_positive devices c d a row had held counted)
 
 pub AreCounted-held : (old new : Devices) (c e : List Row) (d a ticket frame : ℕ)
     → Some frame ≡ held_frame (row_at old d a)
@@ -371,16 +371,16 @@ pub AreCounted-dropped : (old new : Devices) (c e : List Row) (d a : ℕ) (row :
 AreCounted-dropped old new c e d a row had waits drops changes counted = record {
   grants =
       CountsRows-set holds_frame old new _ _ d a None (λ f was is. absurd (false≢true is)) drops
-      (λ f. ap (λ r. r.grants) (changes f) ∙ grants_changed (row.frame == f) confirmed (row_of c f)
-      ∙ moved_nowhere (row.frame == f) (row_of c f).grants
-      ∙ ap (λ t. moved (t && (row.frame == f)) false (row_of c f).grants) (sym (not_held row.ticket waits))
-      ∙ ap (λ r. moved (holds_frame r f) false (row_of c f).grants) (sym had)) counted.grants;
+      (λ f. ap (λ r. r.grants) (changes f) ∙ grants_changed (row.frame == f) confirmed (row_of_frame c f)
+      ∙ moved_nowhere (row.frame == f) (row_of_frame c f).grants
+      ∙ ap (λ t. moved (t && (row.frame == f)) false (row_of_frame c f).grants) (sym (not_held row.ticket waits))
+      ∙ ap (λ r. moved (holds_frame r f) false (row_of_frame c f).grants) (sym had)) counted.grants;
   pending =
       CountsRows-set lingers_on old new _ _ d a None (λ f was is. absurd (false≢true is)) drops
-      (λ f. ap (λ r. r.pending) (changes f) ∙ pending_changed (row.frame == f) confirmed (row_of c f)
-      ∙ moved_down (row.frame == f) (row_of c f).pending
-      ∙ ap (λ t. moved (t && (row.frame == f)) false (row_of c f).pending) (sym waits)
-      ∙ ap (λ r. moved (lingers_on r f) false (row_of c f).pending) (sym had)) counted.pending;
+      (λ f. ap (λ r. r.pending) (changes f) ∙ pending_changed (row.frame == f) confirmed (row_of_frame c f)
+      ∙ moved_down (row.frame == f) (row_of_frame c f).pending
+      ∙ ap (λ t. moved (t && (row.frame == f)) false (row_of_frame c f).pending) (sym waits)
+      ∙ ap (λ r. moved (lingers_on r f) false (row_of_frame c f).pending) (sym had)) counted.pending;
 }
   where
     not_held : (t : Option ℕ) → is_some t ≡ true → is_none t ≡ false
@@ -398,19 +398,19 @@ released_from_waits row ticket waits = by row.ticket waits
 
 -- where a frame's row is free no page's row names the frame, and the other way round
 pub no_row_from_free : (devices : Devices) (c : List Row) (f : ℕ) → AreCounted devices c
-    → IsFreeRow (row_of c f) → SomeRowNames devices f → ⊥
+    → IsFreeRow (row_of_frame c f) → SomeRowNames devices f → ⊥
 no_row_from_free devices c f counted free (d, a, row, at, same) = by row.ticket refl
   where
     by : (t : Option ℕ) → row.ticket ≡ t → ⊥
-    by None held = let above = grants_positive devices c d a row at held counted in omega (arith, above, free.0, ap (λ x. (row_of c x).grants) same)
+    by None held = let above = grants_positive devices c d a row at held counted in omega (arith, above, free.0, ap (λ x. (row_of_frame c x).grants) same)
     by (Some own) released =
-        let above = pending_positive devices c d a row at (ap is_some released) counted in omega (arith, above, free.1, ap (λ x. (row_of c x).pending) same)
+        let above = pending_positive devices c d a row at (ap is_some released) counted in omega (arith, above, free.1, ap (λ x. (row_of_frame c x).pending) same)
 
 pub free_from_no_row : (devices : Devices) (c : List Row) (f : ℕ) → AreCounted devices c
-    → (SomeRowNames devices f → ⊥) → IsFreeRow (row_of c f)
+    → (SomeRowNames devices f → ⊥) → IsFreeRow (row_of_frame c f)
 free_from_no_row devices c f counted none = (
-  count_none (λ d a. holds_frame (row_at devices d a) f) (row_of c f).grants (λ d a. held d a (row_at devices d a) refl) (counted.grants f),
-  count_none (λ d a. lingers_on (row_at devices d a) f) (row_of c f).pending (λ d a. lingers d a (row_at devices d a) refl) (counted.pending f),
+  count_none (λ d a. holds_frame (row_at devices d a) f) (row_of_frame c f).grants (λ d a. held d a (row_at devices d a) refl) (counted.grants f),
+  count_none (λ d a. lingers_on (row_at devices d a) f) (row_of_frame c f).pending (λ d a. lingers d a (row_at devices d a) refl) (counted.pending f),
 )
   where
     held : (d a : ℕ) (row : Option PageRow) → row_at devices d a ≡ row → holds_frame row f ≡ true → ⊥
@@ -423,14 +423,14 @@ free_from_no_row devices c f counted none = (
 
 -- no rows of pages, and rows of frames with counts of 0
 pub AreCounted-none : (devices : Devices) (c : List Row) → ((d a : ℕ) → row_at devices d a ≡ None)
-    → ((f : ℕ) → IsFreeRow (row_of c f)) → AreCounted devices c
+    → ((f : ℕ) → IsFreeRow (row_of_frame c f)) → AreCounted devices c
 AreCounted-none devices c rows free = record {
   grants = λ f. ∣ ([], record { once = tt; numbered = tt; all = λ d a. sym (ap (λ r. holds_frame r f) (rows d a)) }, sym (free f).0) ∣₁;
   pending = λ f. ∣ ([], record { once = tt; numbered = tt; all = λ d a. sym (ap (λ r. lingers_on r f) (rows d a)) }, sym (free f).1) ∣₁;
 }
 
 pub row_of-replicate : (n f : ℕ)
-    → row_of (replicate n (record { grants = 0; pending = 0 })) f ≡ record { grants = 0; pending = 0 }
+    → row_of_frame (replicate n (record { grants = 0; pending = 0 })) f ≡ record { grants = 0; pending = 0 }
 row_of-replicate zero f = refl
 row_of-replicate (suc n) zero = refl
 row_of-replicate (suc n) (suc f) = row_of-replicate n f

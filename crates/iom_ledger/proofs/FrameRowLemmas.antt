@@ -16,7 +16,7 @@ use Rattle.iom_ledger.specs.declared.row.Row.{Row}
 use Rattle.iom_ledger.specs.History.{History, Pair}
 use Rattle.iom_ledger.specs.FrameRows.{HoldsFrame, LingersOnFrame, IsNumberOf, IsRowOf, IsFreeRow}
 use Rattle.iom_ledger.specs.Rows.{row_at, held_of, released_of, unless_released, if_released}
-use Rattle.iom_ledger.specs.Counts.{holds_frame, lingers_on, has_page, AreOnceEach, IsCountOf, row_of}
+use Rattle.iom_ledger.specs.Counts.{holds_frame, lingers_on, has_page, AreOnceEach, IsCountOf, row_of_frame}
 use Rattle.iom_ledger.specs.Shown.{Agrees, held_in, released_in}
 
 -- a page that is found is contained, and the other way round
@@ -93,15 +93,15 @@ lingers_on-released (Some row) f = by row.ticket row.frame row.rights
 
 -- so the row of a frame counts what each history says that the ledger agrees with
 pub IsRowOf-counted : (ledger : Ledger) (h : History) → Agrees ledger h → (frame : ℕ)
-    → IsRowOf h frame (row_of ledger.frames.rows.items frame)
+    → IsRowOf h frame (row_of_frame ledger.frames.rows.items frame)
 unfolding held_in released_in
 IsRowOf-counted ledger h agrees frame = record {
   grants =
       IsNumberOf-count (λ d a. holds_frame (row_at ledger.devices d a) frame) (HoldsFrame h frame)
-      (row_of ledger.frames.rows.items frame).grants holds (ledger.counted.grants frame);
+      (row_of_frame ledger.frames.rows.items frame).grants holds (ledger.counted.grants frame);
   pending =
       IsNumberOf-count (λ d a. lingers_on (row_at ledger.devices d a) frame) (LingersOnFrame h frame)
-      (row_of ledger.frames.rows.items frame).pending lingers (ledger.counted.pending frame);
+      (row_of_frame ledger.frames.rows.items frame).pending lingers (ledger.counted.pending frame);
 }
   where
     holds : (d a : ℕ) → (holds_frame (row_at ledger.devices d a) frame ≡ true) ↔ HoldsFrame h frame d a
@@ -124,18 +124,18 @@ IsRowOf-counted ledger h agrees frame = record {
 
 -- a row that is lent is the frame's
 pub lent_row : (result : Option (Bor Row)) (rows : List Row) (frame : ℕ) (P : Row → Type 0)
-    → option_copied result ≡ slice_get rows frame → P (row_of rows frame)
+    → option_copied result ≡ slice_get rows frame → P (row_of_frame rows frame)
     → IfSome result (λ row. P row.now)
 lent_row None rows frame P is holds = tt
 lent_row (Some row) rows frame P is holds = subst P (get_or_from_slice_get rows frame row.now (record { grants = 0; pending = 0 }) (sym is)) holds
 
 -- where none is, nothing names the frame
-free_outside : (rows : List Row) (frame : ℕ) → slice_get rows frame ≡ None → IsFreeRow (row_of rows frame)
+free_outside : (rows : List Row) (frame : ℕ) → slice_get rows frame ≡ None → IsFreeRow (row_of_frame rows frame)
 free_outside [] frame none = (refl, refl)
 free_outside (row ∷ rows) zero none = cc
 free_outside (row ∷ rows) (suc frame) none = free_outside rows frame none
 
 pub unlent_row : (result : Option (Bor Row)) (rows : List Row) (frame : ℕ)
-    → option_copied result ≡ slice_get rows frame → IsNone result → IsFreeRow (row_of rows frame)
+    → option_copied result ≡ slice_get rows frame → IsNone result → IsFreeRow (row_of_frame rows frame)
 unlent_row None rows frame is none = free_outside rows frame (sym is)
 unlent_row (Some row) rows frame is none = absurd (true≢false none)

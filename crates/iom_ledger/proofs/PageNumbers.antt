@@ -8,7 +8,7 @@ use Rattle.std.proofs.lemmas.List.{length-map}
 use Rattle.std.proofs.lemmas.Map.Steps.{length-le_from_distinct_below}
 use Rattle.iom_ledger.specs.declared.row.Row.{Row}
 use Rattle.iom_ledger.specs.Rows.{Devices, row_at}
-use Rattle.iom_ledger.specs.Counts.{holds_frame, lingers_on, has_page, AreOnceEach, AreNumbered, IsCountOf, row_of, AreCounted}
+use Rattle.iom_ledger.specs.Counts.{holds_frame, lingers_on, has_page, AreOnceEach, AreNumbered, IsCountOf, row_of_frame, AreCounted}
 
 -- the number of a page of a device
 abbrev number_of : ℕ × ℕ → ℕ
@@ -62,8 +62,8 @@ count_few test n count = by (cases_lt (2 ^ 96) n)
     by (inr few) = few
 
 -- and no count is higher
-pub grants_fit : (devices : Devices) (rows : List Row) (frame : ℕ) → AreCounted devices rows → (row_of rows frame).grants ≤ 2 ^ 96
-grants_fit devices rows frame counted = count_few (λ d a. holds_frame (row_at devices d a) frame) (row_of rows frame).grants (counted.grants frame)
+pub grants_fit : (devices : Devices) (rows : List Row) (frame : ℕ) → AreCounted devices rows → (row_of_frame rows frame).grants ≤ 2 ^ 96
+grants_fit devices rows frame counted = count_few (λ d a. holds_frame (row_at devices d a) frame) (row_of_frame rows frame).grants (counted.grants frame)
 
-pub pending_fits : (devices : Devices) (rows : List Row) (frame : ℕ) → AreCounted devices rows → (row_of rows frame).pending ≤ 2 ^ 96
-pending_fits devices rows frame counted = count_few (λ d a. lingers_on (row_at devices d a) frame) (row_of rows frame).pending (counted.pending frame)
+pub pending_fits : (devices : Devices) (rows : List Row) (frame : ℕ) → AreCounted devices rows → (row_of_frame rows frame).pending ≤ 2 ^ 96
+pending_fits devices rows frame counted = count_few (λ d a. lingers_on (row_at devices d a) frame) (row_of_frame rows frame).pending (counted.pending frame)

@@ -8,7 +8,7 @@ use Rattle.std.proofs.lemmas.List.Folds.{list_any-append}
 use Rattle.iom_ledger.specs.declared.pending.Pending.{Pending}
 use Rattle.iom_ledger.specs.Rows.{Devices, row_at, names, AllNamed}
 use Rattle.iom_ledger.specs.RowChanges.{DropsRows, DropsNamed}
-use Rattle.iom_ledger.specs.Ring.{tickets, is_among, all_from, is_ascending, is_other, any_names, dropped, DropsNamedBy, TakesFirst}
+use Rattle.iom_ledger.specs.Ring.{tickets, is_ticket_among, all_from, is_ascending, is_other, any_names, dropped, DropsNamedBy, TakesFirst}
 use Rattle.iom_ledger.proofs.PendingLemmas.{dropped_more, rows_more, all_dropped}
 use Rattle.iom_ledger.proofs.UnknownTickets.{among_from_names}
 
@@ -63,19 +63,19 @@ is_ascending-drop (suc n) [] ascends = refl
 is_ascending-drop (suc n) (p ∷ s) ascends = is_ascending-drop n s (and_parts (all_from p.ticket s) (is_ascending s) ascends).1
 
 -- a ticket below the first of those that ascend is none of them
-none_below : (ticket first : ℕ) (s : List Pending) → ticket < first → all_from first s ≡ true → is_among ticket (tickets s) ≡ false
+none_below : (ticket first : ℕ) (s : List Pending) → ticket < first → all_from first s ≡ true → is_ticket_among ticket (tickets s) ≡ false
 none_below ticket first [] low from = refl
 none_below ticket first (p ∷ s) low from =
     let parts = and_parts (nat_le first p.ticket) (all_from first s) from in
     let next = leb-true first p.ticket parts.0 in
-    ap (λ b. b || is_among ticket (tickets s)) (ne_eqb ticket p.ticket (λ same. omega arith)) ∙ none_below ticket first s low parts.1
+    ap (λ b. b || is_ticket_among ticket (tickets s)) (ne_eqb ticket p.ticket (λ same. omega arith)) ∙ none_below ticket first s low parts.1
 
-pub not_among_ascending : (ticket : ℕ) (s : List Pending) (oldest : Pending) → slice_get s 0 ≡ Some oldest → ticket < oldest.ticket → is_ascending s ≡ true → is_among ticket (tickets s) ≡ false
+pub not_among_ascending : (ticket : ℕ) (s : List Pending) (oldest : Pending) → slice_get s 0 ≡ Some oldest → ticket < oldest.ticket → is_ascending s ≡ true → is_ticket_among ticket (tickets s) ≡ false
 not_among_ascending ticket [] oldest first low ascends = cc
 not_among_ascending ticket (p ∷ s) oldest first low ascends =
     let same : p ≡ oldest = cc in
     let below : ticket < p.ticket = subst (λ (q : Pending). ticket < q.ticket) (sym same) low in
-    ap (λ b. b || is_among ticket (tickets s)) (ne_eqb ticket p.ticket (λ is. omega arith))
+    ap (λ b. b || is_ticket_among ticket (tickets s)) (ne_eqb ticket p.ticket (λ is. omega arith))
     ∙ none_below ticket p.ticket s below (and_parts (all_from p.ticket s) (is_ascending s) ascends).0
 
 pub nil_from_front : (s : List Pending) → slice_get s 0 ≡ None → s ≡ []
@@ -109,7 +109,7 @@ TakesFirst-more old now new before left after n ticket oldest within first same 
     next = let here : ◌≡◌ {A = Option Pending} (Some (get_or before n oldest)) (Some oldest) = sym (ap (λ xs. slice_get xs 0) split) ∙ first in cc
 
 -- where no release is under the ticket, no row is dropped
-pub none_dropped : (devices : Devices) (s : List Pending) (ticket : ℕ) → is_among ticket (tickets s) ≡ false → DropsNamedBy devices devices s ticket
+pub none_dropped : (devices : Devices) (s : List Pending) (ticket : ℕ) → is_ticket_among ticket (tickets s) ≡ false → DropsNamedBy devices devices s ticket
 none_dropped devices s ticket absent d a = by (any_names s d a ticket) refl
   where
     by : (b : Bool) → any_names s d a ticket ≡ b → row_at devices d a ≡ dropped b (row_at devices d a) ticket

@@ -10,35 +10,35 @@ use Rattle.iom_ledger.specs.Rows.{row_at, held_of, released_of, names, ticket_of
 use Rattle.iom_ledger.specs.RowChanges.{unless_waiting, DropsRows}
 use Rattle.iom_ledger.specs.Shown.{held_in, released_in, pending_in}
 use Rattle.iom_ledger.specs.Changes.{IsUnchanged}
-use Rattle.iom_ledger.specs.Ring.{tickets, is_among, is_other, any_names}
+use Rattle.iom_ledger.specs.Ring.{tickets, is_ticket_among, is_other, any_names}
 
 -- a ticket that isn't contained is found nowhere
-not_among : (ticket : ℕ) (ts : List ℕ) → (Contains ts ticket → ⊥) → is_among ticket ts ≡ false
-not_among ticket ts absent = by (is_among ticket ts) refl
+not_among : (ticket : ℕ) (ts : List ℕ) → (Contains ts ticket → ⊥) → is_ticket_among ticket ts ≡ false
+not_among ticket ts absent = by (is_ticket_among ticket ts) refl
   where
-    by : (b : Bool) → is_among ticket ts ≡ b → b ≡ false
+    by : (b : Bool) → is_ticket_among ticket ts ≡ b → b ≡ false
     by true found = absurd (absent (Contains-list_any nat_eq eqb-true ts ticket found))
     by false found = refl
 
 -- where no release is under the ticket, each stays
-pub filter_absent : (ticket : ℕ) (s : List Pending) → is_among ticket (tickets s) ≡ false → filter (is_other ticket) s ≡ s
+pub filter_absent : (ticket : ℕ) (s : List Pending) → is_ticket_among ticket (tickets s) ≡ false → filter (is_other ticket) s ≡ s
 filter_absent ticket [] absent = refl
 filter_absent ticket (p ∷ s) absent =
-    let parts = or_parts (nat_eq ticket p.ticket) (is_among ticket (tickets s)) absent in
+    let parts = or_parts (nat_eq ticket p.ticket) (is_ticket_among ticket (tickets s)) absent in
     rw parts.0 (ap (λ rest. p ∷ rest) (filter_absent ticket s parts.1))
 
 -- a release that names a page under a ticket has that ticket
-pub among_from_names : (s : List Pending) (d a ticket : ℕ) → any_names s d a ticket ≡ true → is_among ticket (tickets s) ≡ true
+pub among_from_names : (s : List Pending) (d a ticket : ℕ) → any_names s d a ticket ≡ true → is_ticket_among ticket (tickets s) ≡ true
 among_from_names [] d a ticket named = named
 among_from_names (p ∷ s) d a ticket named = by (names p d a ticket) refl named (among_from_names s d a ticket)
   where
     by : (b : Bool) → names p d a ticket ≡ b → (b || any_names s d a ticket) ≡ true
-        → (any_names s d a ticket ≡ true → is_among ticket (tickets s) ≡ true) → is_among ticket (tickets (p ∷ s)) ≡ true
+        → (any_names s d a ticket ≡ true → is_ticket_among ticket (tickets s) ≡ true) → is_ticket_among ticket (tickets (p ∷ s)) ≡ true
     by true this either later = or_left _ _ (eq-eqb ticket p.ticket (sym (eqb-true p.ticket ticket (and_parts (p.ticket == ticket) _ this).0)))
     by false this either later = or_right _ _ (later either)
 
 -- so no row waits for it
-unless_waiting-absent : (s : List Pending) (d a ticket : ℕ) (row : Option PageRow) → is_among ticket (tickets s) ≡ false → is_named s d a (ticket_of row) ≡ true
+unless_waiting-absent : (s : List Pending) (d a ticket : ℕ) (row : Option PageRow) → is_ticket_among ticket (tickets s) ≡ false → is_named s d a (ticket_of row) ≡ true
     → unless_waiting row ticket ≡ row
 unless_waiting-absent s d a ticket None absent named = refl
 unless_waiting-absent s d a ticket (Some row) absent named = own row.ticket row.frame row.rights named

@@ -48,22 +48,22 @@ CountsRows test devices counts =
     (frame : ℕ) → IsCountOf (λ device page. test (row_at devices device page) frame) (counts frame)
 
 -- the row of a frame; beyond the last frame that has one, a row of two zeros
-abbrev pub row_of : List Row → ℕ → Row
-row_of rows frame = slice_index_or rows frame (record { grants = 0; pending = 0 })
+abbrev pub row_of_frame : List Row → ℕ → Row
+row_of_frame rows frame = slice_index_or rows frame (record { grants = 0; pending = 0 })
 
 -- each frame's row counts the pages at which it is held, and those at which it lingers
 pub record AreCounted (devices : Devices) (rows : List Row) : Type 0 where
-  pub grants : CountsRows holds_frame devices (λ frame. (row_of rows frame).grants)
-  pub pending : CountsRows lingers_on devices (λ frame. (row_of rows frame).pending)
+  pub grants : CountsRows holds_frame devices (λ frame. (row_of_frame rows frame).grants)
+  pub pending : CountsRows lingers_on devices (λ frame. (row_of_frame rows frame).pending)
 
 -- each frame's row stays
 abbrev pub KeepsCounts : List Row → List Row → Type 0
-KeepsCounts old new = (f : ℕ) → row_of new f ≡ row_of old f
+KeepsCounts old new = (f : ℕ) → row_of_frame new f ≡ row_of_frame old f
 
 -- the frame's row is changed so, and each other stays
 abbrev pub ChangesRow : (Row → Row) → List Row → List Row → ℕ → Type 0
 ChangesRow change old new frame =
-    (f : ℕ) → row_of new f ≡ (if frame == f then change (row_of old f) else row_of old f)
+    (f : ℕ) → row_of_frame new f ≡ (if frame == f then change (row_of_frame old f) else row_of_frame old f)
 
 -- the row with one grant more
 abbrev pub granted : Row → Row
@@ -79,5 +79,5 @@ confirmed row = record { grants = row.grants; pending = row.pending - 1 }
 
 -- the set has the frames whose rows are free, and room for each frame that has a row
 pub record IsFreeSet (rows : List Row) (free : Words) : Type 0 where
-  pub has_free : (f : ℕ) → IsTrue (has free f) ↔ IsFreeRow (row_of rows f)
+  pub has_free : (f : ℕ) → IsTrue (has free f) ↔ IsFreeRow (row_of_frame rows f)
   pub roomy : length rows ≤ room free

@@ -12,8 +12,8 @@ abbrev pub tickets : List Pending → List ℕ
 tickets releases = map (λ release. release.ticket) releases
 
 -- whether the ticket is one of these
-abbrev pub is_among : ℕ → List ℕ → Bool
-is_among ticket ts = list_any (nat_eq ticket) ts
+abbrev pub is_ticket_among : ℕ → List ℕ → Bool
+is_ticket_among ticket ts = list_any (nat_eq ticket) ts
 
 -- whether each ticket is from this one on
 abbrev pub all_from : ℕ → List Pending → Bool

@@ -26,8 +26,8 @@ abbrev pub row_at : Devices → ℕ → ℕ → Option PageRow
 row_at devices device page = option_and_then (λ pages. get nat_eq pages page) (pages_in devices.list.items device)
 
 -- the frame of a row, with the right to it
-abbrev pub pair_of : PageRow → Pair
-pair_of row = (row.frame, row.rights)
+abbrev pub pair_in_row : PageRow → Pair
+pair_in_row row = (row.frame, row.rights)
 
 -- the pair, where no ticket released it
 abbrev pub unless_released : Option ℕ → Pair → Option Pair
@@ -42,12 +42,12 @@ if_released (Some ticket) pair = Some (ticket, pair)
 -- the pair that a row shows as held
 abbrev pub held_of : Option PageRow → Option Pair
 held_of None = None
-held_of (Some row) = unless_released row.ticket (pair_of row)
+held_of (Some row) = unless_released row.ticket (pair_in_row row)
 
 -- the pair that a row shows as released, with the ticket
 abbrev pub released_of : Option PageRow → Option (ℕ × Pair)
 released_of None = None
-released_of (Some row) = if_released row.ticket (pair_of row)
+released_of (Some row) = if_released row.ticket (pair_in_row row)
 
 -- whether a row with this ticket waits for that one
 abbrev pub waits_for : Option ℕ → ℕ → Bool

@@ -2,7 +2,7 @@
 ghost use Rattle.std.specs.Prelude.{◌≡◌, ◌+◌, ◌<◌, ◌^◌, IfOk, OnOk, length, max, replicate, slice_get, vec_capacity};
 ghost use Rattle.std.specs.Option.{option_copied};
 ghost use Rattle.iom_frame_set.specs.Sets.{room};
-ghost use Rattle.iom_ledger.specs.Counts.{row_of, granted, released, confirmed, KeepsCounts, ChangesRow, IsFreeSet};
+ghost use Rattle.iom_ledger.specs.Counts.{row_of_frame, granted, released, confirmed, KeepsCounts, ChangesRow, IsFreeSet};
 
 use crate::row::Row;
 use iom_frame_set::FrameSet;
@@ -83,7 +83,7 @@ impl FrameRows {
     pub(crate) fn grant(&mut self, frame: u32)
         requires room { frame < room self.old.free }
         requires capacity { frame < vec_capacity self.old.rows }
-        requires below { (row_of self.old.rows.items frame).grants + 1 < 2 ^ 128 }
+        requires below { (row_of_frame self.old.rows.items frame).grants + 1 < 2 ^ 128 }
         ensures row { ChangesRow granted self.old.rows.items self.new.rows.items frame }
         ensures rows { length self.new.rows.items ≡ max (length self.old.rows.items) (frame + 1) }
     {
@@ -94,8 +94,8 @@ impl FrameRows {
 
     /// Counts one grant of the frame as released.
     pub(crate) fn release(&mut self, frame: u32)
-        requires granted { 0 < (row_of self.old.rows.items frame).grants }
-        requires below { (row_of self.old.rows.items frame).pending + 1 < 2 ^ 128 }
+        requires granted { 0 < (row_of_frame self.old.rows.items frame).grants }
+        requires below { (row_of_frame self.old.rows.items frame).pending + 1 < 2 ^ 128 }
         ensures row { ChangesRow released self.old.rows.items self.new.rows.items frame }
         ensures rows { length self.new.rows.items ≡ length self.old.rows.items }
     {
@@ -106,7 +106,7 @@ impl FrameRows {
 
     /// Counts one release of the frame as confirmed.
     pub(crate) fn confirm(&mut self, frame: u32)
-        requires { 0 < (row_of self.old.rows.items frame).pending }
+        requires { 0 < (row_of_frame self.old.rows.items frame).pending }
         ensures row { ChangesRow confirmed self.old.rows.items self.new.rows.items frame }
         ensures rows { length self.new.rows.items ≡ length self.old.rows.items }
     {

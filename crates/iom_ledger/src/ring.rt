@@ -2,7 +2,7 @@
 ghost use Rattle.std.specs.Prelude.{◌≡◌, ◌<◌, ◌≤◌, ◌==◌, ℕ, List, true, false, not, [], ◌∷◌, ◌++◌, length, filter};
 ghost use Rattle.iom_ledger.specs.declared.pending.Pending.{Pending};
 ghost use Rattle.iom_ledger.specs.Counts.{AreCounted};
-ghost use Rattle.iom_ledger.specs.Ring.{tickets, is_among, is_ascending, is_other, DropsNamedBy, TakesFirst};
+ghost use Rattle.iom_ledger.specs.Ring.{tickets, is_ticket_among, is_ascending, is_other, DropsNamedBy, TakesFirst};
 ghost use Rattle.iom_ledger.specs.Rows.{AllNamed};
 ghost use Rattle.iom_ledger.specs.RowChanges.{DropsRows, DropsNamed};
 
@@ -56,7 +56,7 @@ fn confirm_front(devices: &mut Devices, frames: &mut FrameRows, pending: &mut Ri
 /// Whether no release is under the ticket, as the oldest shows: there is none, or the tickets ascend from one
 /// that is higher.
 fn is_past(pending: &Ring, ascending: bool, ticket: u32) -> bool
-    ensures { result ≡ true → (ascending ≡ true → is_ascending pending.now.items ≡ true) → is_among ticket (tickets pending.now.items) ≡ false }
+    ensures { result ≡ true → (ascending ≡ true → is_ascending pending.now.items ≡ true) → is_ticket_among ticket (tickets pending.now.items) ≡ false }
 {
     match pending.front() {
         None => true,

@@ -2,7 +2,7 @@
 // over a slice of a known length.
 ghost use Rattle.std.specs.Prelude.{◌≡◌, ℕ, ◌<◌, ◌^◌, [], ◌∷◌, ◌++◌, length, IfSome, IfNone};
 ghost use Rattle.iom_stage_walk.specs.Entries.{entries};
-ghost use Rattle.iom_page_table.specs.Building.{Built, SameWrites, IsPage, missing_above, upper_in};
+ghost use Rattle.iom_page_table.specs.Building.{Built, SameWrites, IsPageOfShape, missing_above, upper_in};
 ghost use Rattle.iom_page_table.specs.Trees.{shape_of, IsTree, IsTableAt, AreFresh};
 
 use crate::build::{build_along, missing_along, table_under};
@@ -53,7 +53,7 @@ pub(crate) fn build<B: Bytes>(
     frames: &[u32],
 ) -> u64
     requires tree { IsTree (shape_of size) (entries (B.frames_of memory.old)) root }
-    requires page { IsPage (shape_of size) (upper_in size all.now) last }
+    requires page { IsPageOfShape (shape_of size) (upper_in size all.now) last }
     requires count { length frames.now ≡ missing_above (entries (B.frames_of memory.old)) root (upper_in size all.now) }
     requires fresh { AreFresh (shape_of size) (B.frames_of memory.old) root frames.now }
     ensures range { result < 2 ^ 44 }

@@ -16,25 +16,25 @@ use Rattle.iom_device.specs.Caches.{cache_of, kind_in, with_has_disk}
 use Rattle.iom_world.specs.Happens.{Happens}
 use Rattle.iom_world_effects.specs.Parts.{Parts}
 use Rattle.iom_device.specs.Calls.{reset_of, with_reset}
-use Rattle.iom_world_effects.specs.Sound.{HaveOwnIds}
+use Rattle.iom_world_effects.specs.Sound.{HaveDistinctIds}
 use Rattle.iom_world.specs.Seen.{parts_of, disks_of}
 use Rattle.iom_platform.specs.declared.block.Block.{Block}
 use Rattle.iom_platform.specs.declared.block.DiskAtHand.{DiskAtHand}
-use Rattle.iom_platform.specs.Agreement.{AgreesWith, Entry, entries_of, known_blocks}
+use Rattle.iom_platform.specs.Agreement.{AgreesWith, DiskEntry, disk_entries_of, known_blocks}
 use Rattle.iom_platform.specs.Places.{with_has}
 use Rattle.iom_platform.proofs.KeptBlocks.{IsKeeper, kept, kept_disks}
 use Rattle.iom_platform.proofs.KnownBlocks.{known_cache, known_has}
 
 -- after any event but a plug, a medium and a detach, where none of them got a disk or lost one
 pub agree_kept : {D : Type 0} {d : Ghosts D} (old new : World) (blocks after : List (Block D d)) (at_hand : List (DiskAtHand D)) (event : Event) (told : Outcome) → IsKeeper event
-    → Happens old event told new → AgreesWith old blocks at_hand → entries_of after ≡ entries_of blocks → AgreesWith new after at_hand
+    → Happens old event told new → AgreesWith old blocks at_hand → disk_entries_of after ≡ disk_entries_of blocks → AgreesWith new after at_hand
 agree_kept old new blocks after at_hand event told it happens agrees same = record {
   devices = same ∙ agrees.devices ∙ sym (kept (disks_of old) (parts_of old) (parts_of new) event told it happens.does);
   disks = agrees.disks ∙ sym (happens.disks ∙ kept_disks event told (disks_of old) it);
 }
 
 -- after a detach that is done, where the one with the id lost its disk
-left : (answer : Result Ticket Refusal) (old new : Parts) (id ticket : ℕ) (told : Outcome) → HaveOwnIds old.devices → told ≡ outcome.Ticket ticket → told ≡ ticket_told_of answer
+left : (answer : Result Ticket Refusal) (old new : Parts) (id ticket : ℕ) (told : Outcome) → HaveDistinctIds old.devices → told ≡ outcome.Ticket ticket → told ≡ ticket_told_of answer
     → new.devices ≡ devices_left answer old.devices id → known_blocks new.devices ≡ with_has (known_blocks old.devices) id false
 left (Err why) old new id ticket told own is is_told same = absurd (differ (sym is ∙ is_told))
   where
@@ -48,9 +48,9 @@ left (Ok given) old new id ticket told own is is_told same =
     reset_or false = refl
 
 pub agree_left : {D : Type 0} {d : Ghosts D} (old new : World) (blocks after : List (Block D d)) (at_hand : List (DiskAtHand D)) (id ticket : ℕ) (told : Outcome) → told ≡ outcome.Ticket ticket
-    → Happens old (events.Detach id) told new → AgreesWith old blocks at_hand → entries_of after ≡ with_has (entries_of blocks) id false → AgreesWith new after at_hand
+    → Happens old (events.Detach id) told new → AgreesWith old blocks at_hand → disk_entries_of after ≡ with_has (disk_entries_of blocks) id false → AgreesWith new after at_hand
 agree_left old new blocks after at_hand id ticket told is happens agrees same = record {
-  devices = same ∙ ap (λ (entries : List Entry). with_has entries id false) agrees.devices
+  devices = same ∙ ap (λ (entries : List DiskEntry). with_has entries id false) agrees.devices
       ∙ sym (left happens.does.answer (parts_of old) (parts_of new) id ticket told old.sound.known.own_ids is happens.does.told_so happens.does.devices);
   disks = agrees.disks ∙ sym happens.disks;
 }

@@ -12,21 +12,21 @@ use Rattle.iom_virtio_blk.specs.Features.{offered, flush_of}
 use Rattle.iom_virtio_blk.specs.Steps.{device}
 use Rattle.iom_virtqueue.specs.declared.layout.Layout.{Layout}
 use Rattle.iom_platform.specs.declared.block.Block.{Block}
-use Rattle.iom_platform.specs.Agreement.{entries_of}
-use Rattle.iom_platform.specs.Blocks.{HasDisk, IsLeft, IsReset, SetsUp, HearsMade, HearsRefusal}
-use Rattle.iom_platform.specs.Places.{IsPlaceOf, with_has}
+use Rattle.iom_platform.specs.Agreement.{disk_entries_of}
+use Rattle.iom_platform.specs.Blocks.{HasDisk, IsGivenUp, IsReset, SetsUp, HearsMade, HearsRefusal}
+use Rattle.iom_platform.specs.Places.{IsBlockPlace, with_has}
 use Rattle.iom_platform.specs.Seen.{block_seen}
 
 -- THE ENTRIES of all, where the one at the place changes
 
 pub entries_as : {D : Type 0} {d : Ghosts D} (seen : D → DiskState) (blocks : List (Block D d)) (id place : ℕ) (at other : Block D d) (has : Bool)
-    → (is : IsPlaceOf seen blocks id place) → at ≡ is.block → other.id ≡ at.id → is_some other.blk.drive.disk ≡ has
-    → entries_of (slice_set blocks place other) ≡ with_has (entries_of blocks) id has
+    → (is : IsBlockPlace seen blocks id place) → at ≡ is.block → other.id ≡ at.id → is_some other.blk.drive.disk ≡ has
+    → disk_entries_of (slice_set blocks place other) ≡ with_has (disk_entries_of blocks) id has
 entries_as {D = D} {d = d} seen blocks id place at other has is same own has_is =
-    is.entries other (own ∙ ap (λ (b : Block D d). b.id) same) ∙ ap (λ (x : Bool). with_has (entries_of blocks) id x) has_is
+    is.entries other (own ∙ ap (λ (b : Block D d). b.id) same) ∙ ap (λ (x : Bool). with_has (disk_entries_of blocks) id x) has_is
 
 pub entries_kept : {D : Type 0} {d : Ghosts D} (seen : D → DiskState) (blocks : List (Block D d)) (id place : ℕ) (at other : Block D d)
-    → (is : IsPlaceOf seen blocks id place) → at ≡ is.block → other.id ≡ at.id → other.blk.drive ≡ at.blk.drive → entries_of (slice_set blocks place other) ≡ entries_of blocks
+    → (is : IsBlockPlace seen blocks id place) → at ≡ is.block → other.id ≡ at.id → other.blk.drive ≡ at.blk.drive → disk_entries_of (slice_set blocks place other) ≡ disk_entries_of blocks
 entries_kept {D = D} {d = d} seen blocks id place at other is same own drive =
     is.kept other (own ∙ ap (λ (b : Block D d). b.id) same) (drive ∙ ap (λ (b : Block D d). b.blk.drive) same)
 
@@ -46,7 +46,7 @@ pub is_reset : {D : Type 0} {d : Ghosts D} (seen : D → DiskState) (at other : 
 is_reset seen at other front drive = front_as seen at other (given_up Reset at.blk.front) front drive
 
 pub is_left : {D : Type 0} {d : Ghosts D} (seen : D → DiskState) (at other : Block D d) → other.blk.front ≡ given_up Reset at.blk.front → other.blk.drive.disk ≡ None
-    → IsLeft (block_seen seen at).device (block_seen seen other).device
+    → IsGivenUp (block_seen seen at).device (block_seen seen other).device
 is_left seen at other front none = rw (front, none) refl
 
 pub has_disk : {D : Type 0} {d : Ghosts D} (seen : D → DiskState) (at other : Block D d) (disk : D) → at.blk.drive.disk ≡ None

@@ -13,14 +13,14 @@ use Rattle.iom_machine.specs.declared.outcome.Outcome.{Outcome}
 use Rattle.iom_machine.specs.declared.outcome.Outcome.TheVariants as outcome
 use Rattle.iom_base.specs.declared.device_kind.DeviceKind.{DeviceKind}
 use Rattle.iom_virtqueue.specs.declared.layout.Layout.{Layout}
-use Rattle.iom_world_effects.specs.BlockDevices.{SetsQueue, AsksIfMissed, GoesToMemory, TakesStep}
+use Rattle.iom_world_effects.specs.BlockDevices.{SetsBlockQueue, AsksIfMissed, GoesToMemory, TakesBlockStep}
 use Rattle.iom_device.specs.Caches.{kind_in, cache_of, with_cache}
 use Rattle.iom_world_effects.specs.Deliveries.{Arrives, ArrivesIfAny}
 use Rattle.iom_world_effects.specs.Does.{Does, disks_after}
 use Rattle.iom_world_effects.specs.Parts.{Parts}
 use Rattle.iom_device.specs.Calls.{reset_of, devices_revived}
 use Rattle.iom_world_effects.specs.Requests.{AsksAccess, AsksTranslated}
-use Rattle.iom_world_effects.specs.ThroughCache.{AsksThroughCache, FindsFrame, cached_frame}
+use Rattle.iom_world_effects.specs.ThroughCache.{DeviceAsksThroughCache, FindsFrame, cached_frame}
 use Rattle.iom_platform.specs.Agreement.{known_blocks}
 use Rattle.iom_platform.proofs.KnownBlocks.{known_cache}
 
@@ -51,7 +51,7 @@ finds_frame : (frame : Option ℕ) (old new : Parts) (id : ℕ) (access : Access
 finds_frame None old new id access told (missed, same) = same_parts old new same
 finds_frame (Some frame) old new id access told replied = same_devices old new replied.devices
 
-asks_cached : (can : DeviceKind → Bool) (old new : Parts) (id : ℕ) (access : Access) (told : Outcome) → AsksThroughCache can old id access told new → KeepsKnown old new
+asks_cached : (can : DeviceKind → Bool) (old new : Parts) (id : ℕ) (access : Access) (told : Outcome) → DeviceAsksThroughCache can old id access told new → KeepsKnown old new
 asks_cached can old new id access told (inl unknown) = same_parts old new unknown.same
 asks_cached can old new id access told (inr (inl unable)) = same_parts old new unable.same
 asks_cached can old new id access told (inr (inr (able, inl (outside, is_told, same)))) = same_parts old new same
@@ -66,7 +66,7 @@ goes : (has_cache : Bool) (old new : Parts) (id : ℕ) (access : Access) (told :
 goes false old new id access told asks = asks_access _ old new id access told asks
 goes true old new id access told through = if_missed through.first through.between new id access told through.asks ∙ asks_cached _ old through.between id access through.first through.tries
 
-steps : (old new : Parts) (id : ℕ) (told : Outcome) → TakesStep old id told new → KeepsKnown old new
+steps : (old new : Parts) (id : ℕ) (told : Outcome) → TakesBlockStep old id told new → KeepsKnown old new
 steps old new id told (inl (access, fits, wants, begins)) = goes (caches_translations (kind_in old.devices id)) old new id access told begins
 steps old new id told (inr (step, rest, inl unknown)) = same_parts old new unknown.same
 steps old new id told (inr (step, rest, inr (inl unable))) = same_parts old new unable.same
@@ -86,7 +86,7 @@ revived : (answer : Result (Unit {0}) Refusal) (old new : Parts) (id : ℕ) → 
 revived (Ok done) old new id same = set_cache old new id same
 revived (Err why) old new id same = same_devices old new same
 
-sets_queue : (layout : Layout) (old new : Parts) (id : ℕ) (told : Outcome) → SetsQueue old id layout told new → KeepsKnown old new
+sets_queue : (layout : Layout) (old new : Parts) (id : ℕ) (told : Outcome) → SetsBlockQueue old id layout told new → KeepsKnown old new
 sets_queue layout old new id told (inl unknown) = same_parts old new unknown.same
 sets_queue layout old new id told (inr (inl unable)) = same_parts old new unable.same
 sets_queue layout old new id told (inr (inr (able, inl (may, is_told, same)))) = set_cache old new id (ap (λ (parts : Parts). parts.devices) same)

@@ -7,13 +7,13 @@ use Rattle.iom_base.specs.declared.device_kind.DeviceKind.{DeviceKind}
 use Rattle.iom_base.specs.DeviceKinds.{is_block_device}
 use Rattle.iom_device.specs.declared.device.Device.{Device}
 use Rattle.iom_device.specs.Caches.{IsAble, device_with, with_cache, with_has_disk}
-use Rattle.iom_world_effects.specs.Sound.{HaveOwnIds}
-use Rattle.iom_platform.specs.Agreement.{Entry, known_blocks}
+use Rattle.iom_world_effects.specs.Sound.{HaveDistinctIds}
+use Rattle.iom_platform.specs.Agreement.{DiskEntry, known_blocks}
 use Rattle.iom_platform.specs.Places.{has_in, with_has}
 use Rattle.iom_platform.proofs.PlaceLemmas.{with_none}
 
 -- a device, behind which these block devices are known
-abbrev before : Device → List Entry → List Entry
+abbrev before : Device → List DiskEntry → List DiskEntry
 before device known = if is_block_device device.kind then (device.id, device.has_disk) ∷ known else known
 
 -- a cache doesn't matter
@@ -34,7 +34,7 @@ known_append (first ∷ others) new = by (is_block_device first.kind) (known_app
     by : (b : Bool) → known_blocks (others ++ new ∷ []) ≡ known_blocks others ++ known_blocks (new ∷ [])
         → (if b then (first.id, first.has_disk) ∷ known_blocks (others ++ new ∷ []) else known_blocks (others ++ new ∷ []))
         ≡ (if b then (first.id, first.has_disk) ∷ known_blocks others else known_blocks others) ++ known_blocks (new ∷ [])
-    by true rest = ap (λ (l : List Entry). (first.id, first.has_disk) ∷ l) rest
+    by true rest = ap (λ (l : List DiskEntry). (first.id, first.has_disk) ∷ l) rest
     by false rest = rest
 
 -- there are no more than devices
@@ -51,10 +51,10 @@ known_length (first ∷ others) = by (is_block_device first.kind) (known_length 
 abbrev AreOthers : List Device → ℕ → Type 0
 AreOthers devices id = (k : ℕ) (other : Device) → slice_get devices k ≡ Some other → other.id ≢ id
 
-others_own : (first : Device) (others : List Device) → HaveOwnIds (first ∷ others) → AreOthers others first.id
+others_own : (first : Device) (others : List Device) → HaveDistinctIds (first ∷ others) → AreOthers others first.id
 others_own first others own k other at same = let e = own 0 (suc k) first other refl at (sym same) in omega (arith, e)
 
-own_tail : (first : Device) (others : List Device) → HaveOwnIds (first ∷ others) → HaveOwnIds others
+own_tail : (first : Device) (others : List Device) → HaveDistinctIds (first ∷ others) → HaveDistinctIds others
 own_tail first others own j k one other at at' same = let e = own (suc j) (suc k) one other at at' same in omega (arith, e)
 
 others_tail : (first : Device) (others : List Device) (id : ℕ) → AreOthers (first ∷ others) id → AreOthers others id
@@ -74,7 +74,7 @@ none_has (first ∷ others) id none = elim (eqb_tells first.id id) [
     by false differs rest = rest
 
 -- the one with the id has a disk, or has none
-pub known_has : (devices : List Device) (id : ℕ) (has : Bool) → HaveOwnIds devices → known_blocks (with_has_disk devices id has) ≡ with_has (known_blocks devices) id has
+pub known_has : (devices : List Device) (id : ℕ) (has : Bool) → HaveDistinctIds devices → known_blocks (with_has_disk devices id has) ≡ with_has (known_blocks devices) id has
 known_has [] id has own = refl
 known_has (first ∷ others) id has own = elim (eqb_tells first.id id) [
   | inl e ↦ rw e.0 (here (is_block_device first.kind) e.0 (none_has others id (λ k other at same. others_own first others own k other at (same ∙ sym e.1))))
@@ -89,7 +89,7 @@ known_has (first ∷ others) id has own = elim (eqb_tells first.id id) [
     there : (b : Bool) → (first.id == id) ≡ false → known_blocks (with_has_disk others id has) ≡ with_has (known_blocks others) id has
         → (if b then (first.id, first.has_disk) ∷ known_blocks (with_has_disk others id has) else known_blocks (with_has_disk others id has))
         ≡ with_has (if b then (first.id, first.has_disk) ∷ known_blocks others else known_blocks others) id has
-    there true differs rest = rw differs (ap (λ (l : List Entry). (first.id, first.has_disk) ∷ l) rest)
+    there true differs rest = rw differs (ap (λ (l : List DiskEntry). (first.id, first.has_disk) ∷ l) rest)
     there false differs rest = rest
 
 -- what is known of a device
@@ -97,7 +97,7 @@ abbrev is_block : Option DeviceKind → Type 0
 is_block kind = (it : DeviceKind) × (kind ≡ Some it) × (is_block_device it ≡ true)
 
 -- one of which it is known whether it has a disk is a block device
-pub able_known : (devices : List Device) (id : ℕ) (has : Bool) → HaveOwnIds devices → has_in (known_blocks devices) id ≡ Some has → IsAble is_block_device devices id
+pub able_known : (devices : List Device) (id : ℕ) (has : Bool) → HaveDistinctIds devices → has_in (known_blocks devices) id ≡ Some has → IsAble is_block_device devices id
 able_known [] id has own at = cc
 able_known (first ∷ others) id has own at = elim (eqb_tells first.id id) [
   | inl e ↦ rw e.0 (here (is_block_device first.kind) refl e.0 (none_has others id (λ k other there same. others_own first others own k other there (same ∙ sym e.1))) at)

@@ -5,7 +5,7 @@ use Rattle.iom_base.specs.declared.access.Access.{Access}
 use Rattle.iom_world_effects.specs.BlockDevices.{AsksIfMissed, GoesThroughCache, GoesToMemory}
 use Rattle.iom_world_effects.specs.Parts.{Parts}
 use Rattle.iom_world_effects.specs.Requests.{AsksAccess, reply_told_of}
-use Rattle.iom_world_effects.specs.ThroughCache.{AsksThroughCache, FindsFrame, TriesCache, cached_frame}
+use Rattle.iom_world_effects.specs.ThroughCache.{DeviceAsksThroughCache, FindsFrame, TriesCache, cached_frame}
 use Rattle.iom_world_effects.specs.Unable.{IsUnknown, IsUnable}
 use Rattle.iom_world_effects.proofs.PresentLemmas.{kind_present}
 use Rattle.iom_coherence.specs.Attachments.{caches_translations}
@@ -73,7 +73,7 @@ tried old between new id access first told (inr (inr (within, room, finds))) mis
 goes : (old new : Parts) (id : ℕ) (access : Access) (told : Outcome) → IsAble is_block_device old.devices id → GoesThroughCache old id access told new → IsNoRefusal told
 goes old new id access told able through = by through.tries
   where
-    by : AsksThroughCache is_block_device old id access through.first through.between → IsNoRefusal told
+    by : DeviceAsksThroughCache is_block_device old id access through.first through.between → IsNoRefusal told
     by (inl unknown) = absurd (excluded old through.between id through.first able (inl unknown))
     by (inr (inl unable)) = absurd (excluded old through.between id through.first able (inr unable))
     by (inr (inr (is, tries))) = tried old through.between new id access through.first told tries through.asks

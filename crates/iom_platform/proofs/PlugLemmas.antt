@@ -24,18 +24,18 @@ use Rattle.iom_world_effects.specs.Does.{PlugsDevice, devices_after, disks_after
 use Rattle.iom_world.specs.Happens.{Happens}
 use Rattle.iom_world_effects.specs.Parts.{Parts}
 use Rattle.iom_world.specs.Seen.{parts_of, disks_of}
-use Rattle.iom_world_effects.specs.Sound.{HaveOwnIds, ids_of, known_ids}
+use Rattle.iom_world_effects.specs.Sound.{HaveDistinctIds, plugged_ids, known_ids}
 use Rattle.iom_platform.specs.declared.block.Block.{Block}
 use Rattle.iom_platform.specs.declared.block.DiskAtHand.{DiskAtHand}
-use Rattle.iom_platform.specs.Agreement.{AgreesWith, Entry, entry_of, entries_of, known_blocks}
+use Rattle.iom_platform.specs.Agreement.{AgreesWith, DiskEntry, disk_entry_of, disk_entries_of, known_blocks}
 use Rattle.iom_platform.specs.Passing.{StaysBeside}
 use Rattle.iom_platform.specs.Places.{has_in, with_has}
 use Rattle.iom_platform.proofs.AgreementLemmas.{agree_kept}
 use Rattle.iom_platform.proofs.KnownBlocks.{known_append, known_has, known_length, known_there}
 
-append_nothing : (entries : List Entry) → entries ++ [] ≡ entries
+append_nothing : (entries : List DiskEntry) → entries ++ [] ≡ entries
 append_nothing [] = refl
-append_nothing (first ∷ others) = ap (λ (l : List Entry). first ∷ l) (append_nothing others)
+append_nothing (first ∷ others) = ap (λ (l : List DiskEntry). first ∷ l) (append_nothing others)
 
 -- A PLUG of a device that is no block device
 
@@ -48,7 +48,7 @@ not_known id (newly.CachedBlock disk) none = cc
 after_none : (answer : Result (Unit {0}) Refusal) (devices : List Device) (id : ℕ) (what : NewDevice) → disk_of what ≡ None → known_blocks (devices_after answer devices id what) ≡ known_blocks devices
 after_none (Err why) devices id what none = refl
 after_none (Ok done) devices id what none =
-    known_append devices (new_device id what) ∙ ap (λ (l : List Entry). known_blocks devices ++ l) (not_known id what none) ∙ append_nothing (known_blocks devices)
+    known_append devices (new_device id what) ∙ ap (λ (l : List DiskEntry). known_blocks devices ++ l) (not_known id what none) ∙ append_nothing (known_blocks devices)
 
 plug_none : (disks : List ℕ) (old new : Parts) (id : ℕ) (what : NewDevice) (told : Outcome) → disk_of what ≡ None → PlugsDevice disks old id what told new → known_blocks new.devices ≡ known_blocks old.devices
 plug_none disks old new id what told none (inl lacks) = ap (λ (parts : Parts). known_blocks parts.devices) lacks.same
@@ -85,7 +85,7 @@ not_refused {why = why} is other = wrong (sym is ∙ other)
     wrong : outcome.Done ≡ outcome.Refused why → ⊥
     wrong same = cc
 
-pub inserted : (disks : List ℕ) (old new : Parts) (id disk : ℕ) (told : Outcome) → HaveOwnIds old.devices → told ≡ outcome.Done → InsertsMedium disks old id disk told new → IsInserted disks old new id disk
+pub inserted : (disks : List ℕ) (old new : Parts) (id disk : ℕ) (told : Outcome) → HaveDistinctIds old.devices → told ≡ outcome.Done → InsertsMedium disks old id disk told new → IsInserted disks old new id disk
 inserted disks old new id disk told own is (inl unknown) = absurd (not_refused is unknown.told_so)
 inserted disks old new id disk told own is (inr (inl unable)) = absurd (not_refused is unable.told_so)
 inserted disks old new id disk told own is (inr (inr (device, block, inl (may, is_told, same)))) = record {
@@ -124,7 +124,7 @@ not_missing disks number (Some other) same there = let it : other ≡ number = c
     back true there = refl
     back false there = cc
 
-by_answer : (answer : Result (Unit {0}) Refusal) (disks : List ℕ) (old new : Parts) (id number : ℕ) (what : NewDevice) (told : Outcome) → known_ids old.driver.devices ≡ ids_of old.devices
+by_answer : (answer : Result (Unit {0}) Refusal) (disks : List ℕ) (old new : Parts) (id number : ℕ) (what : NewDevice) (told : Outcome) → known_ids old.driver.devices ≡ plugged_ids old.devices
     → disk_of what ≡ Some number → told ≡ outcome.Done → told ≡ told_of answer → AnswersPlug old.driver id (has_cache (kind_of what)) answer new.driver
     → (NoneApplies (why_not_plug old.driver id) → is_missing disks (disk_of what) ≡ false) → new.devices ≡ devices_after answer old.devices id what → IsPlugged disks old new id number
 by_answer (Err why) disks old new id number what told ids has is is_told call there devices = absurd (not_refused is is_told)
@@ -132,10 +132,10 @@ by_answer (Ok done) disks old new id number what told ids has is is_told call th
   few = subst (λ (n : ℕ). n < 16) (sym (length-map old.driver.devices (λ (device : driver.Device). device.id)) ∙ ap length ids ∙ length-map old.devices (λ (device : Device). device.id))
       (leb-false 16 (length old.driver.devices) (no_more _ _ _ _ call.0));
   among = not_missing disks number (disk_of what) has (there call.0);
-  known = ap known_blocks devices ∙ known_append old.devices (new_device id what) ∙ ap (λ (l : List Entry). known_blocks old.devices ++ l) (one_known id number what has);
+  known = ap known_blocks devices ∙ known_append old.devices (new_device id what) ∙ ap (λ (l : List DiskEntry). known_blocks old.devices ++ l) (one_known id number what has);
 }
 
-pub plugged : (disks : List ℕ) (old new : Parts) (id number : ℕ) (what : NewDevice) (told : Outcome) → known_ids old.driver.devices ≡ ids_of old.devices → disk_of what ≡ Some number → told ≡ outcome.Done
+pub plugged : (disks : List ℕ) (old new : Parts) (id number : ℕ) (what : NewDevice) (told : Outcome) → known_ids old.driver.devices ≡ plugged_ids old.devices → disk_of what ≡ Some number → told ≡ outcome.Done
     → PlugsDevice disks old id what told new → IsPlugged disks old new id number
 plugged disks old new id number what told ids has is (inl lacks) = absurd (not_refused is lacks.told_so)
 plugged disks old new id number what told ids has is (inr plugs) =
@@ -146,8 +146,8 @@ pub taken_by_plug : (id number : ℕ) (what : NewDevice) (told : Outcome) (disks
 taken_by_plug id number what told disks has is =
     ap (λ (t : Outcome). disks_after (events.Plug id what) t disks) is ∙ ap (λ (named : Option ℕ). without_disk named disks) has
 
-pub few_blocks : {D : Type 0} {d : Ghosts D} (blocks : List (Block D d)) (devices : List Device) → entries_of blocks ≡ known_blocks devices → length devices < 16 → length blocks < 16
+pub few_blocks : {D : Type 0} {d : Ghosts D} (blocks : List (Block D d)) (devices : List Device) → disk_entries_of blocks ≡ known_blocks devices → length devices < 16 → length blocks < 16
 few_blocks blocks devices same few =
     let most = known_length devices in
-    let count : length blocks ≡ length (known_blocks devices) = sym (length-map blocks entry_of) ∙ ap length same in
+    let count : length blocks ≡ length (known_blocks devices) = sym (length-map blocks disk_entry_of) ∙ ap length same in
     omega (arith, most, count, few)

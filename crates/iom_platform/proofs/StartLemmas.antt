@@ -7,7 +7,7 @@ use Rattle.iom_world_effects.specs.Devices.{shown_devices}
 use Rattle.iom_virtio_blk.specs.DiskStates.{DiskState}
 use Rattle.iom_platform.specs.declared.block.DiskAtHand.{DiskAtHand}
 use Rattle.iom_platform.specs.Agreement.{numbers_of}
-use Rattle.iom_platform.specs.Numbered.{number_of}
+use Rattle.iom_platform.specs.Numbered.{disk_number_of}
 use Rattle.iom_platform.specs.Seen.{disks_seen}
 
 -- where no device is shown, there is none
@@ -16,6 +16,6 @@ none_shown known rows [] none = refl
 none_shown known rows (device ∷ others) none = cc
 
 -- the numbers of the disks are those that are seen
-pub numbers_seen : {D : Type 0} (seen : D → DiskState) (at_hand : List (DiskAtHand D)) → numbers_of at_hand ≡ map number_of (disks_seen seen at_hand)
+pub numbers_seen : {D : Type 0} (seen : D → DiskState) (at_hand : List (DiskAtHand D)) → numbers_of at_hand ≡ map disk_number_of (disks_seen seen at_hand)
 numbers_seen seen [] = refl
 numbers_seen seen (first ∷ others) = ap (λ (numbers : List ℕ). first.number ∷ numbers) (numbers_seen seen others)

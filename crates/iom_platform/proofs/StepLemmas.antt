@@ -9,8 +9,8 @@ use Rattle.iom_base.specs.DeviceKinds.{is_block_device}
 use Rattle.iom_virtio_blk.specs.declared.step.Step.{Step}
 use Rattle.iom_virtio_blk.specs.Histories.{KeepsTelling}
 use Rattle.iom_virtio_blk.specs.Stages.{device_status}
-use Rattle.iom_virtio_blk.specs.Steps.{Device, Steps}
-use Rattle.iom_world_effects.specs.BlockDevices.{Rests, TellsStatus}
+use Rattle.iom_virtio_blk.specs.Steps.{Device, BlockDeviceSteps}
+use Rattle.iom_world_effects.specs.BlockDevices.{Rests, TellsBlockStatus}
 use Rattle.iom_device.specs.Caches.{IsAble}
 use Rattle.iom_world_effects.specs.Parts.{Parts}
 use Rattle.iom_world_effects.specs.Unable.{IsUnknown, IsUnable}
@@ -41,7 +41,7 @@ rest_refused old new id step told none (inr (inl unable)) = inr unable
 rest_refused old new id step told none (inr (inr (is, is_told, same))) = absurd (none is)
 
 -- so is its status
-pub status_told : (old new : Parts) (id status : ℕ) (told : Outcome) → IsAble is_block_device old.devices id → TellsStatus old id status told new → told ≡ outcome.Status status
+pub status_told : (old new : Parts) (id status : ℕ) (told : Outcome) → IsAble is_block_device old.devices id → TellsBlockStatus old id status told new → told ≡ outcome.Status status
 status_told old new id status told able (inl unknown) =
     let there = kind_present old.devices id able.0 able.1 in absurd (unknown.absent there.0 there.1 there.2)
 status_told old new id status told able (inr (inl unable)) =
@@ -55,7 +55,7 @@ status_told old new id status told able (inr (inl unable)) =
     differ same is isnt = false≢true (sym isnt ∙ ap is_block_device (sym same) ∙ is)
 status_told old new id status told able (inr (inr (is, is_told, same))) = is_told
 
-pub status_refused : (old new : Parts) (id status : ℕ) (told : Outcome) → (¬ IsAble is_block_device old.devices id) → TellsStatus old id status told new
+pub status_refused : (old new : Parts) (id status : ℕ) (told : Outcome) → (¬ IsAble is_block_device old.devices id) → TellsBlockStatus old id status told new
     → IsUnknown old id told new ⊎ IsUnable is_block_device old id told new
 status_refused old new id status told none (inl unknown) = inl unknown
 status_refused old new id status told none (inr (inl unable)) = inr unable
@@ -82,10 +82,10 @@ refused_not None block old new id told there never = cc
 refused_not (Some other) block old new id told there never = never
 
 -- a step that began no access, whole
-pub once : (old new : Parts) (id : ℕ) (told : Outcome) (before between : Device) (result taken : Step) → result ≡ taken → Steps before result between → KeepsTelling before between → EndsStep taken old id between told new between
+pub once : (old new : Parts) (id : ℕ) (told : Outcome) (before between : Device) (result taken : Step) → result ≡ taken → BlockDeviceSteps before result between → KeepsTelling before between → EndsStep taken old id between told new between
     → StepsOnce old id told new before between
 once old new id told before between result taken same steps tells ends =
-    record { taken = taken; between = between; steps = subst (λ (s : Step). Steps before s between) same steps; tells = tells; ends = ends }
+    record { taken = taken; between = between; steps = subst (λ (s : Step). BlockDeviceSteps before s between) same steps; tells = tells; ends = ends }
 
 pub get_lt : {X : Type 0} (xs : List X) (k : ℕ) (x : X) → slice_get xs k ≡ Some x → k < length xs
 get_lt [] k x at = cc

@@ -9,24 +9,24 @@ use Rattle.iom_platform.specs.declared.block.Block.{Block}
 use Rattle.iom_platform.specs.declared.block.DiskAtHand.{DiskAtHand}
 
 -- a block device by its id, and whether it has a disk
-abbrev pub Entry : Type 0
-Entry = ℕ × Bool
+abbrev pub DiskEntry : Type 0
+DiskEntry = ℕ × Bool
 
 -- those of a world's devices that are block devices, in the order of plugging
-abbrev pub known_blocks : List Device → List Entry
+abbrev pub known_blocks : List Device → List DiskEntry
 known_blocks [] = []
 known_blocks (device ∷ others) = if is_block_device device.kind then (device.id, device.has_disk) ∷ known_blocks others else known_blocks others
 
-abbrev pub entry_of : {D : Type 0} {d : Ghosts D} → Block D d → Entry
-entry_of block = (block.id, is_some block.blk.drive.disk)
+abbrev pub disk_entry_of : {D : Type 0} {d : Ghosts D} → Block D d → DiskEntry
+disk_entry_of block = (block.id, is_some block.blk.drive.disk)
 
-abbrev pub entries_of : {D : Type 0} {d : Ghosts D} → List (Block D d) → List Entry
-entries_of blocks = map entry_of blocks
+abbrev pub disk_entries_of : {D : Type 0} {d : Ghosts D} → List (Block D d) → List DiskEntry
+disk_entries_of blocks = map disk_entry_of blocks
 
 abbrev pub numbers_of : {D : Type 0} → List (DiskAtHand D) → List ℕ
 numbers_of at_hand = map (λ held. held.number) at_hand
 
 -- they are exactly the world's block devices, each with a disk where the world knows of one; and those disks are at hand that were never in a device
 pub record AgreesWith {D : Type 0} {d : Ghosts D} (world : World) (blocks : List (Block D d)) (at_hand : List (DiskAtHand D)) : Type 0 where
-  pub devices : entries_of blocks ≡ known_blocks (parts_of world).devices
+  pub devices : disk_entries_of blocks ≡ known_blocks (parts_of world).devices
   pub disks : numbers_of at_hand ≡ disks_of world

@@ -26,7 +26,7 @@ use Rattle.iom_virtio_blk.specs.DiskStates.{DiskState}
 use Rattle.iom_virtio_blk.specs.Features.{offered, flush_of}
 use Rattle.iom_virtio_blk.specs.Histories.{KeepsTelling}
 use Rattle.iom_virtio_blk.specs.Stages.{device_status}
-use Rattle.iom_virtio_blk.specs.Steps.{Device, device, Steps}
+use Rattle.iom_virtio_blk.specs.Steps.{Device, device, BlockDeviceSteps}
 use Rattle.iom_virtqueue.specs.declared.layout.Layout.{Layout}
 use Rattle.iom_virtqueue.specs.Accesses.{Access as Wanted, nothing, reads, writes}
 use Rattle.iom_virtqueue.specs.Layouts.{layout_of}
@@ -65,7 +65,7 @@ abbrev pub Stay : Seen → Seen → Type 0
 Stay old new = (new.blocks ≡ old.blocks) × (new.at_hand ≡ old.at_hand)
 
 -- THE DISK with this number is taken: it was at hand, and isn't any more
-pub record IsTaken (number : ℕ) (old : List DiskSeen) (disk : DiskState) (new : List DiskSeen) : Type 0 where
+pub record IsDiskTaken (number : ℕ) (old : List DiskSeen) (disk : DiskState) (new : List DiskSeen) : Type 0 where
   pub held : find (λ (one : DiskSeen). one.number == number) old ≡ Some (record { number = number; disk = disk })
   pub left : new ≡ filter (λ (one : DiskSeen). not (one.number == number)) old
 
@@ -78,7 +78,7 @@ pub record IsNew (disk : DiskState) (new : Device) : Type 0 where
 -- it stands behind the others, with the disk of this number
 pub record IsPluggedIn (number id : ℕ) (old : List BlockSeen) (old_disks : List DiskSeen) (new : List BlockSeen) (new_disks : List DiskSeen) : Type 0 where
   pub disk : DiskState
-  pub taken : IsTaken number old_disks disk new_disks
+  pub taken : IsDiskTaken number old_disks disk new_disks
   pub after : Device
   pub is_new : IsNew disk after
   pub behind : new ≡ old ++ record { id = id; device = after } ∷ []
@@ -101,21 +101,21 @@ pub record IsPutIn (number id : ℕ) (old : List BlockSeen) (old_disks : List Di
   pub block : BlockSeen
   pub there : block_with old id ≡ Some block
   pub disk : DiskState
-  pub taken : IsTaken number old_disks disk new_disks
+  pub taken : IsDiskTaken number old_disks disk new_disks
   pub changed : ChangesOne (HasDisk disk) old id new
 
 -- A DISK IS PUT INTO A BLOCK DEVICE
-abbrev pub InsertsDisk : ℕ → Seen → ℕ → Outcome → Seen → Type 0
-InsertsDisk number old id outcome.Done new = IsPutIn number id old.blocks old.at_hand new.blocks new.at_hand
-InsertsDisk number old id told new = Stay old new
+abbrev pub InsertsIntoBlock : ℕ → Seen → ℕ → Outcome → Seen → Type 0
+InsertsIntoBlock number old id outcome.Done new = IsPutIn number id old.blocks old.at_hand new.blocks new.at_hand
+InsertsIntoBlock number old id told new = Stay old new
 
 -- the device gives up what it had in work, and its disk is dropped
-abbrev pub IsLeft : Device → Device → Type 0
-IsLeft old new = new ≡ device (given_up Reset old.front) None
+abbrev pub IsGivenUp : Device → Device → Type 0
+IsGivenUp old new = new ≡ device (given_up Reset old.front) None
 
 -- A BLOCK DEVICE THAT IS DETACHED is reset and loses its disk in that event, not only when its ticket is confirmed
 abbrev pub LeavesBlock : Seen → ℕ → Outcome → Seen → Type 0
-LeavesBlock old id (outcome.Ticket ticket) new = Changes IsLeft old id new
+LeavesBlock old id (outcome.Ticket ticket) new = Changes IsGivenUp old id new
 LeavesBlock old id told new = Stay old new
 
 -- the device gives up what it had in work, and has no queue; its disk stays
@@ -150,13 +150,13 @@ HearsOldest None bytes old id new = Stay old new
 HearsOldest (Some number) bytes old id new = Changes (HearsMade number bytes) old id new
 
 -- THE OLDEST ACCESS IN FLIGHT of the device was made, and gave these bytes
-abbrev pub MakesOldest : Seen → ℕ → List ℕ → Seen → Type 0
-MakesOldest old id bytes new = HearsOldest (oldest_number (row_of (flights_of (parts_of old.world).iommu).rows id)) bytes old id new
+abbrev pub HearsOldestMade : Seen → ℕ → List ℕ → Seen → Type 0
+HearsOldestMade old id bytes new = HearsOldest (oldest_number (row_of (flights_of (parts_of old.world).iommu).rows id)) bytes old id new
 
 -- a read gives its bytes, and a write none
 abbrev pub CommitsOf : Seen → ℕ → Outcome → Seen → Type 0
-CommitsOf old id (outcome.Read bytes) new = MakesOldest old id bytes.items new
-CommitsOf old id (outcome.Wrote count) new = MakesOldest old id [] new
+CommitsOf old id (outcome.Read bytes) new = HearsOldestMade old id bytes.items new
+CommitsOf old id (outcome.Wrote count) new = HearsOldestMade old id [] new
 CommitsOf old id told new = Stay old new
 
 -- the device is down where its access still wants the page that is refused
@@ -204,7 +204,7 @@ reply_of access (outcome.Stepped rest.Asked) = reply.Asked (page_of access)
 reply_of access told = reply.Fault
 
 -- it begins that access, and is told
-pub record Begins (old : Parts) (id : ℕ) (between : Device) (told : Outcome) (new : Parts) (after : Device) : Type 0 where
+pub record BeginsWantedAccess (old : Parts) (id : ℕ) (between : Device) (told : Outcome) (new : Parts) (after : Device) : Type 0 where
   pub access : Access
   pub named : wanted_access (wanted_by between.front) ≡ Some access
   pub begun : BeginsAccess old id access told new
@@ -217,13 +217,13 @@ EndsStep step.Waiting old id between told new after = (told ≡ outcome.Stepped 
 EndsStep step.Down old id between told new after = (told ≡ outcome.Stepped rest.Down) × (new ≡ old) × (after ≡ between)
 EndsStep (step.Chain fault) old id between told new after = (told ≡ outcome.Stepped (rest.Chain fault)) × (new ≡ old) × (after ≡ between)
 EndsStep (step.Finished head len) old id between told new after = (told ≡ outcome.Stepped (rest.Finished head len)) × (new ≡ old) × (after ≡ between)
-EndsStep (step.Wants want) old id between told new after = Begins old id between told new after
+EndsStep (step.Wants want) old id between told new after = BeginsWantedAccess old id between told new after
 
 -- the device takes a step, which calls its disk at most once, up to the access that it wants next; and what tells its disk goes on with the step
 pub record StepsOnce (old : Parts) (id : ℕ) (told : Outcome) (new : Parts) (before : Device) (after : Device) : Type 0 where
   pub taken : Step
   pub between : Device
-  pub steps : Steps before taken between
+  pub steps : BlockDeviceSteps before taken between
   pub tells : KeepsTelling before between
   pub ends : EndsStep taken old id between told new after
 
@@ -257,7 +257,7 @@ TellsStatusOf old id told new =
 -- THE RELATION of an event. A device that is cut off goes on with what it has in work, until it is revived
 abbrev pub DoesToBlocks : Seen → Event → Outcome → Seen → Type 0
 DoesToBlocks old (events.Plug id what) told new = PlugsAny (disk_of what) old id told new
-DoesToBlocks old (events.Medium id number) told new = InsertsDisk number old id told new
+DoesToBlocks old (events.Medium id number) told new = InsertsIntoBlock number old id told new
 DoesToBlocks old (events.Detach id) told new = LeavesBlock old id told new
 DoesToBlocks old (events.Revive id) told new = ResetsBlock old id told new
 DoesToBlocks old (events.Reset id) told new = ResetsBlock old id told new

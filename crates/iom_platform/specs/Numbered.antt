@@ -12,5 +12,5 @@ abbrev pub numbered : ℕ → List DiskState → List DiskSeen
 numbered first [] = []
 numbered first (disk ∷ others) = record { number = first; disk = disk } ∷ numbered (first + 1) others
 
-abbrev pub number_of : DiskSeen → ℕ
-number_of one = one.number
+abbrev pub disk_number_of : DiskSeen → ℕ
+disk_number_of one = one.number

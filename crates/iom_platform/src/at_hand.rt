@@ -2,7 +2,7 @@
 ghost use Rattle.std.specs.Prelude.{◌≡◌, ◌<◌, ◌≤◌, ◌++◌, ◌∷◌, [], length, true, false, vec_capacity, Some, MatchOption};
 ghost use Rattle.iom_base.specs.Sizes.{device_limit};
 ghost use Rattle.iom_base.specs.Disks.{is_among, without_disk};
-ghost use Rattle.iom_platform.specs.Agreement.{entries_of, numbers_of};
+ghost use Rattle.iom_platform.specs.Agreement.{disk_entries_of, numbers_of};
 ghost use Rattle.iom_platform.specs.Blocks.{IsPluggedIn, IsPutIn};
 ghost use Rattle.iom_platform.specs.Places.{IsDiskAt, TakesOut, has_in, others_than, with_has};
 ghost use Rattle.iom_platform.specs.Seen.{blocks_seen, disks_seen};
@@ -57,7 +57,7 @@ pub(crate) fn plug_in<D: Disk>(
     requires room { device_limit ≤ vec_capacity blocks.old }
     ensures seen { IsPluggedIn number id (blocks_seen D.seen blocks.old.items) (disks_seen D.seen at_hand.old.items)
         (blocks_seen D.seen blocks.new.items) (disks_seen D.seen at_hand.new.items) }
-    ensures entries { entries_of blocks.new.items ≡ entries_of blocks.old.items ++ (id, true) ∷ [] }
+    ensures entries { disk_entries_of blocks.new.items ≡ disk_entries_of blocks.old.items ++ (id, true) ∷ [] }
     ensures numbers { numbers_of at_hand.new.items ≡ without_disk (Some number) (numbers_of at_hand.old.items) }
     ensures room { device_limit ≤ vec_capacity blocks.new }
 {
@@ -76,10 +76,10 @@ pub(crate) fn put_in<D: Disk>(
     number: u64,
 )
     requires among { is_among (numbers_of at_hand.old.items) number ≡ true }
-    requires empty { has_in (entries_of blocks.old.items) id ≡ Some false }
+    requires empty { has_in (disk_entries_of blocks.old.items) id ≡ Some false }
     ensures seen { IsPutIn number id (blocks_seen D.seen blocks.old.items) (disks_seen D.seen at_hand.old.items)
         (blocks_seen D.seen blocks.new.items) (disks_seen D.seen at_hand.new.items) }
-    ensures entries { entries_of blocks.new.items ≡ with_has (entries_of blocks.old.items) id true }
+    ensures entries { disk_entries_of blocks.new.items ≡ with_has (disk_entries_of blocks.old.items) id true }
     ensures numbers { numbers_of at_hand.new.items ≡ without_disk (Some number) (numbers_of at_hand.old.items) }
     ensures room { vec_capacity blocks.new ≡ vec_capacity blocks.old }
 {

@@ -1,9 +1,9 @@
 // What becomes of a block device, by its id. Where there is none with the id, nothing does.
 ghost use Rattle.std.specs.Prelude.{◌≡◌, true, false, vec_capacity, None, Some, MatchOption};
 ghost use Rattle.iom_virtqueue.specs.Layouts.{IsLayout};
-ghost use Rattle.iom_platform.specs.Agreement.{entries_of};
-ghost use Rattle.iom_platform.specs.Blocks.{block_with, ChangesOne, HasDisk, IsLeft, IsReset, SetsUp, HearsMade, HearsRefusal};
-ghost use Rattle.iom_platform.specs.Places.{IsPlaceOf, has_in, with_has};
+ghost use Rattle.iom_platform.specs.Agreement.{disk_entries_of};
+ghost use Rattle.iom_platform.specs.Blocks.{block_with, ChangesOne, HasDisk, IsGivenUp, IsReset, SetsUp, HearsMade, HearsRefusal};
+ghost use Rattle.iom_platform.specs.Places.{IsBlockPlace, has_in, with_has};
 ghost use Rattle.iom_platform.specs.Seen.{blocks_seen};
 
 use crate::block::Block;
@@ -13,7 +13,7 @@ use iom_virtqueue::Layout;
 
 /// Where the block device with this id stands.
 pub(crate) fn place_of<D: Disk>(blocks: &[Block<D>], id: DeviceId) -> Option<usize>
-    ensures { MatchOption result (block_with (blocks_seen D.seen blocks.now) id ≡ None) (IsPlaceOf D.seen blocks.now id) }
+    ensures { MatchOption result (block_with (blocks_seen D.seen blocks.now) id ≡ None) (IsBlockPlace D.seen blocks.now id) }
 {
     for place in 0..blocks.len() {
         if blocks[place].id == id {
@@ -26,7 +26,7 @@ pub(crate) fn place_of<D: Disk>(blocks: &[Block<D>], id: DeviceId) -> Option<usi
 /// It is reset, and its disk stays.
 pub(crate) fn reset<D: Disk>(blocks: &mut Vec<Block<D>>, id: DeviceId)
     ensures seen { ChangesOne IsReset (blocks_seen D.seen blocks.old.items) id (blocks_seen D.seen blocks.new.items) }
-    ensures entries { entries_of blocks.new.items ≡ entries_of blocks.old.items }
+    ensures entries { disk_entries_of blocks.new.items ≡ disk_entries_of blocks.old.items }
     ensures room { vec_capacity blocks.new ≡ vec_capacity blocks.old }
 {
     if let Some(place) = place_of(blocks, id) {
@@ -36,8 +36,8 @@ pub(crate) fn reset<D: Disk>(blocks: &mut Vec<Block<D>>, id: DeviceId)
 
 /// It is reset, and its disk dropped.
 pub(crate) fn leave<D: Disk>(blocks: &mut Vec<Block<D>>, id: DeviceId)
-    ensures seen { ChangesOne IsLeft (blocks_seen D.seen blocks.old.items) id (blocks_seen D.seen blocks.new.items) }
-    ensures entries { entries_of blocks.new.items ≡ with_has (entries_of blocks.old.items) id false }
+    ensures seen { ChangesOne IsGivenUp (blocks_seen D.seen blocks.old.items) id (blocks_seen D.seen blocks.new.items) }
+    ensures entries { disk_entries_of blocks.new.items ≡ with_has (disk_entries_of blocks.old.items) id false }
     ensures room { vec_capacity blocks.new ≡ vec_capacity blocks.old }
 {
     if let Some(place) = place_of(blocks, id) {
@@ -49,10 +49,10 @@ pub(crate) fn leave<D: Disk>(blocks: &mut Vec<Block<D>>, id: DeviceId)
 
 /// The disk goes into it, which is there and has none.
 pub(crate) fn insert<D: Disk>(blocks: &mut Vec<Block<D>>, id: DeviceId, disk: D)
-    requires { has_in (entries_of blocks.old.items) id ≡ Some false }
+    requires { has_in (disk_entries_of blocks.old.items) id ≡ Some false }
     ensures seen { ChangesOne (HasDisk (D.seen disk)) (blocks_seen D.seen blocks.old.items) id
         (blocks_seen D.seen blocks.new.items) }
-    ensures entries { entries_of blocks.new.items ≡ with_has (entries_of blocks.old.items) id true }
+    ensures entries { disk_entries_of blocks.new.items ≡ with_has (disk_entries_of blocks.old.items) id true }
     ensures room { vec_capacity blocks.new ≡ vec_capacity blocks.old }
 {
     if let Some(place) = place_of(blocks, id) {
@@ -64,7 +64,7 @@ pub(crate) fn insert<D: Disk>(blocks: &mut Vec<Block<D>>, id: DeviceId, disk: D)
 pub(crate) fn set_up<D: Disk>(blocks: &mut Vec<Block<D>>, id: DeviceId, layout: Layout)
     requires { IsLayout layout }
     ensures seen { ChangesOne (SetsUp layout) (blocks_seen D.seen blocks.old.items) id (blocks_seen D.seen blocks.new.items) }
-    ensures entries { entries_of blocks.new.items ≡ entries_of blocks.old.items }
+    ensures entries { disk_entries_of blocks.new.items ≡ disk_entries_of blocks.old.items }
     ensures room { vec_capacity blocks.new ≡ vec_capacity blocks.old }
 {
     if let Some(place) = place_of(blocks, id) {
@@ -87,7 +87,7 @@ pub(crate) fn hear_made<D: Disk>(
 )
     ensures seen { ChangesOne (HearsMade number bytes.now) (blocks_seen D.seen blocks.old.items) id
         (blocks_seen D.seen blocks.new.items) }
-    ensures entries { entries_of blocks.new.items ≡ entries_of blocks.old.items }
+    ensures entries { disk_entries_of blocks.new.items ≡ disk_entries_of blocks.old.items }
     ensures room { vec_capacity blocks.new ≡ vec_capacity blocks.old }
 {
     if let Some(place) = place_of(blocks, id) {
@@ -98,7 +98,7 @@ pub(crate) fn hear_made<D: Disk>(
 /// It hears that the translation of a page is refused.
 pub(crate) fn hear_refusal<D: Disk>(blocks: &mut Vec<Block<D>>, id: DeviceId, page: u64)
     ensures seen { ChangesOne (HearsRefusal page) (blocks_seen D.seen blocks.old.items) id (blocks_seen D.seen blocks.new.items) }
-    ensures entries { entries_of blocks.new.items ≡ entries_of blocks.old.items }
+    ensures entries { disk_entries_of blocks.new.items ≡ disk_entries_of blocks.old.items }
     ensures room { vec_capacity blocks.new ≡ vec_capacity blocks.old }
 {
     if let Some(place) = place_of(blocks, id) {

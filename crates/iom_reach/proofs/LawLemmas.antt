@@ -4,10 +4,10 @@ use Rattle.iom_reach.proofs.OccurrenceLemmas.{occurrences_add_no_way}
 use Rattle.iom_reach.specs.Laws.{AddsNoWay, UsesNoMore, AccessesHadWays, QuietIsTrue, FreeIsTrue}
 use Rattle.iom_reach.specs.Occurrences.{Occurrence, ComeInTurn}
 use Rattle.iom_reach.specs.Safe.{IsSafe, AreTimely}
-use Rattle.iom_reach.specs.Scene.{Scene}
+use Rattle.iom_reach.specs.Scene.{HardwareScene}
 use Rattle.iom_reach.specs.Ways.{Accepted}
 
-pub turns_add_no_way : (occurrences : List Occurrence) (old new : Scene) → IsSafe old → AreTimely old → ComeInTurn old occurrences new
+pub turns_add_no_way : (occurrences : List Occurrence) (old new : HardwareScene) → IsSafe old → AreTimely old → ComeInTurn old occurrences new
     → AddsNoWay old new × UsesNoMore old new × IsSafe new × AreTimely new
 turns_add_no_way [] old new safe timely is = subst (λ n. AddsNoWay old n × UsesNoMore old n × IsSafe n × AreTimely n) (sym is) ((λ device frame kind way. way), (λ frame. ((λ read. read), (λ word. word), refl)), safe, timely)
 turns_add_no_way (first ∷ others) old new safe timely (between, now, later) =

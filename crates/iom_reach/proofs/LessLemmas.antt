@@ -5,13 +5,13 @@ use Rattle.iom_base.specs.declared.access.AccessKind.TheVariants.{Write}
 use Rattle.iom_reach.proofs.WalkLemmas.{alike_ends, alike_reads, passes_here, passes_ends, passes_reads}
 use Rattle.iom_reach.specs.Laws.{AddsNoWay}
 use Rattle.iom_reach.specs.Safe.{IsRead, IsOfTables, IsWritable, HasWord, IsSafe}
-use Rattle.iom_reach.specs.Scene.{Mapping, AddressSpace, Context, Caches, PendingAccess, PartialWalk, Place, Scene, HasDevice}
-use Rattle.iom_reach.specs.Ways.{ServesKind, LeadsTo, IsStored, MayFind, IsKept, WalkBegins, AtRoot, PartWay, IsInSpace, Through, ByAts, Untranslated, Translated, Way, Accepted, AnyFrame, ByContext, OnTheWalk}
+use Rattle.iom_reach.specs.Scene.{Mapping, AddressSpace, Context, Caches, PendingAccess, PartialWalk, Place, HardwareScene, HasDevice}
+use Rattle.iom_reach.specs.Ways.{ServesKind, LeadsToMapping, IsStored, MayFind, IsKept, WalkBegins, AtRoot, PartWay, IsInSpace, Through, ByAts, Untranslated, Translated, Way, Accepted, AnyFrame, ByContext, OnTheWalk}
 use Rattle.iom_reach.specs.Occurrences.{IsContinued}
 use Rattle.iom_reach.specs.Memory.{WalkStep, ReadsFrame, Passes}
 
 -- the one scene, with all of the other that hardware changes
-abbrev pub with : Scene → Scene → Scene
+abbrev pub with : HardwareScene → HardwareScene → HardwareScene
 with s n = record s {
   memory = n.memory;
   waiting = n.waiting;
@@ -24,7 +24,7 @@ with s n = record s {
   in_flight = n.in_flight;
 }
 
-pub record Less (s n : Scene) : Type 0 where
+pub record Less (s n : HardwareScene) : Type 0 where
   pub memory : (frame : ℕ) → IsRead s frame → n.memory frame ≡ s.memory frame
   pub waiting : (place : Place) → Contains n.waiting place → Contains s.waiting place
   pub contexts : (device : ℕ) (context : Context) → n.contexts device ≡ Some context → (s.contexts device ≡ Some context) ⊎ IsStored s device context
@@ -35,7 +35,7 @@ pub record Less (s n : Scene) : Type 0 where
   pub partial_walks : (walk : PartialWalk) → Contains n.partial_walks walk → IsContinued s walk
   pub in_flight : (device : ℕ) (access : PendingAccess) → Contains (n.in_flight device) access → Way s device access.frame access.kind
 
-pub stored : (s n : Scene) (device : ℕ) (context : Context) → Less s n → HasDevice s device → IsStored (with s n) device context → IsStored s device context
+pub stored : (s n : HardwareScene) (device : ℕ) (context : Context) → Less s n → HasDevice s device → IsStored (with s n) device context → IsStored s device context
 stored s n device context less plugged (tables, at, ends) = (
   tables,
   at,
@@ -43,21 +43,21 @@ stored s n device context less plugged (tables, at, ends) = (
       (λ frame reads. less.memory frame (inr (inl (device, tables, plugged, at, reads)))) ends,
 )
 
-pub found : (s n : Scene) (device : ℕ) (context : Context) → Less s n → MayFind (with s n) device context → MayFind s device context
+pub found : (s n : HardwareScene) (device : ℕ) (context : Context) → Less s n → MayFind (with s n) device context → MayFind s device context
 found s n device context less (plugged, at, inl there) = (plugged, at, less.contexts device context there)
 found s n device context less (plugged, at, inr is) = (plugged, at, inr (stored s n device context less plugged is))
 
 -- where a walk may begin that has as much to read, and to come to
-record Began (s : Scene) (space : AddressSpace) (table : ℕ) (steps_to : ℕ → List WalkStep) : Type 0 where
+record Began (s : HardwareScene) (space : AddressSpace) (table : ℕ) (steps_to : ℕ → List WalkStep) : Type 0 where
   from : ℕ
   steps : ℕ → List WalkStep
   begins : WalkBegins s space from steps
   passes : (page : ℕ) → (to : ℕ) × Passes s.formats.entry s.memory from (steps to) table (steps_to page)
 
-continued : (s : Scene) (walk : PartialWalk) → IsContinued s walk → Began s walk.space walk.table walk.steps_to
+continued : (s : HardwareScene) (walk : PartialWalk) → IsContinued s walk → Began s walk.space walk.table walk.steps_to
 continued s walk (table, steps, begins, owned, passes) = record { from = table; steps = steps; begins = begins; passes = passes }
 
-began : (s n : Scene) (space : AddressSpace) (table : ℕ) (steps_to : ℕ → List WalkStep) → Less s n → WalkBegins (with s n) space table steps_to → Began s space table steps_to
+began : (s n : HardwareScene) (space : AddressSpace) (table : ℕ) (steps_to : ℕ → List WalkStep) → Less s n → WalkBegins (with s n) space table steps_to → Began s space table steps_to
 began s n space table steps_to less (AtRoot device context tables find is decide root all) = record {
   from = table;
   steps = steps_to;
@@ -69,14 +69,14 @@ began s n space table steps_to less (PartWay device there) =
     (less.partial_walks (record { device = device; space = space; table = table; steps_to = steps_to }) there)
 
 -- the frames that it reads are the same
-same_tables : (s n : Scene) (space : AddressSpace) (table : ℕ) (steps_to : ℕ → List WalkStep) (page frame : ℕ) → Less s n → (old : Began s space table steps_to)
+same_tables : (s n : HardwareScene) (space : AddressSpace) (table : ℕ) (steps_to : ℕ → List WalkStep) (page frame : ℕ) → Less s n → (old : Began s space table steps_to)
     → ReadsFrame s.formats.entry s.memory table (steps_to page) frame → IsOfTables s frame
 same_tables s n space table steps_to page frame less old reads =
     let (to, passes) = old.passes page in
     (space, old.from, old.steps, to, old.begins, passes_reads s.formats.entry s.memory old.from (old.steps to) table (steps_to page) frame passes reads)
 
-leads : (s n : Scene) (space : AddressSpace) (table : ℕ) (steps_to : ℕ → List WalkStep) (mapping : Mapping) → Less s n → (old : Began s space table steps_to)
-    → LeadsTo s.formats n.memory table steps_to mapping → LeadsTo s.formats s.memory old.from old.steps mapping
+leads : (s n : HardwareScene) (space : AddressSpace) (table : ℕ) (steps_to : ℕ → List WalkStep) (mapping : Mapping) → Less s n → (old : Began s space table steps_to)
+    → LeadsToMapping s.formats n.memory table steps_to mapping → LeadsToMapping s.formats s.memory old.from old.steps mapping
 leads s n space table steps_to mapping less old (page, ends) =
     let (to, passes) = old.passes page in (
       to,
@@ -85,16 +85,16 @@ leads s n space table steps_to mapping less old (page, ends) =
           (λ frame reads. less.memory frame (inl (same_tables s n space table steps_to page frame less old reads))) ends),
     )
 
-in_space : (s n : Scene) (space : AddressSpace) (frame : ℕ) (kind : AccessKind) → Less s n → IsInSpace (with s n) space frame kind → IsInSpace s space frame kind
+in_space : (s n : HardwareScene) (space : AddressSpace) (frame : ℕ) (kind : AccessKind) → Less s n → IsInSpace (with s n) space frame kind → IsInSpace s space frame kind
 in_space s n space frame kind less (inl (page, mapping, there, serves)) = less.translations space page mapping frame kind there serves
 in_space s n space frame kind less (inr (table, steps_to, mapping, begins, lead, serves)) =
     let old = began s n space table steps_to less begins in
     inr (old.from, old.steps, mapping, old.begins, leads s n space table steps_to mapping less old lead, serves)
 
 -- a walk under way
-on_the_walk : (s n : Scene) (device frame : ℕ) (kind : AccessKind) (space : AddressSpace) (table : ℕ) (steps_to : ℕ → List WalkStep) (mapping : Mapping) → Less s n
+on_the_walk : (s n : HardwareScene) (device frame : ℕ) (kind : AccessKind) (space : AddressSpace) (table : ℕ) (steps_to : ℕ → List WalkStep) (mapping : Mapping) → Less s n
     → IsContinued s (record { device = Some device; space = space; table = table; steps_to = steps_to })
-    → LeadsTo s.formats n.memory table steps_to mapping → ServesKind mapping frame kind → Way s device frame kind
+    → LeadsToMapping s.formats n.memory table steps_to mapping → ServesKind mapping frame kind → Way s device frame kind
 on_the_walk s n device frame kind space table steps_to mapping less (from, steps, begins, owned, passes) lead serves =
     let old = leads s n space table steps_to mapping less (record { from = from; steps = steps; begins = begins; passes = passes }) lead in
     elim (owned device refl) [
@@ -102,7 +102,7 @@ on_the_walk s n device frame kind space table steps_to mapping less (from, steps
       | inr there ↦ OnTheWalk space from steps mapping there old serves
     ]
 
-through : (s n : Scene) (device : ℕ) (context : Context) (frame : ℕ) (kind : AccessKind) → Less s n → MayFind s device context
+through : (s n : HardwareScene) (device : ℕ) (context : Context) (frame : ℕ) (kind : AccessKind) → Less s n → MayFind s device context
     → Through (with s n) device context frame kind → Way s device frame kind
 through s n device context frame kind less find (ByAts lets (inl forges)) = ByContext context find (ByAts lets (inl forges))
 through s n device context frame kind less find (ByAts lets (inr (caches, (page, mapping, kept, serves)))) =
@@ -113,7 +113,7 @@ through s n device context frame kind less find (ByAts lets (inr (caches, (page,
 through s n device context frame kind less find (Untranslated none) = ByContext context find (Untranslated none)
 through s n device context frame kind less find (Translated space is within) = ByContext context find (Translated space is (in_space s n space frame kind less within))
 
-pub no_way_more : (s n : Scene) → Less s n → AddsNoWay s (with s n)
+pub no_way_more : (s n : HardwareScene) → Less s n → AddsNoWay s (with s n)
 no_way_more s n less device frame kind (Accepted there) = less.in_flight device (record { frame = frame; kind = kind }) there
 no_way_more s n less device frame kind (AnyFrame plugged bare) = AnyFrame plugged bare
 no_way_more s n less device frame kind (OnTheWalk space table steps_to mapping there lead serves) =
@@ -121,7 +121,7 @@ no_way_more s n less device frame kind (OnTheWalk space table steps_to mapping t
     (less.partial_walks (record { device = Some device; space = space; table = table; steps_to = steps_to }) there) lead serves
 no_way_more s n less device frame kind (ByContext context find way) = through s n device context frame kind less (found s n device context less find) way
 
-pub no_more_read : (s n : Scene) (frame : ℕ) → Less s n → IsRead (with s n) frame → IsRead s frame
+pub no_more_read : (s n : HardwareScene) (frame : ℕ) → Less s n → IsRead (with s n) frame → IsRead s frame
 no_more_read s n frame less (inl (space, table, steps_to, page, begins, reads)) =
     let old = began s n space table steps_to less begins in
     inl (same_tables s n space table steps_to page frame less old
@@ -138,15 +138,15 @@ no_more_read s n frame less (inr (inl (device, tables, plugged, at, reads))) =
     ))
 no_more_read s n frame less (inr (inr (offset, there))) = inr (inr (offset, less.waiting (record { frame = frame; offset = offset }) there))
 
-pub no_more_words : (s n : Scene) (frame : ℕ) → Less s n → HasWord (with s n) frame → HasWord s frame
+pub no_more_words : (s n : HardwareScene) (frame : ℕ) → Less s n → HasWord (with s n) frame → HasWord s frame
 no_more_words s n frame less (place, there, is) =
     let was = less.waiting place there in
     (place, was, subst (λ f. s.formats.word f place.offset ≡ Some frame) (less.memory place.frame (inr (inr (place.offset, was)))) is)
 
-no_more_written : (s n : Scene) (frame : ℕ) → Less s n → IsWritable (with s n) frame → IsWritable s frame
+no_more_written : (s n : HardwareScene) (frame : ℕ) → Less s n → IsWritable (with s n) frame → IsWritable s frame
 no_more_written s n frame less (inl (device, untrusted, way)) = inl (device, untrusted, no_way_more s n less device frame Write way)
 no_more_written s n frame less (inr (inl there)) = inr (inl there)
 no_more_written s n frame less (inr (inr word)) = inr (inr (no_more_words s n frame less word))
 
-pub still_safe : (s n : Scene) → Less s n → IsSafe s → IsSafe (with s n)
+pub still_safe : (s n : HardwareScene) → Less s n → IsSafe s → IsSafe (with s n)
 still_safe s n less safe frame read written = safe frame (no_more_read s n frame less read) (no_more_written s n frame less written)

@@ -7,9 +7,9 @@ use Rattle.iom_base.specs.declared.access.AccessKind.TheVariants.{Read, Write}
 use Rattle.iom_reach.proofs.LessLemmas.{Less, with, no_way_more, no_more_read, no_more_words, still_safe}
 use Rattle.iom_reach.specs.Laws.{AddsNoWay, UsesNoMore}
 use Rattle.iom_reach.specs.Memory.{Memory, WalkStep, DiffersAt}
-use Rattle.iom_reach.specs.Occurrences.{AreSomeOfOr, AreSomeOf, AreAmongWithOf, IsPartOf, IsPartWith, IsContinued, WalkGives, TranslatesTo, ToItself, ByCache, ByWalk, IsAdmitted, InModeBare, Requested, FromEntry, Forged, Walked, IsHarmless, IsMemoryAfter, IsMemoryBy, IsSendable, raised, Occurrence, Forget, KeepContext, GoOn, KeepTranslation, Accept, Make, RecordFault, DoCommand, CarryMessages, DeliverAnswer, DropEntries, ComesAbout}
+use Rattle.iom_reach.specs.Occurrences.{AreSomeOfOr, AreSomeOf, AreAmongWithOf, IsPartOf, IsPartWith, IsContinued, WalkGives, TranslatesTo, ToItself, ByCache, ByWalk, IsAdmitted, InModeBare, Requested, FromEntry, Forged, Walked, IsHarmless, IsMemoryAfter, IsMemoryBy, IsSendable, with_raised_epoch, Occurrence, Forget, KeepContext, GoOn, KeepTranslation, Accept, Make, RecordFault, DoCommand, CarryMessages, DeliverAnswer, DropEntries, ComesAbout}
 use Rattle.iom_reach.specs.Safe.{IsRead, IsWritable, IsSafe, AreTimely}
-use Rattle.iom_reach.specs.Scene.{Mapping, AddressSpace, SpacePage, Context, Caches, AtsEntry, PendingAccess, Message, Question, Answer, Other, PartialWalk, Place, Scene}
+use Rattle.iom_reach.specs.Scene.{Mapping, AddressSpace, SpacePage, Context, Caches, AtsEntry, PendingAccess, Message, Question, Answer, Other, PartialWalk, Place, HardwareScene}
 use Rattle.iom_reach.specs.Ways.{ServesKind, IsStored, MayFind, WalkBegins, PartWay, IsKept, IsInSpace, ByAts, Untranslated, Translated, Way, Accepted, AnyFrame, ByContext, OnTheWalk}
 use Rattle.iom_reach.proofs.WalkLemmas.{passes_here}
 
@@ -20,14 +20,14 @@ pub contains_head : {X : Type 0} (x : X) (xs : List X) → Contains (x ∷ xs) x
 contains_head x xs = Contains-append_left (x ∷ []) xs x (Contains-push [] x)
 
 -- what is cached of the space, if it is among these
-in_cache : (s : Scene) (translations : SpacePage → Option Mapping) → IsPartOf translations s.translations
+in_cache : (s : HardwareScene) (translations : SpacePage → Option Mapping) → IsPartOf translations s.translations
     → (space : AddressSpace) (page : ℕ) (mapping : Mapping) (frame : ℕ) (kind : AccessKind)
     → translations (record { space = space; page = page }) ≡ Some mapping → ServesKind mapping frame kind → IsInSpace s space frame kind
 in_cache s translations part space page mapping frame kind there serves =
     inl (page, mapping, part (record { space = space; page = page }) mapping there, serves)
 
 -- a walk under way, or a pointer, continues itself
-continued_by_itself : (s : Scene) (walk : PartialWalk) → Contains s.partial_walks walk → IsContinued s walk
+continued_by_itself : (s : HardwareScene) (walk : PartialWalk) → Contains s.partial_walks walk → IsContinued s walk
 continued_by_itself s walk there = (
   walk.table,
   walk.steps_to,
@@ -37,7 +37,7 @@ continued_by_itself s walk there = (
 )
 
 -- nothing changes
-pub no_less : (s : Scene) → Less s s
+pub no_less : (s : HardwareScene) → Less s s
 no_less s = record {
   memory = λ frame read. refl;
   waiting = λ place there. there;
@@ -49,18 +49,18 @@ no_less s = record {
 }
 
 -- what a written frame leaves is the same where hardware reads
-unread : (s : Scene) (written : ℕ) (memory : Memory) → IsSafe s → IsWritable s written → DiffersAt written s.memory memory
+unread : (s : HardwareScene) (written : ℕ) (memory : Memory) → IsSafe s → IsWritable s written → DiffersAt written s.memory memory
     → (frame : ℕ) → IsRead s frame → memory frame ≡ s.memory frame
 unread s written memory safe writable differs frame read = differs frame (λ same. safe frame read (subst (IsWritable s) (sym same) writable))
 
 -- what a walk gives is no more than its leaf
-by_leaf : (s : Scene) (space : AddressSpace) (table : ℕ) (steps_to : ℕ → List WalkStep) (mapping : Mapping) (frame : ℕ) (kind : AccessKind) → WalkBegins s space table steps_to
+by_leaf : (s : HardwareScene) (space : AddressSpace) (table : ℕ) (steps_to : ℕ → List WalkStep) (mapping : Mapping) (frame : ℕ) (kind : AccessKind) → WalkBegins s space table steps_to
     → WalkGives s table steps_to mapping → ServesKind mapping frame kind → IsInSpace s space frame kind
 by_leaf s space table steps_to mapping frame kind begins (leaf, leads, same, rights) (here, allowed) =
     inr (table, steps_to, leaf, begins, leads, (sym same ∙ here, rights kind allowed))
 
 -- what a context of the device translates a page to is in its reach
-by_translation : (s : Scene) (device frame : ℕ) (kind : AccessKind) (context : Context) (page : ℕ) (mapping : Mapping) → MayFind s device context
+by_translation : (s : HardwareScene) (device frame : ℕ) (kind : AccessKind) (context : Context) (page : ℕ) (mapping : Mapping) → MayFind s device context
     → TranslatesTo s context page mapping → ServesKind mapping frame kind → Way s device frame kind
 by_translation s device frame kind context page mapping find (ToItself none) serves = ByContext context find (Untranslated none)
 by_translation s device frame kind context page mapping find (ByCache space is there) serves =
@@ -69,7 +69,7 @@ by_translation s device frame kind context page mapping find (ByWalk space table
     ByContext context find (Translated space is (by_leaf s space table steps_to mapping frame kind begins walked serves))
 
 -- what is accepted was in reach
-served : (s : Scene) (device frame : ℕ) (kind : AccessKind) → IsAdmitted s device frame kind → Way s device frame kind
+served : (s : HardwareScene) (device frame : ℕ) (kind : AccessKind) → IsAdmitted s device frame kind → Way s device frame kind
 served s device frame kind (InModeBare plugged bare) = AnyFrame plugged bare
 served s device frame kind (Requested context page mapping find translates serves) = by_translation s device frame kind context page mapping find translates serves
 served s device frame kind (FromEntry context page mapping find lets caches there serves) =
@@ -79,13 +79,13 @@ served s device frame kind (Walked space table steps_to mapping there (leaf, lea
     OnTheWalk space table steps_to leaf there leads (sym same ∙ here, rights kind allowed)
 
 -- what follows for the scene
-abbrev pub Follows : Scene → Scene → Type 0
+abbrev pub Follows : HardwareScene → HardwareScene → Type 0
 Follows old new = AddsNoWay old new × UsesNoMore old new × IsSafe new × AreTimely new
 
-follows : (s n new : Scene) → new ≡ with s n → IsSafe s → Less s n → AreTimely (with s n) → Follows s new
+follows : (s n new : HardwareScene) → new ≡ with s n → IsSafe s → Less s n → AreTimely (with s n) → Follows s new
 follows s n new is safe less timely = subst (Follows s) (sym is) (no_way_more s n less, (λ frame. (no_more_read s n frame less, no_more_words s n frame less, refl)), still_safe s n less safe, timely)
 
-forgets : (s : Scene) (contexts : ℕ → Option Context) (translations : SpacePage → Option Mapping)
+forgets : (s : HardwareScene) (contexts : ℕ → Option Context) (translations : SpacePage → Option Mapping)
     → IsPartOf contexts s.contexts → IsPartOf translations s.translations
     → Less s (record s { contexts = contexts; translations = translations })
 forgets s contexts translations fewer others = record {
@@ -98,7 +98,7 @@ forgets s contexts translations fewer others = record {
   in_flight = λ device access there. Accepted there;
 }
 
-keeps_context : (s : Scene) (device : ℕ) (context : Context) (kept : ℕ → Option Context) → IsStored s device context
+keeps_context : (s : HardwareScene) (device : ℕ) (context : Context) (kept : ℕ → Option Context) → IsStored s device context
     → IsPartWith kept device context s.contexts → Less s (record s { contexts = kept })
 keeps_context s device context kept stored part = record {
   memory = λ frame read. refl;
@@ -113,7 +113,7 @@ keeps_context s device context kept stored part = record {
   in_flight = λ device access there. Accepted there;
 }
 
-goes_on : (s : Scene) (kept : List PartialWalk) → ((walk : PartialWalk) → Contains kept walk → IsContinued s walk ⊎ Contains s.partial_walks walk)
+goes_on : (s : HardwareScene) (kept : List PartialWalk) → ((walk : PartialWalk) → Contains kept walk → IsContinued s walk ⊎ Contains s.partial_walks walk)
     → Less s (record s { partial_walks = kept })
 goes_on s kept from = record {
   memory = λ frame read. refl;
@@ -125,7 +125,7 @@ goes_on s kept from = record {
   in_flight = λ device access there. Accepted there;
 }
 
-keeps_translation : (s : Scene) (space : AddressSpace) (table : ℕ) (steps_to : ℕ → List WalkStep) (page : ℕ) (mapping : Mapping) (kept : SpacePage → Option Mapping)
+keeps_translation : (s : HardwareScene) (space : AddressSpace) (table : ℕ) (steps_to : ℕ → List WalkStep) (page : ℕ) (mapping : Mapping) (kept : SpacePage → Option Mapping)
     → WalkBegins s space table steps_to → WalkGives s table steps_to mapping
     → IsPartWith kept (record { space = space; page = page }) mapping s.translations → Less s (record s { translations = kept })
 keeps_translation s space table steps_to page mapping kept begins walked part = record {
@@ -147,7 +147,7 @@ keeps_translation s space table steps_to page mapping kept begins walked part = 
         subst (λ x. IsInSpace s x frame kind) (sym (ap (λ (p : SpacePage). p.space) at))
         (by_leaf s space table steps_to mapping frame kind begins walked (subst (λ x. ServesKind x frame kind) same serves))
 
-accepts : (s : Scene) (device : ℕ) (access : PendingAccess) (in_flight : ℕ → List PendingAccess) → IsAdmitted s device access.frame access.kind
+accepts : (s : HardwareScene) (device : ℕ) (access : PendingAccess) (in_flight : ℕ → List PendingAccess) → IsAdmitted s device access.frame access.kind
     → AreAmongWithOf in_flight device access s.in_flight → Less s (record s { in_flight = in_flight })
 accepts s device access in_flight is among = record {
   memory = λ frame read. refl;
@@ -163,7 +163,7 @@ accepts s device access in_flight is among = record {
   ];
 }
 
-makes : (s : Scene) (device : ℕ) (access : PendingAccess) (left : ℕ → List PendingAccess) (memory : Memory) → IsSafe s → Contains (s.in_flight device) access
+makes : (s : HardwareScene) (device : ℕ) (access : PendingAccess) (left : ℕ → List PendingAccess) (memory : Memory) → IsSafe s → Contains (s.in_flight device) access
     → AreSomeOf left s.in_flight → IsHarmless s device access → IsMemoryAfter access.kind access.frame s.memory memory → Less s (record s { in_flight = left; memory = memory })
 makes s device access left memory safe there among harmless after = record {
   memory = by access.kind (s.is_trusted device) refl harmless after there;
@@ -183,7 +183,7 @@ makes s device access left memory safe there among harmless after = record {
     by Write false e harmless differs is frame read = unread s access.frame memory safe (inl (device, e, Accepted is)) differs frame read
     by Write true e harmless differs is frame read = differs frame (λ same. harmless e refl (subst (IsRead s) same read))
 
-records : (s : Scene) (frame : ℕ) (memory : Memory) → IsSafe s → Contains s.fault_frames frame → DiffersAt frame s.memory memory
+records : (s : HardwareScene) (frame : ℕ) (memory : Memory) → IsSafe s → Contains s.fault_frames frame → DiffersAt frame s.memory memory
     → Less s (record s { memory = memory })
 records s frame memory safe there differs = record {
   memory = λ f read. unread s frame memory safe (inr (inl there)) differs f read;
@@ -201,14 +201,14 @@ is_other (Answer device epoch page mapping) = false
 is_other Other = true
 
 -- the same messages, but for such as no way leads through
-other_messages : (s : Scene) (messages : List Message) → AreSomeOfOr messages Other s.messages
+other_messages : (s : HardwareScene) (messages : List Message) → AreSomeOfOr messages Other s.messages
     → (device epoch page : ℕ) (mapping : Mapping) → Contains messages (Answer device epoch page mapping) → Contains s.messages (Answer device epoch page mapping)
 other_messages s messages among device epoch page mapping there = elim (among (Answer device epoch page mapping) there) [
   | inl never ↦ absurd (false≢true (ap is_other never))
   | inr old ↦ old
 ]
 
-does : (s : Scene) (place : Place) (later : List Place) (memory : Memory) (contexts : ℕ → Option Context) (translations : SpacePage → Option Mapping) (messages : List Message)
+does : (s : HardwareScene) (place : Place) (later : List Place) (memory : Memory) (contexts : ℕ → Option Context) (translations : SpacePage → Option Mapping) (messages : List Message)
     → IsSafe s → s.waiting ≡ place ∷ later → IsMemoryBy (s.formats.word (s.memory place.frame) place.offset) s.memory memory
     → IsPartOf contexts s.contexts → IsPartOf translations s.translations → AreSomeOfOr messages Other s.messages
     → Less s (record s { waiting = later; memory = memory; contexts = contexts; translations = translations; messages = messages })
@@ -233,7 +233,7 @@ does s place later memory contexts translations messages safe head after fewer o
     same device page mapping (inl there) = inl there
     same device page mapping (inr (epoch, there, now)) = inr (epoch, other_messages s messages among device epoch page mapping there, now)
 
-carries : (s : Scene) (messages : List Message) → ((message : Message) → Contains messages message → IsSendable s message ⊎ Contains s.messages message)
+carries : (s : HardwareScene) (messages : List Message) → ((message : Message) → Contains messages message → IsSendable s message ⊎ Contains s.messages message)
     → Less s (record s { messages = messages })
 carries s messages from = record {
   memory = λ frame read. refl;
@@ -255,7 +255,7 @@ carries s messages from = record {
       | inr old ↦ inl (inr (epoch, old, now))
     ]
 
-keeps_entry : (s : Scene) (device epoch page : ℕ) (mapping : Mapping) (kept : ℕ → List AtsEntry) → Contains s.messages (Answer device epoch page mapping)
+keeps_entry : (s : HardwareScene) (device epoch page : ℕ) (mapping : Mapping) (kept : ℕ → List AtsEntry) → Contains s.messages (Answer device epoch page mapping)
     → epoch ≡ s.epoch_of device → AreAmongWithOf kept device (record { page = page; mapping = mapping }) s.ats_entries → Less s (record s { ats_entries = kept })
 keeps_entry s device epoch page mapping kept there now among = record {
   memory = λ frame read. refl;
@@ -277,7 +277,7 @@ keeps_entry s device epoch page mapping kept there now among = record {
     ]
 
 -- no epoch falls
-raised_le : (epoch_of : ℕ → ℕ) (device d n : ℕ) → n ≤ epoch_of d → n ≤ raised epoch_of device d
+raised_le : (epoch_of : ℕ → ℕ) (device d n : ℕ) → n ≤ epoch_of d → n ≤ with_raised_epoch epoch_of device d
 raised_le epoch_of device d n within = by (device == d)
   where
     by : (b : Bool) → n ≤ (if b then epoch_of d + 1 else epoch_of d)
@@ -285,15 +285,15 @@ raised_le epoch_of device d n within = by (device == d)
     by false = within
 
 -- an answer of a raised epoch is another device's
-raised_other : (epoch_of : ℕ → ℕ) (device d n : ℕ) → n ≤ epoch_of d → n ≡ raised epoch_of device d → n ≡ epoch_of d
+raised_other : (epoch_of : ℕ → ℕ) (device d n : ℕ) → n ≤ epoch_of d → n ≡ with_raised_epoch epoch_of device d → n ≡ epoch_of d
 raised_other epoch_of device d n within now = by (device == d) now
   where
     by : (b : Bool) → n ≡ (if b then epoch_of d + 1 else epoch_of d) → n ≡ epoch_of d
     by true is = absurd (omega (arith, within, is))
     by false is = is
 
-drops_entries : (s : Scene) (device : ℕ) (left : ℕ → List AtsEntry) → AreTimely s → AreSomeOf left s.ats_entries
-    → Less s (record s { ats_entries = left; epoch_of = raised s.epoch_of device })
+drops_entries : (s : HardwareScene) (device : ℕ) (left : ℕ → List AtsEntry) → AreTimely s → AreSomeOf left s.ats_entries
+    → Less s (record s { ats_entries = left; epoch_of = with_raised_epoch s.epoch_of device })
 drops_entries s device left timely among = record {
   memory = λ frame read. refl;
   waiting = λ place there. there;
@@ -306,12 +306,12 @@ drops_entries s device left timely among = record {
   where
     by : (d page : ℕ) (mapping : Mapping) → s.kind_of d ≡ Some Caches
         → Contains (left d) (record { page = page; mapping = mapping })
-        ⊎ ((e : ℕ) × Contains s.messages (Answer d e page mapping) × (e ≡ raised s.epoch_of device d)) → IsKept s d page mapping
+        ⊎ ((e : ℕ) × Contains s.messages (Answer d e page mapping) × (e ≡ with_raised_epoch s.epoch_of device d)) → IsKept s d page mapping
     by d page mapping caches (inl is) = inl (among d (record { page = page; mapping = mapping }) is)
     by d page mapping caches (inr (e, there, now)) = inr (e, there, raised_other s.epoch_of device d e (timely.answered d e page mapping caches there) now)
 
 -- the same messages and epochs
-still_timely : (s n : Scene) → n.messages ≡ s.messages → n.epoch_of ≡ s.epoch_of → AreTimely s → AreTimely (with s n)
+still_timely : (s n : HardwareScene) → n.messages ≡ s.messages → n.epoch_of ≡ s.epoch_of → AreTimely s → AreTimely (with s n)
 still_timely s n messages epochs timely = record {
   asked = λ device epoch page caches there. subst (λ e. epoch ≤ e device) (sym epochs)
       (timely.asked device epoch page caches (subst (λ m. Contains m (Question device epoch page)) messages there));
@@ -319,7 +319,7 @@ still_timely s n messages epochs timely = record {
       (timely.answered device epoch page mapping caches (subst (λ m. Contains m (Answer device epoch page mapping)) messages there));
 }
 
-timely_done : (s n : Scene) → AreSomeOfOr n.messages Other s.messages → n.epoch_of ≡ s.epoch_of → AreTimely s → AreTimely (with s n)
+timely_done : (s n : HardwareScene) → AreSomeOfOr n.messages Other s.messages → n.epoch_of ≡ s.epoch_of → AreTimely s → AreTimely (with s n)
 timely_done s n among epochs timely = record {
   asked = λ device epoch page caches there. subst (λ e. epoch ≤ e device) (sym epochs)
       (elim (among (Question device epoch page) there) [
@@ -330,7 +330,7 @@ timely_done s n among epochs timely = record {
       (timely.answered device epoch page mapping caches (other_messages s n.messages among device epoch page mapping there));
 }
 
-timely_carried : (s : Scene) (messages : List Message) → ((message : Message) → Contains messages message → IsSendable s message ⊎ Contains s.messages message)
+timely_carried : (s : HardwareScene) (messages : List Message) → ((message : Message) → Contains messages message → IsSendable s message ⊎ Contains s.messages message)
     → AreTimely s → AreTimely (record s { messages = messages })
 timely_carried s messages from timely = record {
   asked = λ device epoch page caches there. elim (from (Question device epoch page) there) [
@@ -343,13 +343,13 @@ timely_carried s messages from timely = record {
   ];
 }
 
-timely_raised : (s : Scene) (device : ℕ) (left : ℕ → List AtsEntry) → AreTimely s → AreTimely (record s { ats_entries = left; epoch_of = raised s.epoch_of device })
+timely_raised : (s : HardwareScene) (device : ℕ) (left : ℕ → List AtsEntry) → AreTimely s → AreTimely (record s { ats_entries = left; epoch_of = with_raised_epoch s.epoch_of device })
 timely_raised s device left timely = record {
   asked = λ d epoch page caches there. raised_le s.epoch_of device d epoch (timely.asked d epoch page caches there);
   answered = λ d epoch page mapping caches there. raised_le s.epoch_of device d epoch (timely.answered d epoch page mapping caches there);
 }
 
-pub occurrences_add_no_way : (occurrence : Occurrence) (old new : Scene) → IsSafe old → AreTimely old → ComesAbout occurrence old new → Follows old new
+pub occurrences_add_no_way : (occurrence : Occurrence) (old new : HardwareScene) → IsSafe old → AreTimely old → ComesAbout occurrence old new → Follows old new
 occurrences_add_no_way Forget old new safe timely (contexts, translations, fewer, others, is) =
     let n = record old { contexts = contexts; translations = translations } in
     follows old n new is safe (forgets old contexts translations fewer others) (still_timely old n refl refl timely)
@@ -380,5 +380,5 @@ occurrences_add_no_way DeliverAnswer old new safe timely (device, epoch, page, m
     let n = record old { ats_entries = kept } in
     follows old n new is safe (keeps_entry old device epoch page mapping kept there now among) (still_timely old n refl refl timely)
 occurrences_add_no_way (DropEntries device) old new safe timely (left, among, is) =
-    follows old (record old { ats_entries = left; epoch_of = raised old.epoch_of device }) new is safe (drops_entries old device left timely among)
+    follows old (record old { ats_entries = left; epoch_of = with_raised_epoch old.epoch_of device }) new is safe (drops_entries old device left timely among)
     (timely_raised old device left timely)

@@ -9,16 +9,16 @@ use Rattle.iom_reach.proofs.OccurrenceLemmas.{contains_head}
 use Rattle.iom_reach.specs.Laws.{WaysCanBeTaken}
 use Rattle.iom_reach.specs.Memory.{Memory}
 use Rattle.iom_reach.specs.Occurrences.{IsMemoryAfter, IsPartWith, ToItself, ByCache, IsAdmitted, InModeBare, Requested, FromEntry, Forged, Walked, Occurrence, KeepTranslation, DeliverAnswer, Accept, Make, ComesAbout, ComeInTurn}
-use Rattle.iom_reach.specs.Scene.{Mapping, AddressSpace, First, Second, Both, SpacePage, AtsEntry, PendingAccess, Scene}
+use Rattle.iom_reach.specs.Scene.{Mapping, AddressSpace, First, Second, Both, SpacePage, AtsEntry, PendingAccess, HardwareScene}
 use Rattle.iom_reach.specs.Ways.{ByAts, Untranslated, Translated, Accepted, AnyFrame, ByContext, OnTheWalk}
 
 -- hardware and devices come to the access, after so many occurrences at most
-abbrev IsTaken : ℕ → Scene → ℕ → PendingAccess → Type 0
-IsTaken most scene device access = (occurrences : List Occurrence) × (length occurrences ≤ most) × (between : Scene) × (new : Scene)
+abbrev IsTaken : ℕ → HardwareScene → ℕ → PendingAccess → Type 0
+IsTaken most scene device access = (occurrences : List Occurrence) × (length occurrences ≤ most) × (between : HardwareScene) × (new : HardwareScene)
     × ComeInTurn scene occurrences between × ComesAbout (Make device access) between new
 
 -- or after one more
-later : (scene : Scene) (device : ℕ) (access : PendingAccess) → IsTaken 1 scene device access → IsTaken 2 scene device access
+later : (scene : HardwareScene) (device : ℕ) (access : PendingAccess) → IsTaken 1 scene device access → IsTaken 2 scene device access
 later scene device access (occurrences, few, between, new, turns, made) = (occurrences, omega (arith, few), between, new, turns, made)
 
 none_among : {X : Type 0} (xs : List X) (x : X) → Contains [] x → Contains xs x
@@ -110,12 +110,12 @@ same_memory Read frame memory = refl
 same_memory Write frame memory = λ f apart. refl
 
 -- an access in flight is made
-taken_made : (s : Scene) (device : ℕ) (access : PendingAccess) → s.is_trusted device ≡ false → Contains (s.in_flight device) access
+taken_made : (s : HardwareScene) (device : ℕ) (access : PendingAccess) → s.is_trusted device ≡ false → Contains (s.in_flight device) access
     → ComesAbout (Make device access) s (record s { in_flight = λ d. [] })
 taken_made s device access untrusted there = ((λ d. []), s.memory, there, (λ d. none_among (s.in_flight d)), (λ trusted. absurd (false≢true (sym untrusted ∙ trusted))), same_memory access.kind access.frame s.memory, refl)
 
 -- an access that is served is accepted, and made
-taken_served : (s : Scene) (device : ℕ) (access : PendingAccess) → s.is_trusted device ≡ false → IsAdmitted s device access.frame access.kind → IsTaken 1 s device access
+taken_served : (s : HardwareScene) (device : ℕ) (access : PendingAccess) → s.is_trusted device ≡ false → IsAdmitted s device access.frame access.kind → IsTaken 1 s device access
 taken_served s device access untrusted served = (
   Accept device access ∷ [],
   omega arith,
@@ -126,7 +126,7 @@ taken_served s device access untrusted served = (
 )
 
 -- after one other occurrence
-taken_after : (s t : Scene) (first : Occurrence) (device : ℕ) (access : PendingAccess) → ComesAbout first s t → IsTaken 1 t device access → IsTaken 2 s device access
+taken_after : (s t : HardwareScene) (first : Occurrence) (device : ℕ) (access : PendingAccess) → ComesAbout first s t → IsTaken 1 t device access → IsTaken 2 s device access
 taken_after s t first device access now (others, few, between, new, turns, made) = (first ∷ others, omega (arith, few), between, new, (t, now, turns), made)
 
 all_allowed : (kind : AccessKind) → allows rw kind ≡ true
@@ -150,7 +150,7 @@ ways_can_be_taken s device frame kind untrusted (ByContext context find (ByAts l
     later s device (record { frame = frame; kind = kind }) (taken_served s device (record { frame = frame; kind = kind }) untrusted (FromEntry context page mapping find lets caches there serves))
 ways_can_be_taken s device frame kind untrusted (ByContext context find (ByAts lets (inr (caches, (page, mapping, inr (epoch, there, now), serves))))) =
     let entry : AtsEntry = record { page = page; mapping = mapping } in
-    let t : Scene = record s { ats_entries = only_of device entry } in
+    let t : HardwareScene = record s { ats_entries = only_of device entry } in
     taken_after s t DeliverAnswer device (record { frame = frame; kind = kind })
     (device, epoch, page, mapping, only_of device entry, there, now, only device entry s.ats_entries, refl)
     (taken_served t device (record { frame = frame; kind = kind }) untrusted (FromEntry context page mapping find lets caches (has_only device entry) serves))
@@ -158,7 +158,7 @@ ways_can_be_taken s device frame kind untrusted (ByContext context find (Transla
     later s device (record { frame = frame; kind = kind }) (taken_served s device (record { frame = frame; kind = kind }) untrusted (Requested context page mapping find (ByCache space is there) serves))
 ways_can_be_taken s device frame kind untrusted (ByContext context find (Translated space is (inr (table, steps_to, mapping, begins, leads, serves)))) =
     let at : SpacePage = record { space = space; page = 0 } in
-    let t : Scene = record s { translations = only_at at mapping } in
+    let t : HardwareScene = record s { translations = only_at at mapping } in
     taken_after s t KeepTranslation device (record { frame = frame; kind = kind })
     (space, table, steps_to, 0, mapping, only_at at mapping, begins, (mapping, leads, refl, (λ k allowed. allowed)), at_most at mapping s.translations, refl)
     (taken_served t device (record { frame = frame; kind = kind }) untrusted (Requested context 0 mapping find (ByCache space is (has_only_at at mapping)) serves))

@@ -7,7 +7,7 @@ use Rattle.iom_reach.proofs.TakenLemmas.{ways_can_be_taken}
 use Rattle.iom_reach.specs.Memory.{Tables}
 use Rattle.iom_reach.specs.Safe.{IsSafe, AreTimely}
 use Rattle.iom_reach.specs.Scene.{Mapping, First, Stages, NoStage, FirstStage, SecondStage, BothStages, Context, Directory, Off, Bare, At, Forges, PendingAccess, PartialWalk, Question, Answer}
-use Rattle.iom_reach.specs.Ways.{tables_of, AtRoot, PartWay, LeadsTo, MayFind, ByAts, Untranslated, Translated, Way, Accepted, AnyFrame, ByContext, OnTheWalk}
+use Rattle.iom_reach.specs.Ways.{tables_of, AtRoot, PartWay, LeadsToMapping, MayFind, ByAts, Untranslated, Translated, Way, Accepted, AnyFrame, ByContext, OnTheWalk}
 use Rattle.iom_reach.specs.Worked.{own_context, other_context, contexts_of_two, scene_of_two, LeadsOnlyTo, SpacesAreShared}
 
 nothing_in : {X : Type 0} (x : X) → Contains [] x → ⊥
@@ -57,7 +57,7 @@ without_ats device context find = elim (either device context find) [
 ]
 
 -- no leaf may be written
-read_only : (table : ℕ) (mapping : Mapping) → LeadsTo scene_of_two.formats scene_of_two.memory table (λ page. record { frame = 0; place = 0 } ∷ []) mapping
+read_only : (table : ℕ) (mapping : Mapping) → LeadsToMapping scene_of_two.formats scene_of_two.memory table (λ page. record { frame = 0; place = 0 } ∷ []) mapping
     → allows mapping.rights Write ≡ true → ⊥
 read_only table mapping (page, said) allowed = false≢true (ap (λ (m : Mapping). allows m.rights Write) said ∙ allowed)
 
@@ -72,7 +72,7 @@ no_write device frame (ByContext context find (Translated space is (inl (page, m
 no_write device frame (ByContext context find (Translated space is (inr (table, steps_to, mapping, PartWay walker there, leads, serves)))) =
     nothing_in {X = PartialWalk} (record { device = walker; space = space; table = table; steps_to = steps_to }) there
 no_write device frame (ByContext context find (Translated space is (inr (table, steps_to, mapping, AtRoot other its tables found kept decide root all, leads, (here, allowed))))) =
-    read_only table mapping (subst (λ steps. LeadsTo scene_of_two.formats scene_of_two.memory table steps mapping) all leads) allowed
+    read_only table mapping (subst (λ steps. LeadsToMapping scene_of_two.formats scene_of_two.memory table steps mapping) all leads) allowed
 
 safe : IsSafe scene_of_two
 safe frame read (inl (device, untrusted, way)) = no_write device frame way
@@ -85,7 +85,7 @@ timely = record {
   answered = λ device epoch page mapping caches there. absurd (nothing_in (Answer device epoch page mapping) there);
 }
 
-leads_to_3 : (table : ℕ) (mapping : Mapping) → table ≡ 60 → LeadsTo scene_of_two.formats scene_of_two.memory table (λ page. record { frame = 0; place = 0 } ∷ []) mapping
+leads_to_3 : (table : ℕ) (mapping : Mapping) → table ≡ 60 → LeadsToMapping scene_of_two.formats scene_of_two.memory table (λ page. record { frame = 0; place = 0 } ∷ []) mapping
     → mapping.frame ≡ 3
 leads_to_3 table mapping is (page, said) =
     sym (ap (λ (m : Mapping). m.frame) said) ∙ ap (λ t. if (t + 0) == 57 then 7 else 3) is

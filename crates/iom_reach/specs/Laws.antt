@@ -1,32 +1,32 @@
 -- What this crate proves.
 use Rattle.std.specs.Prelude.{◌≡◌, ◌≤◌, ℕ, Bool, true, false, List, length}
 use Rattle.iom_base.specs.declared.access.AccessKind.{AccessKind}
-use Rattle.iom_reach.specs.Scene.{PendingAccess, Scene}
+use Rattle.iom_reach.specs.Scene.{PendingAccess, HardwareScene}
 use Rattle.iom_reach.specs.Ways.{Way}
 use Rattle.iom_reach.specs.Safe.{IsRead, HasWord, IsSafe, AreTimely}
 use Rattle.iom_reach.specs.Occurrences.{Occurrence, Make, ComesAbout, ComeInTurn}
 
 -- each way of the one scene is a way of the other
-abbrev pub AddsNoWay : Scene → Scene → Type 0
+abbrev pub AddsNoWay : HardwareScene → HardwareScene → Type 0
 AddsNoWay old new = (device frame : ℕ) (kind : AccessKind) → Way new device frame kind → Way old device frame kind
 
 -- hardware reads no frame, and stores into none, that it didn't before
-abbrev pub UsesNoMore : Scene → Scene → Type 0
+abbrev pub UsesNoMore : HardwareScene → HardwareScene → Type 0
 UsesNoMore old new = (frame : ℕ) → (IsRead new frame → IsRead old frame) × (HasWord new frame → HasWord old frame) × (new.fault_frames ≡ old.fault_frames)
 
 -- Whatever hardware and devices do adds no way, and leaves what hardware reads out of reach of hardware and devices.
 abbrev pub OccurrencesAddNoWay : Type 0
-OccurrencesAddNoWay = (occurrence : Occurrence) (old new : Scene) → IsSafe old → AreTimely old → ComesAbout occurrence old new
+OccurrencesAddNoWay = (occurrence : Occurrence) (old new : HardwareScene) → IsSafe old → AreTimely old → ComesAbout occurrence old new
     → AddsNoWay old new × UsesNoMore old new × IsSafe new × AreTimely new
 
 -- So do any of these in turn.
 abbrev pub TurnsAddNoWay : Type 0
-TurnsAddNoWay = (occurrences : List Occurrence) (old new : Scene) → IsSafe old → AreTimely old → ComeInTurn old occurrences new
+TurnsAddNoWay = (occurrences : List Occurrence) (old new : HardwareScene) → IsSafe old → AreTimely old → ComeInTurn old occurrences new
     → AddsNoWay old new × UsesNoMore old new × IsSafe new × AreTimely new
 
 -- Each access that is made had a way before, whatever hardware and devices did in between.
 abbrev pub AccessesHadWays : Type 0
-AccessesHadWays = (occurrences : List Occurrence) (device : ℕ) (access : PendingAccess) (old between new : Scene)
+AccessesHadWays = (occurrences : List Occurrence) (device : ℕ) (access : PendingAccess) (old between new : HardwareScene)
     → IsSafe old → AreTimely old → ComeInTurn old occurrences between → ComesAbout (Make device access) between new
     → Way old device access.frame access.kind
 
@@ -35,29 +35,29 @@ abbrev pub Permission : Type 0
 Permission = ℕ → ℕ → AccessKind → Bool
 
 -- there is no way of the device to the frame but those that it may take
-abbrev pub HasAllowedWaysAlone : Permission → Scene → ℕ → ℕ → Type 0
+abbrev pub HasAllowedWaysAlone : Permission → HardwareScene → ℕ → ℕ → Type 0
 HasAllowedWaysAlone may scene device frame = (kind : AccessKind) → Way scene device frame kind → may device frame kind ≡ true
 
 -- Where a device has no way to a frame but those that it may take, each access of that device to that frame is one that it may make, whatever hardware and
 -- devices do from then on.
 abbrev pub QuietIsTrue : Type 0
-QuietIsTrue = (may : Permission) (occurrences : List Occurrence) (device : ℕ) (access : PendingAccess) (old between new : Scene)
+QuietIsTrue = (may : Permission) (occurrences : List Occurrence) (device : ℕ) (access : PendingAccess) (old between new : HardwareScene)
     → IsSafe old → AreTimely old → HasAllowedWaysAlone may old device access.frame
     → ComeInTurn old occurrences between → ComesAbout (Make device access) between new
     → may device access.frame access.kind ≡ true
 
 -- no device has any way to the frame
-abbrev pub IsOutOfReach : Scene → ℕ → Type 0
+abbrev pub IsOutOfReach : HardwareScene → ℕ → Type 0
 IsOutOfReach scene frame = (device : ℕ) (kind : AccessKind) → ¬ Way scene device frame kind
 
 -- Where no device has any way to a frame, none reaches it, whatever hardware and devices do from then on.
 abbrev pub FreeIsTrue : Type 0
-FreeIsTrue = (occurrences : List Occurrence) (device : ℕ) (access : PendingAccess) (old between new : Scene)
+FreeIsTrue = (occurrences : List Occurrence) (device : ℕ) (access : PendingAccess) (old between new : HardwareScene)
     → IsSafe old → AreTimely old → IsOutOfReach old access.frame
     → ComeInTurn old occurrences between → ¬ ComesAbout (Make device access) between new
 
 -- Each way of a device that isn't trusted can be taken: hardware and devices come to an access of that kind, after two other occurrences at most.
 abbrev pub WaysCanBeTaken : Type 0
-WaysCanBeTaken = (scene : Scene) (device frame : ℕ) (kind : AccessKind) → scene.is_trusted device ≡ false → Way scene device frame kind
-    → (occurrences : List Occurrence) × (length occurrences ≤ 2) × (between : Scene) × (new : Scene) × ComeInTurn scene occurrences between
+WaysCanBeTaken = (scene : HardwareScene) (device frame : ℕ) (kind : AccessKind) → scene.is_trusted device ≡ false → Way scene device frame kind
+    → (occurrences : List Occurrence) × (length occurrences ≤ 2) × (between : HardwareScene) × (new : HardwareScene) × ComeInTurn scene occurrences between
     × ComesAbout (Make device (record { frame = frame; kind = kind })) between new

@@ -4,8 +4,8 @@ use Rattle.iom_base.specs.declared.access.AccessKind.{AccessKind}
 use Rattle.iom_base.specs.declared.access.AccessKind.TheVariants.{Read, Write}
 use Rattle.iom_base.specs.Rights.{allows}
 use Rattle.iom_reach.specs.Memory.{Memory, WalkStep, Passes, DiffersAt}
-use Rattle.iom_reach.specs.Scene.{Mapping, AddressSpace, SpacePage, NoStage, Context, Bare, Forges, Caches, AtsEntry, PendingAccess, Message, Question, Answer, Other, PartialWalk, Place, Scene, HasDevice}
-use Rattle.iom_reach.specs.Ways.{ServesKind, space_of, LeadsTo, IsStored, MayFind, WalkBegins}
+use Rattle.iom_reach.specs.Scene.{Mapping, AddressSpace, SpacePage, NoStage, Context, Bare, Forges, Caches, AtsEntry, PendingAccess, Message, Question, Answer, Other, PartialWalk, Place, HardwareScene, HasDevice}
+use Rattle.iom_reach.specs.Ways.{ServesKind, space_of, LeadsToMapping, IsStored, MayFind, WalkBegins}
 use Rattle.iom_reach.specs.Safe.{IsRead}
 
 -- each element is one of the others, or this one
@@ -30,14 +30,14 @@ IsPartWith {K} {V} some new_key new_value all =
     (key : K) (value : V) → some key ≡ Some value → ((key ≡ new_key) × (value ≡ new_value)) ⊎ (all key ≡ Some value)
 
 -- the caches forget: by invalidations, or by themselves
-abbrev pub CachesForget : Scene → Scene → Type 0
+abbrev pub CachesForget : HardwareScene → HardwareScene → Type 0
 CachesForget old new =
     (contexts : ℕ → Option Context) × (translations : SpacePage → Option Mapping)
     × IsPartOf contexts old.contexts × IsPartOf translations old.translations
     × (new ≡ record old { contexts = contexts; translations = translations })
 
 -- the directory's context of a device is cached; others may go, also the device's older one
-abbrev pub CachesContext : Scene → ℕ → Scene → Type 0
+abbrev pub CachesContext : HardwareScene → ℕ → HardwareScene → Type 0
 CachesContext old device new =
     (context : Context) × (kept : ℕ → Option Context)
     × HasDevice old device × IsStored old device context
@@ -46,13 +46,13 @@ CachesContext old device new =
 
 -- A walk from the table gives this mapping: in one stage the very leaf. In both the guest's tables, whatever stands in them, lead to a page of the second
 -- stage, and allow no more than its leaf.
-abbrev pub WalkGives : Scene → ℕ → (ℕ → List WalkStep) → Mapping → Type 0
+abbrev pub WalkGives : HardwareScene → ℕ → (ℕ → List WalkStep) → Mapping → Type 0
 WalkGives scene table steps_to mapping =
-    (leaf : Mapping) × LeadsTo scene.formats scene.memory table steps_to leaf × (mapping.frame ≡ leaf.frame)
+    (leaf : Mapping) × LeadsToMapping scene.formats scene.memory table steps_to leaf × (mapping.frame ≡ leaf.frame)
     × ((kind : AccessKind) → allows mapping.rights kind ≡ true → allows leaf.rights kind ≡ true)
 
 -- a walk gives a mapping, which is cached in its address space; others may go
-abbrev pub CachesTranslation : Scene → Scene → Type 0
+abbrev pub CachesTranslation : HardwareScene → HardwareScene → Type 0
 CachesTranslation old new =
     (space : AddressSpace) × (table : ℕ) × (steps_to : ℕ → List WalkStep) × (page : ℕ) × (mapping : Mapping) × (kept : SpacePage → Option Mapping)
     × WalkBegins old space table steps_to × WalkGives old table steps_to mapping
@@ -60,26 +60,26 @@ CachesTranslation old new =
     × (new ≡ record old { translations = kept })
 
 -- the device walks in the space, from this table: by a context of its own, or it is under way there
-abbrev pub IsOwned : Scene → ℕ → AddressSpace → ℕ → (ℕ → List WalkStep) → Type 0
+abbrev pub IsOwned : HardwareScene → ℕ → AddressSpace → ℕ → (ℕ → List WalkStep) → Type 0
 IsOwned scene device space table steps_to =
     ((context : Context) × MayFind scene device context × (space_of context.stages ≡ Some space))
     ⊎ Contains scene.partial_walks (record { device = Some device; space = space; table = table; steps_to = steps_to })
 
 -- Where a walk may begin, it passes there: the table that it has then, or a pointer to it that is cached.
-abbrev pub IsContinued : Scene → PartialWalk → Type 0
+abbrev pub IsContinued : HardwareScene → PartialWalk → Type 0
 IsContinued scene walk =
     (table : ℕ) × (steps_to : ℕ → List WalkStep) × WalkBegins scene walk.space table steps_to
     × ((device : ℕ) → walk.device ≡ Some device → IsOwned scene device walk.space table steps_to)
     × ((page : ℕ) → (to : ℕ) × Passes scene.formats.entry scene.memory table (steps_to to) walk.table (walk.steps_to page))
 
 -- walks begin, go on and end, and pointers are cached and forgotten
-abbrev pub WalksGoOn : Scene → Scene → Type 0
+abbrev pub WalksGoOn : HardwareScene → HardwareScene → Type 0
 WalksGoOn old new =
     (kept : List PartialWalk) × ((walk : PartialWalk) → Contains kept walk → IsContinued old walk ⊎ Contains old.partial_walks walk)
     × (new ≡ record old { partial_walks = kept })
 
 -- what a context translates a page to: anything, where both stages are Bare; a cached translation of its space; or what a walk gives
-pub data TranslatesTo (scene : Scene) (context : Context) (page : ℕ) (mapping : Mapping) : Type 0 where
+pub data TranslatesTo (scene : HardwareScene) (context : Context) (page : ℕ) (mapping : Mapping) : Type 0 where
   ToItself : context.stages ≡ NoStage → TranslatesTo scene context page mapping
   ByCache : (space : AddressSpace) → space_of context.stages ≡ Some space
       → scene.translations (record { space = space; page = page }) ≡ Some mapping → TranslatesTo scene context page mapping
@@ -87,7 +87,7 @@ pub data TranslatesTo (scene : Scene) (context : Context) (page : ℕ) (mapping 
       → WalkGives scene table steps_to mapping → TranslatesTo scene context page mapping
 
 -- why an access of the device on the frame is accepted
-pub data IsAdmitted (scene : Scene) (device frame : ℕ) (kind : AccessKind) : Type 0 where
+pub data IsAdmitted (scene : HardwareScene) (device frame : ℕ) (kind : AccessKind) : Type 0 where
   -- a request in mode Bare
   InModeBare : HasDevice scene device → scene.directory ≡ Bare → IsAdmitted scene device frame kind
   -- a request that the device's context translates
@@ -104,7 +104,7 @@ pub data IsAdmitted (scene : Scene) (device frame : ℕ) (kind : AccessKind) : T
       → WalkGives scene table steps_to mapping → ServesKind mapping frame kind → IsAdmitted scene device frame kind
 
 -- an access of the device is accepted, and in flight beside the others
-abbrev pub AdmitsAccess : Scene → ℕ → PendingAccess → Scene → Type 0
+abbrev pub AdmitsAccess : HardwareScene → ℕ → PendingAccess → HardwareScene → Type 0
 AdmitsAccess old device access new =
     (in_flight : ℕ → List PendingAccess) × IsAdmitted old device access.frame access.kind
     × AreAmongWithOf in_flight device access old.in_flight × (new ≡ record old { in_flight = in_flight })
@@ -115,18 +115,18 @@ IsMemoryAfter Read frame old new = new ≡ old
 IsMemoryAfter Write frame old new = DiffersAt frame old new
 
 -- where the device is trusted, it doesn't write what hardware reads: that would count as a store of software
-abbrev pub IsHarmless : Scene → ℕ → PendingAccess → Type 0
+abbrev pub IsHarmless : HardwareScene → ℕ → PendingAccess → Type 0
 IsHarmless scene device access = scene.is_trusted device ≡ true → access.kind ≡ Write → ¬ IsRead scene access.frame
 
 -- it is made, and in flight no more
-abbrev pub AccessGoesThrough : Scene → ℕ → PendingAccess → Scene → Type 0
+abbrev pub AccessGoesThrough : HardwareScene → ℕ → PendingAccess → HardwareScene → Type 0
 AccessGoesThrough old device access new =
     (left : ℕ → List PendingAccess) × (memory : Memory) × Contains (old.in_flight device) access × AreSomeOf left old.in_flight × IsHarmless old device access
     × IsMemoryAfter access.kind access.frame old.memory memory
     × (new ≡ record old { in_flight = left; memory = memory })
 
 -- a refused request leaves a record in the fault queue
-abbrev pub FaultIsRecorded : Scene → Scene → Type 0
+abbrev pub FaultIsRecorded : HardwareScene → HardwareScene → Type 0
 FaultIsRecorded old new =
     (frame : ℕ) × (memory : Memory) × Contains old.fault_frames frame × DiffersAt frame old.memory memory
     × (new ≡ record old { memory = memory })
@@ -137,7 +137,7 @@ IsMemoryBy None old new = new ≡ old
 IsMemoryBy (Some frame) old new = DiffersAt frame old new
 
 -- Whatever command stands at the head is done, as memory has it: caches may lose any part, and requests to invalidate are sent.
-abbrev pub CommandIsDone : Scene → Scene → Type 0
+abbrev pub CommandIsDone : HardwareScene → HardwareScene → Type 0
 CommandIsDone old new =
     (place : Place) × (later : List Place) × (memory : Memory) × (contexts : ℕ → Option Context) × (translations : SpacePage → Option Mapping) × (messages : List Message)
     × (old.waiting ≡ place ∷ later)
@@ -146,7 +146,7 @@ CommandIsDone old new =
     × (new ≡ record old { waiting = later; memory = memory; contexts = contexts; translations = translations; messages = messages })
 
 -- What may be sent. A device asks in an epoch that its cache has come to, unless it forges. A question is answered, in its own epoch, by a context with EN_ATS.
-abbrev pub IsSendable : Scene → Message → Type 0
+abbrev pub IsSendable : HardwareScene → Message → Type 0
 IsSendable scene (Question device epoch page) = scene.kind_of device ≡ Some Caches → epoch ≤ scene.epoch_of device
 IsSendable scene (Answer device epoch page mapping) =
     Contains scene.messages (Question device epoch page)
@@ -154,25 +154,25 @@ IsSendable scene (Answer device epoch page mapping) =
 IsSendable scene Other = ⊤
 
 -- messages are sent, lost, repeated and reordered
-abbrev pub CarriesMessages : Scene → Scene → Type 0
+abbrev pub CarriesMessages : HardwareScene → HardwareScene → Type 0
 CarriesMessages old new = (messages : List Message)
     × ((message : Message) → Contains messages message → IsSendable old message ⊎ Contains old.messages message)
     × (new ≡ record old { messages = messages })
 
 -- an answer of its device's epoch is delivered: its page is kept, and others may go
-abbrev pub KeepsAtsEntry : Scene → Scene → Type 0
+abbrev pub KeepsAtsEntry : HardwareScene → HardwareScene → Type 0
 KeepsAtsEntry old new = (device : ℕ) × (epoch : ℕ) × (page : ℕ) × (mapping : Mapping) × (kept : ℕ → List AtsEntry)
     × Contains old.messages (Answer device epoch page mapping) × (epoch ≡ old.epoch_of device)
     × AreAmongWithOf kept device (record { page = page; mapping = mapping }) old.ats_entries × (new ≡ record old { ats_entries = kept })
 
 -- the epochs, where this device's is raised
-abbrev pub raised : (ℕ → ℕ) → ℕ → ℕ → ℕ
-raised epoch_of device d = if device == d then epoch_of d + 1 else epoch_of d
+abbrev pub with_raised_epoch : (ℕ → ℕ) → ℕ → ℕ → ℕ
+with_raised_epoch epoch_of device d = if device == d then epoch_of d + 1 else epoch_of d
 
 -- a device is reset, or obeys a request to invalidate: its cache loses any part, and its epoch is raised
-abbrev pub EntriesAreDropped : Scene → ℕ → Scene → Type 0
+abbrev pub EntriesAreDropped : HardwareScene → ℕ → HardwareScene → Type 0
 EntriesAreDropped old device new = (left : ℕ → List AtsEntry)
-    × AreSomeOf left old.ats_entries × (new ≡ record old { ats_entries = left; epoch_of = raised old.epoch_of device })
+    × AreSomeOf left old.ats_entries × (new ≡ record old { ats_entries = left; epoch_of = with_raised_epoch old.epoch_of device })
 
 pub data Occurrence : Type 0 where
   Forget : Occurrence
@@ -188,7 +188,7 @@ pub data Occurrence : Type 0 where
   DropEntries : (device : ℕ) → Occurrence
 
 -- it may occur in the one scene, and leaves the other
-abbrev pub ComesAbout : Occurrence → Scene → Scene → Type 0
+abbrev pub ComesAbout : Occurrence → HardwareScene → HardwareScene → Type 0
 ComesAbout Forget old new = CachesForget old new
 ComesAbout (KeepContext device) old new = CachesContext old device new
 ComesAbout GoOn old new = WalksGoOn old new
@@ -202,6 +202,6 @@ ComesAbout DeliverAnswer old new = KeepsAtsEntry old new
 ComesAbout (DropEntries device) old new = EntriesAreDropped old device new
 
 -- these may occur one after another, and leave the scene
-abbrev pub ComeInTurn : Scene → List Occurrence → Scene → Type 0
+abbrev pub ComeInTurn : HardwareScene → List Occurrence → HardwareScene → Type 0
 ComeInTurn old [] new = new ≡ old
-ComeInTurn old (first ∷ others) new = (between : Scene) × ComesAbout first old between × ComeInTurn between others new
+ComeInTurn old (first ∷ others) new = (between : HardwareScene) × ComesAbout first old between × ComeInTurn between others new

@@ -101,7 +101,7 @@ pub record Place : Type 0 where
   pub offset : ℕ
 
 -- All of it, between two events.
-pub record Scene : Type 0 where
+pub record HardwareScene : Type 0 where
   pub formats : Formats
   pub memory : Memory
   pub directory : Directory
@@ -128,5 +128,5 @@ pub record Scene : Type 0 where
   pub in_flight : ℕ → List PendingAccess
 
 -- something is plugged in with this id
-abbrev pub HasDevice : Scene → ℕ → Type 0
+abbrev pub HasDevice : HardwareScene → ℕ → Type 0
 HasDevice scene device = (kind : AtsKind) × (scene.kind_of device ≡ Some kind)

@@ -3,8 +3,8 @@ use Rattle.std.specs.Prelude.{◌≡◌, ℕ, ◌==◌, false, List, [], ◌∷�
 use Rattle.iom_base.specs.declared.access.AccessKind.TheVariants.{Read}
 use Rattle.iom_base.specs.Rights.{r}
 use Rattle.iom_reach.specs.Memory.{Frame, Tables, Nothing, Leaf}
-use Rattle.iom_reach.specs.Scene.{Mapping, FirstStage, Context, At, Forges, Scene}
-use Rattle.iom_reach.specs.Ways.{tables_of, LeadsTo, MayFind}
+use Rattle.iom_reach.specs.Scene.{Mapping, FirstStage, Context, At, Forges, HardwareScene}
+use Rattle.iom_reach.specs.Ways.{tables_of, LeadsToMapping, MayFind}
 use Rattle.iom_reach.specs.Safe.{IsSafe, AreTimely}
 use Rattle.iom_reach.specs.Occurrences.{Occurrence, Make, ComesAbout, ComeInTurn}
 
@@ -26,7 +26,7 @@ abbrev pub contexts_of_two : ℕ → Option Context
 contexts_of_two device = if device == 1 then Some own_context else if device == 2 then Some other_context else None
 
 -- Each table is of one place, which names the frame that it leads to, to be read: 7 in table 57, 3 in all others. Two contexts are cached, and nothing else.
-abbrev pub scene_of_two : Scene
+abbrev pub scene_of_two : HardwareScene
 scene_of_two = record {
   formats = record {
     entry = λ frame place left. Leaf (record { frame = first_byte frame; rights = r });
@@ -51,12 +51,12 @@ scene_of_two = record {
 }
 
 -- a walk from any context of the device leads to this frame alone
-abbrev pub LeadsOnlyTo : Scene → ℕ → ℕ → Type 0
+abbrev pub LeadsOnlyTo : HardwareScene → ℕ → ℕ → Type 0
 LeadsOnlyTo scene device frame = (context : Context) (tables : Tables) (mapping : Mapping) → MayFind scene device context → tables_of context.stages ≡ Some tables
-    → LeadsTo scene.formats scene.memory tables.root (scene.formats.steps_to context.stages) mapping → mapping.frame ≡ frame
+    → LeadsToMapping scene.formats scene.memory tables.root (scene.formats.steps_to context.stages) mapping → mapping.frame ≡ frame
 
 -- The scene is safe, device 1's own tables lead to frame 3 alone, and it comes to read frame 7.
 abbrev pub SpacesAreShared : Type 0
 SpacesAreShared = IsSafe scene_of_two × AreTimely scene_of_two × LeadsOnlyTo scene_of_two 1 3
-    × ((occurrences : List Occurrence) × (between : Scene) × (new : Scene) × ComeInTurn scene_of_two occurrences between
+    × ((occurrences : List Occurrence) × (between : HardwareScene) × (new : HardwareScene) × ComeInTurn scene_of_two occurrences between
     × ComesAbout (Make 1 (record { frame = 7; kind = Read })) between new)

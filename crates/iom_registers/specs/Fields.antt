@@ -28,8 +28,8 @@ mode_code OneLevel = 2
 mode_code TwoLevels = 3
 mode_code ThreeLevels = 4
 
-abbrev pub mode_at : ℕ → Option DirectoryMode
-mode_at code =
+abbrev pub mode_with_code : ℕ → Option DirectoryMode
+mode_with_code code =
     if code == 0 then Some Off
     else if code == 1 then Some Bare
     else if code == 2 then Some OneLevel
@@ -50,7 +50,7 @@ with_mode old None value = old
 with_mode old (Some mode) value = pointer_to mode value
 
 abbrev pub ddtp_written : DirectoryPointer → ℕ → DirectoryPointer
-ddtp_written old value = with_mode old (mode_at (bits 3 0 value)) value
+ddtp_written old value = with_mode old (mode_with_code (bits 3 0 value)) value
 
 -- "Command-queue base (cqb)" and "Fault queue base (fqb)": LOG2SZ-1 4:0, PPN 53:10
 abbrev pub base_value : QueueBase → ℕ

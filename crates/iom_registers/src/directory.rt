@@ -19,11 +19,11 @@ pub enum DirectoryMode {
 
 impl DirectoryMode {
     ghost use Rattle.std.specs.Prelude.{◌≡◌};
-    ghost use Rattle.iom_registers.specs.Fields.{mode_at, mode_code};
+    ghost use Rattle.iom_registers.specs.Fields.{mode_with_code, mode_code};
 
     // None where no mode has that number.
     pub(crate) fn decode(code: u64) -> Option<DirectoryMode>
-        ensures { result ≡ mode_at code }
+        ensures { result ≡ mode_with_code code }
     {
         match code {
             0 => Some(DirectoryMode::Off),

@@ -10,7 +10,7 @@ use Rattle.iom_machine.specs.Laws.{IsReached}
 use Rattle.iom_machine.specs.Traces.{IsTrace}
 use Rattle.iom_machine.proofs.ReclaimLemmas.{reclaims}
 use Rattle.iom_platform.specs.PowerOn.{BeginsAt}
-use Rattle.iom_platform.specs.Numbered.{numbered, number_of}
+use Rattle.iom_platform.specs.Numbered.{numbered, disk_number_of}
 use Rattle.iom_platform.specs.Runs.{AreCounts}
 use Rattle.iom_platform.specs.Seen.{Seen}
 use Rattle.iom_script.specs.declared.script.ScriptLine.{ScriptLine}
@@ -29,7 +29,7 @@ use Rattle.iom_runner.proofs.ToldLemmas.{traces_as_many, text_more}
 
 -- power-on is reached, by no events
 power_on_is_reached : (setting : Setting) (size : WorldSize) → IsReached (power_on setting size)
-power_on_is_reached setting size = ([], [], (size.frames, size.levels, map number_of (numbered 0 setting.disks), refl))
+power_on_is_reached setting size = ([], [], (size.frames, size.levels, map disk_number_of (numbered 0 setting.disks), refl))
 
 -- the sentences of the headline hold of every run from power-on
 run_reclaims : (setting : Setting) (size : WorldSize) (lines : List ScriptLine) (answers : List Answer) (last : State) (run : LineRun (power_on setting size) lines answers last)

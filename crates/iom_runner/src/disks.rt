@@ -2,7 +2,7 @@
 ghost use Rattle.std.specs.Prelude.{◌≡◌, ◌≤◌, List, ℕ, length, IfOk, IfSome};
 ghost use Rattle.iom_platform.specs.Seen.{states_of};
 ghost use Rattle.iom_script.specs.Grammar.{IsWorldSize};
-ghost use Rattle.iom_virtio_blk.specs.MemoryDisks.{state_of};
+ghost use Rattle.iom_virtio_blk.specs.MemoryDisks.{disk_state};
 ghost use Rattle.iom_runner.specs.Disks.{program_disks, program_setting};
 ghost use Rattle.iom_runner.specs.Reading.{ConsumesAtMost, FailsWithin};
 ghost use Rattle.iom_runner.specs.Runs.{TellsScript, RunsBytes, AreLeft};
@@ -19,7 +19,7 @@ use std::mem;
 /// The disks of the program, whose names are their places: 0 and 1 have 64 sectors, 2 has 2, and 3 has 64 and fails at
 /// its second call.
 pub fn program_disks(alloc: Global) -> Result<Vec<MemoryDisk>, AllocError>
-    ensures { IfOk result (λ disks. states_of state_of disks.items ≡ program_disks) }
+    ensures { IfOk result (λ disks. states_of disk_state disks.items ≡ program_disks) }
 {
     let mut disks = Vec::with_capacity(alloc, 4)?;
     disks.push(MemoryDisk::new(alloc, 0, 64, None)?)?;

@@ -7,7 +7,7 @@ use Rattle.std.proofs.lemmas.Simd.{bitmask_splat, Each1-get_or, Each1-from_get_o
 use lib.Lanes.{Each1, zip2, sel_l, mask_l, top, number_l, digits_l}
 use Rattle.iom_script.specs.Digits.{hex_digit, hex_of}
 use Rattle.iom_script.specs.Reading.{Reads}
-use Rattle.iom_script.specs.Cuts.{value_of, IsHexOf}
+use Rattle.iom_script.specs.Cuts.{value_of_digit, IsHexOf}
 use Rattle.iom_script.proofs.ReadsLemmas.{reads_some, reads_none}
 use Rattle.iom_script.proofs.HexBytesLemmas.{IsByte, same_hex_of}
 
@@ -34,14 +34,14 @@ slice_bytes text fit = Each1-from_get_or (Fits w8) text 0 (λ k lt. fit k)
 abbrev lane_value : ℕ → ℕ
 lane_value x = cond (top 7 (less (minus x 48) 10)) (minus x 48) (cond (top 7 (less (minus x 97) 6)) (plus (minus x 97) 10) 255)
 
-lane_is : (x : ℕ) → x < 256 → lane_value x ≡ value_of x
-lane_is x small = eqb-true (lane_value x) (value_of x) (agree_below_at (λ x. nat_eq (lane_value x) (value_of x)) (λ _. true) 256 x refl small)
+lane_is : (x : ℕ) → x < 256 → lane_value x ≡ value_of_digit x
+lane_is x small = eqb-true (lane_value x) (value_of_digit x) (agree_below_at (λ x. nat_eq (lane_value x) (value_of_digit x)) (λ _. true) 256 x refl small)
 
 -- the values in all lanes
 pub lanes_are : (n : ℕ) (xs : List ℕ) → length xs ≡ n → AreBytes xs
     → sel_l (map (top 7) (zip2 less (zip2 minus xs (replicate n 48)) (replicate n 10))) (zip2 minus xs (replicate n 48))
     (sel_l (map (top 7) (zip2 less (zip2 minus xs (replicate n 97)) (replicate n 6))) (zip2 plus (zip2 minus xs (replicate n 97)) (replicate n 10)) (replicate n 255))
-    ≡ map value_of xs
+    ≡ map value_of_digit xs
 lanes_are zero [] e fit = refl
 lanes_are zero (x ∷ xs) e fit = absurd (omega (arith, e))
 lanes_are (suc n) [] e fit = absurd (omega (arith, e))
@@ -106,33 +106,33 @@ bytes_said n values e all =
     (All-from_get_or IsByte bytes 0 (λ k lt. (Each1-get_or (Fits w8) bytes k 0 lt (bytes_fit n values e all)).fits), sym (bytes_have n values e all))
 
 -- a digit is that of its value
-digit_back : (x : ℕ) → x < 256 → value_of x < 16 → hex_digit (value_of x) ≡ x
+digit_back : (x : ℕ) → x < 256 → value_of_digit x < 16 → hex_digit (value_of_digit x) ≡ x
 digit_back x byte small =
-    eqb-true (hex_digit (value_of x)) x (ap (λ b. not b || nat_eq (hex_digit (value_of x)) x) (sym (lt-ltb (value_of x) 16 small))
-    ∙ agree_below_at (λ x. not (ltb (value_of x) 16) || nat_eq (hex_digit (value_of x)) x) (λ _. true) 256 x refl byte)
+    eqb-true (hex_digit (value_of_digit x)) x (ap (λ b. not b || nat_eq (hex_digit (value_of_digit x)) x) (sym (lt-ltb (value_of_digit x) 16 small))
+    ∙ agree_below_at (λ x. not (ltb (value_of_digit x) 16) || nat_eq (hex_digit (value_of_digit x)) x) (λ _. true) 256 x refl byte)
 
-digits_back : (text : List ℕ) → AreBytes text → AreValues (map value_of text) → map hex_digit (map value_of text) ≡ text
+digits_back : (text : List ℕ) → AreBytes text → AreValues (map value_of_digit text) → map hex_digit (map value_of_digit text) ≡ text
 digits_back [] fit all = refl
 digits_back (x ∷ xs) fit all =
     let here = digit_back x fit.0.fits all.0 in
     let more = digits_back xs fit.1 all.1 in
     λ i. here i ∷ more i
 
-value_is_small : (v : ℕ) → v < 16 → value_of (hex_digit v) < 16
-value_is_small v small = ltb-true (value_of (hex_digit v)) 16 (agree_below_at (λ v. ltb (value_of (hex_digit v)) 16) (λ _. true) 16 v refl small)
+value_is_small : (v : ℕ) → v < 16 → value_of_digit (hex_digit v) < 16
+value_is_small v small = ltb-true (value_of_digit (hex_digit v)) 16 (agree_below_at (λ v. ltb (value_of_digit (hex_digit v)) 16) (λ _. true) 16 v refl small)
 
 -- the digits of bytes have values
-hex_has_values : (bytes : List ℕ) → All IsByte bytes → AreValues (map value_of (hex_of bytes))
+hex_has_values : (bytes : List ℕ) → All IsByte bytes → AreValues (map value_of_digit (hex_of bytes))
 hex_has_values [] small = tt
 hex_has_values (b ∷ bs) small = (
   value_is_small (b / 16) (omega (arith, All-head IsByte b bs small)),
   (value_is_small (b % 16) (omega arith), hex_has_values bs (All-tail IsByte b bs small)),
 )
 
-pub hex_read : (text bytes : List ℕ) → AreBytes text → AreValues (map value_of text) → IsHexOf (map hex_digit (map value_of text)) bytes → Reads (Some bytes) (IsHexOf text)
+pub hex_read : (text bytes : List ℕ) → AreBytes text → AreValues (map value_of_digit text) → IsHexOf (map hex_digit (map value_of_digit text)) bytes → Reads (Some bytes) (IsHexOf text)
 hex_read text bytes fit all said =
     let whole : text ≡ hex_of bytes = sym (digits_back text fit all) ∙ said.1 in
     reads_some (IsHexOf text) bytes (said.0, whole) (λ other q. same_hex_of bytes other said.0 q.0 (sym whole ∙ q.1))
 
-pub hex_not_read : (text : List ℕ) → (AreValues (map value_of text) → ⊥) → Reads None (IsHexOf text)
-hex_not_read text none = reads_none (IsHexOf text) (λ bytes q. none (subst (λ t. AreValues (map value_of t)) (sym q.1) (hex_has_values bytes q.0)))
+pub hex_not_read : (text : List ℕ) → (AreValues (map value_of_digit text) → ⊥) → Reads None (IsHexOf text)
+hex_not_read text none = reads_none (IsHexOf text) (λ bytes q. none (subst (λ t. AreValues (map value_of_digit t)) (sym q.1) (hex_has_values bytes q.0)))

@@ -29,8 +29,8 @@ abbrev pub IsCut : List ℕ → ℕ → List ℕ → List ℕ → Type 0
 IsCut bytes separator before after = IsWithout separator before × (bytes ≡ before ++ separator ∷ after)
 
 -- the text begins with a word that says the value, and this follows it
-abbrev pub Begins : (List ℕ → ℕ → Type 0) → List ℕ → ℕ → List ℕ → Type 0
-Begins Says text value rest = (word : List ℕ) × Says word value × (text ≡ word ␣ rest)
+abbrev pub BeginsWithWord : (List ℕ → ℕ → Type 0) → List ℕ → ℕ → List ℕ → Type 0
+BeginsWithWord Says text value rest = (word : List ℕ) × Says word value × (text ≡ word ␣ rest)
 
 -- The first so many bytes are hexadecimal digits, 16 at most, and say the number; no more of them could be read.
 pub record LeadsWithHex (text : List ℕ) (number count : ℕ) : Type 0 where
@@ -134,8 +134,8 @@ abbrev pub starts_under_t : List (List ℕ)
 starts_under_t = codes "tread " ∷ codes "twrite " ∷ []
 
 -- the value of a byte as a lower-case hexadecimal digit, or 255
-abbrev pub value_of : ℕ → ℕ
-value_of byte = if nat_le 48 byte && nat_le byte 57 then byte - 48 else (if nat_le 97 byte && nat_le byte 102 then byte - 87 else 255)
+abbrev pub value_of_digit : ℕ → ℕ
+value_of_digit byte = if nat_le 48 byte && nat_le byte 57 then byte - 48 else (if nat_le 97 byte && nat_le byte 102 then byte - 87 else 255)
 
 -- the digits say the bytes
 abbrev pub IsHexOf : List ℕ → List ℕ → Type 0

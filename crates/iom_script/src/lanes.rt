@@ -3,13 +3,13 @@ ghost use Rattle.std.specs.Prelude.{◌≡◌, ◌<◌, ◌↔◌, length, map, 
 ghost use Rattle.std.specs.List.{AllByRecursion};
 ghost use Rattle.iom_script.specs.Digits.{hex_digit};
 ghost use Rattle.iom_script.specs.Reading.{Reads};
-ghost use Rattle.iom_script.specs.Cuts.{value_of, IsHexOf};
+ghost use Rattle.iom_script.specs.Cuts.{value_of_digit, IsHexOf};
 
 use std::simd::prelude::*;
 
 /// The value of each byte as a lower-case hexadecimal digit, or 255.
 fn values_of(text: u8x16) -> u8x16
-    ensures { result ≡ map value_of text }
+    ensures { result ≡ map value_of_digit text }
 {
     let decimal = text - u8x16::splat(b'0');
     let letter = text - u8x16::splat(b'a');

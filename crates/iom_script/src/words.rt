@@ -4,7 +4,7 @@ ghost use Rattle.memchr.specs.Find.{IsFirstByte, is_byte};
 ghost use Rattle.iom_script.specs.Digits.{hex_digit, hex_digits};
 ghost use Rattle.iom_script.specs.Words.{IsDevice, IsNumber, IsPage, IsAddress, IsRight, IsMode, IsAttaching, IsKind, IsHex};
 ghost use Rattle.iom_script.specs.Reading.{Reads};
-ghost use Rattle.iom_script.specs.Cuts.{shown, shown_rest, with_rest, IsCut, Begins, LeadsWithHex, LeadsWithDecimal, LeadsWithNumber, SaysFirst};
+ghost use Rattle.iom_script.specs.Cuts.{shown, shown_rest, with_rest, IsCut, BeginsWithWord, LeadsWithHex, LeadsWithDecimal, LeadsWithNumber, SaysFirst};
 
 use crate::lanes::eight_bytes;
 use iom_base::{DeviceId, GrantRights, Mode, NewDevice, Sequence, Size};
@@ -308,7 +308,7 @@ pub fn bytes_of(alloc: Global, text: &[u8]) -> Result<Option<Sequence<u8>>, Allo
 
 /// The device that the first word names, and what follows it.
 pub fn device_and(text: &[u8]) -> Option<(DeviceId, &[u8])>
-    ensures { Reads (with_rest result) (λ found. Begins IsDevice text.now found.0 found.1) }
+    ensures { Reads (with_rest result) (λ found. BeginsWithWord IsDevice text.now found.0 found.1) }
 {
     if text.len() < 7 || text[6] != b' ' {
         return None;
@@ -321,7 +321,7 @@ pub fn device_and(text: &[u8]) -> Option<(DeviceId, &[u8])>
 // Written into its few readers: what it answers would go through memory.
 #[inline(always)]
 pub fn number_and(text: &[u8]) -> Option<(u64, &[u8])>
-    ensures { Reads (with_rest result) (λ found. Begins IsNumber text.now found.0 found.1) }
+    ensures { Reads (with_rest result) (λ found. BeginsWithWord IsNumber text.now found.0 found.1) }
 {
     let (number, count) = leading_number(text)?;
     if count == text.len() || text[count] != b' ' {
@@ -350,7 +350,7 @@ pub fn address_of(text: &[u8]) -> Option<u64>
 
 /// The address that the first word says, and what follows it.
 pub fn address_and(text: &[u8]) -> Option<(u64, &[u8])>
-    ensures { Reads (with_rest result) (λ found. Begins IsAddress text.now found.0 found.1) }
+    ensures { Reads (with_rest result) (λ found. BeginsWithWord IsAddress text.now found.0 found.1) }
 {
     let digits = after(text, b"0x")?;
     let (address, count) = leading_hex(digits);

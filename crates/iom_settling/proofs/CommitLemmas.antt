@@ -4,14 +4,14 @@ use Rattle.std.proofs.lemmas.Bool.Decides.{eqb_tells}
 use Rattle.iom_coherence.proofs.ListLemmas.{in_none, cons_cases, contains_head, contains_tail}
 use Rattle.iom_device.specs.declared.device.Device.{Device}
 use Rattle.iom_inflight.specs.declared.made.MadeAt.{MadeAt}
-use Rattle.iom_inflight.specs.Calls.{Makes}
+use Rattle.iom_inflight.specs.Calls.{MakesOldestInFlight}
 use Rattle.iom_inflight.specs.Flights.{NumberedAccess, FlightRow, Flights, row_of, first_busy}
 use Rattle.iom_inflight.specs.Sound.{AreFlights}
 use Rattle.iom_iommu.specs.Parts.{flights_of}
 use Rattle.iom_machine.specs.declared.outcome.Outcome.{Outcome}
 use Rattle.iom_world_effects.specs.Commits.{CommitsAccess}
 use Rattle.iom_world_effects.specs.Parts.{Parts}
-use Rattle.iom_world_effects.specs.Sound.{AreSound, ids_of, row_ids}
+use Rattle.iom_world_effects.specs.Sound.{AreSound, plugged_ids, row_ids}
 use Rattle.iom_settling.specs.Idle.{waiting_by}
 use Rattle.iom_settling.proofs.IdleLemmas.{IsBusyRow, busy_where, first_waits}
 
@@ -23,15 +23,15 @@ row_there (first ∷ others) id row at = elim (eqb_tells first.device id) [
   | inr ne ↦ contains_tail first.device (row_ids others) id (row_there others id row (rw ne.0 at at))
 ]
 
-with_id : (devices : List Device) (id : ℕ) → Contains (ids_of devices) id → (device : Device) × Contains devices device × (device.id ≡ id)
+with_id : (devices : List Device) (id : ℕ) → Contains (plugged_ids devices) id → (device : Device) × Contains devices device × (device.id ≡ id)
 with_id [] id there = absurd (in_none id there)
-with_id (first ∷ others) id there = elim (cons_cases first.id (ids_of others) id there) [
+with_id (first ∷ others) id there = elim (cons_cases first.id (plugged_ids others) id there) [
   | inl same ↦ (first, contains_head first others, same)
   | inr later ↦ let rest = with_id others id later in (rest.0, contains_tail first others rest.0 rest.1, rest.2)
 ]
 
 -- where the row isn't idle, one access is made, and it was the first in turn
-made_first : (memory memory' : List (List ℕ)) (old new : Flights) (id : ℕ) (made : Option MadeAt) → first_busy old.rows ≡ Some id → Makes memory old id made memory' new
+made_first : (memory memory' : List (List ℕ)) (old new : Flights) (id : ℕ) (made : Option MadeAt) → first_busy old.rows ≡ Some id → MakesOldestInFlight memory old id made memory' new
     → (busy : IsBusyRow old.rows id) → waiting_by old.rows ≡ id ∷ waiting_by new.rows
 made_first memory memory' old new id None first makes busy =
     let same : Some makes.0.row ≡ Some busy.row = sym makes.0.stands ∙ busy.stands in

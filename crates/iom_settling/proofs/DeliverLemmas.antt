@@ -25,7 +25,7 @@ use Rattle.iom_iommu.specs.Questions.{RecordsUnless, AnswersQuestion}
 use Rattle.iom_machine.specs.declared.outcome.Outcome.{Outcome}
 use Rattle.iom_registers.specs.declared.registers.Registers.{Registers}
 use Rattle.iom_registers.specs.Queues.{command_status, is_fault_queue_marked, with_fqmf, with_fqof}
-use Rattle.iom_world_effects.specs.Deliveries.{Arrives, ArrivesIfAny, DeliversMessage, with_done}
+use Rattle.iom_world_effects.specs.Deliveries.{Arrives, ArrivesIfAny, DeliversMessage, with_completion_sent}
 use Rattle.iom_world_effects.specs.Messages.{with_sent}
 use Rattle.iom_world_effects.specs.OwnIommu.{Iommu}
 use Rattle.iom_world_effects.specs.Parts.{Parts}
@@ -124,7 +124,7 @@ module _ (old new : Parts) (told : Outcome) (device : ℕ) (others : List OnLink
         omega (arith, fabric),
       )
   arrived (sent.InvReq serial range) obeys =
-      let fabric : weights new.fabric ≡ weights (with_done others device obeys.done) = ap (λ (p : Parts). weights p.fabric) obeys.rest in
+      let fabric : weights new.fabric ≡ weights (with_completion_sent others device obeys.done) = ap (λ (p : Parts). weights p.fabric) obeys.rest in
       let light = answered (cache_of old.devices device) obeys.done obeys.after obeys.cache in (
         record {
           driver = ap (λ (p : Parts). p.driver) obeys.rest;
@@ -136,7 +136,7 @@ module _ (old new : Parts) (told : Outcome) (device : ℕ) (others : List OnLink
         omega (arith, fabric, light),
       )
     where
-      answered : (cache : Option Cache) (done : Option Message) (after : Option Cache) → Obeys cache serial range done after → weights (with_done others device done) ≤ weights others + 1
+      answered : (cache : Option Cache) (done : Option Message) (after : Option Cache) → Obeys cache serial range done after → weights (with_completion_sent others device done) ≤ weights others + 1
       answered None None after is = omega arith
       answered None (Some done) after is = absurd is
       answered (Some cache) None after is = absurd is
@@ -229,24 +229,24 @@ module _ (old new : Parts) (told : Outcome) (device : ℕ) (others : List OnLink
           at false is = rw is refl
 
       obeyed : (cache : Option Cache) (done : Option Message) → cache_of old.devices device ≡ cache → obeys.done ≡ done → Obeys cache serial range done obeys.after → (found : Cache) × (cache_of old.devices device ≡ Some found)
-          → with_done others device obeys.done ≡ others ++ record { device = device; message = sent.InvDone serial } ∷ []
+          → with_completion_sent others device obeys.done ≡ others ++ record { device = device; message = sent.InvDone serial } ∷ []
       obeyed None _ at is it has = let none : ◌≡◌ {A = Option Cache} None (Some has.0) = sym at ∙ has.1 in cc
       obeyed (Some cache) None at is it has = absurd it
       obeyed (Some cache) (Some done) at is it has =
-          ap (with_done others device) is
+          ap (with_completion_sent others device) is
           ∙ sent_there others device done few
           ∙ ap (λ (m : Message). others ++ record { device = device; message = m } ∷ []) it.1.done
 
       unasked : (cache : Option Cache) (done : Option Message) → obeys.done ≡ done → Obeys cache serial range done obeys.after
-          → (length (with_done others device obeys.done) ≤ suc (length others)) × (HaveWords slots others → HaveWords slots (with_done others device obeys.done))
-      unasked None None is it = (subst (λ (d : Option Message). length (with_done others device d) ≤ suc (length others)) (sym is) (omega arith), λ words. subst (λ (d : Option Message). HaveWords slots (with_done others device d)) (sym is) words)
+          → (length (with_completion_sent others device obeys.done) ≤ suc (length others)) × (HaveWords slots others → HaveWords slots (with_completion_sent others device obeys.done))
+      unasked None None is it = (subst (λ (d : Option Message). length (with_completion_sent others device d) ≤ suc (length others)) (sym is) (omega arith), λ words. subst (λ (d : Option Message). HaveWords slots (with_completion_sent others device d)) (sym is) words)
       unasked None (Some done) is it = absurd it
       unasked (Some cache) None is it = absurd it
       unasked (Some cache) (Some done) is it =
           let there = sent_there others device done few in
           let more : OnLink = record { device = device; message = done } in (
-            subst (λ (d : Option Message). length (with_done others device d) ≤ suc (length others)) (sym is) (subst (λ (ms : List OnLink). length ms ≤ suc (length others)) (sym there) (one_more others more)),
-            λ words. subst (λ (d : Option Message). HaveWords slots (with_done others device d)) (sym is) (subst (λ (ms : List OnLink). HaveWords slots ms) (sym there) (words_push slots others more words)),
+            subst (λ (d : Option Message). length (with_completion_sent others device d) ≤ suc (length others)) (sym is) (subst (λ (ms : List OnLink). length ms ≤ suc (length others)) (sym there) (one_more others more)),
+            λ words. subst (λ (d : Option Message). HaveWords slots (with_completion_sent others device d)) (sym is) (subst (λ (ms : List OnLink). HaveWords slots ms) (sym there) (words_push slots others more words)),
           )
 
       by : (b : Bool) → caches_translations (kind_in old.devices device) ≡ b
@@ -258,7 +258,7 @@ module _ (old new : Parts) (told : Outcome) (device : ℕ) (others : List OnLink
           (words_obeyed slots device serial range others have) (one_more others word)
       by false none =
           let rest = unasked (cache_of old.devices device) obeys.done refl obeys.cache in
-          kept (with_done others device obeys.done) same_slots (ap (λ (p : Parts). p.fabric) obeys.rest)
+          kept (with_completion_sent others device obeys.done) same_slots (ap (λ (p : Parts). p.fabric) obeys.rest)
           (rest.1 (words_rest slots (record { device = device; message = sent.InvReq serial range }) others (nobody none) have)) rest.0
   words_then (sent.InvDone serial) hears have =
       let left : slots_of new.iommu ≡ without_request (slots_of old.iommu) serial device = ap (λ (i : Iommu). slots_of i) hears.call.left in (

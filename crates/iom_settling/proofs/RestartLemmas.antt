@@ -20,7 +20,7 @@ use Rattle.iom_driver.specs.declared.device.Attachment.TheVariants.{Detached, At
 use Rattle.iom_driver.specs.declared.device.Device.{Device}
 use Rattle.iom_driver.specs.declared.device.Stages.{Stages}
 use Rattle.iom_driver.specs.Appends.{context_invalidation, space_invalidation}
-use Rattle.iom_driver.specs.Devices.{attachment_of, owned_stages, has_ats}
+use Rattle.iom_driver.specs.Devices.{attachment_by_id, owned_stages, is_attached_with_ats}
 use Rattle.iom_driver.specs.Fences.{last_fence}
 use Rattle.iom_driver.specs.Layout.{completion_address}
 use Rattle.iom_driver.specs.Restarts.{turned_off_and_on, device_reset, requeued_for, requeued, all_requeued, restart_commands, QueuesRestart}
@@ -80,7 +80,7 @@ plain_one Obeys id (Some stage) ats obeys = plain_stage Obeys id ats stage.mode 
 pub requests_all : (devices : List Device) → requests_among (all_requeued devices) ≤ length devices
 requests_all [] = omega arith
 requests_all (device ∷ others) =
-    let first = requests_one device.id (owned_stages device.attachment) (has_ats device.attachment) in
+    let first = requests_one device.id (owned_stages device.attachment) (is_attached_with_ats device.attachment) in
     let rest = requests_all others in
     let both = requests_append (requeued device) (all_requeued others) in
     omega (arith, first, rest, both)
@@ -92,24 +92,24 @@ length_both (command ∷ later) other = let rest = length_both later other in om
 pub length_all : (devices : List Device) → length (all_requeued devices) ≤ 3 * length devices
 length_all [] = omega arith
 length_all (device ∷ others) =
-    let first = length_one device.id (owned_stages device.attachment) (has_ats device.attachment) in
+    let first = length_one device.id (owned_stages device.attachment) (is_attached_with_ats device.attachment) in
     let rest = length_all others in
     let both = length_both (requeued device) (all_requeued others) in
     omega (arith, first, rest, both)
 
-plain_all : (Obeys : ℕ → Type 0) (devices : List Device) → ((k : ℕ) (device : Device) → slice_get devices k ≡ Some device → has_ats device.attachment ≡ true → Obeys device.id)
+plain_all : (Obeys : ℕ → Type 0) (devices : List Device) → ((k : ℕ) (device : Device) → slice_get devices k ≡ Some device → is_attached_with_ats device.attachment ≡ true → Obeys device.id)
     → ArePlain Obeys (all_requeued devices)
 plain_all Obeys [] obeys = tt
 plain_all Obeys (device ∷ others) obeys =
     plain_append Obeys (requeued device) (all_requeued others)
-    (plain_one Obeys device.id (owned_stages device.attachment) (has_ats device.attachment) (obeys 0 device refl))
+    (plain_one Obeys device.id (owned_stages device.attachment) (is_attached_with_ats device.attachment) (obeys 0 device refl))
     (plain_all Obeys others (λ k other at. obeys (suc k) other at))
 
 -- A DEVICE THAT IS ATTACHED WITH ATS HAS A CACHE
 bool_prop : (a b : Bool) → IsProp (a ≡ b)
 bool_prop a b = hlevel props
 
-pub asks_so_caches : (parts : Parts) (events id : ℕ) (a : Attachment) → AreSound parts events → attachment_of parts.driver.devices id ≡ a → has_ats a ≡ true → HasCache parts.devices id
+pub asks_so_caches : (parts : Parts) (events id : ℕ) (a : Attachment) → AreSound parts events → attachment_by_id parts.driver.devices id ≡ a → is_attached_with_ats a ≡ true → HasCache parts.devices id
 asks_so_caches parts events id Detached sound is ats = absurd (false≢true ats)
 asks_so_caches parts events id (Quarantined ticket stage) sound is ats = absurd (false≢true ats)
 asks_so_caches parts events id (Leaving ticket stage) sound is ats = absurd (false≢true ats)

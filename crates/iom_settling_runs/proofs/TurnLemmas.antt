@@ -5,7 +5,7 @@ use Rattle.iom_device.specs.declared.device.Device.{Device}
 use Rattle.iom_driver.specs.declared.device.Device as known
 use Rattle.iom_inflight.specs.Flights.{NumberedAccess, FlightRow}
 use Rattle.iom_world_effects.specs.Devices.{shown_devices}
-use Rattle.iom_world_effects.specs.Sound.{HaveOwnIds, ids_of, row_ids}
+use Rattle.iom_world_effects.specs.Sound.{HaveDistinctIds, plugged_ids, row_ids}
 use Rattle.iom_settling.specs.Idle.{waiting_by}
 use Rattle.iom_settling.specs.Settles.{in_flight_by}
 
@@ -28,14 +28,14 @@ one_each shown device id same [] = refl
 one_each {X} shown device id same (x ∷ xs) = ap (λ ids. id ∷ ids) (one_each shown device id same xs) ∙ ap (λ n. n ∷ map (λ (y : X). device) xs) (sym same)
 
 -- where rows and devices have the same ids, in the same order, and no two devices have one id
-pub same_turns : (knows : List known.Device) (rows : List FlightRow) (devices : List Device) → HaveOwnIds devices → row_ids rows ≡ ids_of devices
+pub same_turns : (knows : List known.Device) (rows : List FlightRow) (devices : List Device) → HaveDistinctIds devices → row_ids rows ≡ plugged_ids devices
     → in_flight_by (shown_devices knows rows devices) ≡ waiting_by rows
 same_turns knows [] [] own ids = refl
 same_turns knows [] (device ∷ others) own ids = cc
 same_turns knows (row ∷ rows) [] own ids = cc
 same_turns knows (row ∷ rows) (device ∷ others) own ids =
     let same : row.device ≡ device.id = cc in
-    let behind : row_ids rows ≡ ids_of others = cc in
+    let behind : row_ids rows ≡ plugged_ids others = cc in
     elim (eqb_tells row.device device.id) [
       | inl e ↦
           rw (e.0, pass_over knows row rows others (others_differ same), same_turns knows rows others (own_behind own) behind, one_each (λ (flight : NumberedAccess). flight.accepted) row.device device.id same row.waiting) refl
@@ -45,5 +45,5 @@ same_turns knows (row ∷ rows) (device ∷ others) own ids =
     others_differ : row.device ≡ device.id → NoneHas others row.device
     others_differ same k other at there = let first = own 0 (suc k) device other refl at (sym (there ∙ same)) in omega (arith, first)
 
-    own_behind : HaveOwnIds (device ∷ others) → HaveOwnIds others
+    own_behind : HaveDistinctIds (device ∷ others) → HaveDistinctIds others
     own_behind own j k one other at at' same = let e = own (suc j) (suc k) one other at at' same in omega (arith, e)

@@ -2,7 +2,7 @@
 use Rattle.std.proofs.Common.{◌≡◌, ℕ, suc, zero, ◌+◌, ◌-◌, ◌<◌, ◌≤◌, ◌⊎◌, inl, inr, true, false, ◌==◌, List, [], ◌∷◌, ◌++◌, length, nat_lt, replicate, slice_set, Option, None, Some, is_none, if◌then◌else◌, refl, sym, ap, ◌∙◌, arith}
 use Rattle.std.proofs.lemmas.Bool.{cases_eq, cases_lt, eq-eqb, ne_eqb, lt-ltb, le-ltb, false≢true}
 use Rattle.std.proofs.lemmas.List.{length-append, length-replicate, length-set}
-use Rattle.iom_frame_set.specs.Sets.{Words, has, room, Removes}
+use Rattle.iom_frame_set.specs.Sets.{Words, has, room, RemovesFrame}
 use Rattle.iom_base.specs.declared.owner.Owner.{Owner}
 use Rattle.iom_base.specs.declared.owner.Owner.TheVariants.{System}
 use Rattle.iom_table_frames.specs.Marks.{is_marked}
@@ -33,7 +33,7 @@ unreserved-set (m ∷ marks) (suc n) owner (suc f) within =
     unreserved-set marks n owner f (omega arith) ∙ ap (λ b. if b then false else is_unreserved marks f) (sym (next_same n f))
 
 -- where a frame gets an owner and leaves the set, the set is still right
-pub IsUnreservedSet-reserved : (marks : List (Option Owner)) (old new : Words) (frame : ℕ) (owner : Owner) → frame < length marks → Removes old new frame → room new ≡ room old → IsUnreservedSet marks old
+pub IsUnreservedSet-reserved : (marks : List (Option Owner)) (old new : Words) (frame : ℕ) (owner : Owner) → frame < length marks → RemovesFrame old new frame → room new ≡ room old → IsUnreservedSet marks old
     → IsUnreservedSet (slice_set marks frame (Some owner)) new
 IsUnreservedSet-reserved marks old new frame owner within removed same_room is = record {
   has_unreserved = λ f. removed f ∙ ap (λ b. if frame == f then false else b) (is.has_unreserved f) ∙ sym (unreserved-set marks frame owner f within);

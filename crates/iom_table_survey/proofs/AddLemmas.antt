@@ -7,25 +7,25 @@ use Rattle.iom_base.specs.declared.access.AccessKind.TheVariants.{Read, Write}
 use Rattle.iom_table_survey.specs.Reaches.{frames_by, AddsReach}
 use Rattle.iom_table_survey.specs.declared.reach.Reach.{Reach}
 use Rattle.iom_table_survey.proofs.RowLemmas.{empty_has}
-use Rattle.iom_table_survey.specs.Rows.{place_of, is_set, has, GrowsBy, IsOf, IsInRun}
+use Rattle.iom_table_survey.specs.Rows.{frame_place, is_place_set, row_has, GrowsBy, IsOf, IsInRun}
 
 -- frames of one place are both in a set
-pub has_alike : (row : List ℕ) (one other : ℕ) → place_of one ≡ place_of other → has row other ≡ true → has row one ≡ true
-has_alike row one other same there = ap (λ p. is_set row p) same ∙ there
+pub has_alike : (row : List ℕ) (one other : ℕ) → frame_place one ≡ frame_place other → row_has row other ≡ true → row_has row one ≡ true
+has_alike row one other same there = ap (λ p. is_place_set row p) same ∙ there
 
 pub adds_nothing : (row : List ℕ) → GrowsBy row row (λ f. ⊥)
 adds_nothing row = record { stays = λ f had. had; added = λ f never. absurd never; sole = λ f had. inl had }
 
 -- the same, where what is new is the same up to the place
 pub adds_alike : (old new : List ℕ) (P Q : ℕ → Type 0) → GrowsBy old new P
-    → ((f : ℕ) → Q f → (g : ℕ) × P g × (place_of g ≡ place_of f)) → ((f : ℕ) → P f → (g : ℕ) × Q g × (place_of g ≡ place_of f)) → GrowsBy old new Q
+    → ((f : ℕ) → Q f → (g : ℕ) × P g × (frame_place g ≡ frame_place f)) → ((f : ℕ) → P f → (g : ℕ) × Q g × (frame_place g ≡ frame_place f)) → GrowsBy old new Q
 adds_alike old new P Q adds to from = record {
   stays = adds.stays;
   added = λ f q. let (g, p, same) = to f q in has_alike new f g (sym same) (adds.added g p);
   sole = λ f has_now. by f (adds.sole f has_now);
 }
   where
-    by : (f : ℕ) → (has old f ≡ true) ⊎ ((g : ℕ) × P g × (place_of g ≡ place_of f)) → (has old f ≡ true) ⊎ ((g : ℕ) × Q g × (place_of g ≡ place_of f))
+    by : (f : ℕ) → (row_has old f ≡ true) ⊎ ((g : ℕ) × P g × (frame_place g ≡ frame_place f)) → (row_has old f ≡ true) ⊎ ((g : ℕ) × Q g × (frame_place g ≡ frame_place f))
     by f (inl had) = inl had
     by f (inr (g, p, same)) = let (h, q, alike) = from g p in inr (h, q, alike ∙ same)
 
@@ -40,30 +40,30 @@ adds_then old between new P Q first second = record {
   sole = λ f has_now. last f (second.sole f has_now);
 }
   where
-    either : (f : ℕ) → P f ⊎ Q f → has new f ≡ true
+    either : (f : ℕ) → P f ⊎ Q f → row_has new f ≡ true
     either f (inl p) = second.stays f (first.added f p)
     either f (inr q) = second.added f q
 
-    before : (f : ℕ) → (has old f ≡ true) ⊎ ((g : ℕ) × P g × (place_of g ≡ place_of f)) → (has old f ≡ true) ⊎ ((g : ℕ) × (P g ⊎ Q g) × (place_of g ≡ place_of f))
+    before : (f : ℕ) → (row_has old f ≡ true) ⊎ ((g : ℕ) × P g × (frame_place g ≡ frame_place f)) → (row_has old f ≡ true) ⊎ ((g : ℕ) × (P g ⊎ Q g) × (frame_place g ≡ frame_place f))
     before f (inl had) = inl had
     before f (inr (g, p, same)) = inr (g, inl p, same)
 
-    last : (f : ℕ) → (has between f ≡ true) ⊎ ((g : ℕ) × Q g × (place_of g ≡ place_of f)) → (has old f ≡ true) ⊎ ((g : ℕ) × (P g ⊎ Q g) × (place_of g ≡ place_of f))
+    last : (f : ℕ) → (row_has between f ≡ true) ⊎ ((g : ℕ) × Q g × (frame_place g ≡ frame_place f)) → (row_has old f ≡ true) ⊎ ((g : ℕ) × (P g ⊎ Q g) × (frame_place g ≡ frame_place f))
     last f (inl had) = before f (first.sole f had)
     last f (inr (g, q, same)) = inr (g, inr q, same)
 
 -- a set that began empty
-pub of_none : (none row : List ℕ) (P : ℕ → Type 0) → ((f : ℕ) → has none f ≡ false) → GrowsBy none row P → IsOf row P
+pub of_none : (none row : List ℕ) (P : ℕ → Type 0) → ((f : ℕ) → row_has none f ≡ false) → GrowsBy none row P → IsOf row P
 of_none none row P empty adds = record { all = adds.added; sole = λ f there. by f (adds.sole f there) }
   where
-    by : (f : ℕ) → (has none f ≡ true) ⊎ ((g : ℕ) × P g × (place_of g ≡ place_of f)) → (g : ℕ) × P g × (place_of g ≡ place_of f)
+    by : (f : ℕ) → (row_has none f ≡ true) ⊎ ((g : ℕ) × P g × (frame_place g ≡ frame_place f)) → (g : ℕ) × P g × (frame_place g ≡ frame_place f)
     by f (inl had) = absurd (false≢true (sym (empty f) ∙ had))
     by f (inr found) = found
 
 -- all of another set
-pub adds_all_of : (old new other : List ℕ) (P : ℕ → Type 0) → GrowsBy old new (λ f. has other f ≡ true) → IsOf other P → GrowsBy old new P
+pub adds_all_of : (old new other : List ℕ) (P : ℕ → Type 0) → GrowsBy old new (λ f. row_has other f ≡ true) → IsOf other P → GrowsBy old new P
 adds_all_of old new other P adds is_of =
-    adds_alike old new (λ f. has other f ≡ true) P adds (λ f p. (f, is_of.all f p, refl)) is_of.sole
+    adds_alike old new (λ f. row_has other f ≡ true) P adds (λ f p. (f, is_of.all f p, refl)) is_of.sole
 
 -- a step of a loop over numbers
 pub adds_next : (old between new : List ℕ) (P : ℕ → ℕ → Type 0) (k : ℕ) → GrowsBy old between (λ f. (j : ℕ) × (j < k) × P j f) → GrowsBy between new (P k)
@@ -92,13 +92,13 @@ pub adds_run : (old new : List ℕ) (first count end : ℕ) → 0 < count → en
     → GrowsBy old new (λ f. (min first 4096 ≤ f) × (f < end)) → GrowsBy old new (IsInRun first count)
 adds_run old new first count end some is adds = adds_alike old new (λ f. (min first 4096 ≤ f) × (f < end)) (IsInRun first count) adds to from
   where
-    to : (f : ℕ) → IsInRun first count f → (g : ℕ) × ((min first 4096 ≤ g) × (g < end)) × (place_of g ≡ place_of f)
+    to : (f : ℕ) → IsInRun first count f → (g : ℕ) × ((min first 4096 ≤ g) × (g < end)) × (frame_place g ≡ frame_place f)
     to f (low, high) = (min f 4096, (omega arith, omega arith), omega arith)
 
-    from : (f : ℕ) → (min first 4096 ≤ f) × (f < end) → (g : ℕ) × IsInRun first count g × (place_of g ≡ place_of f)
+    from : (f : ℕ) → (min first 4096 ≤ f) × (f < end) → (g : ℕ) × IsInRun first count g × (frame_place g ≡ frame_place f)
     from f (low, high) = at (cases_lt f first)
       where
-        at : (f < first) ⊎ (first ≤ f) → (g : ℕ) × IsInRun first count g × (place_of g ≡ place_of f)
+        at : (f < first) ⊎ (first ≤ f) → (g : ℕ) × IsInRun first count g × (frame_place g ≡ frame_place f)
         at (inl below) = (first, (omega arith, omega arith), omega arith)
         at (inr above) = (f, (above, omega arith), refl)
 
@@ -132,15 +132,15 @@ pub adds_none : (row : List ℕ) (P : ℕ → Type 0) → ((f : ℕ) → P f →
 adds_none row P none = record { stays = λ f had. had; added = λ f p. absurd (none f p); sole = λ f had. inl had }
 
 -- everything
-pub adds_everything : (old new : List ℕ) → ((f : ℕ) → has new f ≡ true) → GrowsBy old new (λ f. ⊤)
+pub adds_everything : (old new : List ℕ) → ((f : ℕ) → row_has new f ≡ true) → GrowsBy old new (λ f. ⊤)
 adds_everything old new all = record { stays = λ f had. all f; added = λ f so. all f; sole = λ f there. inr (f, tt, refl) }
 
 -- a set of frames, and what grew from nothing
-pub to_adds : (none row : List ℕ) (P : ℕ → Type 0) → ((f : ℕ) → has none f ≡ false) → IsOf row P → GrowsBy none row P
+pub to_adds : (none row : List ℕ) (P : ℕ → Type 0) → ((f : ℕ) → row_has none f ≡ false) → IsOf row P → GrowsBy none row P
 to_adds none row P empty is_of = record { stays = λ f had. absurd (false≢true (sym (empty f) ∙ had)); added = is_of.all; sole = λ f there. inr (is_of.sole f there) }
 
 -- a set that is filled in a loop
-pub of_none_yet : (row : List ℕ) (P : ℕ → ℕ → Type 0) → ((f : ℕ) → has row f ≡ false) → IsOf row (λ f. (j : ℕ) × (j < 0) × P j f)
+pub of_none_yet : (row : List ℕ) (P : ℕ → ℕ → Type 0) → ((f : ℕ) → row_has row f ≡ false) → IsOf row (λ f. (j : ℕ) × (j < 0) × P j f)
 of_none_yet row P empty = of_none row row (λ f. (j : ℕ) × (j < 0) × P j f) empty (adds_none_yet row P)
 
 pub of_next : (old new : List ℕ) (P : ℕ → ℕ → Type 0) (k : ℕ) → IsOf old (λ f. (j : ℕ) × (j < k) × P j f) → GrowsBy old new (P k) → IsOf new (λ f. (j : ℕ) × (j < k + 1) × P j f)
@@ -160,8 +160,8 @@ pub reach_same : (old new : Reach) (P Q : AccessKind → ℕ → Type 0) → Add
     → ((kind : AccessKind) (f : ℕ) → P kind f → Q kind f) → AddsReach old new Q
 reach_same old new P Q adds to from kind = adds_same (frames_by old kind) (frames_by new kind) (P kind) (Q kind) (adds kind) (to kind) (from kind)
 
-pub reach_alike : (old new : Reach) (P Q : AccessKind → ℕ → Type 0) → AddsReach old new P → ((kind : AccessKind) (f : ℕ) → Q kind f → (g : ℕ) × P kind g × (place_of g ≡ place_of f))
-    → ((kind : AccessKind) (f : ℕ) → P kind f → (g : ℕ) × Q kind g × (place_of g ≡ place_of f)) → AddsReach old new Q
+pub reach_alike : (old new : Reach) (P Q : AccessKind → ℕ → Type 0) → AddsReach old new P → ((kind : AccessKind) (f : ℕ) → Q kind f → (g : ℕ) × P kind g × (frame_place g ≡ frame_place f))
+    → ((kind : AccessKind) (f : ℕ) → P kind f → (g : ℕ) × Q kind g × (frame_place g ≡ frame_place f)) → AddsReach old new Q
 reach_alike old new P Q adds to from kind = adds_alike (frames_by old kind) (frames_by new kind) (P kind) (Q kind) (adds kind) (to kind) (from kind)
 
 pub reach_then : (old between new : Reach) (P Q : AccessKind → ℕ → Type 0) → AddsReach old between P → AddsReach between new Q → AddsReach old new (λ kind f. P kind f ⊎ Q kind f)

@@ -5,17 +5,17 @@ use Rattle.std.specs.Int.{bit_at, trailing_zeros}
 use Rattle.std.proofs.lemmas.Bool.{cases_eq, cases_lt, eqb-true, eq-eqb}
 use Rattle.std.proofs.lemmas.List.{get_or-set_same, get_or-set_other}
 use Rattle.std.proofs.lemmas.Nat.Bits.{bit_at-zero, bit_at-lt, bit_at_and, bit_at_or, bit_at_ones, bit_at-trailing_zeros}
-use Rattle.iom_table_survey.specs.Rows.{place_of, is_set, has, GrowsBy, StandInBoth}
+use Rattle.iom_table_survey.specs.Rows.{frame_place, is_place_set, row_has, GrowsBy, StandInBoth}
 
 -- one bit of one word is set
-set_same : (row : List ℕ) (place now : ℕ) → place / 64 < length row → bit_at now (place % 64) ≡ 1 → is_set (set row (place / 64) now) place ≡ true
-unfolding is_set
+set_same : (row : List ℕ) (place now : ℕ) → place / 64 < length row → bit_at now (place % 64) ≡ 1 → is_place_set (set row (place / 64) now) place ≡ true
+unfolding is_place_set
 set_same row place now within one = ap (λ w. bit_at w (place % 64) == 1) (get_or-set_same row (place / 64) now 0 within) ∙ eq-eqb _ 1 one
 
 set_other : (row : List ℕ) (place now other : ℕ) → place / 64 < length row → other ≢ place
     → ((k : ℕ) → k ≢ place % 64 → bit_at now k ≡ bit_at (get_or row (place / 64) 0) k)
-    → is_set (set row (place / 64) now) other ≡ is_set row other
-unfolding is_set
+    → is_place_set (set row (place / 64) now) other ≡ is_place_set row other
+unfolding is_place_set
 set_other row place now other within differ others = by (cases_eq (other / 64) (place / 64))
   where
     by : (other / 64 ≡ place / 64) ⊎ (other / 64 ≢ place / 64) → (bit_at (get_or (set row (place / 64) now) (other / 64) 0) (other % 64) == 1) ≡ (bit_at (get_or row (other / 64) 0) (other % 64) == 1)
@@ -27,13 +27,13 @@ set_other row place now other within differ others = by (cases_eq (other / 64) (
         ∙ ap (λ i. bit_at (get_or row i 0) (other % 64) == 1) (sym same)
     by (inr far) = ap (λ w. bit_at w (other % 64) == 1) (get_or-set_other row (place / 64) (other / 64) now 0 far)
 
-pub inserts : (old row : List ℕ) (frame place now : ℕ) → row ≡ old → place ≡ place_of frame → length row ≡ 65 → bit_at now (place % 64) ≡ 1
+pub inserts : (old row : List ℕ) (frame place now : ℕ) → row ≡ old → place ≡ frame_place frame → length row ≡ 65 → bit_at now (place % 64) ≡ 1
     → ((k : ℕ) → k ≢ place % 64 → bit_at now k ≡ bit_at (get_or row (place / 64) 0) k)
     → GrowsBy old (set row (place / 64) now) (λ f. f ≡ frame)
 inserts old row frame place now same at long one others = subst (λ r. GrowsBy r changed (λ f. f ≡ frame)) same (record {
-  stays = λ f had. by f (cases_eq (place_of f) place) had;
-  added = λ f is. ap (λ g. is_set changed (place_of g)) is ∙ ap (λ p. is_set changed p) (sym at) ∙ here;
-  sole = λ f now_has. from f (cases_eq (place_of f) place) now_has;
+  stays = λ f had. by f (cases_eq (frame_place f) place) had;
+  added = λ f is. ap (λ g. is_place_set changed (frame_place g)) is ∙ ap (λ p. is_place_set changed p) (sym at) ∙ here;
+  sole = λ f now_has. from f (cases_eq (frame_place f) place) now_has;
 })
   where
     changed : List ℕ
@@ -42,16 +42,16 @@ inserts old row frame place now same at long one others = subst (λ r. GrowsBy r
     inside : place / 64 < length row
     inside = omega (arith, long, at)
 
-    here : is_set changed place ≡ true
+    here : is_place_set changed place ≡ true
     here = set_same row place now inside one
 
-    by : (f : ℕ) → (place_of f ≡ place) ⊎ (place_of f ≢ place) → has row f ≡ true → has changed f ≡ true
-    by f (inl is) had = ap (λ p. is_set changed p) is ∙ here
-    by f (inr differ) had = set_other row place now (place_of f) inside differ others ∙ had
+    by : (f : ℕ) → (frame_place f ≡ place) ⊎ (frame_place f ≢ place) → row_has row f ≡ true → row_has changed f ≡ true
+    by f (inl is) had = ap (λ p. is_place_set changed p) is ∙ here
+    by f (inr differ) had = set_other row place now (frame_place f) inside differ others ∙ had
 
-    from : (f : ℕ) → (place_of f ≡ place) ⊎ (place_of f ≢ place) → has changed f ≡ true → (has row f ≡ true) ⊎ ((other : ℕ) × (other ≡ frame) × (place_of other ≡ place_of f))
+    from : (f : ℕ) → (frame_place f ≡ place) ⊎ (frame_place f ≢ place) → row_has changed f ≡ true → (row_has row f ≡ true) ⊎ ((other : ℕ) × (other ≡ frame) × (frame_place other ≡ frame_place f))
     from f (inl is) has_now = inr (frame, refl, sym at ∙ sym is)
-    from f (inr differ) has_now = inl (sym (set_other row place now (place_of f) inside differ others) ∙ has_now)
+    from f (inr differ) has_now = inl (sym (set_other row place now (frame_place f) inside differ others) ∙ has_now)
 
 -- a row of zeros has no frame
 at_zero : (n i : ℕ) → ◌≡◌ {A = ℕ} (get_or (replicate n 0) i 0) 0
@@ -59,14 +59,14 @@ at_zero zero i = refl
 at_zero (suc n) zero = refl
 at_zero (suc n) (suc i) = at_zero n i
 
-pub empty_has : (f : ℕ) → has (replicate 65 0) f ≡ false
-unfolding is_set
-empty_has f = ap (λ w. bit_at w (place_of f % 64) == 1) (at_zero 65 (place_of f / 64)) ∙ ap (λ b. b == 1) (bit_at-zero (place_of f % 64))
+pub empty_has : (f : ℕ) → row_has (replicate 65 0) f ≡ false
+unfolding is_place_set
+empty_has f = ap (λ w. bit_at w (frame_place f % 64) == 1) (at_zero 65 (frame_place f / 64)) ∙ ap (λ b. b == 1) (bit_at-zero (frame_place f % 64))
 
 -- a bit that is read
-pub reads : (row : List ℕ) (frame word : ℕ) → word ≡ get_or row (min frame 4096 / 64) 0 → (bit_at word (min frame 4096 % 64) == 1) ≡ has row frame
-unfolding is_set
-reads row frame word at = ap (λ w. bit_at w (place_of frame % 64) == 1) at
+pub reads : (row : List ℕ) (frame word : ℕ) → word ≡ get_or row (min frame 4096 / 64) 0 → (bit_at word (min frame 4096 % 64) == 1) ≡ row_has row frame
+unfolding is_place_set
+reads row frame word at = ap (λ w. bit_at w (frame_place frame % 64) == 1) at
 
 -- a row of ones has each
 at_ones : (n i : ℕ) → i < n → ◌≡◌ {A = ℕ} (get_or (replicate n 18446744073709551615) i 0) 18446744073709551615
@@ -74,20 +74,20 @@ at_ones zero i within = absurd (omega (arith, within))
 at_ones (suc n) zero within = refl
 at_ones (suc n) (suc i) within = at_ones n i (omega (arith, within))
 
-pub full_has : (f : ℕ) → has (replicate 65 18446744073709551615) f ≡ true
-unfolding is_set
-full_has f = ap (λ w. bit_at w (place_of f % 64) == 1) (at_ones 65 (place_of f / 64) (omega arith)) ∙ eq-eqb _ 1 (bit_at_ones 64 (place_of f % 64) (omega arith))
+pub full_has : (f : ℕ) → row_has (replicate 65 18446744073709551615) f ≡ true
+unfolding is_place_set
+full_has f = ap (λ w. bit_at w (frame_place f % 64) == 1) (at_ones 65 (frame_place f / 64) (omega arith)) ∙ eq-eqb _ 1 (bit_at_ones 64 (frame_place f % 64) (omega arith))
 
 -- a frame by its word and its bit there
-has_place : (row : List ℕ) (index k : ℕ) → index < 64 → k < 64 → has row (64 * index + k) ≡ (bit_at (get_or row index 0) k == 1)
-unfolding is_set
+has_place : (row : List ℕ) (index k : ℕ) → index < 64 → k < 64 → row_has row (64 * index + k) ≡ (bit_at (get_or row index 0) k == 1)
+unfolding is_place_set
 has_place row index k low within =
-    let word : place_of (64 * index + k) / 64 ≡ index = omega arith in
-    let bit : place_of (64 * index + k) % 64 ≡ k = omega arith in
-    ap (λ i. bit_at (get_or row i 0) (place_of (64 * index + k) % 64) == 1) word ∙ ap (λ j. bit_at (get_or row index 0) j == 1) bit
+    let word : frame_place (64 * index + k) / 64 ≡ index = omega arith in
+    let bit : frame_place (64 * index + k) % 64 ≡ k = omega arith in
+    ap (λ i. bit_at (get_or row i 0) (frame_place (64 * index + k) % 64) == 1) word ∙ ap (λ j. bit_at (get_or row index 0) j == 1) bit
 
 -- a word of 0 has none
-pub none_of : (row : List ℕ) (index k : ℕ) → index < 64 → k < 64 → get_or row index 0 ≡ 0 → has row (64 * index + k) ≡ false
+pub none_of : (row : List ℕ) (index k : ℕ) → index < 64 → k < 64 → get_or row index 0 ≡ 0 → row_has row (64 * index + k) ≡ false
 none_of row index k low within is_zero =
     has_place row index k low within ∙ ap (λ w. bit_at w k == 1) is_zero ∙ ap (λ b. b == 1) (bit_at-zero k)
 
@@ -99,30 +99,30 @@ one_or a b low low' m is set = by (cases_eq a 1)
     by (inl one) = inl (eq-eqb a 1 one)
     by (inr other) = let whole : m ≡ 1 = eqb-true m 1 set in inr (eq-eqb b 1 (omega (arith, other)))
 
-pub union_of : (old row other new : List ℕ) → row ≡ old → ((k : ℕ) → k < 65 → get_or new k 0 ≡ bit_or (get_or row k 0) (get_or other k 0)) → GrowsBy old new (λ f. has other f ≡ true)
-unfolding is_set
-union_of old row other new same all = subst (λ r. GrowsBy r new (λ f. has other f ≡ true)) same (record {
+pub union_of : (old row other new : List ℕ) → row ≡ old → ((k : ℕ) → k < 65 → get_or new k 0 ≡ bit_or (get_or row k 0) (get_or other k 0)) → GrowsBy old new (λ f. row_has other f ≡ true)
+unfolding is_place_set
+union_of old row other new same all = subst (λ r. GrowsBy r new (λ f. row_has other f ≡ true)) same (record {
   stays = λ f had. left f had;
   added = λ f had. right f had;
-  sole = λ f there. by f (one_or _ _ (bit_at-lt (get_or row (place_of f / 64) 0) (place_of f % 64)) (bit_at-lt (get_or other (place_of f / 64) 0) (place_of f % 64)) _ (bits f) there);
+  sole = λ f there. by f (one_or _ _ (bit_at-lt (get_or row (frame_place f / 64) 0) (frame_place f % 64)) (bit_at-lt (get_or other (frame_place f / 64) 0) (frame_place f % 64)) _ (bits f) there);
 })
   where
-    bits : (f : ℕ) → bit_at (get_or new (place_of f / 64) 0) (place_of f % 64) ≡ max (bit_at (get_or row (place_of f / 64) 0) (place_of f % 64)) (bit_at (get_or other (place_of f / 64) 0) (place_of f % 64))
-    bits f = ap (λ w. bit_at w (place_of f % 64)) (all (place_of f / 64) (omega arith)) ∙ bit_at_or (get_or row (place_of f / 64) 0) (get_or other (place_of f / 64) 0) (place_of f % 64)
+    bits : (f : ℕ) → bit_at (get_or new (frame_place f / 64) 0) (frame_place f % 64) ≡ max (bit_at (get_or row (frame_place f / 64) 0) (frame_place f % 64)) (bit_at (get_or other (frame_place f / 64) 0) (frame_place f % 64))
+    bits f = ap (λ w. bit_at w (frame_place f % 64)) (all (frame_place f / 64) (omega arith)) ∙ bit_at_or (get_or row (frame_place f / 64) 0) (get_or other (frame_place f / 64) 0) (frame_place f % 64)
 
-    left : (f : ℕ) → has row f ≡ true → has new f ≡ true
+    left : (f : ℕ) → row_has row f ≡ true → row_has new f ≡ true
     left f had =
-        let one = eqb-true (bit_at (get_or row (place_of f / 64) 0) (place_of f % 64)) 1 had in
-        let low = bit_at-lt (get_or other (place_of f / 64) 0) (place_of f % 64) in
+        let one = eqb-true (bit_at (get_or row (frame_place f / 64) 0) (frame_place f % 64)) 1 had in
+        let low = bit_at-lt (get_or other (frame_place f / 64) 0) (frame_place f % 64) in
         eq-eqb _ 1 (omega (arith, bits f, one, low))
 
-    right : (f : ℕ) → has other f ≡ true → has new f ≡ true
+    right : (f : ℕ) → row_has other f ≡ true → row_has new f ≡ true
     right f had =
-        let one = eqb-true (bit_at (get_or other (place_of f / 64) 0) (place_of f % 64)) 1 had in
-        let low = bit_at-lt (get_or row (place_of f / 64) 0) (place_of f % 64) in
+        let one = eqb-true (bit_at (get_or other (frame_place f / 64) 0) (frame_place f % 64)) 1 had in
+        let low = bit_at-lt (get_or row (frame_place f / 64) 0) (frame_place f % 64) in
         eq-eqb _ 1 (omega (arith, bits f, one, low))
 
-    by : (f : ℕ) → (has row f ≡ true) ⊎ (has other f ≡ true) → (has row f ≡ true) ⊎ ((g : ℕ) × (has other g ≡ true) × (place_of g ≡ place_of f))
+    by : (f : ℕ) → (row_has row f ≡ true) ⊎ (row_has other f ≡ true) → (row_has row f ≡ true) ⊎ ((g : ℕ) × (row_has other g ≡ true) × (frame_place g ≡ frame_place f))
     by f (inl had) = inl had
     by f (inr had) = inr (f, had, refl)
 
@@ -150,8 +150,8 @@ no_common_at one other index low none before f within (has_one, has_other) = by 
   where
     here : (k : ℕ) → k < 64 → f ≡ 64 * index + k → ⊥
     here k small is =
-        let a = eqb-true _ 1 (sym (has_place one index k low small) ∙ ap (λ g. has one g) (sym is) ∙ has_one) in
-        let b = eqb-true _ 1 (sym (has_place other index k low small) ∙ ap (λ g. has other g) (sym is) ∙ has_other) in
+        let a = eqb-true _ 1 (sym (has_place one index k low small) ∙ ap (λ g. row_has one g) (sym is) ∙ has_one) in
+        let b = eqb-true _ 1 (sym (has_place other index k low small) ∙ ap (λ g. row_has other g) (sym is) ∙ has_other) in
         omega (arith, a, b, bit_at_and (get_or one index 0) (get_or other index 0) k, ap (λ w. bit_at w k) none, bit_at-zero k)
 
     by : (f < 64 * index) ⊎ (64 * index ≤ f) → ⊥

@@ -1,5 +1,5 @@
 ghost use Rattle.std.specs.Prelude.{◌≡◌, ◌<◌, ◌≤◌, ◌+◌, ◌*◌, ◌^◌, ℕ, true, false, IfSome, IfNone};
-ghost use Rattle.iom_table_survey.specs.Rows.{has, place_of as place_of_frame, GrowsBy, IsInRun, StandInBoth};
+ghost use Rattle.iom_table_survey.specs.Rows.{row_has, frame_place, GrowsBy, IsInRun, StandInBoth};
 
 use crate::bits::{BITS, first_in_both, has_bit, with_bit};
 use std::marker::Model;
@@ -28,7 +28,7 @@ impl Model for FrameRow {
 
 /// The place of a frame in a row.
 fn place_of(frame: u64) -> usize
-    ensures { result ≡ place_of_frame frame }
+    ensures { result ≡ frame_place frame }
 {
     frame.min(FURTHER) as usize
 }
@@ -36,14 +36,14 @@ fn place_of(frame: u64) -> usize
 impl FrameRow {
     /// The set of no frame.
     pub fn new() -> FrameRow
-        ensures { (f : ℕ) → has result f ≡ false }
+        ensures { (f : ℕ) → row_has result f ≡ false }
     {
         FrameRow { words: [0; WORDS] }
     }
 
     /// The set of all frames.
     fn full() -> FrameRow
-        ensures { (f : ℕ) → has result f ≡ true }
+        ensures { (f : ℕ) → row_has result f ≡ true }
     {
         FrameRow {
             words: [u64::MAX; WORDS],
@@ -52,7 +52,7 @@ impl FrameRow {
 
     /// Whether the frame is in the set.
     pub fn contains(&self, frame: u64) -> bool
-        ensures { result ≡ has self.now frame }
+        ensures { result ≡ row_has self.now frame }
     {
         let place = place_of(frame);
         has_bit(self.words[place / BITS], place % BITS)
@@ -80,21 +80,21 @@ impl FrameRow {
 
     /// Puts all frames into the set.
     pub fn insert_all(&mut self)
-        ensures { (f : ℕ) → has self.new f ≡ true }
+        ensures { (f : ℕ) → row_has self.new f ≡ true }
     {
         *self = FrameRow::full();
     }
 
     /// Takes all frames out of the set.
     pub fn clear(&mut self)
-        ensures { (f : ℕ) → has self.new f ≡ false }
+        ensures { (f : ℕ) → row_has self.new f ≡ false }
     {
         *self = FrameRow::new();
     }
 
     /// Puts all frames of the other set into this one.
     pub fn union(&mut self, other: &FrameRow)
-        ensures { GrowsBy self.old self.new (λ f. has other.now f ≡ true) }
+        ensures { GrowsBy self.old self.new (λ f. row_has other.now f ≡ true) }
     {
         for index in 0..WORDS {
             self.words[index] = self.words[index] | other.words[index];
@@ -104,7 +104,7 @@ impl FrameRow {
     /// Whether none of the 64 frames from 64 times the index on is in the set.
     pub(crate) fn has_none_of(&self, index: usize) -> bool
         requires { index < 64 }
-        ensures { result ≡ true → (k : ℕ) → k < 64 → has self.now (64 * index + k) ≡ false }
+        ensures { result ≡ true → (k : ℕ) → k < 64 → row_has self.now (64 * index + k) ≡ false }
     {
         self.words[index] == 0
     }

@@ -1,6 +1,6 @@
 ghost use Rattle.std.specs.Prelude.{◌≡◌, ◌<◌, ◌+◌, ◌^◌, ℕ, true, false, ⊤};
 ghost use Rattle.iom_base.specs.Rights.{allows};
-ghost use Rattle.iom_table_survey.specs.Rows.{has, GrowsBy, IsInRun};
+ghost use Rattle.iom_table_survey.specs.Rows.{row_has, GrowsBy, IsInRun};
 ghost use Rattle.iom_table_survey.specs.Reaches.{frames_by, AddsReach};
 
 use crate::frame_row::FrameRow;
@@ -27,7 +27,7 @@ fn insert_where(row: &mut FrameRow, allowed: bool, first: u64, count: u64)
 impl Reach {
     /// No frame can be reached.
     pub fn new() -> Reach
-        ensures { (kind : AccessKind) (f : ℕ) → has (frames_by result kind) f ≡ false }
+        ensures { (kind : AccessKind) (f : ℕ) → row_has (frames_by result kind) f ≡ false }
     {
         Reach {
             readable: FrameRow::new(),
@@ -37,7 +37,7 @@ impl Reach {
 
     /// Whether an access of this kind can reach the frame.
     pub fn contains(&self, frame: u64, kind: AccessKind) -> bool
-        ensures { result ≡ has (frames_by self.now kind) frame }
+        ensures { result ≡ row_has (frames_by self.now kind) frame }
     {
         match kind {
             AccessKind::Read => self.readable.contains(frame),
@@ -84,7 +84,7 @@ impl Reach {
 
     /// No frame can be reached any more.
     pub fn clear(&mut self)
-        ensures { (kind : AccessKind) (f : ℕ) → has (frames_by self.new kind) f ≡ false }
+        ensures { (kind : AccessKind) (f : ℕ) → row_has (frames_by self.new kind) f ≡ false }
     {
         self.readable.clear();
         self.writable.clear();
@@ -92,7 +92,7 @@ impl Reach {
 
     /// What can be reached there can be reached here too.
     pub fn union(&mut self, other: &Reach)
-        ensures { AddsReach self.old self.new (λ kind f. has (frames_by other.now kind) f ≡ true) }
+        ensures { AddsReach self.old self.new (λ kind f. row_has (frames_by other.now kind) f ≡ true) }
     {
         self.readable.union(&other.readable);
         self.writable.union(&other.writable);

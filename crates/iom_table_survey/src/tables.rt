@@ -3,7 +3,7 @@ ghost use Rattle.std.specs.Prelude.{◌≡◌, ◌<◌, ◌≤◌, ◌+◌, ◌*
 ghost use Rattle.iom_stage_walk.specs.Entries.{IsBounded, entries};
 ghost use Rattle.iom_table_survey.specs.Levels.{span, PointsTo, MapsFrame, PointsFrom, MapsFrom, IsPointedTo, IsMappedBy, IsTable, IsMapped};
 ghost use Rattle.iom_table_survey.specs.Reaches.{AddsReach};
-ghost use Rattle.iom_table_survey.specs.Rows.{has, GrowsBy, IsOf, IsInRun};
+ghost use Rattle.iom_table_survey.specs.Rows.{row_has, GrowsBy, IsOf, IsInRun};
 
 use crate::bits::BITS;
 use crate::frame_row::FrameRow;
@@ -77,8 +77,8 @@ fn survey_marked(
     reach: &mut Reach,
 )
     requires { below ≤ 3 }
-    ensures pointers { GrowsBy next.old next.new (λ f. PointsFrom (entries memory.now) table f × (has level.now table ≡ true)) }
-    ensures leaves { AddsReach reach.old reach.new (λ kind f. MapsFrom (entries memory.now) below kind table f × (has level.now table ≡ true)) }
+    ensures pointers { GrowsBy next.old next.new (λ f. PointsFrom (entries memory.now) table f × (row_has level.now table ≡ true)) }
+    ensures leaves { AddsReach reach.old reach.new (λ kind f. MapsFrom (entries memory.now) below kind table f × (row_has level.now table ≡ true)) }
 {
     if level.contains(table) {
         survey_table(memory, table, below, next, reach);
@@ -96,9 +96,9 @@ fn survey_word(
 )
     requires below { below ≤ 3 }
     requires word { word < 64 }
-    ensures pointers { GrowsBy next.old next.new (λ f. (k : ℕ) × (k < 64) × (PointsFrom (entries memory.now) (64 * word + k) f × (has level.now (64 * word + k) ≡ true))) }
+    ensures pointers { GrowsBy next.old next.new (λ f. (k : ℕ) × (k < 64) × (PointsFrom (entries memory.now) (64 * word + k) f × (row_has level.now (64 * word + k) ≡ true))) }
     ensures leaves { AddsReach reach.old reach.new (λ kind f. (k : ℕ) × (k < 64)
-        × (MapsFrom (entries memory.now) below kind (64 * word + k) f × (has level.now (64 * word + k) ≡ true))) }
+        × (MapsFrom (entries memory.now) below kind (64 * word + k) f × (row_has level.now (64 * word + k) ≡ true))) }
 {
     if level.has_none_of(word) {
         return;
@@ -119,8 +119,8 @@ fn survey_word(
 fn survey_level(memory: &Memory, level: &FrameRow, below: u32, reach: &mut Reach) -> FrameRow
     requires size { length memory.now ≤ 4096 }
     requires below { below ≤ 3 }
-    ensures pointers { IsOf result (IsPointedTo (entries memory.now) (λ t. has level.now t ≡ true)) }
-    ensures leaves { AddsReach reach.old reach.new (IsMappedBy (entries memory.now) (λ t. has level.now t ≡ true) below) }
+    ensures pointers { IsOf result (IsPointedTo (entries memory.now) (λ t. row_has level.now t ≡ true)) }
+    ensures leaves { AddsReach reach.old reach.new (IsMappedBy (entries memory.now) (λ t. row_has level.now t ≡ true) below) }
 {
     let mut next = FrameRow::new();
     for word in 0..MEMORY_WORDS {
@@ -139,8 +139,8 @@ fn survey_levels(
 )
     requires size { length memory.now ≤ 4096 }
     requires levels { levels ≤ 4 }
-    ensures tables { GrowsBy tables.old tables.new (IsTable (entries memory.now) (λ t. has level.now t ≡ true) levels) }
-    ensures leaves { AddsReach reach.old reach.new (IsMapped (entries memory.now) (λ t. has level.now t ≡ true) levels) }
+    ensures tables { GrowsBy tables.old tables.new (IsTable (entries memory.now) (λ t. row_has level.now t ≡ true) levels) }
+    ensures leaves { AddsReach reach.old reach.new (IsMapped (entries memory.now) (λ t. row_has level.now t ≡ true) levels) }
 {
     if levels == 0 {
         return;

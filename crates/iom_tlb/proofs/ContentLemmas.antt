@@ -2,11 +2,11 @@
 -- none to which it doesn't apply.
 use Rattle.std.proofs.Common.{◌≡◌, ◌≢◌, ◌⊎◌, ◌∙◌, inl, inr, Bool, true, false, cond, Some, None, refl, sym, ap}
 use Rattle.iom_tlb.specs.declared.trans_cache.Translation.{Translation}
-use Rattle.iom_tlb.specs.Content.{Key, Content, Stays, Sets, Keeps, Drops}
+use Rattle.iom_tlb.specs.Content.{Key, Translations, TranslationsStay, Sets, Keeps, DropsWhere}
 use Rattle.iom_tlb.proofs.KeyLemmas.{one_or_other}
 
-module _ (old new : Content) (key : Key) (t : Translation) (found : new key ≡ Some t) where
-  pub found_before_look : Stays old new → old key ≡ Some t
+module _ (old new : Translations) (key : Key) (t : Translation) (found : new key ≡ Some t) where
+  pub found_before_look : TranslationsStay old new → old key ≡ Some t
   found_before_look same = sym (same key) ∙ found
 
   set_at : (at : Key) (kept : Translation) → Sets old at kept new → (key ≡ at) ⊎ (key ≢ at)
@@ -33,5 +33,5 @@ module _ (old new : Content) (key : Key) (t : Translation) (found : new key ≡ 
   not_out false out is e = (is, sym e ∙ found)
 
   -- it wasn't covered, and was there
-  pub found_before_drop : (is_out : Key → Bool) → Drops is_out old new → (is_out key ≡ false) × (old key ≡ Some t)
+  pub found_before_drop : (is_out : Key → Bool) → DropsWhere is_out old new → (is_out key ≡ false) × (old key ≡ Some t)
   found_before_drop is_out dropped = not_out (is_out key) (is_out key) refl (dropped key)

@@ -4,13 +4,13 @@ use Rattle.iom_command_queue.specs.declared.command.Command.TheVariants.{Iotinva
 use Rattle.iom_tlb.specs.declared.space.Space.TheVariants.{First, Second, Both}
 use Rattle.iom_tlb.specs.declared.cover.Cover.{Cover}
 use Rattle.iom_tlb.specs.declared.trans_cache.Translation.{Translation}
-use Rattle.iom_tlb.specs.Content.{Key, Content, HasNothing, Keeps, Drops}
+use Rattle.iom_tlb.specs.Content.{Key, Translations, HasNothing, Keeps, DropsWhere}
 use Rattle.iom_tlb.specs.Covers.{covers, are_covering}
 use Rattle.iom_tlb.specs.Invalidations.{covers_of}
-use Rattle.iom_tlb.specs.Laws.{CacheCall, look, keep, drop_where, drop_all, RunsCache, WasKept}
+use Rattle.iom_tlb.specs.Laws.{TranslationCacheCall, look, keep, drop_where, drop_all, RunsCache, WasKept}
 use Rattle.iom_tlb.proofs.ContentLemmas.{found_by_keep, found_before_drop}
 
-module _ (key : Key) (t : Translation) (earlier : List CacheCall) (old new : Content) (found : new key ≡ Some t) (before : old key ≡ Some t → WasKept key t earlier) where
+module _ (key : Key) (t : Translation) (earlier : List TranslationCacheCall) (old new : Translations) (found : new key ≡ Some t) (before : old key ≡ Some t → WasKept key t earlier) where
   -- where the last call is a keep
   kept : (sure : Bool) (at : Key) (other : Translation) → Keeps sure old at other new → WasKept key t (keep at other ∷ earlier)
   kept sure at other keeps = elim (found_by_keep old new key t found sure at other keeps) [
@@ -19,10 +19,10 @@ module _ (key : Key) (t : Translation) (earlier : List CacheCall) (old new : Con
   ]
 
   -- where it is a drop
-  dropped : (cover : Cover) → Drops (covers cover) old new → WasKept key t (drop_where cover ∷ earlier)
+  dropped : (cover : Cover) → DropsWhere (covers cover) old new → WasKept key t (drop_where cover ∷ earlier)
   dropped cover drops = let was = found_before_drop old new key t found (covers cover) drops in (was.0, before was.1)
 
-pub answers_kept : (sure : Bool) (old : Content) (calls : List CacheCall) (new : Content) → HasNothing old → RunsCache sure old calls new
+pub answers_kept : (sure : Bool) (old : Translations) (calls : List TranslationCacheCall) (new : Translations) → HasNothing old → RunsCache sure old calls new
     → (key : Key) (t : Translation) → new key ≡ Some t → WasKept key t calls
 answers_kept sure old [] new empty run key t found = absurd (let e : new key ≡ None = run key ∙ empty key in cc)
 answers_kept sure old (look at answer ∷ earlier) new empty run key t found =

@@ -5,7 +5,7 @@ use Rattle.std.proofs.lemmas.List.{get_or-set_other, get_or_past, length-set}
 use Rattle.std.proofs.lemmas.Grind.{get_or-set_at}
 use Rattle.iom_tlb.specs.declared.space.Space.{Space}
 use Rattle.iom_tlb.specs.declared.trans_cache.Translation.{Translation}
-use Rattle.iom_tlb.specs.Content.{Key, Sets, Drops}
+use Rattle.iom_tlb.specs.Content.{Key, Sets, DropsWhere}
 use Rattle.iom_tlb.specs.Entries.{is_key}
 use Rattle.iom_tlb.specs.Ways.{Ways, is_space, space_word, in_ways, in_set}
 use Rattle.iom_tlb.specs.WayCalls.{AreWays, AreAtHome, HasKey, with_way, PutsWay, Empties}
@@ -229,7 +229,7 @@ module _ (ways : Ways) (facts : AreWays ways) (is_out : Key → Bool) (new : Lis
   ))
 
   -- what that does to the content
-  pub drops : Drops is_out (in_set ways) (in_set (record { spaces = new; pages = ways.pages; translations = ways.translations; next = ways.next }))
+  pub drops : DropsWhere is_out (in_set ways) (in_set (record { spaces = new; pages = ways.pages; translations = ways.translations; next = ways.next }))
   drops key = chosen (is_out key) _ _
       (λ out. guarded (is_space key.0) _ (λ own. none_at (space_word key.0) key.1 new ways.pages ways.translations (none_left key own out)))
       (λ out. guarded_same (is_space key.0) _ _ (λ own. all_left key own out))
@@ -263,7 +263,7 @@ module _ (ways : Ways) (facts : AreWays ways) (is_out : Key → Bool) (new : Lis
 
 module _ (ways : Ways) (facts : AreWays ways) (at : Key) where
   -- where no way has the key there is nothing to take out
-  pub drops_nothing : ((k : ℕ) → k < 8 → get_or ways.spaces k 0 ≡ space_word at.0 → get_or ways.pages k 0 ≢ at.1) → Drops (is_key at) (in_set ways) (in_set ways)
+  pub drops_nothing : ((k : ℕ) → k < 8 → get_or ways.spaces k 0 ≡ space_word at.0 → get_or ways.pages k 0 ≢ at.1) → DropsWhere (is_key at) (in_set ways) (in_set ways)
   drops_nothing none key = chosen (is_key at key) _ _ (λ yes. ap (in_set ways) (sym (one_key at key yes)) ∙ missed ways facts at none) (λ not_it. refl)
 
   module _ (fits : is_space at.0 ≡ true) (t : Translation) (new : Ways) (puts : PutsWay ways (space_word at.0) at.1 t new) where

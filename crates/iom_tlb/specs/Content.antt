@@ -8,27 +8,27 @@ abbrev pub Key : Type 0
 Key = Space × ℕ
 
 -- what a cache has for each page of each address space
-abbrev pub Content : Type 0
-Content = Key → Option Translation
+abbrev pub Translations : Type 0
+Translations = Key → Option Translation
 
 -- it has nothing
-abbrev pub HasNothing : Content → Type 0
+abbrev pub HasNothing : Translations → Type 0
 HasNothing content = (key : Key) → content key ≡ None
 
 -- it has what it had
-abbrev pub Stays : Content → Content → Type 0
-Stays old new = (key : Key) → new key ≡ old key
+abbrev pub TranslationsStay : Translations → Translations → Type 0
+TranslationsStay old new = (key : Key) → new key ≡ old key
 
 -- it has this translation there. Elsewhere it has what it had, but for at most one place, where it has nothing
-pub record Sets (old : Content) (at : Key) (translation : Translation) (new : Content) : Type 0 where
+pub record Sets (old : Translations) (at : Key) (translation : Translation) (new : Translations) : Type 0 where
   pub kept : new at ≡ Some translation
   pub others : (out : Key) × ((key : Key) → key ≢ at → (new key ≡ old key) ⊎ ((key ≡ out) × (new key ≡ None)))
 
 -- THE RELATION of a keep: it sets the translation. Or it is refused, and all stays: never in a cache that is sure, nor where there is one
 -- already, whose place is taken
-abbrev pub Keeps : Bool → Content → Key → Translation → Content → Type 0
-Keeps sure old at translation new = Sets old at translation new ⊎ ((sure ≡ false) × (old at ≡ None) × Stays old new)
+abbrev pub Keeps : Bool → Translations → Key → Translation → Translations → Type 0
+Keeps sure old at translation new = Sets old at translation new ⊎ ((sure ≡ false) × (old at ≡ None) × TranslationsStay old new)
 
 -- THE RELATION of a drop: what is taken out is exactly that of which the test is true
-abbrev pub Drops : (Key → Bool) → Content → Content → Type 0
-Drops is_out old new = (key : Key) → new key ≡ (if is_out key then None else old key)
+abbrev pub DropsWhere : (Key → Bool) → Translations → Translations → Type 0
+DropsWhere is_out old new = (key : Key) → new key ≡ (if is_out key then None else old key)

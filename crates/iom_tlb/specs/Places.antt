@@ -15,8 +15,8 @@ abbrev pub HasWays : Ways → Type 0
 HasWays ways = (cached : CachedPage) → in_set ways (cached.space, cached.page) ≡ Some cached.translation → (way : ℕ) × (way < 8) × IsInWay ways way cached
 
 -- a place has it: the way of its number modulo 8, in the set of its number divided by 8
-abbrev pub StandsAt : List Ways → ℕ → CachedPage → Type 0
-StandsAt sets place cached = IsInWay (get_or sets (place / 8) no_ways) (place % 8) cached
+abbrev pub IsCachedAt : List Ways → ℕ → CachedPage → Type 0
+IsCachedAt sets place cached = IsInWay (get_or sets (place / 8) no_ways) (place % 8) cached
 
 -- the cache answers it
 abbrev pub IsCached : List Ways → CachedPage → Type 0
@@ -24,4 +24,4 @@ IsCached sets cached = content_of_sets sets (cached.space, cached.page) ≡ Some
 
 -- what the cache answers has a place
 abbrev pub HavePlaces : List Ways → Type 0
-HavePlaces sets = (cached : CachedPage) → IsCached sets cached → (place : ℕ) × (place < 512) × StandsAt sets place cached
+HavePlaces sets = (cached : CachedPage) → IsCached sets cached → (place : ℕ) × (place < 512) × IsCachedAt sets place cached

@@ -3,7 +3,7 @@ use Rattle.std.specs.Prelude.{ℕ, ◌+◌, ◌*◌, ◌^◌, ◌%◌, Bool, ◌
 use Rattle.iom_tlb.specs.declared.space.Space.{Space}
 use Rattle.iom_tlb.specs.declared.space.Space.TheVariants.{First, Second, Both}
 use Rattle.iom_tlb.specs.declared.trans_cache.Translation.{Translation}
-use Rattle.iom_tlb.specs.Content.{Content}
+use Rattle.iom_tlb.specs.Content.{Translations}
 
 -- whether the numbers of an address space fit the fields of a word: 16 bits of GSCID, 32 of PSCID (the standard's has 20). No other is cached
 abbrev pub is_space : Space → Bool
@@ -31,7 +31,7 @@ in_ways (space ∷ spaces) (page ∷ pages) (translation ∷ translations) word 
 in_ways _ _ _ word number = None
 
 -- what a set has for each page of each address space
-abbrev pub in_set : Ways → Content
+abbrev pub in_set : Ways → Translations
 in_set ways key = if is_space key.0 then in_ways ways.spaces ways.pages ways.translations (space_word key.0) key.1 else None
 
 -- a set without ways
@@ -39,5 +39,5 @@ abbrev pub no_ways : Ways
 no_ways = record { spaces = []; pages = []; translations = []; next = 0 }
 
 -- what a cache has: a page is in the set of its number modulo 64
-abbrev pub content_of_sets : List Ways → Content
+abbrev pub content_of_sets : List Ways → Translations
 content_of_sets sets key = in_set (get_or sets (key.1 % 64) no_ways) key

@@ -2,7 +2,7 @@
 // the length first, since from there on it is known that no two entries have one key.
 ghost use Rattle.std.specs.Prelude.{◌≡◌, false, option_map};
 ghost use Rattle.std.specs.List.{find as first_of};
-ghost use Rattle.iom_tlb.specs.Content.{Stays, Keeps, Drops};
+ghost use Rattle.iom_tlb.specs.Content.{TranslationsStay, Keeps, DropsWhere};
 ghost use Rattle.iom_tlb.specs.Covers.{covers};
 ghost use Rattle.iom_tlb.specs.Entries.{is_key, content_of, after_look, KeepsInOrder, after_drop};
 
@@ -17,7 +17,7 @@ pub(crate) fn find(
     key: (Space, u64),
 ) -> Option<Translation>
     ensures found { result ≡ content_of entries.old.entries key }
-    ensures stays { Stays (content_of entries.old.entries) (content_of entries.new.entries) }
+    ensures stays { TranslationsStay (content_of entries.old.entries) (content_of entries.new.entries) }
     ensures order { entries.new.entries ≡ after_look key entries.old.entries }
     ensures capacity { entries.new.cap ≡ entries.old.cap }
 {
@@ -46,7 +46,7 @@ pub(crate) fn put(
 
 /// Takes out what is at a key.
 pub(crate) fn remove(entries: &mut LruCache<(Space, u64), Translation>, key: (Space, u64))
-    ensures dropped { Drops (is_key key) (content_of entries.old.entries)
+    ensures dropped { DropsWhere (is_key key) (content_of entries.old.entries)
         (content_of entries.new.entries) }
     ensures order { entries.new.entries ≡ after_drop (is_key key) entries.old.entries }
     ensures capacity { entries.new.cap ≡ entries.old.cap }
@@ -57,7 +57,7 @@ pub(crate) fn remove(entries: &mut LruCache<(Space, u64), Translation>, key: (Sp
 
 /// Takes out what is covered, one entry after the other.
 pub(crate) fn remove_covered(entries: &mut LruCache<(Space, u64), Translation>, cover: &Cover)
-    ensures dropped { Drops (covers cover.now) (content_of entries.old.entries)
+    ensures dropped { DropsWhere (covers cover.now) (content_of entries.old.entries)
         (content_of entries.new.entries) }
     ensures order { entries.new.entries ≡ after_drop (covers cover.now) entries.old.entries }
     ensures capacity { entries.new.cap ≡ entries.old.cap }

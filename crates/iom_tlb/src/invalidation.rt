@@ -1,4 +1,4 @@
-ghost use Rattle.iom_tlb.specs.Content.{Drops};
+ghost use Rattle.iom_tlb.specs.Content.{DropsWhere};
 ghost use Rattle.iom_tlb.specs.Covers.{are_covering};
 ghost use Rattle.iom_tlb.specs.Invalidations.{covers_of, vma_covers, gvma_covers};
 
@@ -9,7 +9,7 @@ use iom_command_queue::Command;
 /// Takes out what the command says, and nothing else: a command that isn't IOTINVAL.VMA or IOTINVAL.GVMA
 /// takes out nothing (IOMMU specification, section 3.1.1).
 pub fn invalidate<C: TransCache>(cache: &mut C, command: &Command)
-    ensures dropped { Drops (are_covering (covers_of command.now)) (C.content cache.old)
+    ensures dropped { DropsWhere (are_covering (covers_of command.now)) (C.content cache.old)
         (C.content cache.new) }
 {
     match *command {
@@ -32,7 +32,7 @@ fn invalidate_first_stage<C: TransCache>(
     pscid: Option<u32>,
     page: Option<u64>,
 )
-    ensures dropped { Drops (are_covering (vma_covers gscid pscid page)) (C.content cache.old)
+    ensures dropped { DropsWhere (are_covering (vma_covers gscid pscid page)) (C.content cache.old)
         (C.content cache.new) }
 {
     if gscid.is_none() {
@@ -44,7 +44,7 @@ fn invalidate_first_stage<C: TransCache>(
 
 // IOTINVAL.GVMA: of one VM, or of all.
 fn invalidate_second_stage<C: TransCache>(cache: &mut C, gscid: Option<u16>, page: Option<u64>)
-    ensures dropped { Drops (are_covering (gvma_covers gscid page)) (C.content cache.old)
+    ensures dropped { DropsWhere (are_covering (gvma_covers gscid page)) (C.content cache.old)
         (C.content cache.new) }
 {
     // AV is ignored where GV is 0.

@@ -1,5 +1,5 @@
 ghost use Rattle.std.specs.Prelude.{◌≡◌, Bool};
-ghost use Rattle.iom_tlb.specs.Content.{Content, Stays, Keeps, Drops, HasNothing};
+ghost use Rattle.iom_tlb.specs.Content.{Translations, TranslationsStay, Keeps, DropsWhere, HasNothing};
 ghost use Rattle.iom_tlb.specs.Covers.{covers};
 
 use crate::cover::Cover;
@@ -20,12 +20,12 @@ pub trait TransCache {
 
     ghost SURE: { Bool };
 
-    ghost content: { Self → Content };
+    ghost content: { Self → Translations };
 
     /// What is cached for the page, if something is. The content stays.
     fn look(&mut self, space: Space, page: u64) -> Option<Translation>
         ensures found { result ≡ content self.old (space, page) }
-        ensures stays { Stays (content self.old) (content self.new) };
+        ensures stays { TranslationsStay (content self.old) (content self.new) };
 
     /// Caches a translation, in place of the page's old one, and takes out at most one other. Or it is refused, and
     /// all stays: never in a cache that is `SURE`, nor where the page has a translation already.
@@ -34,7 +34,7 @@ pub trait TransCache {
 
     /// Takes out what is covered, and nothing else.
     fn drop_where(&mut self, cover: &Cover)
-        ensures dropped { Drops (covers cover.now) (content self.old) (content self.new) };
+        ensures dropped { DropsWhere (covers cover.now) (content self.old) (content self.new) };
 
     /// Takes out everything.
     fn drop_all(&mut self)

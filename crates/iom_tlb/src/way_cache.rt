@@ -1,9 +1,9 @@
 ghost use Rattle.std.specs.Prelude.{◌≡◌, ◌<◌, ◌%◌, ℕ, true, IfOk, IfSome, Some, length, get_or};
-ghost use Rattle.iom_tlb.specs.Content.{Keeps, Drops, HasNothing};
+ghost use Rattle.iom_tlb.specs.Content.{Keeps, DropsWhere, HasNothing};
 ghost use Rattle.iom_tlb.specs.Covers.{covers};
 ghost use Rattle.iom_tlb.specs.Ways.{in_set, no_ways, content_of_sets};
 ghost use Rattle.iom_tlb.specs.declared.cached_page.CachedPage.{CachedPage};
-ghost use Rattle.iom_tlb.specs.Places.{IsCached, StandsAt, HavePlaces};
+ghost use Rattle.iom_tlb.specs.Places.{IsCached, IsCachedAt, HavePlaces};
 ghost use Rattle.iom_tlb.specs.WayCalls.{AreAtHome, AreCountersAtZero, CountersStay, PutsInSet};
 
 use crate::cached_page::CachedPage;
@@ -68,7 +68,7 @@ fn new_sets(alloc: Global) -> Result<Vec<WaySet>, AllocError>
 
 /// Empties each way whose key is covered, in every set.
 fn drop_in_all(sets: &mut [WaySet], cover: &Cover)
-    ensures dropped { (number : ℕ) → number < length sets.old → Drops (covers cover.now)
+    ensures dropped { (number : ℕ) → number < length sets.old → DropsWhere (covers cover.now)
         (in_set (get_or sets.old number no_ways)) (in_set (get_or sets.new number no_ways)) }
     ensures home { (number : ℕ) → AreAtHome number (get_or sets.old number no_ways)
         → AreAtHome number (get_or sets.new number no_ways) }
@@ -116,7 +116,7 @@ impl WayCache {
     pub fn page_at(&self, place: usize) -> Option<CachedPage>
         requires { place < 512 }
         ensures cached { IfSome result (IsCached self.now) }
-        ensures stands { (cached : CachedPage) → StandsAt self.now place cached → result ≡ Some cached }
+        ensures stands { (cached : CachedPage) → IsCachedAt self.now place cached → result ≡ Some cached }
     {
         let set = &self.sets[place / WAYS];
         set.page_at(place % WAYS)
@@ -146,7 +146,7 @@ impl TransCache for WayCache {
     // Written into the fetch of a command, where it is known which of the covers it is.
     #[inline(always)]
     fn drop_where(&mut self, cover: &Cover)
-        ensures dropped { Drops (covers cover.now) (content_of_sets self.old) (content_of_sets self.new) }
+        ensures dropped { DropsWhere (covers cover.now) (content_of_sets self.old) (content_of_sets self.new) }
         ensures counters { CountersStay self.old self.new }
     {
         if let Some((space, page)) = cover.only_key() {

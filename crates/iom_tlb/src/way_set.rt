@@ -1,6 +1,6 @@
 // A set of the cache: eight ways, side by side.
 ghost use Rattle.std.specs.Prelude.{◌≡◌, ◌<◌, ◌%◌, ℕ, true, false, IfSome, Some};
-ghost use Rattle.iom_tlb.specs.Content.{Sets, Drops, HasNothing};
+ghost use Rattle.iom_tlb.specs.Content.{Sets, DropsWhere, HasNothing};
 ghost use Rattle.iom_tlb.specs.Covers.{covers};
 ghost use Rattle.iom_tlb.specs.declared.cached_page.CachedPage.{CachedPage};
 ghost use Rattle.iom_tlb.specs.Places.{IsInWay, HasWays};
@@ -159,7 +159,7 @@ impl WaySet {
 
     /// Empties the way that has the page of the address space.
     pub(crate) fn drop_key(&mut self, space: Space, page: u64)
-        ensures dropped { Drops (is_key (space, page)) (in_set self.old) (in_set self.new) }
+        ensures dropped { DropsWhere (is_key (space, page)) (in_set self.old) (in_set self.new) }
         ensures home { (number : ℕ) → AreAtHome number self.old → AreAtHome number self.new }
         ensures counter { self.new.next ≡ self.old.next }
     {
@@ -170,7 +170,7 @@ impl WaySet {
 
     /// Empties each way whose key is covered.
     pub(crate) fn drop_where(&mut self, cover: &Cover)
-        ensures dropped { Drops (covers cover.now) (in_set self.old) (in_set self.new) }
+        ensures dropped { DropsWhere (covers cover.now) (in_set self.old) (in_set self.new) }
         ensures home { (number : ℕ) → AreAtHome number self.old → AreAtHome number self.new }
         ensures counter { self.new.next ≡ self.old.next }
     {

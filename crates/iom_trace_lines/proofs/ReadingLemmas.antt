@@ -10,7 +10,7 @@ use Rattle.std.proofs.lemmas.List.Elements.{All-push}
 use Rattle.iom_script.specs.Grammar.{bytes_of_lines}
 use Rattle.iom_script.specs.Words.{IsWithout}
 use Rattle.iom_script.proofs.CutLemmas.{cut_here, without_front}
-use Rattle.iom_trace_lines.specs.Taken.{Holds, HasTaken, AreLines}
+use Rattle.iom_trace_lines.specs.Taken.{BufferHolds, HasTaken, AreLines}
 
 -- the bytes of one line more
 bytes_more : (lines : List (List ℕ)) (line : List ℕ) → bytes_of_lines (lines ++ line ∷ []) ≡ bytes_of_lines lines ++ (line ++ 10 ∷ [])
@@ -106,7 +106,7 @@ ends_at lines buffer start stop behind stop_read behind_read end first now same 
 
 -- what waits is moved to the front, and some bytes are read behind it
 pub moved : (lines : List (List ℕ)) (buffer after : List ℕ) (start end start_after end_after : ℕ) (first now : Option (List ℕ)) → HasTaken lines buffer start end first now
-    → ((waiting : List ℕ) → Holds buffer start end waiting → Holds after start_after end_after waiting) → HasTaken lines after start_after end_after first now
+    → ((waiting : List ℕ) → BufferHolds buffer start end waiting → BufferHolds after start_after end_after waiting) → HasTaken lines after start_after end_after first now
 moved lines buffer after start end start_after end_after first now has moves = record {
   whole = has.whole;
   read = has.read;

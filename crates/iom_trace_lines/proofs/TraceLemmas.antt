@@ -13,7 +13,7 @@ use Rattle.iom_machine.specs.declared.outcome.Outcome.TheVariants as outcomes
 use Rattle.iom_script.specs.Grammar.{IsEventLine}
 use Rattle.iom_script.specs.Lines.{line_of}
 use Rattle.iom_script.specs.Words.{◌␣◌, IsNumber}
-use Rattle.iom_trace_lines.specs.TraceLines.{AsksFor, frames_text, is_accepted, tables_text, on_text, MayShow, SaysLine, Step}
+use Rattle.iom_trace_lines.specs.TraceLines.{EventAsksFor, frames_text, is_accepted, tables_text, on_text, TraceMayShow, SaysLine, Step}
 
 -- one frame more, with a space before it
 pub frame_more : (text so_far words word behind : List ℕ) (frames : List ℕ) (frame : ℕ) → text ≡ frames_text frames ++ so_far → so_far ≡ codes " " ++ words → words ≡ word ++ behind → IsNumber word frame
@@ -41,7 +41,7 @@ step_alone said answered answer event outcome tables says tells is =
 
 -- and with something behind
 pub step_behind : (said answered answer behind : List ℕ) (event : Event) (outcome : Outcome) (has_tables : Bool) (on : Option ℕ) (tables : List ℕ) → IsEventLine said event
-    → MayShow event outcome has_tables on
+    → TraceMayShow event outcome has_tables on
     → line_of outcome ≡ answer ++ 10 ∷ [] → answered ≡ answer ++ codes "; " ++ behind → codes "; " ++ behind ≡ tables_text has_tables tables ++ on_text on
     → SaysLine (said ++ codes " => " ++ answered) (Step event outcome has_tables on None) tables
 step_behind said answered answer behind event outcome has_tables on tables says may tells is shown =
@@ -60,7 +60,7 @@ step_behind said answered answer behind event outcome has_tables on tables says 
 -- and with an access that a step began behind
 pub step_began : (said answered answer behind : List ℕ) (event : Event) (outcome : Outcome) (access : Access) (tables : List ℕ) → IsEventLine said event
     → line_of outcome ≡ answer ++ 10 ∷ [] → answered ≡ answer ++ codes "; " ++ behind
-    → (device : ℕ) × (event ≡ events.Step device) × IsTrue (is_accepted outcome) × (asks : Event) × IsEventLine behind asks × AsksFor asks device access
+    → (device : ℕ) × (event ≡ events.Step device) × IsTrue (is_accepted outcome) × (asks : Event) × IsEventLine behind asks × EventAsksFor asks device access
     → SaysLine (said ++ codes " => " ++ answered) (Step event outcome false None (Some access)) tables
 step_began said answered answer behind event outcome access tables says tells is (device, stepped, accepted, asks, asked, wants) = (
   device,

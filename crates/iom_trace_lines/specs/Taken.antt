@@ -7,8 +7,8 @@ use Rattle.iom_trace_lines.specs.declared.trace.NextLine.{NextLine}
 use Rattle.iom_trace_lines.specs.declared.trace.NextLine.TheVariants.{Line, Broken, End}
 
 -- these bytes stand in the buffer, between the two places
-abbrev pub Holds : List ℕ → ℕ → ℕ → List ℕ → Type 0
-Holds buffer start end waiting =
+abbrev pub BufferHolds : List ℕ → ℕ → ℕ → List ℕ → Type 0
+BufferHolds buffer start end waiting =
     (start ≤ end) × (end ≤ length buffer) × (65536 ≤ length buffer) × (waiting ≡ slice_range buffer start end)
 
 -- The lines were taken of what the reader lost, and the rest of it waits in the buffer.
@@ -17,7 +17,7 @@ pub record HasTaken (lines : List (List ℕ)) (buffer : List ℕ) (start end : �
   pub read : List ℕ
   pub consumed : Consumes old new read
   pub waiting : List ℕ
-  pub holds : Holds buffer start end waiting
+  pub holds : BufferHolds buffer start end waiting
   pub is_read : read ≡ bytes_of_lines lines ++ waiting
 
 -- the text is these lines, each ended by its line feed

@@ -48,8 +48,8 @@ is_accepted (outcomes.Accepted number) = true
 is_accepted _ = false
 
 -- Tables are shown only where frames are taken for them, and a frame only where an access is accepted.
-abbrev pub MayShow : Event → Outcome → Bool → Option ℕ → Type 0
-MayShow event outcome has_tables on =
+abbrev pub TraceMayShow : Event → Outcome → Bool → Option ℕ → Type 0
+TraceMayShow event outcome has_tables on =
     (IsTrue has_tables → IsTrue (takes_frames event outcome)) × IfSome on (λ frame. IsTrue (is_accepted outcome))
 
 -- the event's line, ` => `, and the line of the outcome, with this behind it
@@ -64,21 +64,21 @@ IsHandoffLine line event outcome =
     × ((line ≡ codes "handoff" ␣ word) ⊎ (line ≡ (codes "handoff" ␣ word) ++ codes " => ok"))
 
 -- by this event the device asks for the access
-abbrev pub AsksFor : Event → ℕ → Access → Type 0
-AsksFor (events.Read id address len) device access = (id ≡ device) × (access ≡ read_of address len)
-AsksFor (events.Write id address bytes) device access = (id ≡ device) × (access ≡ write_of address bytes)
-AsksFor _ device access = ⊥
+abbrev pub EventAsksFor : Event → ℕ → Access → Type 0
+EventAsksFor (events.Read id address len) device access = (id ≡ device) × (access ≡ read_of address len)
+EventAsksFor (events.Write id address bytes) device access = (id ≡ device) × (access ≡ write_of address bytes)
+EventAsksFor _ device access = ⊥
 
 -- The line of a step that began this access, which was accepted, with the line by which its device would ask for it behind the answer.
 abbrev pub ShowsAccess : List ℕ → Event → Outcome → Access → Type 0
 ShowsAccess line event outcome access =
-    (device : ℕ) × (event ≡ events.Step device) × IsTrue (is_accepted outcome) × (asked : List ℕ) × (asks : Event) × IsEventLine asked asks × AsksFor asks device access
+    (device : ℕ) × (event ≡ events.Step device) × IsTrue (is_accepted outcome) × (asked : List ℕ) × (asks : Event) × IsEventLine asked asks × EventAsksFor asks device access
     × IsStepLine line event outcome (codes "; " ++ asked)
 
 -- The line says that this came of the event, with what is shown behind it.
 abbrev pub SaysWhat : List ℕ → Event → Outcome → Bool → Option ℕ → Option Access → List ℕ → Type 0
 SaysWhat line event outcome has_tables on None tables =
-    (MayShow event outcome has_tables on × IsStepLine line event outcome (tables_text has_tables tables ++ on_text on))
+    (TraceMayShow event outcome has_tables on × IsStepLine line event outcome (tables_text has_tables tables ++ on_text on))
     ⊎ IsHandoffLine line event outcome
 SaysWhat line event outcome has_tables on (Some access) tables = ShowsAccess line event outcome access
 

@@ -5,7 +5,7 @@ ghost use Rattle.iom_machine.specs.declared.event.Event.TheVariants as events;
 ghost use Rattle.iom_machine.specs.declared.outcome.Outcome.TheVariants as outcomes;
 ghost use Rattle.iom_script.specs.Grammar.{IsEventLine, is_spoken};
 ghost use Rattle.iom_script.specs.Words.{◌␣◌, IsNumber};
-ghost use Rattle.iom_trace_lines.specs.TraceLines.{AsksFor, frames_text, is_accepted, takes_frames, tables_text, on_text, MayShow, said_of, SaysLine, Nothing, Step, Bad};
+ghost use Rattle.iom_trace_lines.specs.TraceLines.{EventAsksFor, frames_text, is_accepted, takes_frames, tables_text, on_text, TraceMayShow, said_of, SaysLine, Nothing, Step, Bad};
 
 use crate::kept::KeptOutcomes;
 use crate::outcomes::read_outcome;
@@ -98,7 +98,7 @@ fn read_behind(
     tables: &mut Vec<u32>,
 ) -> Result<Option<Behind>, AllocError>
     requires { tables.old.items ≡ [] }
-    ensures { IfOk result (λ read. IfSome read (λ it. MayShow event.now outcome.now it.has_tables it.on
+    ensures { IfOk result (λ read. IfSome read (λ it. TraceMayShow event.now outcome.now it.has_tables it.on
         × (codes "; " ++ behind.now ≡ tables_text it.has_tables tables.new.items ++ on_text it.on))) }
 {
     if let Some(text) = after(behind, b"tables") {
@@ -127,7 +127,7 @@ fn read_behind(
 
 /// The access for which the device asks by the event, if that is a read or a write of it.
 fn access_of(alloc: Global, event: Event, id: DeviceId) -> Option<Access>
-    ensures { IfSome result (AsksFor event id) }
+    ensures { IfSome result (EventAsksFor event id) }
 {
     match event {
         Event::Read {
@@ -173,7 +173,7 @@ fn read_began(
     behind: &[u8],
 ) -> Result<Option<Access>, AllocError>
     ensures { IfOk result (λ read. IfSome read (λ access. (device : ℕ) × (event.now ≡ events.Step device) × IsTrue (is_accepted outcome.now)
-        × (asks : Event) × IsEventLine behind.now asks × AsksFor asks device access)) }
+        × (asks : Event) × IsEventLine behind.now asks × EventAsksFor asks device access)) }
 {
     let Event::Step { device } = event else {
         return Ok(None);

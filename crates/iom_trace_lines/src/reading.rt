@@ -2,7 +2,7 @@
 ghost use Rattle.std.specs.Prelude.{◌≡◌, ◌-◌, ◌≤◌, ◌<◌, ◌++◌, ◌∷◌, [], ℕ, List, Option, None, drop, length, slice_range, take, IfOk, MatchOption, ⊤};
 ghost use Rattle.std.specs.Io.{ReadsAtMost};
 ghost use Rattle.std.specs.Io.KnownBytes.{IsAtEnd, ReadConsumes};
-ghost use Rattle.iom_trace_lines.specs.Taken.{Holds, HasTaken, TakesNext};
+ghost use Rattle.iom_trace_lines.specs.Taken.{BufferHolds, HasTaken, TakesNext};
 
 use crate::trace::NextLine;
 use memchr::memchr;
@@ -55,7 +55,7 @@ fn read_behind<R: Read>(reader: &mut R, buffer: &mut [u8], end: usize) -> io::Re
 
 impl Lines {
     pub fn new(alloc: Global) -> Result<Lines, AllocError>
-        ensures { IfOk result (λ lines. Holds lines.buffer.items lines.start lines.end []) }
+        ensures { IfOk result (λ lines. BufferHolds lines.buffer.items lines.start lines.end []) }
     {
         Ok(Lines {
             buffer: vec![in alloc; 0u8; BUFFER_SIZE]?,
@@ -91,8 +91,8 @@ impl Lines {
 
     /// Moves what isn't taken yet to the front.
     fn move_to_front(&mut self)
-        ensures holds { (waiting : List ℕ) → Holds self.old.buffer.items self.old.start self.old.end waiting
-            → Holds self.new.buffer.items self.new.start self.new.end waiting }
+        ensures holds { (waiting : List ℕ) → BufferHolds self.old.buffer.items self.old.start self.old.end waiting
+            → BufferHolds self.new.buffer.items self.new.start self.new.end waiting }
         ensures start { self.new.start ≡ 0 }
         ensures end { self.new.end ≡ self.old.end - self.old.start }
     {

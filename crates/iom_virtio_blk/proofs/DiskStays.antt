@@ -7,7 +7,7 @@ use Rattle.iom_virtio_blk.specs.declared.step.Step.TheVariants as step
 use Rattle.iom_virtio_blk.specs.Disks.{name_in, CalledWell, HasReason, HasFlushReason, KeepsSectors, Tears, sector_count}
 use Rattle.iom_virtio_blk.specs.DiskStates.{DiskState}
 use Rattle.iom_virtio_blk.specs.Blocks.{call_after, after_served}
-use Rattle.iom_virtio_blk.specs.Steps.{Device, Steps, Calls, UsesIn, GoesOnIn}
+use Rattle.iom_virtio_blk.specs.Steps.{Device, BlockDeviceSteps, Calls, UsesIn, GoesOnIn}
 use Rattle.iom_virtqueue.specs.declared.phase.Phase.{Phase}
 use Rattle.iom_virtqueue.specs.declared.phase.Phase.TheVariants.{Served}
 
@@ -59,7 +59,7 @@ went false old new same = ap (λ (d : Device). name_in d.disk) same
 went true old new uses = used old.front.queue.phase old new uses
 
 -- it is the same disk, if there is one
-pub name_stays : (taken : Step) (old new : Device) → Steps old taken new → name_in new.disk ≡ name_in old.disk
+pub name_stays : (taken : Step) (old new : Device) → BlockDeviceSteps old taken new → name_in new.disk ≡ name_in old.disk
 name_stays step.Down old new steps = ap (λ (d : Device). name_in d.disk) steps.1
 name_stays step.Idle old new (inl (off, up, same)) = ap (λ (d : Device). name_in d.disk) same
 name_stays step.Idle old new (inr (counts, takes)) = ap name_in takes.1
@@ -72,5 +72,5 @@ has_name : (disk : Option DiskState) → is_some disk ≡ is_some (name_in disk)
 has_name None = refl
 has_name (Some disk) = refl
 
-pub disk_stays : (taken : Step) (old new : Device) → Steps old taken new → is_some new.disk ≡ is_some old.disk
+pub disk_stays : (taken : Step) (old new : Device) → BlockDeviceSteps old taken new → is_some new.disk ≡ is_some old.disk
 disk_stays taken old new steps = has_name new.disk ∙ ap is_some (name_stays taken old new steps) ∙ sym (has_name old.disk)

@@ -17,7 +17,7 @@ use Rattle.iom_virtio_blk.specs.declared.serving.Job.TheVariants.{Header, Readin
 use Rattle.iom_virtio_blk.specs.declared.step.Step.{Step}
 use Rattle.iom_virtio_blk.specs.declared.step.Step.TheVariants.{Idle, Waiting, Down, Chain, Finished, Wants}
 use Rattle.iom_virtio_blk.specs.Blocks.{queue_in}
-use Rattle.iom_virtio_blk.specs.Steps.{Device, GoesOnIn, Serves, Steps, TakesQueue, UsesIn}
+use Rattle.iom_virtio_blk.specs.Steps.{Device, GoesOnIn, ServesWithDisk, BlockDeviceSteps, TakesQueue, UsesIn}
 use Rattle.iom_virtio_blk.specs.Elements.{Byte, Done, IsWithin, IsWithinIn, Writes, begun, begun_in, bytes_from, done_at, element_of, element_place, in_work, wrote_at, wrote_by, wrote_in}
 use Rattle.iom_virtio_blk.proofs.OrderLemmas.{queue_then}
 
@@ -124,7 +124,7 @@ served_in (Ending end) b is = record {
   within = omega arith;
 }
 
-serves_on : (old new : Device) → old.front.queue.phase ≡ Served → Serves old new
+serves_on : (old new : Device) → old.front.queue.phase ≡ Served → ServesWithDisk old new
     → Writes old.front.queue new.front.queue (wrote_in old.front.queue.phase old.front.queue) []
 serves_on old new is (done, called, front) =
     let job = old.front.serving.job in
@@ -223,7 +223,7 @@ finishes old new head len bytes is own count then =
       within = tt;
     })))
 
-pub steps_write : (old new : Device) (outcome : Step) → Steps old outcome new → IsWithin old.front.queue
+pub steps_write : (old new : Device) (outcome : Step) → BlockDeviceSteps old outcome new → IsWithin old.front.queue
     → Writes old.front.queue new.front.queue (wrote_at old outcome) (done_at outcome)
 steps_write old new Down steps within = stays old.front.queue new.front.queue (ap (λ (d : Device). d.front.queue) steps.1) within
 steps_write old new Idle (inl steps) within = stays old.front.queue new.front.queue (ap (λ (d : Device). d.front.queue) steps.2) within

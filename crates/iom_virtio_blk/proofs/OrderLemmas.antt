@@ -15,9 +15,9 @@ use Rattle.iom_virtio_blk.specs.declared.serving.Job.TheVariants.{Header, Readin
 use Rattle.iom_virtio_blk.specs.declared.step.Step.TheVariants.{Finished, Wants}
 use Rattle.iom_virtio_blk.specs.declared.want.WantedAccess.{WantedAccess}
 use Rattle.iom_virtio_blk.specs.Disks.{sector_count}
-use Rattle.iom_virtio_blk.specs.Serving.{begun, data_in, data_out, piece_in, piece_len}
+use Rattle.iom_virtio_blk.specs.Serving.{begun_serving, data_in, data_out, piece_in, piece_len}
 use Rattle.iom_virtio_blk.specs.Blocks.{buffer_in, planned, queue_in, sector_in, serving_in}
-use Rattle.iom_virtio_blk.specs.Steps.{Device, GoesOnIn, Serves, Steps, TakesQueue, UsesIn, serving_from, settled}
+use Rattle.iom_virtio_blk.specs.Steps.{Device, GoesOnIn, ServesWithDisk, BlockDeviceSteps, TakesQueue, UsesIn, serving_from, settled}
 use Rattle.iom_virtio_blk.specs.Order.{Purpose, avail_idx, ring_entry, descriptor, header, sectors, used_element, used_idx, Follows, purpose_at, purpose_in, purpose_of}
 
 -- what comes next
@@ -74,7 +74,7 @@ ended_after : (old : Purpose) (done : Bool) (s : Serving) → IsAfter old s.job 
 ended_after old true s well failed = well
 ended_after old false s well failed = failed
 
-header_then : (plan : Plan) (sector : ℕ) (s : Serving) (chain : Chain) → IsAfter header (begun plan sector s chain).job
+header_then : (plan : Plan) (sector : ℕ) (s : Serving) (chain : Chain) → IsAfter header (begun_serving plan sector s chain).job
 header_then ReadDisk sector s chain = by (data_in chain == 0)
   where
     by : (none : Bool) → IsAfter header (cond none (Ending Ok) Reading)
@@ -88,7 +88,7 @@ header_then WriteDisk sector s chain = by (data_out chain == 0)
 header_then FlushDisk sector s chain = inr (inr (refl, refl))
 header_then (End end) sector s chain = inr (inr (refl, refl))
 
-header_goes : (whole : Bool) (plan : Plan) (sector : ℕ) (s : Serving) (chain : Chain) → s.job ≡ Header → IsAfter header (cond whole (begun plan sector s chain) s).job
+header_goes : (whole : Bool) (plan : Plan) (sector : ℕ) (s : Serving) (chain : Chain) → s.job ≡ Header → IsAfter header (cond whole (begun_serving plan sector s chain) s).job
 header_goes true plan sector s chain job = header_then plan sector s chain
 header_goes false plan sector s chain job = subst (λ (j : Job). IsAfter header j) (sym job) (inr (inl (refl, refl)))
 
@@ -128,7 +128,7 @@ as_new : (old : Purpose) (phase phase_then : Phase) (s s_then : Serving) → pha
 as_new old phase phase_then s s_then same served next =
     subst (λ (p : Phase). IsNext old p s_then.job) (sym same) (subst (λ (t : Serving). IsNext old phase t.job) (sym served) next)
 
-serves_next : (old new : Device) (purpose : Purpose) → old.front.queue.phase ≡ Served → Serves old new → purpose_of old.front ≡ Some purpose
+serves_next : (old new : Device) (purpose : Purpose) → old.front.queue.phase ≡ Served → ServesWithDisk old new → purpose_of old.front ≡ Some purpose
     → IsNext purpose new.front.queue.phase new.front.serving.job
 serves_next old new purpose served (done, called, front) is =
     let job = old.front.serving.job in
@@ -184,14 +184,14 @@ uses_next old new purpose Faulted is used moved own = takes_next old new purpose
     apart : Faulted ≡ Served → ⊥
     apart e = cc
 
-pub steps_follow : (old new : Device) (want : WantedAccess) (purpose : Purpose) → Steps old (Wants want) new → old.front.is_made ≡ true → purpose_of old.front ≡ Some purpose
+pub steps_follow : (old new : Device) (want : WantedAccess) (purpose : Purpose) → BlockDeviceSteps old (Wants want) new → old.front.is_made ≡ true → purpose_of old.front ≡ Some purpose
     → (next : Purpose) × (purpose_of new.front ≡ Some next) × Follows purpose next
 steps_follow old new want purpose steps made own =
     let used = subst (λ (m : Bool). GoesOnIn m old new) made steps.4 in
     let on = uses_next old new purpose old.front.queue.phase refl used (steps.3 made) own in
     (on.next, on.is, on.follows)
 
-pub finishes_last : (old new : Device) (head len : ℕ) → Steps old (Finished head len) new → (purpose_of old.front ≡ Some used_idx) × (purpose_of new.front ≡ Some avail_idx)
+pub finishes_last : (old new : Device) (head len : ℕ) → BlockDeviceSteps old (Finished head len) new → (purpose_of old.front ≡ Some used_idx) × (purpose_of new.front ≡ Some avail_idx)
 finishes_last old new head len steps = (
   ap (λ (p : Phase). purpose_in p old.front.serving.job) steps.1,
   ap (λ (p : Phase). purpose_in p new.front.serving.job)

@@ -19,8 +19,8 @@ use Rattle.iom_virtio_blk.specs.Disks.{sector_count, IsThere}
 use Rattle.iom_virtio_blk.specs.DiskStates.{DiskState}
 use Rattle.iom_virtio_blk.specs.Requests.{plan_of}
 use Rattle.iom_virtio_blk.specs.Serving.{unread, piece_in, piece_len, data_in, data_out, IsUnderWayIn}
-use Rattle.iom_virtio_blk.specs.Blocks.{IsReady, IsTaking, planned, kind_in, sector_in, buffer_in, serving_in, call_in, queue_in}
-use Rattle.iom_virtio_blk.specs.Steps.{Device, device, Calls, settled, Serves, TakesQueue, UsesIn, GoesOnIn, serving_from, Steps}
+use Rattle.iom_virtio_blk.specs.Blocks.{IsBetweenCalls, IsTaking, planned, request_kind, sector_in, buffer_in, serving_in, call_in, queue_in}
+use Rattle.iom_virtio_blk.specs.Steps.{Device, device, Calls, settled, ServesWithDisk, TakesQueue, UsesIn, GoesOnIn, serving_from, BlockDeviceSteps}
 use Rattle.iom_virtio_blk.specs.Histories.{Entry, gave, failed, inserted, IsMap, InWork, TellsDisk, told, told_in, history_after}
 use Rattle.iom_virtio_blk.proofs.AccessLemmas.{IsData, data_came, piece-few}
 use Rattle.iom_virtio_blk.proofs.ToldLemmas.{Goes, IsGiving, header-goes, reading-goes, data-goes}
@@ -36,23 +36,23 @@ plan-there kind sector readable writable None flush e = by (kind == 0) (kind == 
   by false false false e = cc
 
 -- what is known of a request in work where it isn't ending
-under_way : (b : Front) (job : Job) → IsReady b → b.queue.phase ≡ Served → b.serving.job ≡ job → IsUnderWayIn job b.serving b.queue.chain
+under_way : (b : Front) (job : Job) → IsBetweenCalls b → b.queue.phase ≡ Served → b.serving.job ≡ job → IsUnderWayIn job b.serving b.queue.chain
 under_way b job ready phase e = subst (λ (j : Job). IsUnderWayIn j b.serving b.queue.chain) e (ready.serving phase)
 
-header-case : (b : Front) (disk new : Option DiskState) (history : List Entry) (done : Bool) (now : List ℕ) → IsReady b → b.queue.phase ≡ Served → b.serving.job ≡ Header → IsMap history disk
+header-case : (b : Front) (disk new : Option DiskState) (history : List Entry) (done : Bool) (now : List ℕ) → IsBetweenCalls b → b.queue.phase ≡ Served → b.serving.job ≡ Header → IsMap history disk
     → Calls (call_in Header b (sector_count disk)) done disk (buffer_in Header b) new now → Goes Header b.got.items history new (settled done (serving_in Header b (sector_count disk))) now
 header-case b disk new history done now ready phase job map calls =
     header-goes (planned b (sector_count disk)) done (sector_in (buffer_in Header b)) b.serving b.queue.chain b.got.items (buffer_in Header b) now history disk new job (under_way b Header ready phase job).1
-    (plan-there (kind_in (buffer_in Header b)) (sector_in (buffer_in Header b)) (data_out b.queue.chain) (data_in b.queue.chain) disk b.flush) map calls
+    (plan-there (request_kind (buffer_in Header b)) (sector_in (buffer_in Header b)) (data_out b.queue.chain) (data_in b.queue.chain) disk b.flush) map calls
 
-reading-case : (b : Front) (disk new : Option DiskState) (history : List Entry) (done : Bool) (now : List ℕ) → IsReady b → b.queue.phase ≡ Served → b.serving.job ≡ Reading → IsMap history disk
+reading-case : (b : Front) (disk new : Option DiskState) (history : List Entry) (done : Bool) (now : List ℕ) → IsBetweenCalls b → b.queue.phase ≡ Served → b.serving.job ≡ Reading → IsMap history disk
     → InWork Reading b.serving b.buffer history disk
     → Calls (call_in Reading b (sector_count disk)) done disk (buffer_in Reading b) new now → Goes Reading b.got.items history new (settled done (serving_in Reading b (sector_count disk))) now
 reading-case b disk new history done now ready phase job map work calls =
     reading-goes done (piece_len (piece_in Reading b.serving b.queue.chain)) b.serving b.queue.chain b.got.items b.buffer now history disk new (under_way b Reading ready phase job).1
     (piece-few b.serving b.queue.chain) map work calls
 
-writing-case : (b : Front) (disk new : Option DiskState) (history : List Entry) (done : Bool) (now : List ℕ) → IsReady b → IsTaking b → b.queue.phase ≡ Served → length b.buffer ≡ 512 → b.serving.job ≡ Writing
+writing-case : (b : Front) (disk new : Option DiskState) (history : List Entry) (done : Bool) (now : List ℕ) → IsBetweenCalls b → IsTaking b → b.queue.phase ≡ Served → length b.buffer ≡ 512 → b.serving.job ≡ Writing
     → IsMap history disk → InWork Writing b.serving b.buffer history disk
     → Calls (call_in Writing b (sector_count disk)) done disk (buffer_in Writing b) new now → Goes Writing b.got.items history new (settled done (serving_in Writing b (sector_count disk))) now
 writing-case b disk new [] done now ready taking phase full job map work calls = absurd work.1
@@ -72,7 +72,7 @@ writing-case b disk new (gave first xs ∷ earlier) done now ready taking phase 
     data-goes done b.serving b.queue.chain first xs b.got.items b.buffer (buffer_in Writing b) now earlier disk new giving work.0 map calls
 
 -- a device that serves a request used the bytes of its access
-served-agrees : (history : List Entry) (old new : Device) → IsReady old.front → IsTaking old.front → old.front.queue.phase ≡ Served → length old.front.buffer ≡ 512 → Serves old new
+served-agrees : (history : List Entry) (old new : Device) → IsBetweenCalls old.front → IsTaking old.front → old.front.queue.phase ≡ Served → length old.front.buffer ≡ 512 → ServesWithDisk old new
     → TellsDisk history old → TellsDisk (told old.front.serving.job new.front.serving.job new.front.serving.sector old.front.got.items history) new
 served-agrees history old new ready taking phase full serves agrees = by old.front.serving.job refl where
   goes : (job : Job) → old.front.serving.job ≡ job → Goes job old.front.got.items history new.disk (settled serves.0 (serving_in job old.front (sector_count old.disk))) new.front.buffer
@@ -152,7 +152,7 @@ unserved history old new is other agrees = made history old new is (subst (λ h.
 same-device : (history : List Entry) (old new : Device) → new ≡ old → TellsDisk history old → TellsDisk history new
 same-device history old new same agrees = subst (λ (d : Device). TellsDisk history d) (sym same) agrees
 
-not_both : (old : Device) → IsReady old.front → IsSome old.front.waits → (m : Bool) → old.front.is_made ≡ m → m ≡ false
+not_both : (old : Device) → IsBetweenCalls old.front → IsSome old.front.waits → (m : Bool) → old.front.is_made ≡ m → m ≡ false
 not_both old ready some false e = refl
 not_both old ready some true e = absurd (neither old.front.waits some (ready.made e).0) where
   neither : (w : Option ℕ) → IsSome w → w ≡ None → ⊥
@@ -160,7 +160,7 @@ not_both old ready some true e = absurd (neither old.front.waits some (ready.mad
   neither (Some n) s e = cc
 
 -- only a device that works has an access that was made
-is_taking : (b : Front) → IsReady b → b.is_made ≡ true → IsTaking b
+is_taking : (b : Front) → IsBetweenCalls b → b.is_made ≡ true → IsTaking b
 is_taking b ready is = record { stage = by b.stage refl; waits = (ready.made is).0; made = is } where
   idle : b.is_made ≡ false → b.stage ≡ DriverOk
   idle e = cc
@@ -171,7 +171,7 @@ is_taking b ready is = record { stage = by b.stage refl; waits = (ready.made is)
   by FeaturesOk e = sym e ∙ idle (ready.quiet (λ works. cc)).made
   by NeedsReset e = sym e ∙ idle (ready.quiet (λ works. cc)).made
 
-goes-agrees : (history : List Entry) (old new : Device) → IsReady old.front → length old.front.buffer ≡ 512 → (m : Bool) → old.front.is_made ≡ m → (m ≡ true → IsTaking old.front) → GoesOnIn m old new
+goes-agrees : (history : List Entry) (old new : Device) → IsBetweenCalls old.front → length old.front.buffer ≡ 512 → (m : Bool) → old.front.is_made ≡ m → (m ≡ true → IsTaking old.front) → GoesOnIn m old new
     → TellsDisk history old → TellsDisk (history_after m old new history) new
 goes-agrees history old new ready full false e taking goes agrees = same-device history old new goes agrees
 goes-agrees history old new ready full true e taking goes agrees = by old.front.queue.phase refl goes where
@@ -185,7 +185,7 @@ goes-agrees history old new ready full true e taking goes agrees = by old.front.
   by Faulted e takes = queue-agrees history old new takes agrees
 
 -- the history goes on with each step
-pub steps-agrees : (history : List Entry) (old : Device) (result : Step) (new : Device) → IsReady old.front → length old.front.buffer ≡ 512 → Steps old result new
+pub steps-agrees : (history : List Entry) (old : Device) (result : Step) (new : Device) → IsBetweenCalls old.front → length old.front.buffer ≡ 512 → BlockDeviceSteps old result new
     → TellsDisk history old → TellsDisk (history_after old.front.is_made old new history) new
 steps-agrees history old Down new ready full steps agrees =
     unmade history old new (ready.quiet (λ e. stops (sym steps.0 ∙ e))).made (same-device history old new steps.1 agrees) where
@@ -213,8 +213,8 @@ steps-agrees history old (Finished head len) new ready full steps agrees =
 steps-agrees history old (Wants want) new ready full steps agrees = goes-agrees history old new ready full old.front.is_made refl (is_taking old.front ready) steps.4 agrees
 
 -- the same, where both devices are known from the histories that tell them
-pub told_by_step : (history after : List Entry) (old new : Device) → TellsDisk history old → (result : Step) → IsReady old.front → length old.front.buffer ≡ 512
-    → after ≡ history_after old.front.is_made old new history → Steps old result new → TellsDisk after new
+pub told_by_step : (history after : List Entry) (old new : Device) → TellsDisk history old → (result : Step) → IsBetweenCalls old.front → length old.front.buffer ≡ 512
+    → after ≡ history_after old.front.is_made old new history → BlockDeviceSteps old result new → TellsDisk after new
 told_by_step history after old new agrees result ready full is steps = subst (λ h. TellsDisk h new) (sym is) (steps-agrees history old result new ready full steps agrees)
 
 -- a disk that is put in begins a history: without one before it no OUT was in work, and no IN

@@ -13,7 +13,7 @@ use Rattle.iom_virtio_blk.specs.declared.serving.Job.{Job}
 use Rattle.iom_virtio_blk.specs.declared.serving.Job.TheVariants.{Header, Reading, Writing, Ending}
 use Rattle.iom_virtio_blk.specs.Disks.{KeepsSectors, DidRead, DidWrite, IsThere}
 use Rattle.iom_virtio_blk.specs.DiskStates.{DiskState}
-use Rattle.iom_virtio_blk.specs.Serving.{begun, call_of, with_header, call_with_header, with_written, call_with_written, with_data, call_with_data, data_in, data_out}
+use Rattle.iom_virtio_blk.specs.Serving.{begun_serving, disk_call_of, with_header, call_with_header, with_written, call_with_written, with_data, call_with_data, data_in, data_out}
 use Rattle.iom_virtio_blk.specs.Blocks.{overlaid}
 use Rattle.iom_virtio_blk.specs.Steps.{Calls, settled}
 use Rattle.iom_virtio_blk.specs.Histories.{Entry, gave, IsMap, InWork, told}
@@ -66,7 +66,7 @@ end_case IoError true sector s got kept buffer history old new read map calls = 
 end_case Unsupported true sector s got kept buffer history old new read map calls = record { map = rw calls.0 map; work = tt }
 
 begun-goes : (plan : Plan) (done : Bool) (sector : ℕ) (s : Serving) (chain : Chain) (got kept buffer : List ℕ) (history : List Entry) (old new : Option DiskState) → s.read ≡ 16 → s.wrote ≡ 0
-    → (plan ≡ WriteDisk → IsThere old) → IsMap history old → Calls (call_of plan sector chain) done old kept new buffer → Goes Header got history new (settled done (begun plan sector s chain)) buffer
+    → (plan ≡ WriteDisk → IsThere old) → IsMap history old → Calls (disk_call_of plan sector chain) done old kept new buffer → Goes Header got history new (settled done (begun_serving plan sector s chain)) buffer
 begun-goes ReadDisk done sector s chain got kept buffer history old new read wrote there map calls = read_case (data_in chain == 0) done sector s got kept buffer history old new read wrote map calls
 begun-goes WriteDisk done sector s chain got kept buffer history old new read wrote there map calls = write_case (data_out chain == 0) done sector s got kept buffer history old new read (there refl) map calls
 begun-goes FlushDisk done sector s chain got kept buffer history old new read wrote there map calls = flush_case done sector s got kept buffer history old new read map calls
@@ -86,8 +86,8 @@ header-goes plan done sector s chain got kept buffer history old new job wrote t
     same : record { job = Header; sector = s.sector; read = s.read + length got; wrote = s.wrote } ≡ more
     same = ap (λ (j : Job). record { job = j; sector = s.sector; read = s.read + length got; wrote = s.wrote }) (sym job)
 
-  by : (whole : Bool) → (s.read + length got == 16) ≡ whole → Calls (cond whole (call_of plan sector chain) None) done old kept new buffer
-      → Goes Header got history new (settled done (cond whole (begun plan sector more chain) more)) buffer
+  by : (whole : Bool) → (s.read + length got == 16) ≡ whole → Calls (cond whole (disk_call_of plan sector chain) None) done old kept new buffer
+      → Goes Header got history new (settled done (cond whole (begun_serving plan sector more chain) more)) buffer
   by true e c = begun-goes plan done sector more chain got kept buffer history old new (eqb-true (s.read + length got) 16 e) wrote there map c
   by false e c = partly done c
 

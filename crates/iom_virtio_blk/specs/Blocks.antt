@@ -34,7 +34,7 @@ pub record IsQuiet (b : Front) : Type 0 where
   pub asked : b.asked ≡ None
 
 -- what holds of a device between two calls
-pub record IsReady (b : Front) : Type 0 where
+pub record IsBetweenCalls (b : Front) : Type 0 where
   pub running : b.stage ≡ DriverOk → b.queue.phase ≢ Faulted
   pub quiet : b.stage ≢ DriverOk → IsQuiet b
   pub serving : b.queue.phase ≡ Served → IsUnderWay b.serving b.queue.chain
@@ -107,15 +107,15 @@ abbrev pub buffer_after : Front → List ℕ
 buffer_after b = buffer_in b.serving.job b
 
 -- a header: le32 type, le32 reserved, le64 sector
-abbrev pub kind_in : List ℕ → ℕ
-kind_in header = number_at 4 0 header
+abbrev pub request_kind : List ℕ → ℕ
+request_kind header = number_at 4 0 header
 
 abbrev pub sector_in : List ℕ → ℕ
 sector_in header = number_at 8 8 header
 
 -- what the header in the buffer asks for, of a disk of so many sectors
 abbrev pub planned : Front → Option ℕ → Plan
-planned b sectors = plan_of (kind_in (buffer_in Header b)) (sector_in (buffer_in Header b)) (data_out b.queue.chain) (data_in b.queue.chain) sectors b.flush
+planned b sectors = plan_of (request_kind (buffer_in Header b)) (sector_in (buffer_in Header b)) (data_out b.queue.chain) (data_in b.queue.chain) sectors b.flush
 
 -- the request after the access was made, if the call of the disk that follows goes well
 abbrev pub serving_in : Job → Front → Option ℕ → Serving

@@ -8,7 +8,7 @@ use Rattle.iom_virtqueue.specs.Accesses.{wrapped}
 use Rattle.iom_virtqueue.specs.Queues.{QueueState, element_bytes, element_piece, more_finished}
 use Rattle.iom_virtio_blk.specs.declared.step.Step.{Step}
 use Rattle.iom_virtio_blk.specs.declared.step.Step.TheVariants.{Idle, Waiting, Down, Chain, Finished, Wants}
-use Rattle.iom_virtio_blk.specs.Steps.{Device, Steps}
+use Rattle.iom_virtio_blk.specs.Steps.{Device, BlockDeviceSteps}
 
 -- a byte of memory that is written
 pub record Byte : Type 0 where
@@ -115,5 +115,5 @@ pub record Writes (old new : QueueState) (wrote : List Byte) (finished : List Do
 -- THE LAW of a step
 abbrev pub StepsWriteElements : Type 0
 StepsWriteElements =
-    (old new : Device) (outcome : Step) → Steps old outcome new → IsWithin old.front.queue
+    (old new : Device) (outcome : Step) → BlockDeviceSteps old outcome new → IsWithin old.front.queue
     → Writes old.front.queue new.front.queue (wrote_at old outcome) (done_at outcome)

@@ -50,18 +50,18 @@ Gave s (gave first «data» ∷ earlier) = (first ≡ s.sector) × (s.read ≡ 1
 Gave s (failed first «data» ∷ earlier) = ⊥
 
 -- the buffer begins with the bytes of the sector that isn't complete
-abbrev pub IsRest : List ℕ → List Entry → Type 0
-IsRest buffer [] = Unit {0}
-IsRest buffer (inserted map ∷ earlier) = Unit {0}
-IsRest buffer (gave first «data» ∷ earlier) = take (length «data» % 512) buffer ≡ drop (length «data» - length «data» % 512) «data»
-IsRest buffer (failed first «data» ∷ earlier) = Unit {0}
+abbrev pub IsIncompleteSector : List ℕ → List Entry → Type 0
+IsIncompleteSector buffer [] = Unit {0}
+IsIncompleteSector buffer (inserted map ∷ earlier) = Unit {0}
+IsIncompleteSector buffer (gave first «data» ∷ earlier) = take (length «data» % 512) buffer ≡ drop (length «data» - length «data» % 512) «data»
+IsIncompleteSector buffer (failed first «data» ∷ earlier) = Unit {0}
 
 -- what holds of the request in work: the buffer of an IN holds the sector of the disk that is being written to memory; an OUT is the newest entry,
 -- when it ended OK with all of its data
 abbrev pub InWork : Job → Serving → List ℕ → List Entry → Option DiskState → Type 0
 InWork Header s buffer history disk = Unit {0}
 InWork Reading s buffer history disk = DidRead disk (s.sector + s.wrote / 512) buffer
-InWork Writing s buffer history disk = IsThere disk × Gave s history × IsRest buffer history
+InWork Writing s buffer history disk = IsThere disk × Gave s history × IsIncompleteSector buffer history
 InWork (Ending status.Ok) s buffer history disk = 16 < s.read → IsThere disk × Gave s history
 InWork (Ending end) s buffer history disk = Unit {0}
 

@@ -28,8 +28,8 @@ failures_of (After before) = 0
 failures_of Past = 1
 
 -- the disk as it is seen
-abbrev pub state_of : MemoryDisk → DiskState
-state_of disk = record { name = disk.name; sectors = disk.sectors.items; failures = failures_of disk.failing; failing = Some (failing_of disk.failing) }
+abbrev pub disk_state : MemoryDisk → DiskState
+disk_state disk = record { name = disk.name; sectors = disk.sectors.items; failures = failures_of disk.failing; failing = Some (failing_of disk.failing) }
 
 -- a disk of this name with so many sectors of zeros, of which no call failed yet, and of which these will
 abbrev pub zero_disk : (name sectors : ℕ) (failing : List ℕ) → DiskState

@@ -7,7 +7,7 @@ use Rattle.iom_virtio_blk.specs.declared.serving.Job.{Job}
 use Rattle.iom_virtio_blk.specs.declared.serving.Job.TheVariants.{Header, Reading, Writing, Ending}
 use Rattle.iom_virtio_blk.specs.declared.want.WantedAccess.{WantedAccess}
 use Rattle.iom_virtio_blk.specs.declared.step.Step.TheVariants.{Finished, Wants}
-use Rattle.iom_virtio_blk.specs.Steps.{Device, Steps}
+use Rattle.iom_virtio_blk.specs.Steps.{Device, BlockDeviceSteps}
 
 -- what an access is for
 pub data Purpose : Type 0 where
@@ -65,10 +65,10 @@ purpose_of b = purpose_in b.queue.phase b.serving.job
 -- a step that goes on to another access goes on in this order
 abbrev pub StepsFollowOrder : Type 0
 StepsFollowOrder =
-    (old new : Device) (want : WantedAccess) (purpose : Purpose) → Steps old (Wants want) new → old.front.is_made ≡ true → purpose_of old.front ≡ Some purpose
+    (old new : Device) (want : WantedAccess) (purpose : Purpose) → BlockDeviceSteps old (Wants want) new → old.front.is_made ≡ true → purpose_of old.front ≡ Some purpose
     → (next : Purpose) × (purpose_of new.front ≡ Some next) × Follows purpose next
 
 -- a request is finished by the last access of it, and the first of the next one is wanted then
 abbrev pub FinishesLast : Type 0
 FinishesLast =
-    (old new : Device) (head len : ℕ) → Steps old (Finished head len) new → (purpose_of old.front ≡ Some used_idx) × (purpose_of new.front ≡ Some avail_idx)
+    (old new : Device) (head len : ℕ) → BlockDeviceSteps old (Finished head len) new → (purpose_of old.front ≡ Some used_idx) × (purpose_of new.front ≡ Some avail_idx)

@@ -9,7 +9,7 @@ use Rattle.iom_virtio_blk.specs.declared.serving.Job.{Job}
 use Rattle.iom_virtio_blk.specs.declared.serving.Job.TheVariants.{Header, Reading, Writing, Ending}
 use Rattle.iom_virtio_blk.specs.declared.request.RequestStatus.TheVariants.{Ok, IoError, Unsupported}
 use Rattle.iom_virtio_blk.specs.Serving.{IsUnderWayIn}
-use Rattle.iom_virtio_blk.specs.Blocks.{IsReady, wanted_by}
+use Rattle.iom_virtio_blk.specs.Blocks.{IsBetweenCalls, wanted_by}
 
 number_prop : (x y : ℕ) → IsProp (x ≡ y)
 number_prop x y = Coded-set coded_ℕ x y
@@ -27,7 +27,7 @@ IsUnderWayIn-prop (Ending Ok) s chain = hlevel (le_prop, number_prop)
 IsUnderWayIn-prop (Ending IoError) s chain = hlevel (le_prop, number_prop)
 IsUnderWayIn-prop (Ending Unsupported) s chain = hlevel (le_prop, number_prop)
 
-pub IsReady-prop : (b : Front) → IsProp (IsReady b)
+pub IsReady-prop : (b : Front) → IsProp (IsBetweenCalls b)
 IsReady-prop b =
     let under_way = IsUnderWayIn-prop b.serving.job b.serving b.queue.chain in
     let bytes = AreOf-prop b.got.items (wanted_by b) in

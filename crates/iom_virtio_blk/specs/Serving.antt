@@ -48,26 +48,26 @@ piece_len None = 0
 piece_len (Some piece) = piece.len
 
 -- what is done after the header, by the plan, if the call of the disk that comes with it goes well; without data an IN or OUT is done
-abbrev pub begun : Plan → ℕ → Serving → Chain → Serving
-begun plan.ReadDisk sector s chain = record s { sector = sector; job = (if data_in chain == 0 then Ending status.Ok else Reading) }
-begun plan.WriteDisk sector s chain = record s { sector = sector; job = (if data_out chain == 0 then Ending status.Ok else Writing) }
-begun plan.FlushDisk sector s chain = record s { sector = sector; job = Ending status.Ok }
-begun (plan.End end) sector s chain = record s { sector = sector; job = Ending end }
+abbrev pub begun_serving : Plan → ℕ → Serving → Chain → Serving
+begun_serving plan.ReadDisk sector s chain = record s { sector = sector; job = (if data_in chain == 0 then Ending status.Ok else Reading) }
+begun_serving plan.WriteDisk sector s chain = record s { sector = sector; job = (if data_out chain == 0 then Ending status.Ok else Writing) }
+begun_serving plan.FlushDisk sector s chain = record s { sector = sector; job = Ending status.Ok }
+begun_serving (plan.End end) sector s chain = record s { sector = sector; job = Ending end }
 
 -- the call of the disk that comes with it: an IN reads its first sector before it writes anything to memory
-abbrev pub call_of : Plan → ℕ → Chain → Option Call
-call_of plan.ReadDisk sector chain = if data_in chain == 0 then None else Some (call.Read sector)
-call_of plan.WriteDisk sector chain = None
-call_of plan.FlushDisk sector chain = Some call.Flush
-call_of (plan.End end) sector chain = None
+abbrev pub disk_call_of : Plan → ℕ → Chain → Option Call
+disk_call_of plan.ReadDisk sector chain = if data_in chain == 0 then None else Some (call.Read sector)
+disk_call_of plan.WriteDisk sector chain = None
+disk_call_of plan.FlushDisk sector chain = Some call.Flush
+disk_call_of (plan.End end) sector chain = None
 
 -- more of the header was read
 abbrev pub with_header : Serving → ℕ → Plan → ℕ → Chain → Serving
 with_header s len plan sector chain =
-    if s.read + len == 16 then begun plan sector (record s { read = s.read + len }) chain else record s { read = s.read + len }
+    if s.read + len == 16 then begun_serving plan sector (record s { read = s.read + len }) chain else record s { read = s.read + len }
 
 abbrev pub call_with_header : Serving → ℕ → Plan → ℕ → Chain → Option Call
-call_with_header s len plan sector chain = if s.read + len == 16 then call_of plan sector chain else None
+call_with_header s len plan sector chain = if s.read + len == 16 then disk_call_of plan sector chain else None
 
 -- more data was written to memory: once a sector is there the next one is read from the disk
 abbrev pub with_written : Serving → ℕ → Chain → Serving

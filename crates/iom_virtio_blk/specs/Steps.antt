@@ -4,7 +4,7 @@ use Rattle.iom_virtqueue.specs.declared.phase.Phase.{Phase}
 use Rattle.iom_virtqueue.specs.declared.phase.Phase.TheVariants.{AvailableIndex, Served, UsedIndex}
 use Rattle.iom_virtqueue.specs.Descriptors.{number_at}
 use Rattle.iom_virtqueue.specs.Accesses.{LiesInPage}
-use Rattle.iom_virtqueue.specs.Queues.{fault_of, after, new_requests}
+use Rattle.iom_virtqueue.specs.Queues.{chain_fault_of, after, new_requests}
 use Rattle.iom_virtio_blk.specs.declared.front.Front.{Front}
 use Rattle.iom_virtio_blk.specs.declared.serving.Serving.{Serving}
 use Rattle.iom_virtio_blk.specs.declared.serving.Job.TheVariants.{Ending}
@@ -46,8 +46,8 @@ settled true s = s
 settled false s = record s { job = Ending IoError }
 
 -- a device that serves a request used the bytes of its access: the disk is called where a sector is complete or wanted
-abbrev pub Serves : Device → Device → Type 0
-Serves old new =
+abbrev pub ServesWithDisk : Device → Device → Type 0
+ServesWithDisk old new =
     (done : Bool)
     × Calls (call_after old.front (sector_count old.disk)) done old.disk (after_served old.front (sector_count old.disk)).buffer new.disk new.front.buffer
     × (new.front ≡ record (after_served old.front (sector_count old.disk)) { buffer = new.front.buffer; serving = settled done (after_served old.front (sector_count old.disk)).serving })
@@ -62,11 +62,11 @@ abbrev pub taken_front : Front → Front
 taken_front b = record b { is_made = false; queue = after b.queue b.got.items; serving = serving_from (after b.queue b.got.items).phase b.serving }
 
 abbrev pub TakesQueue : Device → Device → Type 0
-TakesQueue old new = (fault_of old.front.queue old.front.got.items ≡ None) × (new.disk ≡ old.disk) × (new.front ≡ taken_front old.front)
+TakesQueue old new = (chain_fault_of old.front.queue old.front.got.items ≡ None) × (new.disk ≡ old.disk) × (new.front ≡ taken_front old.front)
 
 -- what a device does with the bytes that came, by what it does
 abbrev pub UsesIn : Phase → Device → Device → Type 0
-UsesIn Served old new = Serves old new
+UsesIn Served old new = ServesWithDisk old new
 UsesIn phase old new = TakesQueue old new
 
 -- the device goes on to another access: nothing changes where the last one wasn't begun
@@ -80,25 +80,25 @@ CountsNothingNew b = IsTaking b × (b.queue.phase ≡ AvailableIndex) × (new_re
 
 -- a step of a device that isn't serving a request, once its access was made
 abbrev pub QueueSteps : Front → Step → Front → Type 0
-QueueSteps old Idle new = CountsNothingNew old × (fault_of old.queue old.got.items ≡ None) × (new ≡ taken_front old)
+QueueSteps old Idle new = CountsNothingNew old × (chain_fault_of old.queue old.got.items ≡ None) × (new ≡ taken_front old)
 QueueSteps old Down new = ⊥
 QueueSteps old Waiting new = ⊥
-QueueSteps old (Chain fault) new = (fault_of old.queue old.got.items ≡ Some fault) × (new ≡ record (down old) { queue = after old.queue old.got.items })
+QueueSteps old (Chain fault) new = (chain_fault_of old.queue old.got.items ≡ Some fault) × (new ≡ record (down old) { queue = after old.queue old.got.items })
 QueueSteps old (Finished head len) new =
-    (old.queue.phase ≡ UsedIndex) × (head ≡ old.queue.head) × (len ≡ old.queue.written) × (fault_of old.queue old.got.items ≡ None) × (new ≡ taken_front old)
+    (old.queue.phase ≡ UsedIndex) × (head ≡ old.queue.head) × (len ≡ old.queue.written) × (chain_fault_of old.queue old.got.items ≡ None) × (new ≡ taken_front old)
 QueueSteps old (Wants want) new =
-    (access_wanted new.buffer want ≡ wanted_by new) × LiesInPage (wanted_by new) × (new.queue.phase ≢ AvailableIndex) × (fault_of old.queue old.got.items ≡ None) × (new ≡ taken_front old)
+    (access_wanted new.buffer want ≡ wanted_by new) × LiesInPage (wanted_by new) × (new.queue.phase ≢ AvailableIndex) × (chain_fault_of old.queue old.got.items ≡ None) × (new ≡ taken_front old)
 
 -- a step, by its outcome
-abbrev pub Steps : Device → Step → Device → Type 0
-Steps old Down new = (old.front.stage ≡ NeedsReset) × (new ≡ old)
-Steps old Idle new = ((old.front.stage ≢ DriverOk) × (old.front.stage ≢ NeedsReset) × (new ≡ old)) ⊎ (CountsNothingNew old.front × TakesQueue old new)
-Steps old Waiting new = (old.front.stage ≡ DriverOk) × IsSome old.front.waits × (new ≡ old)
-Steps old (Chain fault) new =
-    IsTaking old.front × (old.front.queue.phase ≢ Served) × (fault_of old.front.queue old.front.got.items ≡ Some fault)
+abbrev pub BlockDeviceSteps : Device → Step → Device → Type 0
+BlockDeviceSteps old Down new = (old.front.stage ≡ NeedsReset) × (new ≡ old)
+BlockDeviceSteps old Idle new = ((old.front.stage ≢ DriverOk) × (old.front.stage ≢ NeedsReset) × (new ≡ old)) ⊎ (CountsNothingNew old.front × TakesQueue old new)
+BlockDeviceSteps old Waiting new = (old.front.stage ≡ DriverOk) × IsSome old.front.waits × (new ≡ old)
+BlockDeviceSteps old (Chain fault) new =
+    IsTaking old.front × (old.front.queue.phase ≢ Served) × (chain_fault_of old.front.queue old.front.got.items ≡ Some fault)
     × (new.disk ≡ old.disk) × (new.front ≡ record (down old.front) { queue = after old.front.queue old.front.got.items })
-Steps old (Finished head len) new =
+BlockDeviceSteps old (Finished head len) new =
     IsTaking old.front × (old.front.queue.phase ≡ UsedIndex) × (head ≡ old.front.queue.head) × (len ≡ old.front.queue.written) × TakesQueue old new
-Steps old (Wants want) new =
+BlockDeviceSteps old (Wants want) new =
     (access_wanted new.front.buffer want ≡ wanted_by new.front) × LiesInPage (wanted_by new.front) × IsAsking new.front × (old.front.is_made ≡ true → new.front.queue.phase ≢ AvailableIndex)
     × GoesOnIn old.front.is_made old new

@@ -1,13 +1,13 @@
 ghost use Rattle.std.specs.Prelude.{◌≡◌, ◌≢◌, ◌≤◌, ℕ, List, [], ◌∷◌, length, take, drop, Option, Some, None, true, false, is_some, unwrap_or};
-ghost use Rattle.iom_virtqueue.specs.Accesses.{AreOf, LiesInPage, access_of};
+ghost use Rattle.iom_virtqueue.specs.Accesses.{AreOf, LiesInPage, wanted_access_of};
 ghost use Rattle.iom_virtqueue.specs.Layouts.{IsLayout};
 ghost use Rattle.iom_virtqueue.specs.declared.phase.Phase.TheVariants.{Served};
 ghost use Rattle.iom_virtio_blk.specs.declared.stage.Stage.TheVariants.{Reset};
 ghost use Rattle.iom_virtio_blk.specs.Features.{flush_of};
 ghost use Rattle.iom_virtio_blk.specs.Stages.{device_status};
 ghost use Rattle.iom_virtio_blk.specs.Disks.{disk_in};
-ghost use Rattle.iom_virtio_blk.specs.Blocks.{IsReady, IsAsking, IsTaking, EndsWaiting, replied, given_up, down, negotiated, with_queue, wanted_by};
-ghost use Rattle.iom_virtio_blk.specs.Steps.{device, Steps, Serves, Calls};
+ghost use Rattle.iom_virtio_blk.specs.Blocks.{IsBetweenCalls, IsAsking, IsTaking, EndsWaiting, replied, given_up, down, negotiated, with_queue, wanted_by};
+ghost use Rattle.iom_virtio_blk.specs.Steps.{device, BlockDeviceSteps, ServesWithDisk, Calls};
 ghost use Rattle.iom_virtio_blk.specs.Histories.{Entry, inserted, TellsDisk, KeepsTelling};
 ghost use Rattle.iom_virtio_blk.specs.ReadyProps.{IsReady-prop};
 
@@ -23,7 +23,7 @@ use iom_virtqueue::Layout;
 pub struct Blk<D: Disk> {
     front: Front,
     drive: Drive<D>,
-    ghost ready: { IsReady front } by { IsReady-prop front },
+    ghost ready: { IsBetweenCalls front } by { IsReady-prop front },
 }
 
 impl<D: Disk> Blk<D> {
@@ -136,7 +136,7 @@ impl<D: Disk> Blk<D> {
     /// A history that tells the disk before the step goes on to one that tells it afterwards: an OUT that ended OK is there with all of
     /// its data, and one that failed, or is in work, sector by sector. While an IN is served, what is written to memory is the disk's.
     pub fn step(&mut self) -> Step
-        ensures step { Steps (device self.old.front (disk_in D.seen self.old.drive.disk)) result
+        ensures step { BlockDeviceSteps (device self.old.front (disk_in D.seen self.old.drive.disk)) result
             (device self.new.front (disk_in D.seen self.new.drive.disk)) }
         ensures history { KeepsTelling (device self.old.front (disk_in D.seen self.old.drive.disk))
             (device self.new.front (disk_in D.seen self.new.drive.disk)) }
@@ -163,7 +163,7 @@ impl<D: Disk> Blk<D> {
     fn serve(&mut self) -> Step
         requires taking { IsTaking self.old.front }
         requires phase { self.old.front.queue.phase ≡ Served }
-        ensures step { Steps (device self.old.front (disk_in D.seen self.old.drive.disk)) result
+        ensures step { BlockDeviceSteps (device self.old.front (disk_in D.seen self.old.drive.disk)) result
             (device self.new.front (disk_in D.seen self.new.drive.disk)) }
     {
         if let Some(call) = self.front.take_served(self.drive.sectors()) {

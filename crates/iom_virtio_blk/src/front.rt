@@ -2,7 +2,7 @@ ghost use Rattle.std.specs.Prelude.{◌≡◌, ◌≢◌, ◌↔◌, IsTrue, ◌
 ghost use Rattle.iom_virtqueue.specs.Accesses.{AreOf, LiesInPage};
 ghost use Rattle.iom_virtqueue.specs.Chains.{byte_count};
 ghost use Rattle.iom_virtqueue.specs.Layouts.{IsLayout};
-ghost use Rattle.iom_virtqueue.specs.Queues.{fresh_queue, after, fault_of};
+ghost use Rattle.iom_virtqueue.specs.Queues.{fresh_queue, after, chain_fault_of};
 ghost use Rattle.iom_virtqueue.specs.declared.phase.Phase.TheVariants.{Served};
 ghost use Rattle.iom_virtio_blk.specs.declared.serving.Job.TheVariants.{Header, Reading, Writing, Ending};
 ghost use Rattle.iom_virtio_blk.specs.declared.request.RequestStatus.TheVariants.{IoError};
@@ -11,7 +11,7 @@ ghost use Rattle.iom_virtio_blk.specs.Stages.{device_status};
 ghost use Rattle.iom_virtio_blk.specs.Serving.{IsUnderWay};
 ghost use Rattle.iom_virtio_blk.specs.Wants.{access_wanted};
 ghost use Rattle.iom_virtio_blk.specs.Features.{flush_of};
-ghost use Rattle.iom_virtio_blk.specs.Blocks.{wanted_by, IsReady, IsAsking, IsTaking, TakesBytes, EndsWaiting, replied, given_up, down, negotiated, with_queue, overlaid, after_served, call_after, buffer_in, serving_in, call_in};
+ghost use Rattle.iom_virtio_blk.specs.Blocks.{wanted_by, IsBetweenCalls, IsAsking, IsTaking, TakesBytes, EndsWaiting, replied, given_up, down, negotiated, with_queue, overlaid, after_served, call_after, buffer_in, serving_in, call_in};
 ghost use Rattle.iom_virtio_blk.specs.Steps.{QueueSteps, settled};
 
 use crate::features::flush_of;
@@ -57,7 +57,7 @@ impl Front {
     /// A device that was just plugged.
     pub(crate) fn new() -> Front
         ensures stage { result.stage ≡ Reset }
-        ensures ready { IsReady result }
+        ensures ready { IsBetweenCalls result }
     {
         Front {
             stage: Stage::Reset,
@@ -83,7 +83,7 @@ impl Front {
         requires serving { self.old.queue.phase ≡ Served → IsUnderWay self.old.serving self.old.queue.chain }
         requires stops { stage ≢ DriverOk }
         ensures front { self.new ≡ given_up stage self.old }
-        ensures ready { IsReady self.new }
+        ensures ready { IsBetweenCalls self.new }
     {
         self.stage = stage;
         self.is_made = false;
@@ -93,19 +93,19 @@ impl Front {
 
     /// Gives up what is in work: the device is as before its features were negotiated.
     pub(crate) fn reset(&mut self)
-        requires ready { IsReady self.old }
+        requires ready { IsBetweenCalls self.old }
         ensures front { self.new ≡ given_up Reset self.old }
-        ensures ready { IsReady self.new }
+        ensures ready { IsBetweenCalls self.new }
     {
         self.give_up(Stage::Reset);
     }
 
     /// Takes features, where the device was reset and may take them.
     pub(crate) fn negotiate(&mut self, features: u64) -> bool
-        requires ready { IsReady self.old }
+        requires ready { IsBetweenCalls self.old }
         ensures answer { result ≡ is_some (negotiated self.old.stage (flush_of features) self.old) }
         ensures front { self.new ≡ unwrap_or (negotiated self.old.stage (flush_of features) self.old) self.old }
-        ensures ready { IsReady self.new }
+        ensures ready { IsBetweenCalls self.new }
     {
         match (self.stage, flush_of(features)) {
             (Stage::Reset, Some(flush)) => {
@@ -119,11 +119,11 @@ impl Front {
 
     /// Sets the queue, where the features are settled: the device works from now on.
     pub(crate) fn set_queue(&mut self, layout: Layout) -> bool
-        requires ready { IsReady self.old }
+        requires ready { IsBetweenCalls self.old }
         requires layout { IsLayout layout }
         ensures answer { result ≡ is_some (with_queue self.old.stage layout self.old) }
         ensures front { self.new ≡ unwrap_or (with_queue self.old.stage layout self.old) self.old }
-        ensures ready { IsReady self.new }
+        ensures ready { IsBetweenCalls self.new }
     {
         match self.stage {
             Stage::FeaturesOk => {
@@ -138,7 +138,7 @@ impl Front {
     /// Whether these bytes are those of the access that it wants: as many as it reads, and none where it writes.
     #[inline(always)]
     fn takes(&self, bytes: &[u8]) -> bool
-        requires ready { IsReady self.now }
+        requires ready { IsBetweenCalls self.now }
         ensures { IsTrue result ↔ AreOf bytes.now (wanted_by self.now) }
     {
         self.queue.facts();
@@ -154,11 +154,11 @@ impl Front {
     /// The device takes the bytes of the access that it wants.
     #[inline(always)]
     fn take(&mut self, bytes: &[u8])
-        requires ready { IsReady self.old }
+        requires ready { IsBetweenCalls self.old }
         requires running { self.old.stage ≡ DriverOk }
         requires bytes { AreOf bytes.now (wanted_by self.old) }
         ensures taken { TakesBytes self.old bytes.now self.new }
-        ensures ready { IsReady self.new }
+        ensures ready { IsBetweenCalls self.new }
     {
         if bytes.is_empty() {
             // A write gives none.
@@ -179,10 +179,10 @@ impl Front {
     /// they aren't as many as it wants, it is to be reset.
     #[inline(always)]
     pub(crate) fn made(&mut self, number: u64, bytes: &[u8])
-        requires ready { IsReady self.old }
+        requires ready { IsBetweenCalls self.old }
         ensures own { self.old.waits ≡ Some number → EndsWaiting self.old bytes.now self.new }
         ensures others { self.old.waits ≢ Some number → self.new ≡ self.old }
-        ensures ready { IsReady self.new }
+        ensures ready { IsBetweenCalls self.new }
     {
         if self.waits != Some(number) {
             return;
@@ -196,10 +196,10 @@ impl Front {
 
     /// What became of the access that the step before wanted.
     pub(crate) fn replied(&mut self, reply: Reply)
-        requires ready { IsReady self.old }
+        requires ready { IsBetweenCalls self.old }
         requires asking { IsAsking self.old }
         ensures front { self.new ≡ replied reply self.old }
-        ensures ready { IsReady self.new }
+        ensures ready { IsBetweenCalls self.new }
     {
         match reply {
             Reply::Accepted(number) => {
@@ -214,10 +214,10 @@ impl Front {
 
     /// The translation of a page is refused: the device is down where its access wants it still.
     pub(crate) fn refused(&mut self, page: u64)
-        requires ready { IsReady self.old }
+        requires ready { IsBetweenCalls self.old }
         ensures own { self.old.asked ≡ Some page → self.new ≡ down self.old }
         ensures others { self.old.asked ≢ Some page → self.new ≡ self.old }
-        ensures ready { IsReady self.new }
+        ensures ready { IsBetweenCalls self.new }
     {
         if self.asked == Some(page) {
             self.give_up(Stage::NeedsReset);
@@ -228,7 +228,7 @@ impl Front {
     // Written into its callers: what it answers would go through memory.
     #[inline(always)]
     pub(crate) fn wants(&self) -> WantedAccess
-        requires ready { IsReady self.now }
+        requires ready { IsBetweenCalls self.now }
         ensures want { access_wanted self.now.buffer result ≡ wanted_by self.now }
         ensures within { self.now.stage ≡ DriverOk → LiesInPage (wanted_by self.now) }
     {
@@ -280,11 +280,11 @@ impl Front {
 
     /// The queue takes what was made.
     pub(crate) fn take_queue(&mut self) -> Step
-        requires ready { IsReady self.old }
+        requires ready { IsBetweenCalls self.old }
         requires taking { IsTaking self.old }
         requires phase { self.old.queue.phase ≢ Served }
         ensures step { QueueSteps self.old result self.new }
-        ensures ready { IsReady self.new }
+        ensures ready { IsBetweenCalls self.new }
     {
         let before = self.queue.phase();
         self.is_made = false;
@@ -313,12 +313,12 @@ impl Front {
 
     /// The request takes what was made: the call of the disk that follows, if there is one.
     pub(crate) fn take_served(&mut self, sectors: Option<u64>) -> Option<Call>
-        requires ready { IsReady self.old }
+        requires ready { IsBetweenCalls self.old }
         requires taking { IsTaking self.old }
         requires phase { self.old.queue.phase ≡ Served }
         ensures front { self.new ≡ after_served self.old sectors }
         ensures call { result ≡ call_after self.old sectors }
-        ensures ready { IsReady self.new }
+        ensures ready { IsBetweenCalls self.new }
     {
         self.is_made = false;
         match self.serving.job {
@@ -334,14 +334,14 @@ impl Front {
     }
     /// The header's bytes came; a whole header says what is done.
     fn take_header(&mut self, sectors: Option<u64>) -> Option<Call>
-        requires ready { IsReady self.old }
+        requires ready { IsBetweenCalls self.old }
         requires made { self.old.is_made ≡ false }
         requires phase { self.old.queue.phase ≡ Served }
         requires job { self.old.serving.job ≡ Header }
         requires got { self.old.serving.read + length self.old.got.items ≤ 16 }
         ensures front { self.new ≡ record self.old { buffer = buffer_in Header self.old; serving = serving_in Header self.old sectors } }
         ensures call { result ≡ call_in Header self.old sectors }
-        ensures ready { IsReady self.new }
+        ensures ready { IsBetweenCalls self.new }
     {
         self.fill(self.serving.read as usize);
         self.serving.read += self.got.len() as u64;
@@ -383,13 +383,13 @@ impl Front {
 
     /// A piece of a sector was written to memory: the next sector is wanted where that was its last.
     fn take_written(&mut self) -> Option<Call>
-        requires ready { IsReady self.old }
+        requires ready { IsBetweenCalls self.old }
         requires made { self.old.is_made ≡ false }
         requires phase { self.old.queue.phase ≡ Served }
         requires job { self.old.serving.job ≡ Reading }
         ensures front { self.new ≡ record self.old { serving = serving_in Reading self.old None } }
         ensures call { result ≡ call_in Reading self.old None }
-        ensures ready { IsReady self.new }
+        ensures ready { IsBetweenCalls self.new }
     {
         let total = self.queue.chain().writable_bytes() - 1;
         if let Some(piece) = self.serving.piece(self.queue.chain()) {
@@ -408,7 +408,7 @@ impl Front {
 
     /// Bytes of a sector came from memory: the disk takes the sector where those were its last.
     fn take_data(&mut self) -> Option<Call>
-        requires ready { IsReady self.old }
+        requires ready { IsBetweenCalls self.old }
         requires made { self.old.is_made ≡ false }
         requires phase { self.old.queue.phase ≡ Served }
         requires job { self.old.serving.job ≡ Writing }
@@ -417,7 +417,7 @@ impl Front {
         requires left { self.old.serving.read + length self.old.got.items ≤ byte_count self.old.queue.chain.readable }
         ensures front { self.new ≡ record self.old { buffer = buffer_in Writing self.old; serving = serving_in Writing self.old None } }
         ensures call { result ≡ call_in Writing self.old None }
-        ensures ready { IsReady self.new }
+        ensures ready { IsBetweenCalls self.new }
     {
         let total = self.queue.chain().readable_bytes();
         self.fill(((self.serving.read - 16) % 512) as usize);
@@ -444,10 +444,10 @@ impl Front {
 
     /// The disk gave this sector, which is to be written to memory.
     pub(crate) fn load(&mut self, bytes: &[u8; 512])
-        requires ready { IsReady self.old }
+        requires ready { IsBetweenCalls self.old }
         requires made { self.old.is_made ≡ false }
         ensures front { self.new ≡ record self.old { buffer = bytes.now } }
-        ensures ready { IsReady self.new }
+        ensures ready { IsBetweenCalls self.new }
     {
         self.buffer = *bytes;
     }
@@ -461,10 +461,10 @@ impl Front {
 
     /// The disk failed: the request ends IOERR, and the rest of its data is left.
     pub(crate) fn fail(&mut self)
-        requires ready { IsReady self.old }
+        requires ready { IsBetweenCalls self.old }
         requires made { self.old.is_made ≡ false }
         ensures front { self.new ≡ record self.old { serving = settled false self.old.serving } }
-        ensures ready { IsReady self.new }
+        ensures ready { IsBetweenCalls self.new }
     {
         self.serving.job = Job::Ending(RequestStatus::IoError);
     }

@@ -1,6 +1,6 @@
 ghost use Rattle.std.specs.Prelude.{◌≡◌, ◌<◌, length, true, false, IfOk, OnOk, OnErr, Some, slice_get, slice_set};
 ghost use Rattle.iom_virtio_blk.specs.Disks.{GoesWell, Fails, after_call, fails_next};
-ghost use Rattle.iom_virtio_blk.specs.MemoryDisks.{failing_at, failing_of, failures_of, state_of, zero_disk, zero_sector};
+ghost use Rattle.iom_virtio_blk.specs.MemoryDisks.{failing_at, failing_of, failures_of, disk_state, zero_disk, zero_sector};
 
 use crate::disk::{Disk, DiskFault, SECTOR_SIZE};
 use std::alloc::{AllocError, Global};
@@ -73,7 +73,7 @@ impl MemoryDisk {
         sectors: usize,
         fails_at: Option<u64>,
     ) -> Result<MemoryDisk, AllocError>
-        ensures { IfOk result (λ disk. state_of disk ≡ zero_disk name sectors (failing_at fails_at)) }
+        ensures { IfOk result (λ disk. disk_state disk ≡ zero_disk name sectors (failing_at fails_at)) }
     {
         let mut zeros = Vec::with_capacity(alloc, sectors)?;
         for made in 0..sectors {
@@ -88,7 +88,7 @@ impl MemoryDisk {
 }
 
 impl Disk for MemoryDisk {
-    ghost seen = { state_of };
+    ghost seen = { disk_state };
 
     fn name(&self) -> u64 {
         self.name
@@ -109,8 +109,8 @@ impl Disk for MemoryDisk {
         requires { sector < length self.old.sectors.items }
         ensures ok { OnOk result (slice_get self.old.sectors.items sector ≡ Some bytes.new) }
         ensures same { self.new.sectors.items ≡ self.old.sectors.items }
-        ensures well { OnOk result (GoesWell (state_of self.old) (state_of self.new)) }
-        ensures fails { OnErr result (Fails (state_of self.old) (state_of self.new)) }
+        ensures well { OnOk result (GoesWell (disk_state self.old) (disk_state self.new)) }
+        ensures fails { OnErr result (Fails (disk_state self.old) (disk_state self.new)) }
     {
         if self.failing.call() {
             return Err(DiskFault);
@@ -123,8 +123,8 @@ impl Disk for MemoryDisk {
         requires { sector < length self.old.sectors.items }
         ensures ok { OnOk result (self.new.sectors.items ≡ slice_set self.old.sectors.items sector bytes.now) }
         ensures err { OnErr result (self.new.sectors.items ≡ self.old.sectors.items) }
-        ensures well { OnOk result (GoesWell (state_of self.old) (state_of self.new)) }
-        ensures fails { OnErr result (Fails (state_of self.old) (state_of self.new)) }
+        ensures well { OnOk result (GoesWell (disk_state self.old) (disk_state self.new)) }
+        ensures fails { OnErr result (Fails (disk_state self.old) (disk_state self.new)) }
     {
         if self.failing.call() {
             return Err(DiskFault);
@@ -135,8 +135,8 @@ impl Disk for MemoryDisk {
 
     fn flush(&mut self) -> Result<(), DiskFault>
         ensures same { self.new.sectors.items ≡ self.old.sectors.items }
-        ensures well { OnOk result (GoesWell (state_of self.old) (state_of self.new)) }
-        ensures fails { OnErr result (Fails (state_of self.old) (state_of self.new)) }
+        ensures well { OnOk result (GoesWell (disk_state self.old) (disk_state self.new)) }
+        ensures fails { OnErr result (Fails (disk_state self.old) (disk_state self.new)) }
     {
         if self.failing.call() {
             return Err(DiskFault);

@@ -4,7 +4,7 @@ use Rattle.std.specs.List.{IsDistinct}
 use Rattle.iom_virtqueue.specs.declared.descriptor.Link.{Link}
 use Rattle.iom_virtqueue.specs.Descriptors.{has_next, next_of, number_at, descriptor_of}
 use Rattle.iom_virtqueue.specs.Chains.{Chain, no_links, with_link, IsTrail, fault_at}
-use Rattle.iom_virtqueue.specs.Queues.{QueueState, IsChainSoFar, IsChainSoFarIn, fault_in, fault_of}
+use Rattle.iom_virtqueue.specs.Queues.{QueueState, IsChainSoFar, IsChainSoFarIn, fault_in, chain_fault_of}
 use Rattle.iom_virtqueue.proofs.ChainLemmas.{grown, room}
 use Rattle.iom_virtqueue.specs.declared.fault.ChainFault.TheVariants.{BadIndex}
 use Rattle.iom_virtqueue.specs.declared.phase.Phase.TheVariants.{RingEntry, Table}
@@ -38,13 +38,13 @@ below_size size n true e h = cc
 below_size size n false e h = leb-false size n e
 
 -- the head that was read
-pub entry_below : (q : QueueState) (bytes : List ℕ) → q.phase ≡ RingEntry → fault_of q bytes ≡ None → number_at 2 0 bytes < q.layout.size
+pub entry_below : (q : QueueState) (bytes : List ℕ) → q.phase ≡ RingEntry → chain_fault_of q bytes ≡ None → number_at 2 0 bytes < q.layout.size
 entry_below q bytes e none = below_size q.layout.size (number_at 2 0 bytes) (nat_le q.layout.size (number_at 2 0 bytes)) refl (subst (λ p. fault_in p q bytes ≡ None) e none)
 
 pub table_trail : (q : QueueState) (index : ℕ) → q.phase ≡ Table index → IsChainSoFar q → IsTrail q.layout.size q.head q.chain (Some index)
 table_trail q index e sound = subst (λ p. IsChainSoFarIn p q) e sound
 
-pub table_none : (q : QueueState) (index : ℕ) (bytes : List ℕ) → q.phase ≡ Table index → fault_of q bytes ≡ None → fault_at q.layout.size q.chain (record { index = index; descriptor = descriptor_of bytes }) ≡ None
+pub table_none : (q : QueueState) (index : ℕ) (bytes : List ℕ) → q.phase ≡ Table index → chain_fault_of q bytes ≡ None → fault_at q.layout.size q.chain (record { index = index; descriptor = descriptor_of bytes }) ≡ None
 table_none q index bytes e none = subst (λ p. fault_in p q bytes ≡ None) e none
 
 pub table_room : (q : QueueState) (index : ℕ) → q.layout.size ≤ 256 → q.phase ≡ Table index → IsChainSoFar q → (length q.chain.readable < 256) × (length q.chain.writable < 256)

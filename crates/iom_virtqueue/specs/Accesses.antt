@@ -10,10 +10,10 @@ pub data Access : Type 0 where
   writes : ℕ → List ℕ → Access
 
 -- the access that a want names
-abbrev pub access_of : Want → Access
-access_of Nothing = nothing
-access_of (Read address len) = reads address len
-access_of (Write address bytes) = writes address bytes.items
+abbrev pub wanted_access_of : Want → Access
+wanted_access_of Nothing = nothing
+wanted_access_of (Read address len) = reads address len
+wanted_access_of (Write address bytes) = writes address bytes.items
 
 -- addresses wrap (a choice of this model: the standard has no addresses beyond the last)
 abbrev pub wrapped : ℕ → ℕ

@@ -74,8 +74,8 @@ fault_in RingEntry q bytes = if nat_le q.layout.size (number_at 2 0 bytes) then 
 fault_in (Table index) q bytes = fault_at q.layout.size q.chain (record { index = index; descriptor = descriptor_of bytes })
 fault_in _ q bytes = None
 
-abbrev pub fault_of : QueueState → List ℕ → Option ChainFault
-fault_of q bytes = fault_in q.phase q bytes
+abbrev pub chain_fault_of : QueueState → List ℕ → Option ChainFault
+chain_fault_of q bytes = fault_in q.phase q bytes
 
 abbrev pub goes_on_at : Option ℕ → Phase
 goes_on_at (Some next) = Table next
@@ -99,7 +99,7 @@ after_fault None q bytes = after_in q.phase q bytes
 after_fault (Some fault) q bytes = with_phase q Faulted
 
 abbrev pub after : QueueState → List ℕ → QueueState
-after q bytes = after_fault (fault_of q bytes) q bytes
+after q bytes = after_fault (chain_fault_of q bytes) q bytes
 
 -- what holds of the request in work: what was read of it is the beginning of a chain, and before it is served the whole of one
 abbrev pub IsChainSoFarIn : Phase → QueueState → Type 0

@@ -1,8 +1,8 @@
 ghost use Rattle.std.specs.Prelude.{◌≡◌, ◌≢◌, ◌<◌, ◌++◌, length, MatchResult, Some, None};
 ghost use Rattle.iom_virtqueue.specs.Chains.{IsChain};
-ghost use Rattle.iom_virtqueue.specs.Queues.{QueueState, wanted, fault_of, after, fresh_queue, IsChainSoFar, wanted_in, after_in, ring_entry, used_element};
+ghost use Rattle.iom_virtqueue.specs.Queues.{QueueState, wanted, chain_fault_of, after, fresh_queue, IsChainSoFar, wanted_in, after_in, ring_entry, used_element};
 ghost use Rattle.iom_virtqueue.specs.Layouts.{IsLayout};
-ghost use Rattle.iom_virtqueue.specs.Accesses.{nothing, AreOf, LiesInPage, access_of, cut};
+ghost use Rattle.iom_virtqueue.specs.Accesses.{nothing, AreOf, LiesInPage, wanted_access_of, cut};
 ghost use Rattle.byteorder.specs.Endian.{little_bytes};
 ghost use Rattle.iom_virtqueue.specs.declared.phase.Phase.TheVariants.{Served, UsedElement};
 
@@ -125,7 +125,7 @@ impl Queue {
     /// Which access is wanted.
     #[inline(always)]
     pub fn next(&self) -> Want
-        ensures { access_of result ≡ wanted self.now }
+        ensures { wanted_access_of result ≡ wanted self.now }
     {
         match self.phase {
             Phase::AvailableIndex => Want::Read {
@@ -170,7 +170,7 @@ impl Queue {
 
     fn element_piece(&self, done: u64) -> Want
         requires { done < 8 }
-        ensures { access_of result ≡ wanted_in (UsedElement done) self.now }
+        ensures { wanted_access_of result ≡ wanted_in (UsedElement done) self.now }
     {
         let address = self.used_element(done);
         let len = cut(address, 8 - done);
@@ -183,7 +183,7 @@ impl Queue {
     /// After a fault nothing is wanted any more.
     pub fn took(&mut self, bytes: &[u8]) -> Result<(), ChainFault>
         requires { AreOf bytes.now (wanted self.old) }
-        ensures fault { MatchResult result (λ _. fault_of self.old bytes.now ≡ None) (λ fault. fault_of self.old bytes.now ≡ Some fault) }
+        ensures fault { MatchResult result (λ _. chain_fault_of self.old bytes.now ≡ None) (λ fault. chain_fault_of self.old bytes.now ≡ Some fault) }
         ensures after { self.new ≡ after self.old bytes.now }
     {
         match self.fault_of(bytes) {
@@ -200,7 +200,7 @@ impl Queue {
 
     fn fault_of(&self, bytes: &[u8]) -> Option<ChainFault>
         requires { AreOf bytes.now (wanted self.now) }
-        ensures { result ≡ fault_of self.now bytes.now }
+        ensures { result ≡ chain_fault_of self.now bytes.now }
     {
         match self.phase {
             Phase::AvailableIndex => {
@@ -229,7 +229,7 @@ impl Queue {
 
     fn advance(&mut self, bytes: &[u8])
         requires bytes { AreOf bytes.now (wanted self.old) }
-        requires none { fault_of self.old bytes.now ≡ None }
+        requires none { chain_fault_of self.old bytes.now ≡ None }
         ensures { self.new ≡ after_in self.old.phase self.old bytes.now }
     {
         match self.phase {

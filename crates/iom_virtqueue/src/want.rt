@@ -1,5 +1,5 @@
 ghost use Rattle.std.specs.Prelude.{◌≡◌, ◌≤◌, length};
-ghost use Rattle.iom_virtqueue.specs.Accesses.{access_of, writes};
+ghost use Rattle.iom_virtqueue.specs.Accesses.{wanted_access_of, writes};
 
 use arrayvec::ArrayVec;
 
@@ -22,7 +22,7 @@ impl Want {
     /// A write of at most eight bytes.
     pub fn write(address: u64, bytes: &[u8]) -> Want
         requires { length bytes.now ≤ 8 }
-        ensures { access_of result ≡ writes address bytes.now }
+        ensures { wanted_access_of result ≡ writes address bytes.now }
     {
         let mut held = ArrayVec::new();
         held.try_extend_from_slice(bytes).unwrap();

@@ -23,11 +23,11 @@ use Rattle.iom_fabric.specs.declared.message.Translation.TheVariants as told
 use Rattle.iom_hardware.specs.HardwareParts.{HardwareParts}
 use Rattle.iom_inflight.specs.declared.made.MadeAt.{MadeAt}
 use Rattle.iom_inflight.specs.Flights.{NumberedAccess, FlightRow, row_of, waiting_at, made_at}
-use Rattle.iom_iommu.specs.Parts.{registers_of, contexts_of, cache_of as translations_in, translations_of, flights_of}
+use Rattle.iom_iommu.specs.Parts.{registers_of, contexts_of, translation_cache_of, translations_of, flights_of}
 use Rattle.iom_iommu.specs.Stages.{space_through}
 use Rattle.iom_reach.specs.Memory.{Tables}
 use Rattle.iom_reach.specs.Safe.{IsOfTables}
-use Rattle.iom_reach.specs.Scene.{Mapping, AddressSpace, First as InFirst, Second as InSecond, Both as InBoth, NoStage, At, Message, Answer, PendingAccess, Scene, HasDevice}
+use Rattle.iom_reach.specs.Scene.{Mapping, AddressSpace, First as InFirst, Second as InSecond, Both as InBoth, NoStage, At, Message, Answer, PendingAccess, HardwareScene, HasDevice}
 use Rattle.iom_reach.specs.Ways.{ServesKind, space_of, MayFind, IsKept, LetsThrough, AtRoot, IsInSpace, Through, ByAts as ThroughAts, Untranslated, Translated, Way, Accepted, AnyFrame, ByContext}
 use Rattle.iom_registers.specs.declared.directory.DirectoryMode.{DirectoryMode}
 use Rattle.iom_registers.specs.declared.directory.DirectoryMode.TheVariants as mode
@@ -39,7 +39,7 @@ use Rattle.iom_hardware_ways.proofs.ListLemmas.{contains_map, get_contains}
 use Rattle.iom_hardware_ways.proofs.PageIndices.{sizes_have_indices}
 use Rattle.iom_tlb.specs.declared.space.Space.{Space}
 use Rattle.iom_tlb.specs.declared.space.Space.TheVariants as space
-use Rattle.iom_way_survey.specs.Found.{has_directory, mode_in, found_of, cached_found, stored_found, Finds, space_in, HaveTable, HaveLeaf, FoundTable, SpaceTable, TablesThrough, TablesFound, SomeTable, FoundLeaf, IsCachedIn, InSpace, AnswersSo, IsAnsweredAmong, IsInCache, LetsKind, ThroughSpace, ThroughFound, IsThatAccess, WayOf}
+use Rattle.iom_way_survey.specs.Found.{has_directory, mode_in, found_of, cached_found, stored_found, Finds, space_of_context, HaveTable, HaveLeaf, FoundTable, SpaceTable, TablesThrough, TablesFound, SomeTable, FoundLeaf, IsCachedIn, InSpace, AnswersSo, IsAnsweredAmong, IsInCache, LetsKind, ThroughSpace, ThroughFound, IsThatAccess, WayOf}
 use Rattle.iom_way_survey.proofs.TreeLemmas.{levels_are_walks}
 use Rattle.iom_way_survey.proofs.WayLemmas.{StagesLead, StagesRead, spaces_by, none_is_some}
 
@@ -135,7 +135,7 @@ both_true true false cached own is = absurd (none_is_some own is)
 both_true false b cached own is = absurd (none_is_some own is)
 
 module _ (trusted : ℕ → Bool) (parts : HardwareParts) where
-  abbrev S : Scene
+  abbrev S : HardwareScene
   S = scene_of trusted parts
 
   pub has : (id : ℕ) (device : Device) → device_with parts.devices id ≡ Some device → HasDevice S id
@@ -175,7 +175,7 @@ module _ (trusted : ℕ → Bool) (parts : HardwareParts) where
       )
 
   -- what is cached of a space, by either name
-  cached_back : (s : AddressSpace) (own : Space) (kind : AccessKind) (frame : ℕ) → cached_space s ≡ own → IsCachedIn (translations_in parts.iommu) own kind frame → IsInSpace S s frame kind
+  cached_back : (s : AddressSpace) (own : Space) (kind : AccessKind) (frame : ℕ) → cached_space s ≡ own → IsCachedIn (translation_cache_of parts.iommu) own kind frame → IsInSpace S s frame kind
   cached_back s own kind frame named (cached, is, (same, serves)) =
       inl (
         cached.page,
@@ -241,7 +241,7 @@ module _ (trusted : ℕ → Bool) (parts : HardwareParts) where
 
   -- CONTEXTS
 
-  through_way : (device : Device) (own : DeviceContext) (kind : AccessKind) (frame : ℕ) → device_with parts.devices device.id ≡ Some device → (found : Option Space) → space_in own ≡ found
+  through_way : (device : Device) (own : DeviceContext) (kind : AccessKind) (frame : ℕ) → device_with parts.devices device.id ≡ Some device → (found : Option Space) → space_of_context own ≡ found
       → ThroughSpace parts found kind frame → Through S device.id (context_of own) frame kind
   through_way device own kind frame at None is so = Untranslated (none_back own.first_stage own.second_stage own is)
   through_way device own kind frame at (Some s) is reached =
@@ -254,7 +254,7 @@ module _ (trusted : ℕ → Bool) (parts : HardwareParts) where
   found_way device (Some own) kind frame at finds (inl (through, let_ats)) =
       ByContext (context_of own) (may_find device.id own (has device.id device at) (finds own refl)) (ThroughAts let_ats (lets_way device.kind device kind frame refl at through))
   found_way device (Some own) kind frame at finds (inr reached) =
-      ByContext (context_of own) (may_find device.id own (has device.id device at) (finds own refl)) (through_way device own kind frame at (space_in own) refl reached)
+      ByContext (context_of own) (may_find device.id own (has device.id device at) (finds own refl)) (through_way device own kind frame at (space_of_context own) refl reached)
 
   -- ACCESSES IN FLIGHT
 
@@ -304,7 +304,7 @@ module _ (trusted : ℕ → Bool) (parts : HardwareParts) where
 
   tables_of_found : (found : Option DeviceContext) (frame : ℕ) → TablesFound parts found frame → IsOfTables S frame
   tables_of_found None frame never = absurd never
-  tables_of_found (Some context) frame table = through_table (space_in context) frame table
+  tables_of_found (Some context) frame table = through_table (space_of_context context) frame table
 
   pub tables_back : (frame : ℕ) → SomeTable parts frame → IsOfTables S frame
   tables_back frame (k, low, (device, at, inl cached)) = tables_of_found (cached_found parts device.id) frame cached

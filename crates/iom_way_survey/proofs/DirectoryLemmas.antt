@@ -18,7 +18,7 @@ use Rattle.iom_hardware_ways.specs.Formats.{word_in, context_found, found_non_le
 use Rattle.iom_hardware_ways.specs.Scenes.{directory_by, scene_of}
 use Rattle.iom_hardware_ways.proofs.FormatLemmas.{non_leaf_there, ddi_low, some_indices}
 use Rattle.iom_tlb.specs.declared.space.Space.{Space}
-use Rattle.iom_way_survey.specs.Directories.{next_of, IsOnWay, IsOnPath, PathReads, DirectoryReads}
+use Rattle.iom_way_survey.specs.Directories.{next_page_of, IsOnWay, IsOnPath, PathReads, DirectoryReads}
 use Rattle.iom_way_survey.specs.Found.{cached_found, stored_found, FoundTable, SpaceTable, TablesThrough, TablesFound, TablesOfDevice, SomeTable}
 use Rattle.iom_way_survey.proofs.WayLemmas.{plugged, device_place, table_of}
 
@@ -28,7 +28,7 @@ none_goes : (loaded : Result DeviceContext Cause) → Goes (context_found loaded
 none_goes (Ok context) never = never
 none_goes (Err cause) never = never
 
-on_way : (loaded : Result NonLeafEntry Cause) (Reads IsOn : ℕ → Type 0) → ((next : ℕ) → Reads next → IsOn next) → Goes (found_non_leaf loaded) Reads (λ said. ⊥) → IsOnWay (next_of loaded) IsOn
+on_way : (loaded : Result NonLeafEntry Cause) (Reads IsOn : ℕ → Type 0) → ((next : ℕ) → Reads next → IsOn next) → Goes (found_non_leaf loaded) Reads (λ said. ⊥) → IsOnWay (next_page_of loaded) IsOn
 on_way (Ok entry) Reads IsOn later goes = later entry.next.number goes
 on_way (Err cause) Reads IsOn later never = never
 
@@ -54,7 +54,7 @@ on_path memory (suc level) page id frame reads =
         → IsOnPath memory (suc level) page id frame
     by deeper (inl here) = inl (omega (arith, here))
     by deeper (inr goes) =
-        inr (subst (λ w. IsOnWay (next_of (loaded_entry w)) (λ next. IsOnPath memory level next id frame)) (sym (non_leaf_there memory page (ddi (suc level) id) (ddi_low level id)))
+        inr (subst (λ w. IsOnWay (next_page_of (loaded_entry w)) (λ next. IsOnPath memory level next id frame)) (sym (non_leaf_there memory page (ddi (suc level) id) (ddi_low level id)))
         (on_way (loaded_entry (word_in (slice_get memory (page + 0)) (8 * ddi (suc level) id))) (λ next. ReadsFrame context_format (slice_get memory) next (indices_from level id) frame)
         (λ next. IsOnPath memory level next id frame) deeper goes))
 

@@ -21,7 +21,7 @@ use Rattle.iom_table_survey.specs.Rows.{GrowsBy, IsInRun}
 use Rattle.iom_table_survey.specs.declared.reach.Reach.{Reach}
 use Rattle.iom_table_survey.proofs.AddLemmas.{adds_same, adds_none, reach_same, reach_none, reach_then}
 use Rattle.iom_tlb.specs.declared.space.Space.{Space}
-use Rattle.iom_way_survey.specs.Found.{space_in, HaveTable, HaveLeaf, FoundTable, FoundLeaf, IsInCache, IsAnsweredAmong, LetsKind}
+use Rattle.iom_way_survey.specs.Found.{space_of_context, HaveTable, HaveLeaf, FoundTable, FoundLeaf, IsInCache, IsAnsweredAmong, LetsKind}
 
 -- the root of a second stage has four frames
 pub tables_of_second : (memory : List (List ℕ)) (f : First) (s : Second) (size : Size) (root : GuestRoot) (number levels : ℕ) (old new : List ℕ)
@@ -69,19 +69,19 @@ leaves_of_first memory f s size root number levels old new bare is same many add
 
 -- a context that has the address space, and one that has another
 module _ (memory : List (List ℕ)) (own : Space) (found : Option DeviceContext) (context : DeviceContext) (is : found ≡ Some context) where
-  pub found_tables : (old new : List ℕ) → space_in context ≡ Some own → GrowsBy old new (HaveTable memory context.first_stage context.second_stage) → GrowsBy old new (FoundTable memory own found)
+  pub found_tables : (old new : List ℕ) → space_of_context context ≡ Some own → GrowsBy old new (HaveTable memory context.first_stage context.second_stage) → GrowsBy old new (FoundTable memory own found)
   found_tables old new same adds = subst (λ (o : Option DeviceContext). GrowsBy old new (FoundTable memory own o)) (sym is)
       (adds_same old new (HaveTable memory context.first_stage context.second_stage) (FoundTable memory own (Some context)) adds (λ f (so, table). table) (λ f table. (same, table)))
 
-  pub found_leaves : (old new : Reach) → space_in context ≡ Some own → AddsReach old new (HaveLeaf memory context.first_stage context.second_stage) → AddsReach old new (FoundLeaf memory own found)
+  pub found_leaves : (old new : Reach) → space_of_context context ≡ Some own → AddsReach old new (HaveLeaf memory context.first_stage context.second_stage) → AddsReach old new (FoundLeaf memory own found)
   found_leaves old new same adds = subst (λ (o : Option DeviceContext). AddsReach old new (FoundLeaf memory own o)) (sym is)
       (reach_same old new (HaveLeaf memory context.first_stage context.second_stage) (FoundLeaf memory own (Some context)) adds (λ kind f (so, leaf). leaf) (λ kind f leaf. (same, leaf)))
 
-  pub other_tables : (row : List ℕ) → ¬ (space_in context ≡ Some own) → GrowsBy row row (FoundTable memory own found)
+  pub other_tables : (row : List ℕ) → ¬ (space_of_context context ≡ Some own) → GrowsBy row row (FoundTable memory own found)
   other_tables row differs = subst (λ (o : Option DeviceContext). GrowsBy row row (FoundTable memory own o)) (sym is)
       (adds_none row (FoundTable memory own (Some context)) (λ f (so, table). differs so))
 
-  pub other_leaves : (reach : Reach) → ¬ (space_in context ≡ Some own) → AddsReach reach reach (FoundLeaf memory own found)
+  pub other_leaves : (reach : Reach) → ¬ (space_of_context context ≡ Some own) → AddsReach reach reach (FoundLeaf memory own found)
   other_leaves reach differs = subst (λ (o : Option DeviceContext). AddsReach reach reach (FoundLeaf memory own o)) (sym is)
       (reach_none reach (FoundLeaf memory own (Some context)) (λ kind f (so, leaf). differs so))
 

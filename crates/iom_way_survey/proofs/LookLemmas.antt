@@ -16,11 +16,11 @@ use Rattle.iom_iommu.specs.Parts.{registers_of, flights_of}
 use Rattle.iom_reach.specs.Safe.{IsRead, HasWord}
 use Rattle.iom_reach.specs.Scene.{PendingAccess}
 use Rattle.iom_reach.specs.Ways.{Way, Accepted, AnyFrame, ByContext, OnTheWalk}
-use Rattle.iom_table_survey.specs.Rows.{has, GrowsBy}
+use Rattle.iom_table_survey.specs.Rows.{row_has, GrowsBy}
 use Rattle.iom_way_survey.specs.Directories.{DirectoryReads}
 use Rattle.iom_way_survey.specs.Found.{WayOf, SomeTable}
 use Rattle.iom_way_survey.specs.Queues.{IsFrameAmong, IsWordAmong, IsOfFaults}
-use Rattle.iom_way_survey.specs.Surveys.{is_among, reach_in, reaches_in, IsReachRow, AreRowsOf, TellsTrust}
+use Rattle.iom_way_survey.specs.Surveys.{is_among, reach_in, reaches_in_rows, IsReachRow, AreRowsOf, TellsTrust}
 use Rattle.iom_way_survey.specs.declared.findings.DeviceReach.{DeviceReach}
 use Rattle.iom_way_survey.proofs.DirectoryLemmas.{directory_reads, tables_read}
 use Rattle.iom_way_survey.proofs.QueueLemmas.{fault_stored}
@@ -56,7 +56,7 @@ row_found parts trusted (row ∷ rows) (device ∷ devices) id plug long each fo
     ]
 
 rows_reach : (parts : HardwareParts) (trusted : List ℕ) (rows : List DeviceReach) (id : ℕ) (plug : Device) (kind : AccessKind) (frame : ℕ) → AreRowsOf parts trusted rows
-    → device_with parts.devices id ≡ Some plug → WayOf parts plug kind frame → reaches_in rows id kind frame ≡ true
+    → device_with parts.devices id ≡ Some plug → WayOf parts plug kind frame → reaches_in_rows rows id kind frame ≡ true
 rows_reach parts trusted rows id plug kind frame are found way =
     let (row, at, is) = row_found parts trusted rows parts.devices id plug are.long are.each found in
     ap (λ (o : Option DeviceReach). reach_in o kind frame) at ∙ (is.reach kind).all frame way
@@ -98,7 +98,7 @@ way_plugged trusted parts id frame kind rows (OnTheWalk s table steps_to mapping
     absurd (in_none (record { device = Some id; space = s; table = table; steps_to = steps_to }) there)
 
 pub ways_reached : (parts : HardwareParts) (trusted : List ℕ) (rows : List DeviceReach) (events : ℕ) → IsSoundHardware parts events → AreFlights (flights_of parts.iommu) → AreRowsOf parts trusted rows
-    → (id frame : ℕ) (kind : AccessKind) → Way (scene_of (is_among trusted) parts) id frame kind → reaches_in rows id kind frame ≡ true
+    → (id frame : ℕ) (kind : AccessKind) → Way (scene_of (is_among trusted) parts) id frame kind → reaches_in_rows rows id kind frame ≡ true
 ways_reached parts trusted rows events sound flights are id frame kind way =
     let (plug, found) = way_plugged (is_among trusted) parts id frame kind sound.rows way in
     let (k, low, (here, same)) = device_place parts.devices id plug found in
@@ -110,12 +110,12 @@ ways_reached parts trusted rows events sound flights are id frame kind way =
 -- WHAT IS READ AND STORED
 
 pub all_read : (trusted : ℕ → Bool) (parts : HardwareParts) (none tables directory all : List ℕ) → GrowsBy none tables (SomeTable parts) → GrowsBy tables directory (DirectoryReads parts)
-    → GrowsBy directory all (IsFrameAmong (waiting_places (registers_of parts.iommu))) → (frame : ℕ) → IsRead (scene_of trusted parts) frame → has all frame ≡ true
+    → GrowsBy directory all (IsFrameAmong (waiting_places (registers_of parts.iommu))) → (frame : ℕ) → IsRead (scene_of trusted parts) frame → row_has all frame ≡ true
 all_read trusted parts none tables directory all one two three frame (inl table) = three.stays frame (two.stays frame (one.added frame (tables_read trusted parts frame table)))
 all_read trusted parts none tables directory all one two three frame (inr (inl path)) = three.stays frame (two.added frame (directory_reads trusted parts frame path))
 all_read trusted parts none tables directory all one two three frame (inr (inr (offset, there))) = three.added frame (record { frame = frame; offset = offset }, there, refl)
 
 pub all_stored : (trusted : ℕ → Bool) (parts : HardwareParts) (none words all : List ℕ) → GrowsBy none words (IsWordAmong parts.memory (waiting_places (registers_of parts.iommu)))
-    → GrowsBy words all (IsOfFaults (registers_of parts.iommu)) → (frame : ℕ) → Contains (scene_of trusted parts).fault_frames frame ⊎ HasWord (scene_of trusted parts) frame → has all frame ≡ true
+    → GrowsBy words all (IsOfFaults (registers_of parts.iommu)) → (frame : ℕ) → Contains (scene_of trusted parts).fault_frames frame ⊎ HasWord (scene_of trusted parts) frame → row_has all frame ≡ true
 all_stored trusted parts none words all one two frame (inl fault) = two.added frame (fault_stored (registers_of parts.iommu) frame fault)
 all_stored trusted parts none words all one two frame (inr word) = two.stays frame (one.added frame word)

@@ -31,8 +31,8 @@ use Rattle.iom_hardware_ways.specs.Scenes.{directory_by, waiting_places, fault_f
 use Rattle.iom_hardware_ways.proofs.FormatLemmas.{non_leaf_there, ddi_low, some_indices}
 use Rattle.iom_hardware_ways.proofs.ListLemmas.{contains_map}
 use Rattle.iom_table_survey.specs.Reaches.{frames_by}
-use Rattle.iom_table_survey.specs.Rows.{has as marked, place_of, GrowsBy}
-use Rattle.iom_way_survey.specs.Directories.{next_of, IsOnWay, IsOnPath, PathReads, DirectoryReads}
+use Rattle.iom_table_survey.specs.Rows.{row_has, frame_place, GrowsBy}
+use Rattle.iom_way_survey.specs.Directories.{next_page_of, IsOnWay, IsOnPath, PathReads, DirectoryReads}
 use Rattle.iom_way_survey.specs.Queues.{IsFrameAmong, IsWordAmong, IsOfFaults}
 use Rattle.iom_way_survey.specs.Found.{SomeTable}
 use Rattle.iom_way_survey.specs.Surveys.{is_among, AreRowsOf}
@@ -43,7 +43,7 @@ use Rattle.iom_way_survey.proofs.WayLemmas.{device_place}
 
 -- PATHS
 
-off_way : (loaded : Result NonLeafEntry Cause) (IsOn Reads : ℕ → Type 0) → ((next : ℕ) → IsOn next → Reads next) → IsOnWay (next_of loaded) IsOn → Goes (found_non_leaf loaded) Reads (λ said. ⊥)
+off_way : (loaded : Result NonLeafEntry Cause) (IsOn Reads : ℕ → Type 0) → ((next : ℕ) → IsOn next → Reads next) → IsOnWay (next_page_of loaded) IsOn → Goes (found_non_leaf loaded) Reads (λ said. ⊥)
 off_way (Ok entry) IsOn Reads later is = later entry.next.number is
 off_way (Err cause) IsOn Reads later never = never
 
@@ -64,7 +64,7 @@ path_back memory (suc level) page id frame (inr way) =
     goes_below memory level page id frame (indices_from level id) first others all
     (off_way (loaded_entry (word_in (slice_get memory (page + 0)) (8 * ddi (suc level) id))) (λ next. IsOnPath memory level next id frame)
     (λ next. ReadsFrame context_format (slice_get memory) next (indices_from level id) frame) (λ next on. path_back memory level next id frame on)
-    (subst (λ w. IsOnWay (next_of (loaded_entry w)) (λ next. IsOnPath memory level next id frame)) (non_leaf_there memory page (ddi (suc level) id) (ddi_low level id)) way))
+    (subst (λ w. IsOnWay (next_page_of (loaded_entry w)) (λ next. IsOnPath memory level next id frame)) (non_leaf_there memory page (ddi (suc level) id) (ddi_low level id)) way))
 
 levels_back : (memory : List (List ℕ)) (level root id frame : ℕ) → IsOnPath memory level root id frame → nat_lt id (ids_below level) ≡ true
     → ReadsFrame context_format (slice_get memory) root (steps_of (suc level) id) frame
@@ -127,12 +127,12 @@ module _ (trusted : ℕ → Bool) (parts : HardwareParts) where
 
 -- ALL THAT IS READ, AND ALL THAT IS STORED
 
-none_of : (row : List ℕ) (frame : ℕ) → ((f : ℕ) → marked row f ≡ false) → marked row frame ≡ true → ⊥
+none_of : (row : List ℕ) (frame : ℕ) → ((f : ℕ) → row_has row f ≡ false) → row_has row frame ≡ true → ⊥
 none_of row frame clear is = false≢true (sym (clear frame) ∙ is)
 
-pub read_back : (trusted : ℕ → Bool) (parts : HardwareParts) (none tables directory all : List ℕ) → ((f : ℕ) → marked none f ≡ false) → GrowsBy none tables (SomeTable parts)
-    → GrowsBy tables directory (DirectoryReads parts) → GrowsBy directory all (IsFrameAmong (waiting_places (registers_of parts.iommu))) → (frame : ℕ) → marked all frame ≡ true
-    → (other : ℕ) × IsRead (scene_of trusted parts) other × (place_of other ≡ place_of frame)
+pub read_back : (trusted : ℕ → Bool) (parts : HardwareParts) (none tables directory all : List ℕ) → ((f : ℕ) → row_has none f ≡ false) → GrowsBy none tables (SomeTable parts)
+    → GrowsBy tables directory (DirectoryReads parts) → GrowsBy directory all (IsFrameAmong (waiting_places (registers_of parts.iommu))) → (frame : ℕ) → row_has all frame ≡ true
+    → (other : ℕ) × IsRead (scene_of trusted parts) other × (frame_place other ≡ frame_place frame)
 read_back trusted parts none tables directory all clear one two three frame is = elim (three.sole frame is) [
   | inr (other, queue, same) ↦ (other, inr (inr (queue_back trusted parts other queue)), same)
   | inl before ↦ elim (two.sole frame before) [
@@ -144,9 +144,9 @@ read_back trusted parts none tables directory all clear one two three frame is =
   ]
 ]
 
-pub stored_back : (trusted : ℕ → Bool) (parts : HardwareParts) (none words all : List ℕ) → ((f : ℕ) → marked none f ≡ false)
-    → GrowsBy none words (IsWordAmong parts.memory (waiting_places (registers_of parts.iommu))) → GrowsBy words all (IsOfFaults (registers_of parts.iommu)) → (frame : ℕ) → marked all frame ≡ true
-    → (other : ℕ) × (Contains (scene_of trusted parts).fault_frames other ⊎ HasWord (scene_of trusted parts) other) × (place_of other ≡ place_of frame)
+pub stored_back : (trusted : ℕ → Bool) (parts : HardwareParts) (none words all : List ℕ) → ((f : ℕ) → row_has none f ≡ false)
+    → GrowsBy none words (IsWordAmong parts.memory (waiting_places (registers_of parts.iommu))) → GrowsBy words all (IsOfFaults (registers_of parts.iommu)) → (frame : ℕ) → row_has all frame ≡ true
+    → (other : ℕ) × (Contains (scene_of trusted parts).fault_frames other ⊎ HasWord (scene_of trusted parts) other) × (frame_place other ≡ frame_place frame)
 stored_back trusted parts none words all clear one two frame is = elim (two.sole frame is) [
   | inr (other, fault, same) ↦ (other, inl (fault_back (registers_of parts.iommu) other fault), same)
   | inl before ↦ elim (one.sole frame before) [
@@ -167,8 +167,8 @@ device_at devices k device single at =
     found ∙ both
 
 pub rows_back : (parts : HardwareParts) (trusted : List ℕ) (rows : List DeviceReach) → AreOfOneId parts.devices → AreRowsOf parts trusted rows
-    → (k : ℕ) (row : DeviceReach) (frame : ℕ) (kind : AccessKind) → slice_get rows k ≡ Some row → marked (frames_by row.reach kind) frame ≡ true
-    → (other : ℕ) × Way (scene_of (is_among trusted) parts) row.id other kind × (place_of other ≡ place_of frame)
+    → (k : ℕ) (row : DeviceReach) (frame : ℕ) (kind : AccessKind) → slice_get rows k ≡ Some row → row_has (frames_by row.reach kind) frame ≡ true
+    → (other : ℕ) × Way (scene_of (is_among trusted) parts) row.id other kind × (frame_place other ≡ frame_place frame)
 rows_back parts trusted rows single are k row frame kind at is =
     let (device, here) = same_place rows parts.devices k row are.long at in
     let own = are.each k row device at here in

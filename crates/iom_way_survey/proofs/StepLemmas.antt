@@ -4,13 +4,13 @@ use Rattle.std.specs.Prelude.{IfSome}
 use Rattle.std.proofs.lemmas.Bool.{cases_lt}
 use Rattle.iom_base.specs.declared.access.AccessKind.{AccessKind}
 use Rattle.iom_table_survey.specs.Reaches.{frames_by, AddsReach}
-use Rattle.iom_table_survey.specs.Rows.{GrowsBy, has, place_of}
-use Rattle.iom_tlb.specs.Places.{StandsAt, IsCached, HavePlaces}
+use Rattle.iom_table_survey.specs.Rows.{GrowsBy, row_has, frame_place}
+use Rattle.iom_tlb.specs.Places.{IsCachedAt, IsCached, HavePlaces}
 use Rattle.iom_tlb.specs.Ways.{Ways}
 use Rattle.iom_tlb.specs.declared.cached_page.CachedPage.{CachedPage}
 use Rattle.iom_tlb.specs.declared.space.Space.{Space}
 use Rattle.iom_device_dir.specs.declared.context.Context.{Context as DeviceContext}
-use Rattle.iom_way_survey.specs.Found.{ServesIn, IsCachedIn, IsBeside}
+use Rattle.iom_way_survey.specs.Found.{CachedLeadsTo, IsCachedIn, IsBeside}
 use Rattle.iom_table_survey.specs.declared.reach.Reach.{Reach}
 use Rattle.iom_table_survey.proofs.AddLemmas.{adds_same, adds_then, reach_same}
 
@@ -52,9 +52,9 @@ get_low (a ∷ xs) (suc k) x is = omega (arith, get_low xs k x is)
 
 -- what is so at least goes in, and what is so at most
 pub record Between (old new : Reach) (Least Most : AccessKind → ℕ → Type 0) : Type 0 where
-  pub stays : (kind : AccessKind) (f : ℕ) → has (frames_by old kind) f ≡ true → has (frames_by new kind) f ≡ true
-  pub added : (kind : AccessKind) (f : ℕ) → Least kind f → has (frames_by new kind) f ≡ true
-  pub sole : (kind : AccessKind) (f : ℕ) → has (frames_by new kind) f ≡ true → (has (frames_by old kind) f ≡ true) ⊎ ((g : ℕ) × Most kind g × (place_of g ≡ place_of f))
+  pub stays : (kind : AccessKind) (f : ℕ) → row_has (frames_by old kind) f ≡ true → row_has (frames_by new kind) f ≡ true
+  pub added : (kind : AccessKind) (f : ℕ) → Least kind f → row_has (frames_by new kind) f ≡ true
+  pub sole : (kind : AccessKind) (f : ℕ) → row_has (frames_by new kind) f ≡ true → (row_has (frames_by old kind) f ≡ true) ⊎ ((g : ℕ) × Most kind g × (frame_place g ≡ frame_place f))
 
 pub between_none : (reach : Reach) (L : ℕ → AccessKind → ℕ → Type 0) (Most : AccessKind → ℕ → Type 0) → Between reach reach (λ kind f. (j : ℕ) × (j < 0) × L j kind f) Most
 between_none reach L Most = record { stays = λ kind f had. had; added = λ kind f (j, never, l). absurd (omega (arith, never)); sole = λ kind f had. inl had }
@@ -68,25 +68,25 @@ between_next old between new L Most N k before here to from = record {
   sole = λ kind f there. last kind f ((here kind).sole f there);
 }
   where
-    at : (kind : AccessKind) (f j : ℕ) → L j kind f → (j < k) ⊎ (k ≤ j) → j < k + 1 → has (frames_by new kind) f ≡ true
+    at : (kind : AccessKind) (f j : ℕ) → L j kind f → (j < k) ⊎ (k ≤ j) → j < k + 1 → row_has (frames_by new kind) f ≡ true
     at kind f j l (inl less) low = (here kind).stays f (before.added kind f (j, less, l))
     at kind f j l (inr more) low = let e : j ≡ k = omega (arith, more, low) in (here kind).added f (to kind f (subst (λ i. L i kind f) e l))
 
-    last : (kind : AccessKind) (f : ℕ) → (has (frames_by between kind) f ≡ true) ⊎ ((g : ℕ) × N kind g × (place_of g ≡ place_of f))
-        → (has (frames_by old kind) f ≡ true) ⊎ ((g : ℕ) × Most kind g × (place_of g ≡ place_of f))
+    last : (kind : AccessKind) (f : ℕ) → (row_has (frames_by between kind) f ≡ true) ⊎ ((g : ℕ) × N kind g × (frame_place g ≡ frame_place f))
+        → (row_has (frames_by old kind) f ≡ true) ⊎ ((g : ℕ) × Most kind g × (frame_place g ≡ frame_place f))
     last kind f (inl had) = before.sole kind f had
     last kind f (inr (g, n, same)) = inr (g, from kind g n, same)
 
 -- what stands at a place of the cache leads to the frame
 abbrev pub StandsServing : List Ways → Space → ℕ → AccessKind → ℕ → Type 0
-StandsServing sets own place kind frame = (cached : CachedPage) × StandsAt sets place cached × ServesIn own cached kind frame
+StandsServing sets own place kind frame = (cached : CachedPage) × IsCachedAt sets place cached × CachedLeadsTo own cached kind frame
 
-pub stands_by : (sets : List Ways) (own : Space) (place : ℕ) (found : Option CachedPage) → ((cached : CachedPage) → StandsAt sets place cached → found ≡ Some cached)
-    → (kind : AccessKind) (f : ℕ) → StandsServing sets own place kind f → (cached : CachedPage) × (found ≡ Some cached) × ServesIn own cached kind f
+pub stands_by : (sets : List Ways) (own : Space) (place : ℕ) (found : Option CachedPage) → ((cached : CachedPage) → IsCachedAt sets place cached → found ≡ Some cached)
+    → (kind : AccessKind) (f : ℕ) → StandsServing sets own place kind f → (cached : CachedPage) × (found ≡ Some cached) × CachedLeadsTo own cached kind f
 stands_by sets own place found stands kind f (cached, there, serves) = (cached, stands cached there, serves)
 
 pub cached_by : (sets : List Ways) (own : Space) (found : Option CachedPage) → IfSome found (IsCached sets)
-    → (kind : AccessKind) (f : ℕ) → (cached : CachedPage) × (found ≡ Some cached) × ServesIn own cached kind f → IsCachedIn sets own kind f
+    → (kind : AccessKind) (f : ℕ) → (cached : CachedPage) × (found ≡ Some cached) × CachedLeadsTo own cached kind f → IsCachedIn sets own kind f
 cached_by sets own found is kind f (cached, there, serves) = (cached, subst (λ (o : Option CachedPage). IfSome o (IsCached sets)) there is, serves)
 
 pub between_all : (old new : Reach) (sets : List Ways) (own : Space) → HavePlaces sets

@@ -22,12 +22,12 @@ use Rattle.iom_fabric.specs.declared.message.Message.TheVariants as sent
 use Rattle.iom_fabric.specs.declared.message.Translation.TheVariants as told
 use Rattle.iom_hardware.specs.HardwareParts.{HardwareParts}
 use Rattle.iom_inflight.specs.Flights.{NumberedAccess, FlightRow, row_of, waiting_at, made_at}
-use Rattle.iom_iommu.specs.Parts.{registers_of, contexts_of, cache_of as translations_in, translations_of, flights_of}
+use Rattle.iom_iommu.specs.Parts.{registers_of, contexts_of, translation_cache_of, translations_of, flights_of}
 use Rattle.iom_iommu.specs.Stages.{space_through}
 use Rattle.iom_reach.specs.Memory.{Tables, ReadsFrame, WalkStep}
 use Rattle.iom_reach.specs.Safe.{IsOfTables}
-use Rattle.iom_reach.specs.Scene.{Mapping, AddressSpace, Stages, NoStage, Context, Bare, At, AtsKind, Forges, Caches, AtsEntry, Message, Answer, PendingAccess, PartialWalk, Scene, HasDevice}
-use Rattle.iom_reach.specs.Ways.{LeadsTo, ServesKind, space_of, tables_of, MayFind, IsKept, LetsThrough, WalkBegins, AtRoot, PartWay, IsInSpace, Through, ByAts as ThroughAts, Untranslated, Translated, Way, Accepted, AnyFrame, ByContext, OnTheWalk}
+use Rattle.iom_reach.specs.Scene.{Mapping, AddressSpace, Stages, NoStage, Context, Bare, At, AtsKind, Forges, Caches, AtsEntry, Message, Answer, PendingAccess, PartialWalk, HardwareScene, HasDevice}
+use Rattle.iom_reach.specs.Ways.{LeadsToMapping, ServesKind, space_of, tables_of, MayFind, IsKept, LetsThrough, WalkBegins, AtRoot, PartWay, IsInSpace, Through, ByAts as ThroughAts, Untranslated, Translated, Way, Accepted, AnyFrame, ByContext, OnTheWalk}
 use Rattle.iom_registers.specs.declared.directory.DirectoryMode.{DirectoryMode}
 use Rattle.iom_registers.specs.declared.directory.DirectoryMode.TheVariants as mode
 use Rattle.iom_registers.specs.Queues.{directory_root}
@@ -38,7 +38,7 @@ use Rattle.iom_hardware_ways.proofs.ListLemmas.{in_none, cons_cases, map_cases}
 use Rattle.iom_hardware_ways.proofs.PageIndices.{sizes_have_indices}
 use Rattle.iom_tlb.specs.declared.space.Space.{Space}
 use Rattle.iom_tlb.specs.declared.trans_cache.Translation.{Translation}
-use Rattle.iom_way_survey.specs.Found.{has_directory, mode_in, found_of, cached_found, stored_found, Finds, space_in, HaveTable, HaveLeaf, FoundTable, FoundLeaf, DeviceTable, DeviceLeaf, SpaceTable, SpaceLeaf, IsCachedIn, InSpace, IsKeptAmong, AnswersSo, IsAnsweredAmong, IsInCache, LetsKind, ByAts, ThroughSpace, ThroughFound, IsThatAccess, WayOf}
+use Rattle.iom_way_survey.specs.Found.{has_directory, mode_in, found_of, cached_found, stored_found, Finds, space_of_context, HaveTable, HaveLeaf, FoundTable, FoundLeaf, DeviceTable, DeviceLeaf, SpaceTable, SpaceLeaf, IsCachedIn, InSpace, IsKeptAmong, AnswersSo, IsAnsweredAmong, IsInCache, LetsKind, ByAts, ThroughSpace, ThroughFound, IsThatAccess, WayOf}
 use Rattle.iom_way_survey.proofs.TreeLemmas.{levels_are_walks}
 
 -- LISTS
@@ -55,7 +55,7 @@ contains_get (a ∷ xs) x c = elim (cons_cases a xs x c) [
 -- some walk through these stages leads to the frame, and some reads it
 abbrev pub StagesLead : List (List ℕ) → Stages → AccessKind → ℕ → Type 0
 StagesLead memory stages kind frame =
-    (tables : Tables) × (mapping : Mapping) × (tables_of stages ≡ Some tables) × (LeadsTo formats (slice_get memory) tables.root (steps_in stages) mapping × ServesKind mapping frame kind)
+    (tables : Tables) × (mapping : Mapping) × (tables_of stages ≡ Some tables) × (LeadsToMapping formats (slice_get memory) tables.root (steps_in stages) mapping × ServesKind mapping frame kind)
 
 abbrev pub StagesRead : List (List ℕ) → Stages → ℕ → Type 0
 StagesRead memory stages frame =
@@ -71,22 +71,22 @@ pub leads_leaf : (memory : List (List ℕ)) (f : First) (s : Second) (g p : ℕ)
 leads_leaf memory first.Bare second.Bare g p kind frame (tables, mapping, is, leads) = absurd (none_is_some tables is)
 leads_leaf memory (first.Tables Sv39 root) second.Bare g p kind frame (tables, mapping, is, (leads, serves)) =
     ((levels_are_walks memory root.number 1 2 (sizes_have_indices Sv39).0).1 kind frame).1
-    (mapping, subst (λ (r : ℕ). LeadsTo formats (slice_get memory) r (steps_in (stages_in (first.Tables Sv39 root) second.Bare g p)) mapping) (root_same _ tables is) leads, serves)
+    (mapping, subst (λ (r : ℕ). LeadsToMapping formats (slice_get memory) r (steps_in (stages_in (first.Tables Sv39 root) second.Bare g p)) mapping) (root_same _ tables is) leads, serves)
 leads_leaf memory (first.Tables Sv48 root) second.Bare g p kind frame (tables, mapping, is, (leads, serves)) =
     ((levels_are_walks memory root.number 1 3 (sizes_have_indices Sv48).0).1 kind frame).1
-    (mapping, subst (λ (r : ℕ). LeadsTo formats (slice_get memory) r (steps_in (stages_in (first.Tables Sv48 root) second.Bare g p)) mapping) (root_same _ tables is) leads, serves)
+    (mapping, subst (λ (r : ℕ). LeadsToMapping formats (slice_get memory) r (steps_in (stages_in (first.Tables Sv48 root) second.Bare g p)) mapping) (root_same _ tables is) leads, serves)
 leads_leaf memory first.Bare (second.Tables Sv39 root) g p kind frame (tables, mapping, is, (leads, serves)) =
     ((levels_are_walks memory root.number 4 2 (sizes_have_indices Sv39).1).1 kind frame).1
-    (mapping, subst (λ (r : ℕ). LeadsTo formats (slice_get memory) r (steps_in (stages_in first.Bare (second.Tables Sv39 root) g p)) mapping) (root_same _ tables is) leads, serves)
+    (mapping, subst (λ (r : ℕ). LeadsToMapping formats (slice_get memory) r (steps_in (stages_in first.Bare (second.Tables Sv39 root) g p)) mapping) (root_same _ tables is) leads, serves)
 leads_leaf memory first.Bare (second.Tables Sv48 root) g p kind frame (tables, mapping, is, (leads, serves)) =
     ((levels_are_walks memory root.number 4 3 (sizes_have_indices Sv48).1).1 kind frame).1
-    (mapping, subst (λ (r : ℕ). LeadsTo formats (slice_get memory) r (steps_in (stages_in first.Bare (second.Tables Sv48 root) g p)) mapping) (root_same _ tables is) leads, serves)
+    (mapping, subst (λ (r : ℕ). LeadsToMapping formats (slice_get memory) r (steps_in (stages_in first.Bare (second.Tables Sv48 root) g p)) mapping) (root_same _ tables is) leads, serves)
 leads_leaf memory (first.Tables size own) (second.Tables Sv39 root) g p kind frame (tables, mapping, is, (leads, serves)) =
     ((levels_are_walks memory root.number 4 2 (sizes_have_indices Sv39).1).1 kind frame).1
-    (mapping, subst (λ (r : ℕ). LeadsTo formats (slice_get memory) r (steps_in (stages_in (first.Tables size own) (second.Tables Sv39 root) g p)) mapping) (root_same _ tables is) leads, serves)
+    (mapping, subst (λ (r : ℕ). LeadsToMapping formats (slice_get memory) r (steps_in (stages_in (first.Tables size own) (second.Tables Sv39 root) g p)) mapping) (root_same _ tables is) leads, serves)
 leads_leaf memory (first.Tables size own) (second.Tables Sv48 root) g p kind frame (tables, mapping, is, (leads, serves)) =
     ((levels_are_walks memory root.number 4 3 (sizes_have_indices Sv48).1).1 kind frame).1
-    (mapping, subst (λ (r : ℕ). LeadsTo formats (slice_get memory) r (steps_in (stages_in (first.Tables size own) (second.Tables Sv48 root) g p)) mapping) (root_same _ tables is) leads, serves)
+    (mapping, subst (λ (r : ℕ). LeadsToMapping formats (slice_get memory) r (steps_in (stages_in (first.Tables size own) (second.Tables Sv48 root) g p)) mapping) (root_same _ tables is) leads, serves)
 
 pub reads_table_of : (memory : List (List ℕ)) (f : First) (s : Second) (g p : ℕ) (frame : ℕ) → StagesRead memory (stages_in f s g p) frame → HaveTable memory f s frame
 reads_table_of memory first.Bare second.Bare g p frame (tables, page, is, reads) = absurd (none_is_some tables is)
@@ -116,7 +116,7 @@ spaces_by (first.Tables size root) second.Bare context = refl
 spaces_by first.Bare (second.Tables size root) context = refl
 spaces_by (first.Tables size root) (second.Tables size' root') context = refl
 
-pub space_named : (context : DeviceContext) (s : AddressSpace) → space_of (context_of context).stages ≡ Some s → space_in context ≡ Some (cached_space s)
+pub space_named : (context : DeviceContext) (s : AddressSpace) → space_of (context_of context).stages ≡ Some s → space_of_context context ≡ Some (cached_space s)
 space_named context s is = sym (spaces_by context.first_stage context.second_stage context) ∙ ap (option_map cached_space) is
 
 no_space_by : (f : First) (s : Second) (context : DeviceContext) → stages_in f s context.gscid context.pscid.number ≡ NoStage → space_through f s context ≡ None
@@ -147,7 +147,7 @@ there None kind is = absurd (none_is_some kind is)
 there (Some device) kind is = (device, refl, (let same : Some (ats_kind device.kind) ≡ Some kind = is in cc))
 
 module _ (trusted : ℕ → Bool) (parts : HardwareParts) where
-  abbrev S : Scene
+  abbrev S : HardwareScene
   S = scene_of trusted parts
 
   pub plugged : (id : ℕ) → HasDevice S id → (device : Device) × (device_with parts.devices id ≡ Some device)
@@ -183,20 +183,20 @@ module _ (trusted : ℕ → Bool) (parts : HardwareParts) where
 
   -- ADDRESS SPACES
 
-  leaf_found : (own : Space) (found : Option DeviceContext) (context : DeviceContext) (kind : AccessKind) (frame : ℕ) → found ≡ Some context → space_in context ≡ Some own
+  leaf_found : (own : Space) (found : Option DeviceContext) (context : DeviceContext) (kind : AccessKind) (frame : ℕ) → found ≡ Some context → space_of_context context ≡ Some own
       → HaveLeaf parts.memory context.first_stage context.second_stage kind frame → FoundLeaf parts.memory own found kind frame
   leaf_found own found context kind frame is has leaf = subst (λ (o : Option DeviceContext). FoundLeaf parts.memory own o kind frame) (sym is) (has, leaf)
 
-  table_found : (own : Space) (found : Option DeviceContext) (context : DeviceContext) (frame : ℕ) → found ≡ Some context → space_in context ≡ Some own
+  table_found : (own : Space) (found : Option DeviceContext) (context : DeviceContext) (frame : ℕ) → found ≡ Some context → space_of_context context ≡ Some own
       → HaveTable parts.memory context.first_stage context.second_stage frame → FoundTable parts.memory own found frame
   table_found own found context frame is has table = subst (λ (o : Option DeviceContext). FoundTable parts.memory own o frame) (sym is) (has, table)
 
-  leaf_of_device : (own : Space) (id : ℕ) (context : DeviceContext) (kind : AccessKind) (frame : ℕ) → Finds parts id context → space_in context ≡ Some own
+  leaf_of_device : (own : Space) (id : ℕ) (context : DeviceContext) (kind : AccessKind) (frame : ℕ) → Finds parts id context → space_of_context context ≡ Some own
       → HaveLeaf parts.memory context.first_stage context.second_stage kind frame → DeviceLeaf parts own id kind frame
   leaf_of_device own id context kind frame (inl is) has leaf = inl (leaf_found own (cached_found parts id) context kind frame is has leaf)
   leaf_of_device own id context kind frame (inr is) has leaf = inr (leaf_found own (stored_found parts id) context kind frame is has leaf)
 
-  table_of_device : (own : Space) (id : ℕ) (context : DeviceContext) (frame : ℕ) → Finds parts id context → space_in context ≡ Some own
+  table_of_device : (own : Space) (id : ℕ) (context : DeviceContext) (frame : ℕ) → Finds parts id context → space_of_context context ≡ Some own
       → HaveTable parts.memory context.first_stage context.second_stage frame → DeviceTable parts own id frame
   table_of_device own id context frame (inl is) has table = inl (table_found own (cached_found parts id) context frame is has table)
   table_of_device own id context frame (inr is) has table = inr (table_found own (stored_found parts id) context frame is has table)
@@ -207,7 +207,7 @@ module _ (trusted : ℕ → Bool) (parts : HardwareParts) where
   -- a walk that begins, begins at the root of a context of some device
   pub begins_at : (s : AddressSpace) (table : ℕ) (steps_to : ℕ → List WalkStep) → WalkBegins S s table steps_to
       → (id : ℕ) × (own : DeviceContext) × (tables : Tables) × (HasDevice S id × Finds parts id own)
-      × ((space_in own ≡ Some (cached_space s)) × ((tables_of (context_of own).stages ≡ Some tables) × ((tables.root ≡ table) × (steps_to ≡ steps_in (context_of own).stages))))
+      × ((space_of_context own ≡ Some (cached_space s)) × ((tables_of (context_of own).stages ≡ Some tables) × ((tables.root ≡ table) × (steps_to ≡ steps_in (context_of own).stages))))
   begins_at s table steps_to (AtRoot id context tables may is decide root all) =
       let (own, finds, same) = found_in id context may in (
         id,
@@ -222,13 +222,13 @@ module _ (trusted : ℕ → Bool) (parts : HardwareParts) where
   begins_at s table steps_to (PartWay id there) = absurd (no_part (record { device = id; space = s; table = table; steps_to = steps_to }) there)
 
   leaf_in : (s : AddressSpace) (kind : AccessKind) (frame table : ℕ) (steps_to : ℕ → List WalkStep) (mapping : Mapping) → WalkBegins S s table steps_to
-      → LeadsTo formats (slice_get parts.memory) table steps_to mapping → ServesKind mapping frame kind → SpaceLeaf parts (cached_space s) kind frame
+      → LeadsToMapping formats (slice_get parts.memory) table steps_to mapping → ServesKind mapping frame kind → SpaceLeaf parts (cached_space s) kind frame
   leaf_in s kind frame table steps_to mapping begins leads serves =
       let (id, own, tables, (device, finds), (named, (decide, (root, all)))) = begins_at s table steps_to begins in
       let (plug, at) = plugged id device in
       let (k, low, (here, same)) = device_place parts.devices id plug at in
-      let leads' = subst (λ (t : ℕ → List WalkStep). LeadsTo formats (slice_get parts.memory) tables.root t mapping) all
-      (subst (λ (r : ℕ). LeadsTo formats (slice_get parts.memory) r steps_to mapping) (sym root) leads) in (
+      let leads' = subst (λ (t : ℕ → List WalkStep). LeadsToMapping formats (slice_get parts.memory) tables.root t mapping) all
+      (subst (λ (r : ℕ). LeadsToMapping formats (slice_get parts.memory) r steps_to mapping) (sym root) leads) in (
         k,
         low,
         (
@@ -240,7 +240,7 @@ module _ (trusted : ℕ → Bool) (parts : HardwareParts) where
       )
 
   cached_in_space : (s : AddressSpace) (page : ℕ) (mapping : Mapping) (kind : AccessKind) (frame : ℕ) (cached : Option Translation) → translations_of parts.iommu (cached_space s, page) ≡ cached
-      → option_map mapping_of cached ≡ Some mapping → ServesKind mapping frame kind → IsCachedIn (translations_in parts.iommu) (cached_space s) kind frame
+      → option_map mapping_of cached ≡ Some mapping → ServesKind mapping frame kind → IsCachedIn (translation_cache_of parts.iommu) (cached_space s) kind frame
   cached_in_space s page mapping kind frame None at is serves = absurd (none_is_some mapping is)
   cached_in_space s page mapping kind frame (Some own) at is (same, allowed) =
       let e : Some (mapping_of own) ≡ Some mapping = is in
@@ -311,7 +311,7 @@ module _ (trusted : ℕ → Bool) (parts : HardwareParts) where
   -- CONTEXTS, AND ALL WAYS
 
   through_own : (device : Device) (own : DeviceContext) (kind : AccessKind) (frame : ℕ) → device_with parts.devices device.id ≡ Some device → (context : Context) → context_of own ≡ context
-      → Through S device.id context frame kind → ByAts parts.fabric device own.en_ats kind frame ⊎ ThroughSpace parts (space_in own) kind frame
+      → Through S device.id context frame kind → ByAts parts.fabric device own.en_ats kind frame ⊎ ThroughSpace parts (space_of_context own) kind frame
   through_own device own kind frame at context same (ThroughAts let_ats through) =
       inl (lets device.kind device device.id kind frame refl at refl through, ap (λ (c : Context). c.lets_ats) same ∙ let_ats)
   through_own device own kind frame at context same (Untranslated none) =
@@ -320,7 +320,7 @@ module _ (trusted : ℕ → Bool) (parts : HardwareParts) where
       inr (subst (λ (o : Option Space). ThroughSpace parts o kind frame) (sym (space_named own s (ap (λ (c : Context). space_of c.stages) same ∙ is))) (in_space s kind frame reached))
 
   through_found : (device : Device) (found : Option DeviceContext) (own : DeviceContext) (kind : AccessKind) (frame : ℕ) → found ≡ Some own
-      → ByAts parts.fabric device own.en_ats kind frame ⊎ ThroughSpace parts (space_in own) kind frame → ThroughFound parts device found kind frame
+      → ByAts parts.fabric device own.en_ats kind frame ⊎ ThroughSpace parts (space_of_context own) kind frame → ThroughFound parts device found kind frame
   through_found device found own kind frame is through = subst (λ (o : Option DeviceContext). ThroughFound parts device o kind frame) (sym is) through
 
   flight_made : (row : Option FlightRow) (frame : ℕ) (kind : AccessKind) → Contains (flights_in row) (record { frame = frame; kind = kind })
@@ -349,7 +349,7 @@ module _ (trusted : ℕ → Bool) (parts : HardwareParts) where
   way_of device frame kind at few (ByContext context may through) =
       let (own, finds, same) = found_in device.id context may in by own finds (through_own device own kind frame at context same through)
     where
-      by : (own : DeviceContext) → Finds parts device.id own → ByAts parts.fabric device own.en_ats kind frame ⊎ ThroughSpace parts (space_in own) kind frame → WayOf parts device kind frame
+      by : (own : DeviceContext) → Finds parts device.id own → ByAts parts.fabric device own.en_ats kind frame ⊎ ThroughSpace parts (space_of_context own) kind frame → WayOf parts device kind frame
       by own (inl is) through' = inl (inr (through_found device (cached_found parts device.id) own kind frame is through'))
       by own (inr is) through' = inr (through_found device (stored_found parts device.id) own kind frame is through')
   way_of device frame kind at few (OnTheWalk s table steps_to mapping there leads serves) =

@@ -13,9 +13,9 @@ use Rattle.iom_registers.specs.declared.directory.DirectoryMode.TheVariants as m
 use Rattle.iom_registers.specs.Queues.{directory_mode, directory_root}
 
 -- the page that an entry names
-abbrev pub next_of : Result NonLeafEntry Cause → Option ℕ
-next_of (Ok entry) = Some entry.next.number
-next_of (Err cause) = None
+abbrev pub next_page_of : Result NonLeafEntry Cause → Option ℕ
+next_page_of (Ok entry) = Some entry.next.number
+next_page_of (Err cause) = None
 
 -- so of the next page, if there is one
 abbrev pub IsOnWay : Option ℕ → (ℕ → Type 0) → Type 0
@@ -26,7 +26,7 @@ IsOnWay (Some next) IsOn = IsOn next
 abbrev pub IsOnPath : List (List ℕ) → ℕ → ℕ → ℕ → ℕ → Type 0
 IsOnPath memory zero page id frame = frame ≡ page
 IsOnPath memory (suc level) page id frame =
-    (frame ≡ page) ⊎ IsOnWay (next_of (loaded_entry (word_at 8 memory (entry_place page (ddi (suc level) id))))) (λ next. IsOnPath memory level next id frame)
+    (frame ≡ page) ⊎ IsOnWay (next_page_of (loaded_entry (word_at 8 memory (entry_place page (ddi (suc level) id))))) (λ next. IsOnPath memory level next id frame)
 
 -- where there are as many levels
 abbrev pub IsOnLevels : DirectoryMode → List (List ℕ) → ℕ → ℕ → ℕ → Type 0

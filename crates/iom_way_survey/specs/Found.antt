@@ -22,7 +22,7 @@ use Rattle.iom_fabric.specs.declared.message.Message.{Message as Sent}
 use Rattle.iom_fabric.specs.declared.message.Message.TheVariants as sent
 use Rattle.iom_fabric.specs.declared.message.Translation.TheVariants as told
 use Rattle.iom_hardware.specs.HardwareParts.{HardwareParts}
-use Rattle.iom_iommu.specs.Parts.{registers_of, contexts_of, cache_of, flights_of}
+use Rattle.iom_iommu.specs.Parts.{registers_of, contexts_of, translation_cache_of, flights_of}
 use Rattle.iom_iommu.specs.Stages.{space_through}
 use Rattle.iom_inflight.specs.Flights.{waiting_at, row_of}
 use Rattle.iom_inflight.specs.declared.made.MadeAt.{MadeAt}
@@ -69,8 +69,8 @@ abbrev pub IsBeside : Option DeviceContext → Option DeviceContext → Option D
 IsBeside cached stored beside = (beside ≡ stored) ⊎ ((beside ≡ None) × (stored ≡ cached))
 
 -- the address space of its stages
-abbrev pub space_in : DeviceContext → Option Space
-space_in context = space_through context.first_stage context.second_stage context
+abbrev pub space_of_context : DeviceContext → Option Space
+space_of_context context = space_through context.first_stage context.second_stage context
 
 -- the tables of these stages that decide, of which the root of a second stage has four frames, have the frame
 abbrev pub HaveTable : List (List ℕ) → First → Second → ℕ → Type 0
@@ -89,12 +89,12 @@ HaveLeaf memory one (second.Tables size root) kind frame = IsMapped (entries mem
 -- a context was found, it has this address space, and its tables have the frame
 abbrev pub FoundTable : List (List ℕ) → Space → Option DeviceContext → ℕ → Type 0
 FoundTable memory own None frame = ⊥
-FoundTable memory own (Some context) frame = (space_in context ≡ Some own) × HaveTable memory context.first_stage context.second_stage frame
+FoundTable memory own (Some context) frame = (space_of_context context ≡ Some own) × HaveTable memory context.first_stage context.second_stage frame
 
 -- they map it
 abbrev pub FoundLeaf : List (List ℕ) → Space → Option DeviceContext → AccessKind → ℕ → Type 0
 FoundLeaf memory own None kind frame = ⊥
-FoundLeaf memory own (Some context) kind frame = (space_in context ≡ Some own) × HaveLeaf memory context.first_stage context.second_stage kind frame
+FoundLeaf memory own (Some context) kind frame = (space_of_context context ≡ Some own) × HaveLeaf memory context.first_stage context.second_stage kind frame
 
 -- so of one of the contexts that a request of the device may find
 abbrev pub DeviceTable : HardwareParts → Space → ℕ → ℕ → Type 0
@@ -113,15 +113,15 @@ SpaceLeaf parts own kind frame = (k : ℕ) × (k < length parts.devices) × ((de
 -- ADDRESS SPACES
 
 -- what is cached of a page of the space leads to the frame
-abbrev pub ServesIn : Space → CachedPage → AccessKind → ℕ → Type 0
-ServesIn own cached kind frame = (cached.space ≡ own) × ((cached.translation.frame ≡ frame) × (allows cached.translation.rights kind ≡ true))
+abbrev pub CachedLeadsTo : Space → CachedPage → AccessKind → ℕ → Type 0
+CachedLeadsTo own cached kind frame = (cached.space ≡ own) × ((cached.translation.frame ≡ frame) × (allows cached.translation.rights kind ≡ true))
 
 abbrev pub IsCachedIn : List Ways → Space → AccessKind → ℕ → Type 0
-IsCachedIn sets own kind frame = (cached : CachedPage) × IsCached sets cached × ServesIn own cached kind frame
+IsCachedIn sets own kind frame = (cached : CachedPage) × IsCached sets cached × CachedLeadsTo own cached kind frame
 
 -- what is reached in the space
 abbrev pub InSpace : HardwareParts → Space → AccessKind → ℕ → Type 0
-InSpace parts own kind frame = IsCachedIn (cache_of parts.iommu) own kind frame ⊎ SpaceLeaf parts own kind frame
+InSpace parts own kind frame = IsCachedIn (translation_cache_of parts.iommu) own kind frame ⊎ SpaceLeaf parts own kind frame
 
 -- EN_ATS
 
@@ -173,11 +173,11 @@ TablesThrough parts (Some own) frame = SpaceTable parts own frame
 -- through a context that was found
 abbrev pub ThroughFound : HardwareParts → Device → Option DeviceContext → AccessKind → ℕ → Type 0
 ThroughFound parts device None kind frame = ⊥
-ThroughFound parts device (Some context) kind frame = ByAts parts.fabric device context.en_ats kind frame ⊎ ThroughSpace parts (space_in context) kind frame
+ThroughFound parts device (Some context) kind frame = ByAts parts.fabric device context.en_ats kind frame ⊎ ThroughSpace parts (space_of_context context) kind frame
 
 abbrev pub TablesFound : HardwareParts → Option DeviceContext → ℕ → Type 0
 TablesFound parts None frame = ⊥
-TablesFound parts (Some context) frame = TablesThrough parts (space_in context) frame
+TablesFound parts (Some context) frame = TablesThrough parts (space_of_context context) frame
 
 -- DEVICES
 

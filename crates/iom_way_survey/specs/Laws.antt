@@ -6,7 +6,7 @@ use Rattle.iom_stage_walk.specs.Entries.{entries}
 use Rattle.iom_reach.specs.Memory.{ReadsFrame}
 use Rattle.iom_reach.specs.Safe.{IsOfTables, IsOfDirectory}
 use Rattle.iom_reach.specs.Scene.{Mapping}
-use Rattle.iom_reach.specs.Ways.{LeadsTo, ServesKind, Way}
+use Rattle.iom_reach.specs.Ways.{LeadsToMapping, ServesKind, Way}
 use Rattle.iom_device.specs.Caches.{device_with}
 use Rattle.iom_device.specs.declared.device.Device.{Device}
 use Rattle.iom_hardware.specs.HardwareParts.{HardwareParts}
@@ -27,7 +27,7 @@ widths_from frames below = (table_entries * frames) ∷ replicate below table_en
 
 -- some walk from the root leads to the frame, for this kind of access
 abbrev pub IsLedTo : List (List ℕ) → ℕ → List ℕ → AccessKind → ℕ → Type 0
-IsLedTo memory root widths kind frame = (mapping : Mapping) × LeadsTo formats (slice_get memory) root (steps_along widths) mapping × ServesKind mapping frame kind
+IsLedTo memory root widths kind frame = (mapping : Mapping) × LeadsToMapping formats (slice_get memory) root (steps_along widths) mapping × ServesKind mapping frame kind
 
 -- some walk from the root reads the frame
 abbrev pub IsReadBelow : List (List ℕ) → ℕ → List ℕ → ℕ → Type 0

@@ -5,10 +5,10 @@ use Rattle.iom_base.specs.declared.access.AccessKind.{AccessKind}
 use Rattle.iom_device.specs.declared.device.Device.{Device}
 use Rattle.iom_hardware.specs.HardwareParts.{HardwareParts}
 use Rattle.iom_reach.specs.Safe.{IsRead, HasWord, IsWritable}
-use Rattle.iom_reach.specs.Scene.{Scene}
+use Rattle.iom_reach.specs.Scene.{HardwareScene}
 use Rattle.iom_reach.specs.Ways.{Way}
 use Rattle.iom_table_survey.specs.Reaches.{frames_by, IsReachOf}
-use Rattle.iom_table_survey.specs.Rows.{has, place_of, StandInBoth}
+use Rattle.iom_table_survey.specs.Rows.{row_has, frame_place, StandInBoth}
 use Rattle.iom_way_survey.specs.Found.{WayOf}
 use Rattle.iom_way_survey.specs.declared.findings.Conflict.{Conflict}
 use Rattle.iom_way_survey.specs.declared.findings.DeviceReach.{DeviceReach}
@@ -21,10 +21,10 @@ is_among ids id = list_any (λ own. own == id) ids
 -- what a survey finds of a device: nothing, where it has no row of it
 abbrev pub reach_in : Option DeviceReach → AccessKind → ℕ → Bool
 reach_in None kind frame = false
-reach_in (Some row) kind frame = has (frames_by row.reach kind) frame
+reach_in (Some row) kind frame = row_has (frames_by row.reach kind) frame
 
-abbrev pub reaches_in : List DeviceReach → ℕ → AccessKind → ℕ → Bool
-reaches_in rows id kind frame = reach_in (find (λ (row : DeviceReach). row.id == id) rows) kind frame
+abbrev pub reaches_in_rows : List DeviceReach → ℕ → AccessKind → ℕ → Bool
+reaches_in_rows rows id kind frame = reach_in (find (λ (row : DeviceReach). row.id == id) rows) kind frame
 
 -- the row is the device's: what it reaches is all that is looked for
 pub record IsReachRow (parts : HardwareParts) (trusted : List ℕ) (row : DeviceReach) (device : Device) : Type 0 where
@@ -44,50 +44,50 @@ AreRowsOf parts trusted rows = HaveRows parts trusted rows (length parts.devices
 -- nothing was found
 pub record IsOfNothing (survey : Survey) : Type 0 where
   pub devices : survey.devices.items ≡ []
-  pub read : (frame : ℕ) → has survey.read frame ≡ false
-  pub stored : (frame : ℕ) → has survey.stored frame ≡ false
+  pub read : (frame : ℕ) → row_has survey.read frame ≡ false
+  pub stored : (frame : ℕ) → row_has survey.stored frame ≡ false
 
 -- rows of untrusted devices, of those that a scene has
-abbrev pub TellsTrust : Scene → List DeviceReach → Type 0
+abbrev pub TellsTrust : HardwareScene → List DeviceReach → Type 0
 TellsTrust scene rows = (k : ℕ) (row : DeviceReach) → slice_get rows k ≡ Some row → row.is_trusted ≡ scene.is_trusted row.id
 
 -- some frame that shares the place of this one: this one itself, where a memory can have it
 abbrev pub SomeAtPlace : (ℕ → Type 0) → ℕ → Type 0
-SomeAtPlace IsSo frame = (other : ℕ) × IsSo other × (place_of other ≡ place_of frame)
+SomeAtPlace IsSo frame = (other : ℕ) × IsSo other × (frame_place other ≡ frame_place frame)
 
 -- the device has a way there
-abbrev pub IsReachedAs : Scene → (device frame : ℕ) → AccessKind → Type 0
+abbrev pub IsReachedAs : HardwareScene → (device frame : ℕ) → AccessKind → Type 0
 IsReachedAs scene device frame kind = SomeAtPlace (λ other. Way scene device other kind) frame
 
 -- hardware reads it
-abbrev pub IsReadAs : Scene → ℕ → Type 0
+abbrev pub IsReadAs : HardwareScene → ℕ → Type 0
 IsReadAs scene frame = SomeAtPlace (IsRead scene) frame
 
 -- the IOMMU stores a fault record there, or a fence's word
-abbrev pub IsStoredAs : Scene → ℕ → Type 0
+abbrev pub IsStoredAs : HardwareScene → ℕ → Type 0
 IsStoredAs scene frame = SomeAtPlace (λ other. Contains scene.fault_frames other ⊎ HasWord scene other) frame
 
 -- somebody who isn't software writes what hardware reads
-abbrev pub IsClash : Scene → Type 0
+abbrev pub IsClash : HardwareScene → Type 0
 IsClash scene = (frame : ℕ) × IsReadAs scene frame × SomeAtPlace (IsWritable scene) frame
 
 -- THE SURVEY misses no way of the scene, no frame that hardware reads, and none into which the IOMMU stores
-pub record Surveys (survey : Survey) (scene : Scene) : Type 0 where
-  pub reached : (device frame : ℕ) (kind : AccessKind) → Way scene device frame kind → reaches_in survey.devices.items device kind frame ≡ true
-  pub read : (frame : ℕ) → IsRead scene frame → has survey.read frame ≡ true
-  pub stored : (frame : ℕ) → Contains scene.fault_frames frame ⊎ HasWord scene frame → has survey.stored frame ≡ true
+pub record Surveys (survey : Survey) (scene : HardwareScene) : Type 0 where
+  pub reached : (device frame : ℕ) (kind : AccessKind) → Way scene device frame kind → reaches_in_rows survey.devices.items device kind frame ≡ true
+  pub read : (frame : ℕ) → IsRead scene frame → row_has survey.read frame ≡ true
+  pub stored : (frame : ℕ) → Contains scene.fault_frames frame ⊎ HasWord scene frame → row_has survey.stored frame ≡ true
   pub trusted : TellsTrust scene survey.devices.items
 
 -- THE SURVEY INVENTS nothing: each way of a row is one of its device, each frame that is read is one that hardware reads, and into each that is stored the
 -- IOMMU stores. Frames from 4,096 on, where no memory has any, share one place: there this is said of some such frame.
-pub record InventsNone (survey : Survey) (scene : Scene) : Type 0 where
-  pub reached : (k : ℕ) (row : DeviceReach) (frame : ℕ) (kind : AccessKind) → slice_get survey.devices.items k ≡ Some row → has (frames_by row.reach kind) frame ≡ true
+pub record InventsNone (survey : Survey) (scene : HardwareScene) : Type 0 where
+  pub reached : (k : ℕ) (row : DeviceReach) (frame : ℕ) (kind : AccessKind) → slice_get survey.devices.items k ≡ Some row → row_has (frames_by row.reach kind) frame ≡ true
       → IsReachedAs scene row.id frame kind
-  pub read : (frame : ℕ) → has survey.read frame ≡ true → IsReadAs scene frame
-  pub stored : (frame : ℕ) → has survey.stored frame ≡ true → IsStoredAs scene frame
+  pub read : (frame : ℕ) → row_has survey.read frame ≡ true → IsReadAs scene frame
+  pub stored : (frame : ℕ) → row_has survey.stored frame ≡ true → IsStoredAs scene frame
 
 -- the survey has exactly what is there
-abbrev pub IsSurveyOf : Survey → Scene → Type 0
+abbrev pub IsSurveyOf : Survey → HardwareScene → Type 0
 IsSurveyOf survey scene = Surveys survey scene × InventsNone survey scene
 
 -- no device that isn't trusted, nor the IOMMU, writes what hardware reads

@@ -4,7 +4,7 @@ ghost use Rattle.iom_hardware.specs.HardwareParts.{hardware_parts};
 ghost use Rattle.iom_iommu.specs.Stages.{space_through};
 ghost use Rattle.iom_table_survey.specs.Reaches.{AddsReach};
 ghost use Rattle.iom_table_survey.specs.Rows.{GrowsBy};
-ghost use Rattle.iom_way_survey.specs.Found.{has_directory, cached_found, stored_found, found_of, space_in, HaveTable, HaveLeaf, FoundTable, FoundLeaf, IsBeside};
+ghost use Rattle.iom_way_survey.specs.Found.{has_directory, cached_found, stored_found, found_of, space_of_context, HaveTable, HaveLeaf, FoundTable, FoundLeaf, IsBeside};
 
 use crate::same::is_same;
 use iom_base::{Cause, DeviceId};
@@ -92,7 +92,7 @@ pub(crate) fn stored_beside(
 
 /// The address space that the stages of the context translate. None where both are Bare.
 pub(crate) fn space_of(context: &Context) -> Option<Space>
-    ensures { result ≡ space_in context.now }
+    ensures { result ≡ space_of_context context.now }
 {
     let pscid = context.pscid.number();
     let gscid = context.gscid;

@@ -7,7 +7,7 @@ ghost use Rattle.iom_hardware.specs.HardwareParts.{hardware_parts};
 ghost use Rattle.iom_phys_mem.specs.Words.{word_at};
 ghost use Rattle.iom_registers.specs.Queues.{directory_root};
 ghost use Rattle.iom_table_survey.specs.Rows.{GrowsBy};
-ghost use Rattle.iom_way_survey.specs.Directories.{next_of, IsOnPath, PathReads, DirectoryReads};
+ghost use Rattle.iom_way_survey.specs.Directories.{next_page_of, IsOnPath, PathReads, DirectoryReads};
 
 use crate::contexts::device_at;
 use iom_base::{DeviceId, ENTRY_SIZE, PAGE_SIZE, Ppn};
@@ -20,7 +20,7 @@ use iom_table_survey::FrameRow;
 /// The page that the entry at the index of a directory page names.
 fn next_page(memory: &Memory, page: Ppn, index: u64) -> Option<Ppn>
     requires { index < 512 }
-    ensures { option_map (λ (next : Ppn). next.number) result ≡ next_of (loaded_entry (word_at 8 memory.now (entry_place page.number index))) }
+    ensures { option_map (λ (next : Ppn). next.number) result ≡ next_page_of (loaded_entry (word_at 8 memory.now (entry_place page.number index))) }
 {
     let word = memory.load_u64(PAGE_SIZE * page.number() + ENTRY_SIZE * index)?;
     match NonLeafEntry::decode(word) {

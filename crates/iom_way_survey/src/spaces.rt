@@ -4,7 +4,7 @@ ghost use Rattle.iom_device.specs.declared.device.Device.{Device};
 ghost use Rattle.iom_hardware.specs.HardwareParts.{hardware_parts};
 ghost use Rattle.iom_table_survey.specs.Reaches.{AddsReach};
 ghost use Rattle.iom_table_survey.specs.Rows.{GrowsBy};
-ghost use Rattle.iom_way_survey.specs.Found.{FoundTable, FoundLeaf, DeviceTable, DeviceLeaf, SpaceTable, SpaceLeaf, ServesIn, IsCachedIn, InSpace};
+ghost use Rattle.iom_way_survey.specs.Found.{FoundTable, FoundLeaf, DeviceTable, DeviceLeaf, SpaceTable, SpaceLeaf, CachedLeadsTo, IsCachedIn, InSpace};
 ghost use Rattle.iom_tlb.specs.declared.cached_page.CachedPage.{CachedPage};
 
 use crate::contexts::{cached_in, device_at, stored_beside, survey_found};
@@ -15,7 +15,7 @@ use iom_tlb::{CachedPage, Ioatc, PLACES, Space};
 
 /// The translation that stands at a place, where it is of the space.
 fn survey_page(page: Option<CachedPage>, space: Space, reach: &mut Reach)
-    ensures { AddsReach reach.old reach.new (λ kind f. (own : CachedPage) × (page ≡ Some own) × ServesIn space own kind f) }
+    ensures { AddsReach reach.old reach.new (λ kind f. (own : CachedPage) × (page ≡ Some own) × CachedLeadsTo space own kind f) }
 {
     if let Some(cached) = page {
         if cached.space == space {

@@ -3,10 +3,10 @@ ghost use Rattle.std.specs.List.{find};
 ghost use Rattle.iom_device.specs.declared.device.Device.{Device};
 ghost use Rattle.iom_hardware.specs.HardwareParts.{hardware_parts};
 ghost use Rattle.iom_reach.specs.Safe.{IsSafe};
-ghost use Rattle.iom_reach.specs.Scene.{Scene};
-ghost use Rattle.iom_table_survey.specs.Rows.{has, GrowsBy, StandInBoth};
+ghost use Rattle.iom_reach.specs.Scene.{HardwareScene};
+ghost use Rattle.iom_table_survey.specs.Rows.{row_has, GrowsBy, StandInBoth};
 ghost use Rattle.iom_way_survey.specs.Found.{TablesOfDevice, SomeTable};
-ghost use Rattle.iom_way_survey.specs.Surveys.{is_among, IsReachRow, reaches_in, Surveys, IsSurveyOf, IsClash, AreRowsOf, IsConflictFree, IsConflict};
+ghost use Rattle.iom_way_survey.specs.Surveys.{is_among, IsReachRow, reaches_in_rows, Surveys, IsSurveyOf, IsClash, AreRowsOf, IsConflictFree, IsConflict};
 ghost use Rattle.iom_way_survey.specs.declared.findings.Conflict.{Conflict};
 ghost use Rattle.iom_way_survey.specs.declared.findings.DeviceReach.{DeviceReach};
 
@@ -99,7 +99,7 @@ fn first_written(read: &FrameRow, row: &DeviceReach) -> Option<u64>
 impl Survey {
     /// Whether the device can reach the frame by an access of this kind.
     pub fn reaches(&self, device: DeviceId, frame: u64, kind: AccessKind) -> bool
-        ensures { result ≡ reaches_in self.now.devices.items device kind frame }
+        ensures { result ≡ reaches_in_rows self.now.devices.items device kind frame }
     {
         match row_of(&self.devices, device) {
             Some(row) => row.reach.contains(frame, kind),
@@ -109,14 +109,14 @@ impl Survey {
 
     /// Whether hardware reads the frame: tables, the directory, or commands that wait.
     pub fn is_read_by_hardware(&self, frame: u64) -> bool
-        ensures { result ≡ has self.now.read frame }
+        ensures { result ≡ row_has self.now.read frame }
     {
         self.read.contains(frame)
     }
 
     /// Whether the IOMMU may store into the frame: a fault record, or the word of a fence that waits.
     pub fn is_stored_by_iommu(&self, frame: u64) -> bool
-        ensures { result ≡ has self.now.stored frame }
+        ensures { result ≡ row_has self.now.stored frame }
     {
         self.stored.contains(frame)
     }
@@ -146,9 +146,9 @@ impl Survey {
 
     /// Whether nobody but software can write what hardware reads.
     pub fn is_safe(&self) -> bool
-        ensures safe { result ≡ true → (scene : Scene) → Surveys self.now scene → IsSafe scene }
+        ensures safe { result ≡ true → (scene : HardwareScene) → Surveys self.now scene → IsSafe scene }
         ensures conflict { result ≡ false → (one : Conflict) × IsConflict self.now one }
-        ensures clash { result ≡ false → (scene : Scene) → IsSurveyOf self.now scene → IsClash scene }
+        ensures clash { result ≡ false → (scene : HardwareScene) → IsSurveyOf self.now scene → IsClash scene }
     {
         self.first_conflict().is_none()
     }

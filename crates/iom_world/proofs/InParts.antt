@@ -21,13 +21,13 @@ use Rattle.iom_hardware.specs.declared.answers.CacheReply.{CacheReply}
 use Rattle.iom_hardware.specs.declared.answers.CacheReply.TheVariants.{Miss, Replied}
 use Rattle.iom_hardware.specs.declared.answers.Delivered.{Delivered}
 use Rattle.iom_hardware.specs.declared.answers.Delivered.TheVariants as delivered
-use Rattle.iom_hardware.specs.Deliveries.{TakesReply, MessageArrives, MessageArrivesIfAny, Delivers}
+use Rattle.iom_hardware.specs.Deliveries.{TakesReply, MessageArrives, MessageArrivesIfAny, DeliversAtPlace}
 use Rattle.iom_hardware.specs.HardwareParts.{HardwareParts}
 use Rattle.iom_hardware.specs.Messages.{AsksTranslation, ClaimsCompletion, LosesMessage, CopiesMessage}
 use Rattle.iom_hardware.specs.OwnIommu.{Iommu}
-use Rattle.iom_hardware.specs.Plugging.{InsertsDisk}
-use Rattle.iom_hardware.specs.Requests.{Replies, RequestsAccess, RequestsTranslated}
-use Rattle.iom_hardware.specs.ThroughCache.{LooksUp, GoesByCache, RequestsThroughCache}
+use Rattle.iom_hardware.specs.Plugging.{PutsDiskIntoDevice}
+use Rattle.iom_hardware.specs.Requests.{Replies, RequestsAccess, RequestsTranslatedAccess}
+use Rattle.iom_hardware.specs.ThroughCache.{GoesByCachedFrame, GoesByCache, RequestsAccessThroughCache}
 use Rattle.iom_inflight.specs.declared.made.MadeAt.{MadeAt}
 use Rattle.iom_iommu.specs.declared.fetched.Fetched.{Fetched}
 use Rattle.iom_iommu.specs.declared.reply.Reply.{Reply}
@@ -40,12 +40,12 @@ use Rattle.iom_world_effects.specs.Answers.{told_of}
 use Rattle.iom_world_effects.specs.BlockDevices.{IsBlockDevice, InsertsMedium}
 use Rattle.iom_world_effects.specs.Deliveries.{TakesInto, Arrives, ArrivesIfAny, DeliversMessage}
 use Rattle.iom_world_effects.specs.Does.{FetchesNext, disks_after, fetch_named}
-use Rattle.iom_world_effects.specs.Messages.{Sends, AsksQuestion, ForgesCompletion, DropsMessage, RepeatsMessage, repeat_told}
+use Rattle.iom_world_effects.specs.Messages.{SendsOnLink, AsksQuestion, ForgesCompletion, DropsMessage, RepeatsMessage, repeat_told}
 use Rattle.iom_world_effects.specs.Parts.{Parts}
 use Rattle.iom_world_effects.specs.Places.{IsPresent}
 use Rattle.iom_world_effects.specs.Recovery.{ResetsDevice, TimesOutFence}
 use Rattle.iom_world_effects.specs.Requests.{IsReplied, AsksAccess, AsksTranslated, reply_told_of}
-use Rattle.iom_world_effects.specs.ThroughCache.{FindsFrame, TriesCache, AsksThroughCache, cached_frame}
+use Rattle.iom_world_effects.specs.ThroughCache.{FindsFrame, TriesCache, DeviceAsksThroughCache, cached_frame}
 use Rattle.iom_world_effects.specs.Unable.{IsUnknown, IsUnable}
 use Rattle.iom_world_effects.proofs.PresentLemmas.{kind_absent, kind_present}
 use Rattle.iom_world.specs.OnHardware.{hardware_of, told_unless, cache_reply_told, sending_told, delivered_told}
@@ -71,7 +71,7 @@ block_device devices id able = by (device_with devices id) refl able.1
     by (Some device) at is = let same : device.kind ≡ able.0 = cc in (device, record { there = at; able = ap is_block_device same ∙ able.2 })
 
 -- the disks at hand, once one is put in
-pub disks_left : (disks left : List ℕ) (old new : HardwareParts) (id disk : ℕ) (answer : Result (Unit {0}) Refusal) → InsertsDisk disks old id disk answer new left
+pub disks_left : (disks left : List ℕ) (old new : HardwareParts) (id disk : ℕ) (answer : Result (Unit {0}) Refusal) → PutsDiskIntoDevice disks old id disk answer new left
     → left ≡ disks_after (events.Medium id disk) (told_of answer) disks
 disks_left disks left old new id disk answer (inl (none, kept)) = kept ∙ sym (ap (λ a. disks_after (events.Medium id disk) (told_of a) disks) none.answered)
 disks_left disks left old new id disk answer (inr (inl (wrong, kept))) = kept ∙ sym (ap (λ a. disks_after (events.Medium id disk) (told_of a) disks) wrong.answered)
@@ -102,12 +102,12 @@ module _ (old new : Parts) (driver : new.driver ≡ old.driver) where
       (λ reply call. replied (AnswersRequest old.memory old.iommu id access) reply call) requests
 
   pub translated_in_parts : (id : ℕ) (access : Access) (answer : Result Reply Refusal)
-      → RequestsTranslated (hardware_of old) id access answer (hardware_of new) → AsksTranslated old id access (told_unless reply_told_of answer) new
+      → RequestsTranslatedAccess (hardware_of old) id access answer (hardware_of new) → AsksTranslated old id access (told_unless reply_told_of answer) new
   translated_in_parts id access answer requests =
       by_device forges _ (λ told. IsReplied (AnswersTranslated old.memory old.iommu id access) old told new) reply_told_of id answer
       (λ reply call. replied (AnswersTranslated old.memory old.iommu id access) reply call) requests
 
-  looked : (frame : Option ℕ) (id : ℕ) (access : Access) (reply : CacheReply) → LooksUp frame id access (hardware_of old) reply (hardware_of new)
+  looked : (frame : Option ℕ) (id : ℕ) (access : Access) (reply : CacheReply) → GoesByCachedFrame frame id access (hardware_of old) reply (hardware_of new)
       → FindsFrame frame old id access (cache_reply_told reply) new
   looked None id access Miss same = (refl, same_parts old new same driver)
   looked None id access (Replied reply) never = absurd never
@@ -121,20 +121,20 @@ module _ (old new : Parts) (driver : new.driver ≡ old.driver) where
   by_cache id access reply (inr (inr (within, room, looks))) = inr (inr (within, room, looked (cached_frame old id access) id access reply looks))
 
   pub cached_in_parts : (can : DeviceKind → Bool) (id : ℕ) (access : Access) (answer : Result CacheReply Refusal)
-      → RequestsThroughCache can (hardware_of old) id access answer (hardware_of new) → AsksThroughCache can old id access (told_unless cache_reply_told answer) new
+      → RequestsAccessThroughCache can (hardware_of old) id access answer (hardware_of new) → DeviceAsksThroughCache can old id access (told_unless cache_reply_told answer) new
   cached_in_parts can id access answer requests =
       by_device can _ (λ told. TriesCache old id access told new) cache_reply_told id answer (λ reply call. by_cache id access reply call) requests
 
   pub question_in_parts : (id page : ℕ) (answer : Result Bool Refusal) → AsksTranslation (hardware_of old) id page answer (hardware_of new)
       → AsksQuestion old id page (told_unless sending_told answer) new
   question_in_parts id page answer asks =
-      by_device asks_questions _ (λ told. Sends old id (sent.Ask (epoch_in old.devices id) page) told new) sending_told id answer
+      by_device asks_questions _ (λ told. SendsOnLink old id (sent.Ask (epoch_in old.devices id) page) told new) sending_told id answer
       (λ is_sent sends. record { told_so = ap sending_told sends.room; sent = parts_with old new _ sends.sent driver }) asks
 
   pub forged_in_parts : (id serial : ℕ) (answer : Result Bool Refusal) → ClaimsCompletion (hardware_of old) id serial answer (hardware_of new)
       → ForgesCompletion old id serial (told_unless sending_told answer) new
   forged_in_parts id serial answer claims =
-      by_device forges _ (λ told. Sends old id (sent.InvDone serial) told new) sending_told id answer
+      by_device forges _ (λ told. SendsOnLink old id (sent.InvDone serial) told new) sending_told id answer
       (λ is_sent sends. record { told_so = ap sending_told sends.room; sent = parts_with old new _ sends.sent driver }) claims
 
   pub dropped_in_parts : (place : ℕ) (found : Bool) → LosesMessage (hardware_of old) place found (hardware_of new)
@@ -193,7 +193,7 @@ module _ (old new : Parts) (driver : new.driver ≡ old.driver) where
   arrived (sent.InvDone serial) device others delivered.Ignored never = absurd never
   arrived (sent.InvDone serial) device others (delivered.Invalidated named) never = absurd never
 
-  pub delivered_in_parts : (place : ℕ) (is : Delivered) → Delivers (hardware_of old) place is (hardware_of new) → DeliversMessage old place (delivered_told is) new
+  pub delivered_in_parts : (place : ℕ) (is : Delivered) → DeliversAtPlace (hardware_of old) place is (hardware_of new) → DeliversMessage old place (delivered_told is) new
   delivered_in_parts place is delivers = by (slice_get old.fabric place) delivers
     where
       by : (on : Option OnLink) → MessageArrivesIfAny on (hardware_of old) (remove old.fabric place) is (hardware_of new)
@@ -201,7 +201,7 @@ module _ (old new : Parts) (driver : new.driver ≡ old.driver) where
       by None (none, same) = (ap delivered_told none, same_parts old new same driver)
       by (Some on) arrives = arrived on.message on.device (remove old.fabric place) is arrives
 
-  pub reset_in_parts : (id : ℕ) (answer : Result (Unit {0}) Refusal) → hardware.Resets (hardware_of old) id answer (hardware_of new)
+  pub reset_in_parts : (id : ℕ) (answer : Result (Unit {0}) Refusal) → hardware.ResetsAnyDevice (hardware_of old) id answer (hardware_of new)
       → ResetsDevice old id (told_unless (λ done. outcome.Done) answer) new
   reset_in_parts id answer (inl none) =
       inl (record { absent = kind_absent old.devices id none.absent; told_so = ap (told_unless (λ done. outcome.Done)) none.answered; same = same_parts old new none.same driver })
@@ -212,7 +212,7 @@ module _ (old new : Parts) (driver : new.driver ≡ old.driver) where
   reset_in_parts id answer (inr (inr does)) = inr (does.able, ap (told_unless (λ done. outcome.Done)) does.answered, parts_with old new _ does.call.cleared driver)
 
   -- a disk is put in
-  pub inserted_in_parts : (disks left : List ℕ) (id disk : ℕ) (answer : Result (Unit {0}) Refusal) → InsertsDisk disks (hardware_of old) id disk answer (hardware_of new) left
+  pub inserted_in_parts : (disks left : List ℕ) (id disk : ℕ) (answer : Result (Unit {0}) Refusal) → PutsDiskIntoDevice disks (hardware_of old) id disk answer (hardware_of new) left
       → InsertsMedium disks old id disk (told_of answer) new
   inserted_in_parts disks left id disk answer (inl (none, kept)) =
       inl (record { absent = kind_absent old.devices id none.absent; told_so = ap told_of none.answered; same = same_parts old new none.same driver })
@@ -238,7 +238,7 @@ module _ (old new : Parts) (driver : new.driver ≡ old.driver) where
       record { answer = has_effect; told_so = refl; call = gives_up.call; memory = gives_up.memory; driver = driver; devices = gives_up.devices; fabric = gives_up.fabric }
 
   -- a commit is refused where no device has the id alone
-  pub uncommitted : (id : ℕ) (why : Refusal) → hardware.Commits (hardware_of old) id (Err why) (hardware_of new) → IsUnknown old id (outcome.Refused why) new
+  pub uncommitted : (id : ℕ) (why : Refusal) → hardware.CommitsOldestAccess (hardware_of old) id (Err why) (hardware_of new) → IsUnknown old id (outcome.Refused why) new
   uncommitted id why (inl none) =
       record { absent = kind_absent old.devices id none.absent; told_so = ap (told_unless {A = Option MadeAt} (λ made. outcome.Done)) none.answered; same = same_parts old new none.same driver }
   uncommitted id why (inr (inl wrong)) = absurd (never wrong.cannot)
@@ -251,7 +251,7 @@ module _ (old new : Parts) (driver : new.driver ≡ old.driver) where
       never given same = cc
 
   -- else the oldest access is made, if there is one, and the device is there
-  pub committed : (id : ℕ) (made : Option MadeAt) → hardware.Commits (hardware_of old) id (Ok made) (hardware_of new)
+  pub committed : (id : ℕ) (made : Option MadeAt) → hardware.CommitsOldestAccess (hardware_of old) id (Ok made) (hardware_of new)
       → IsPresent old.devices id × hardware.MakesAccess id (hardware_of old) made (hardware_of new)
   committed id made (inl none) = absurd (never none.answered)
     where

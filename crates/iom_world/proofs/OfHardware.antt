@@ -8,7 +8,7 @@ use Rattle.iom_fabric.specs.declared.fabric.OnLink.{OnLink}
 use Rattle.iom_fabric.specs.declared.message.Message.{Message}
 use Rattle.iom_fabric.specs.declared.message.Message.TheVariants as sent
 use Rattle.iom_hardware.specs.declared.hardware.Hardware.{Hardware}
-use Rattle.iom_hardware.specs.Commits.{Commits, StandWhereMade}
+use Rattle.iom_hardware.specs.Commits.{CommitsOldestAccess, StandWhereMade}
 use Rattle.iom_hardware.specs.Sound.{IsOfPlugged, IsSoundHardware}
 use Rattle.iom_inflight.specs.declared.made.MadeAt.{MadeAt}
 use Rattle.iom_iommu.specs.Parts.{flights_of}
@@ -73,7 +73,7 @@ keeps_delivered laws old new events place told sound own reported stays below de
 
 -- so does a commit
 pub keeps_committed : (old new : Parts) (events id : ℕ) (answer : Result (Option MadeAt) Refusal) → AreSound old events → IsSoundDriver old.driver → StaysReady old.driver → new.driver ≡ old.driver
-    → Commits (hardware_of old) id answer (hardware_of new) → AreSound new events
+    → CommitsOldestAccess (hardware_of old) id answer (hardware_of new) → AreSound new events
 keeps_committed old new events id (Err why) sound own stays driver commits = rw (uncommitted old new driver id why commits).same sound
 keeps_committed old new events id (Ok made) sound own stays driver commits =
     let makes = (committed old new driver id made commits).1 in
@@ -81,7 +81,7 @@ keeps_committed old new events id (Ok made) sound own stays driver commits =
 
 -- the oldest access is made, or none is
 pub makes_in_parts : (old new : Parts) (events id : ℕ) (made : Option MadeAt) (told : Outcome) → AreSound old events → IsSoundDriver old.driver → new.driver ≡ old.driver
-    → Commits (hardware_of old) id (Ok made) (hardware_of new) → TellsMade old.memory made told → CommitsAccess old id told new
+    → CommitsOldestAccess (hardware_of old) id (Ok made) (hardware_of new) → TellsMade old.memory made told → CommitsAccess old id told new
 makes_in_parts old new events id made told sound own driver commits tells =
     let (present, makes) = committed old new driver id made commits in
     inr (record {
@@ -96,7 +96,7 @@ makes_in_parts old new events id made told sound own driver commits tells =
     })
 
 -- what stands where a read was made is what it tells
-pub read_in_parts : (old new : Parts) (id : ℕ) (made : MadeAt) (bytes : List ℕ) (told : Outcome) → new.driver ≡ old.driver → Commits (hardware_of old) id (Ok (Some made)) (hardware_of new)
+pub read_in_parts : (old new : Parts) (id : ℕ) (made : MadeAt) (bytes : List ℕ) (told : Outcome) → new.driver ≡ old.driver → CommitsOldestAccess (hardware_of old) id (Ok (Some made)) (hardware_of new)
     → made.kind ≡ Read → StandWhereMade new.memory made bytes → TellsBytes told bytes → TellsKind old.memory made made.kind told
 read_in_parts old new id made bytes told driver commits reads stand tells =
     let makes = (committed old new driver id (Some made) commits).1 in

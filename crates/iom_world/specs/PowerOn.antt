@@ -11,7 +11,7 @@ use Rattle.iom_world.specs.Shows.{Shows}
 -- the world begins, with so many frames of memory and levels of the device directory, disks of these numbers, and all numbers of fences below the first
 -- used up: it shows the machine at power-on; each byte of memory is zero, those of the system's frames too; its IOMMU was at power-on, and its driver was
 -- new, and the driver started both, from that fence; no device is plugged in, no command waits, no message is under way, and no event was counted
-pub record BeginsFrom (first_fence frames levels : ℕ) (disks : List ℕ) (world : World) : Type 0 where
+pub record WorldBeginsFrom (first_fence frames levels : ℕ) (disks : List ℕ) (world : World) : Type 0 where
   pub shows : Shows world (opening frames levels disks)
   pub memory : world.hardware.memory ≡ replicate frames zeroed
   pub iommu : IsStartedIommu frames levels world.hardware.iommu
@@ -22,5 +22,5 @@ pub record BeginsFrom (first_fence frames levels : ℕ) (disks : List ℕ) (worl
   pub events : world.hardware.events ≡ 0
 
 -- the same, with no number of a fence used up: the first fence has number 1
-abbrev pub BeginsAt : ℕ → ℕ → List ℕ → World → Type 0
-BeginsAt = BeginsFrom 1
+abbrev pub WorldBeginsAt : ℕ → ℕ → List ℕ → World → Type 0
+WorldBeginsAt = WorldBeginsFrom 1

@@ -10,7 +10,7 @@ ghost use Rattle.iom_machine.specs.declared.outcome.Outcome.TheVariants as outco
 ghost use Rattle.iom_base.specs.Accesses.{MayWant};
 ghost use Rattle.iom_base.specs.DeviceKinds.{is_block_device};
 ghost use Rattle.iom_virtqueue.specs.Layouts.{layout_of};
-ghost use Rattle.iom_world_effects.specs.BlockDevices.{MayTake, InsertsMedium, SetsQueue, GoesThroughCache, BeginsAccess, Rests, TellsStatus, devices_left, with_block_reset};
+ghost use Rattle.iom_world_effects.specs.BlockDevices.{MayTake, InsertsMedium, SetsBlockQueue, GoesThroughCache, BeginsAccess, Rests, TellsBlockStatus, devices_left, with_block_reset};
 ghost use Rattle.iom_device.specs.Caches.{epoch_in, kind_in, with_has_disk};
 ghost use Rattle.iom_world_effects.specs.Does.{disks_after};
 ghost use Rattle.iom_world_effects.specs.Requests.{AsksAccess};
@@ -126,7 +126,7 @@ impl World {
         used: u64,
     ) -> Told
         requires count { self.old.hardware.events + 1 < 2 ^ 64 }
-        ensures does { SetsQueue (parts_of self.old) id (layout_of size descriptors available used) (outcome_of result) (parts_of self.new) }
+        ensures does { SetsBlockQueue (parts_of self.old) id (layout_of size descriptors available used) (outcome_of result) (parts_of self.new) }
         ensures disks { disks_of self.new ≡ disks_of self.old }
         ensures events { self.new.hardware.events ≡ self.old.hardware.events + 1 }
     {
@@ -159,7 +159,7 @@ impl World {
 
     /// The block device, where there is one, has this status.
     pub(crate) fn has_status(&self, id: DeviceId, status: u8) -> Told
-        ensures { TellsStatus (parts_of self.now) id status (outcome_of result) (parts_of self.now) }
+        ensures { TellsBlockStatus (parts_of self.now) id status (outcome_of result) (parts_of self.now) }
     {
         let Some(kind) = self.kind_of(id) else {
             return Told::Refused(Refusal::NoSuchDevice);

@@ -4,7 +4,7 @@ ghost use Rattle.iom_phys_mem.specs.Sizes.{IsMemorySize};
 ghost use Rattle.iom_phys_mem.specs.declared.memory.MemError.TheVariants.{BadSize};
 ghost use Rattle.iom_driver.specs.Layout.{IsLevels};
 ghost use Rattle.iom_iommu.specs.Parts.{IsAtPowerOn};
-ghost use Rattle.iom_world.specs.PowerOn.{BeginsAt, BeginsFrom};
+ghost use Rattle.iom_world.specs.PowerOn.{WorldBeginsAt, WorldBeginsFrom};
 
 use crate::world::World;
 use iom_base::MAX_DEVICES;
@@ -40,7 +40,7 @@ impl World {
     /// (IOMMU specification, section 2.1, "Device-Directory-Table (DDT)"); else `OutOfMemory` where an
     /// allocation is refused.
     pub fn new(alloc: Global, frames: u32, levels: u8, disks: &[u64]) -> Result<World, MemError>
-        ensures begins { IfOk result (BeginsAt frames levels disks.now) }
+        ensures begins { IfOk result (WorldBeginsAt frames levels disks.now) }
         ensures size { IfOk result (λ world. IsMemorySize frames × IsLevels levels) }
         ensures bad_size { (IsErrOf result BadSize) ↔ ¬ (IsMemorySize frames × IsLevels levels) }
     {
@@ -57,7 +57,7 @@ impl World {
         disks: &[u64],
     ) -> Result<World, MemError>
         requires first { 1 ≤ first_fence }
-        ensures begins { IfOk result (BeginsFrom first_fence frames levels disks.now) }
+        ensures begins { IfOk result (WorldBeginsFrom first_fence frames levels disks.now) }
         ensures size { IfOk result (λ world. IsMemorySize frames × IsLevels levels) }
         ensures bad_size { (IsErrOf result BadSize) ↔ ¬ (IsMemorySize frames × IsLevels levels) }
     {

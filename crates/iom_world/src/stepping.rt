@@ -4,7 +4,7 @@ ghost use Rattle.iom_iommu.specs.Requests.{access_of};
 ghost use Rattle.iom_machine.specs.declared.event.Event.TheVariants as events;
 ghost use Rattle.iom_base.specs.Accesses.{MayWant};
 ghost use Rattle.iom_world_effects.specs.Below.{AddressFits, IsOfAts, IsOfRecovery, IsSeldom, IsOfBlockDevice};
-ghost use Rattle.iom_world_effects.specs.BlockDevices.{BeginsAccess, IsRest, Rests, TellsStatus};
+ghost use Rattle.iom_world_effects.specs.BlockDevices.{BeginsAccess, IsRest, Rests, TellsBlockStatus};
 ghost use Rattle.iom_world_effects.specs.Does.{Does, disks_after};
 ghost use Rattle.iom_world.specs.Happens.{Happens};
 ghost use Rattle.iom_world_effects.specs.Stays.{IsNoChoice};
@@ -247,7 +247,7 @@ impl World {
     ) -> &'a mut Outcome
         requires count { self.old.hardware.events + 1 < 2 ^ 64 }
         ensures happens { Happens self.old (events.Status device) result.now self.new }
-        ensures tells { TellsStatus (parts_of self.old) device status result.now (parts_of self.new) }
+        ensures tells { TellsBlockStatus (parts_of self.old) device status result.now (parts_of self.new) }
     {
         laws_below();
         self.hardware.events += 1;

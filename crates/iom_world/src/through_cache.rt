@@ -6,7 +6,7 @@ ghost use Rattle.iom_base.specs.DeviceKinds.{sends_through_cache};
 ghost use Rattle.iom_hardware.specs.Senders.{cached_by};
 ghost use Rattle.iom_inflight.specs.Sound.{CarriesBytes};
 ghost use Rattle.iom_iommu.specs.Requests.{access_of};
-ghost use Rattle.iom_world_effects.specs.ThroughCache.{AsksThroughCache};
+ghost use Rattle.iom_world_effects.specs.ThroughCache.{DeviceAsksThroughCache};
 ghost use Rattle.iom_world.specs.OnHardware.{told_unless, cache_reply_told};
 ghost use Rattle.iom_world.specs.Seen.{parts_of, disks_of};
 ghost use Rattle.iom_world.specs.Told.{outcome_of};
@@ -45,7 +45,7 @@ impl World {
     ) -> Told
         requires count { self.old.hardware.events + 1 < 2 ^ 64 }
         requires carries { CarriesBytes kind len bytes.now }
-        ensures does { AsksThroughCache (cached_by sender) (parts_of self.old) id (access_of address len kind bytes.now) (outcome_of result) (parts_of self.new) }
+        ensures does { DeviceAsksThroughCache (cached_by sender) (parts_of self.old) id (access_of address len kind bytes.now) (outcome_of result) (parts_of self.new) }
         ensures disks { disks_of self.new ≡ disks_of self.old }
         ensures events { self.new.hardware.events ≡ self.old.hardware.events + 1 }
     {
@@ -59,7 +59,7 @@ impl World {
     /// A device reads so many bytes at the address through its own cache.
     pub(crate) fn read_through_cache(&mut self, id: DeviceId, address: u64, len: u64) -> Told
         requires count { self.old.hardware.events + 1 < 2 ^ 64 }
-        ensures does { AsksThroughCache sends_through_cache (parts_of self.old) id (read_of address len) (outcome_of result) (parts_of self.new) }
+        ensures does { DeviceAsksThroughCache sends_through_cache (parts_of self.old) id (read_of address len) (outcome_of result) (parts_of self.new) }
         ensures disks { disks_of self.new ≡ disks_of self.old }
         ensures events { self.new.hardware.events ≡ self.old.hardware.events + 1 }
     {
@@ -69,7 +69,7 @@ impl World {
     /// A device writes the bytes at the address through its own cache.
     pub(crate) fn write_through_cache(&mut self, id: DeviceId, address: u64, bytes: &[u8]) -> Told
         requires count { self.old.hardware.events + 1 < 2 ^ 64 }
-        ensures does { AsksThroughCache sends_through_cache (parts_of self.old) id (write_of address bytes.now) (outcome_of result) (parts_of self.new) }
+        ensures does { DeviceAsksThroughCache sends_through_cache (parts_of self.old) id (write_of address bytes.now) (outcome_of result) (parts_of self.new) }
         ensures disks { disks_of self.new ≡ disks_of self.old }
         ensures events { self.new.hardware.events ≡ self.old.hardware.events + 1 }
     {

@@ -1,5 +1,5 @@
 ghost use Rattle.iom_world_effects.specs.Sound.{IsSoundWorld};
-ghost use Rattle.iom_world_effects.specs.SoundIsFact.{sound_prop};
+ghost use Rattle.iom_world_effects.specs.SoundIsFact.{sound_world_prop};
 
 use iom_driver::Driver;
 use iom_hardware::Hardware;
@@ -10,5 +10,5 @@ pub struct World {
     /// Memory, the IOMMU, the devices and the messages between them; and how many events there were.
     pub(crate) hardware: Hardware,
     pub(crate) driver: Driver,
-    ghost sound: { IsSoundWorld hardware.memory hardware.iommu driver hardware.devices.items hardware.fabric hardware.events } by { sound_prop hardware.memory hardware.iommu driver hardware.devices.items hardware.fabric hardware.events },
+    ghost sound: { IsSoundWorld hardware.memory hardware.iommu driver hardware.devices.items hardware.fabric hardware.events } by { sound_world_prop hardware.memory hardware.iommu driver hardware.devices.items hardware.fabric hardware.events },
 }

@@ -8,12 +8,12 @@ use Rattle.iom_device_dir.specs.declared.context.Context.{Context}
 use Rattle.iom_driver.specs.declared.device.Attachment.{Attachment}
 use Rattle.iom_driver.specs.declared.device.Attachment.TheVariants.{Detached, Attached, Quarantined, Leaving}
 use Rattle.iom_driver.specs.declared.device.Stages.{Stages}
-use Rattle.iom_driver.specs.Devices.{attachment_of, attached_stages, owned_stages, stages_of, owned_stages_of}
+use Rattle.iom_driver.specs.Devices.{attachment_by_id, attached_stages, owned_stages, stages_of, owned_stages_of}
 use Rattle.iom_driver.specs.Directory.{context_in, context_for, mode_of}
 use Rattle.iom_driver.specs.Layout.{IsLevels}
 use Rattle.iom_driver.specs.State.{DriverState}
 use Rattle.iom_iommu.specs.Parts.{registers_of, contexts_of}
-use Rattle.iom_iommu.specs.Service.{found_context, context_for as context_found, letting_ats, ats_context_in, ats_context_for}
+use Rattle.iom_iommu.specs.Service.{found_context, context_or_cause, letting_ats, ats_context_in, ats_context_for}
 use Rattle.iom_world_effects.specs.Parts.{Parts}
 use Rattle.iom_world_effects.specs.Sound.{AreSound}
 use Rattle.iom_world_effects.proofs.CutOffLemmas.{IsPending, pending_cached}
@@ -68,14 +68,14 @@ found_for : ServiceLaws → (parts : Parts) (events : ℕ) → AreSound parts ev
     → ats_context_for parts.memory (registers_of parts.iommu) (contexts_of parts.iommu) id
     ≡ letting_ats (found_context (contexts_of parts.iommu id) (located_as parts.driver.levels id (stages_of parts.driver.devices id)))
 found_for laws parts events sound own id =
-    let found = context_found parts.memory (registers_of parts.iommu) (contexts_of parts.iommu) id in
+    let found = context_or_cause parts.memory (registers_of parts.iommu) (contexts_of parts.iommu) id in
     ap (λ m. ats_context_in m found) (sound.ready.directory sound.started).mode ∙ ats_in parts.driver.levels own.sizes.in_range found ∙ ap letting_ats (found_as laws parts events sound own id)
 
 pub finds_ats : ServiceLaws → (parts : Parts) (events : ℕ) → AreSound parts events → IsSoundDriver parts.driver → (id : ℕ)
-    → FindsAts (attachment_of parts.driver.devices id) parts.driver id (ats_context_for parts.memory (registers_of parts.iommu) (contexts_of parts.iommu) id)
+    → FindsAts (attachment_by_id parts.driver.devices id) parts.driver id (ats_context_for parts.memory (registers_of parts.iommu) (contexts_of parts.iommu) id)
 finds_ats laws parts events sound own id =
-    subst (FindsAts (attachment_of parts.driver.devices id) parts.driver id) (sym (found_for laws parts events sound own id))
-    (by_attachment parts.driver id (attachment_of parts.driver.devices id) (contexts_of parts.iommu id) (λ context is. sound.contexts id context is)
+    subst (FindsAts (attachment_by_id parts.driver.devices id) parts.driver id) (sym (found_for laws parts events sound own id))
+    (by_attachment parts.driver id (attachment_by_id parts.driver.devices id) (contexts_of parts.iommu id) (λ context is. sound.contexts id context is)
     (λ there. pending_cached parts events sound id there))
 
 -- of a device that isn't attached only a cached context is found

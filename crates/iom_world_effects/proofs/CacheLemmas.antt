@@ -4,7 +4,7 @@ use Rattle.std.specs.Option.{option_map, option_map_or}
 use Rattle.std.proofs.lemmas.Bool.{false≢true, eqb-true, eq-eqb}
 use Rattle.iom_ats_cache.specs.Cache.{Cache, empty_cache}
 use Rattle.iom_driver.specs.declared.device.Device as driver
-use Rattle.iom_driver.specs.Devices.{detached, device_of, is_plugged, is_trusted}
+use Rattle.iom_driver.specs.Devices.{detached, device_by_id, has_device, has_trusted_cache}
 use Rattle.iom_driver.proofs.Lists.{differs}
 use Rattle.iom_base.specs.declared.device_kind.NewDevice.{NewDevice}
 use Rattle.iom_base.specs.DeviceKinds.{kind_of, disk_of, has_cache}
@@ -88,8 +88,8 @@ its_cache id what = by (has_cache (kind_of what))
     by false = refl
 
 -- whom the driver trusts then
-pub trusted_pushed : (known : List driver.Device) (id : ℕ) (trusted : Bool) (d : ℕ) → is_plugged known id ≡ false
-    → is_trusted (known ++ detached id trusted ∷ []) d ≡ (if id == d then trusted else is_trusted known d)
+pub trusted_pushed : (known : List driver.Device) (id : ℕ) (trusted : Bool) (d : ℕ) → has_device known id ≡ false
+    → has_trusted_cache (known ++ detached id trusted ∷ []) d ≡ (if id == d then trusted else has_trusted_cache known d)
 trusted_pushed [] id trusted d none = by (id == d)
   where
     by : (b : Bool) → option_map_or (λ (device : driver.Device). device.trusted) (if b then Some (detached id trusted) else None) false ≡ (if b then trusted else false)
@@ -97,17 +97,17 @@ trusted_pushed [] id trusted d none = by (id == d)
     by false = refl
 trusted_pushed (first ∷ others) id trusted d none = by (first.id == id) refl none (trusted_pushed others id trusted d)
   where
-    at : (b : Bool) → (first.id == d) ≡ b → (first.id == id) ≡ false → is_trusted (others ++ detached id trusted ∷ []) d ≡ (if id == d then trusted else is_trusted others d)
-        → option_map_or (λ (device : driver.Device). device.trusted) (if b then Some first else device_of (others ++ detached id trusted ∷ []) d) false
-        ≡ (if id == d then trusted else option_map_or (λ (device : driver.Device). device.trusted) (if b then Some first else device_of others d) false)
+    at : (b : Bool) → (first.id == d) ≡ b → (first.id == id) ≡ false → has_trusted_cache (others ++ detached id trusted ∷ []) d ≡ (if id == d then trusted else has_trusted_cache others d)
+        → option_map_or (λ (device : driver.Device). device.trusted) (if b then Some first else device_by_id (others ++ detached id trusted ∷ []) d) false
+        ≡ (if id == d then trusted else option_map_or (λ (device : driver.Device). device.trusted) (if b then Some first else device_by_id others d) false)
     at true here apart later =
         let other : id ≢ d = λ same. false≢true (sym apart ∙ eq-eqb first.id id (eqb-true first.id d here ∙ sym same)) in
         ap (λ (b : Bool). if b then trusted else first.trusted) (sym (differs id d other))
     at false here apart later = later
 
-    by : (b : Bool) → (first.id == id) ≡ b → is_some (if b then Some first else device_of others id) ≡ false
-        → (is_plugged others id ≡ false → is_trusted (others ++ detached id trusted ∷ []) d ≡ (if id == d then trusted else is_trusted others d))
-        → is_trusted (first ∷ others ++ detached id trusted ∷ []) d ≡ (if id == d then trusted else is_trusted (first ∷ others) d)
+    by : (b : Bool) → (first.id == id) ≡ b → is_some (if b then Some first else device_by_id others id) ≡ false
+        → (has_device others id ≡ false → has_trusted_cache (others ++ detached id trusted ∷ []) d ≡ (if id == d then trusted else has_trusted_cache others d))
+        → has_trusted_cache (first ∷ others ++ detached id trusted ∷ []) d ≡ (if id == d then trusted else has_trusted_cache (first ∷ others) d)
     by true is there later = absurd (false≢true (sym there))
     by false is there later = at (first.id == d) refl is (later there)
 

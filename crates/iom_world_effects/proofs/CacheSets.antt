@@ -16,7 +16,7 @@ use Rattle.iom_inflight.specs.Flights.{FlightRow}
 use Rattle.iom_device.specs.declared.device.Device.{Device}
 use Rattle.iom_world_effects.specs.Devices.{shown_device, shown_devices}
 use Rattle.iom_device.specs.Caches.{device_with, kind_in, cache_in, cache_of, epoch_of, epoch_in, with_cache, HasItsCache, HaveTheirCaches}
-use Rattle.iom_world_effects.specs.Sound.{HaveOwnIds, HasAsker, IsAsked, ids_of}
+use Rattle.iom_world_effects.specs.Sound.{HaveDistinctIds, HasAsker, IsAsked, plugged_ids}
 use Rattle.iom_world_effects.specs.Traffic.{entry_copy, entries_by, entries_in}
 
 -- a device that is found, with this cache where it is the one
@@ -85,12 +85,12 @@ epoch_set devices id old new d has = ap (λ (found : Option Device). epoch_of (c
     by false is (Some device) at = refl
 
 -- ids stay
-pub ids_set : (devices : List Device) (id : ℕ) (cache : Option Cache) → ids_of (with_cache devices id cache) ≡ ids_of devices
+pub ids_set : (devices : List Device) (id : ℕ) (cache : Option Cache) → plugged_ids (with_cache devices id cache) ≡ plugged_ids devices
 ids_set [] id cache = refl
 ids_set (first ∷ others) id cache = by (first.id == id) (ids_set others id cache)
   where
-    by : (b : Bool) → ids_of (with_cache others id cache) ≡ ids_of others
-        → ids_of (if b then (record first { cache = cache }) ∷ others else first ∷ with_cache others id cache) ≡ first.id ∷ ids_of others
+    by : (b : Bool) → plugged_ids (with_cache others id cache) ≡ plugged_ids others
+        → plugged_ids (if b then (record first { cache = cache }) ∷ others else first ∷ with_cache others id cache) ≡ first.id ∷ plugged_ids others
     by true rest = refl
     by false rest = ap (λ ids. first.id ∷ ids) rest
 
@@ -119,7 +119,7 @@ place_set (first ∷ others) id cache k one at = by (first.id == id) k (λ j the
     by false zero rest at = (one, at, refl)
     by false (suc k) rest at = rest k at
 
-pub own_ids_set : (devices : List Device) (id : ℕ) (cache : Option Cache) → HaveOwnIds devices → HaveOwnIds (with_cache devices id cache)
+pub own_ids_set : (devices : List Device) (id : ℕ) (cache : Option Cache) → HaveDistinctIds devices → HaveDistinctIds (with_cache devices id cache)
 own_ids_set devices id cache own j k one other at at' same =
     let a = place_set devices id cache j one at in
     let b = place_set devices id cache k other at' in
@@ -186,7 +186,7 @@ suc_same : (m n : ℕ) → suc m ≡ suc n → m ≡ n
 suc_same m n same = cc
 
 -- An entry then is one of the cache that is set, or was one of another device
-pub entries_set : (devices : List Device) (id : ℕ) (cache : Option Cache) (x : Copy) → HaveOwnIds devices → is_some (device_with devices id) ≡ true
+pub entries_set : (devices : List Device) (id : ℕ) (cache : Option Cache) (x : Copy) → HaveDistinctIds devices → is_some (device_with devices id) ≡ true
     → Contains (entries_in (with_cache devices id cache)) x → Contains (entries_by id cache) x ⊎ (Contains (entries_in devices) x × (x.device ≢ id))
 entries_set [] id cache x own found there = absurd (in_none x there)
 entries_set (first ∷ others) id cache x own found there = elim (eqb_tells first.id id) [

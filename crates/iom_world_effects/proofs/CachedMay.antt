@@ -14,7 +14,7 @@ use Rattle.iom_coherence.specs.Scene.{Copy, Scene}
 use Rattle.iom_driver.specs.declared.device.Attachment.{Attachment}
 use Rattle.iom_driver.specs.declared.device.Attachment.TheVariants as driver
 use Rattle.iom_driver.specs.declared.device.Stages.{Stages}
-use Rattle.iom_driver.specs.Devices.{attachment_of, owned_stages, owned_stages_of}
+use Rattle.iom_driver.specs.Devices.{attachment_by_id, owned_stages, owned_stages_of}
 use Rattle.iom_iommu.specs.Parts.{translations_of}
 use Rattle.iom_driver.specs.State.{DriverState}
 use Rattle.iom_ledger.specs.History.{History, May}
@@ -101,7 +101,7 @@ module _ (parts : Parts) (events : ℕ) (state : State) (id page : ℕ) (stage :
       facts_of_history parts.driver.ledger scene state.history is.ledger shows.ledger (λ ticket later. shows.none_later ticket (subst (λ n. n < ticket) is.confirmed later)) facts
 
   -- what the facts on copies say of it
-  pub reachable_in : (both_stages : Bool) → in_both_stages (shown_attachment (attachment_of parts.driver.devices id)) ≡ both_stages → (scene : Scene) → IsSceneOf (values_of parts) scene
+  pub reachable_in : (both_stages : Bool) → in_both_stages (shown_attachment (attachment_by_id parts.driver.devices id)) ≡ both_stages → (scene : Scene) → IsSceneOf (values_of parts) scene
       → IsFaithful scene → IsReachable both_stages state.history (copy_of id page translation)
   reachable_in both_stages is scene shown facts =
       let copy : Copy = copy_of id page translation in
@@ -109,14 +109,14 @@ module _ (parts : Parts) (events : ℕ) (state : State) (id page : ℕ) (stage :
       subst (λ b. IsReachable b state.history copy) (ap in_both_stages (shown.attachments id) ∙ is) (translations_reachable (record scene { history = state.history }) copy kept (there_in scene shown))
 
   -- none is cached of a device that leaves
-  pub leaves_none : (ticket : ℕ) (s : Stages) → attachment_of parts.driver.devices id ≡ driver.Leaving ticket s → ⊥
+  pub leaves_none : (ticket : ℕ) (s : Stages) → attachment_by_id parts.driver.devices id ≡ driver.Leaving ticket s → ⊥
   leaves_none ticket s is =
       not_there sound.copies (λ (scene, shown, facts).
       none_cached scene (copy_of id page translation) (Leaving ticket s.mode s.ats) parts.driver.confirmed parts.driver.given facts (shown.attachments id ∙ ap shown_attachment is)
       (own.leaving id ticket s is) (there_in scene shown))
 
   -- nor of one that is detached
-  pub detached_none : attachment_of parts.driver.devices id ≡ driver.Detached → ⊥
+  pub detached_none : attachment_by_id parts.driver.devices id ≡ driver.Detached → ⊥
   detached_none is = none_some (sym (ap owned_stages is) ∙ owned)
     where
       none_some : ◌≡◌ {A = Option Stages} None (Some stage) → ⊥
@@ -126,12 +126,12 @@ module _ (parts : Parts) (events : ℕ) (state : State) (id : ℕ) (access : Acc
     (own : IsSoundDriver parts.driver) (shows : PartsShow parts state) (owned : owned_stages_of parts.driver.devices id ≡ Some stage)
     (cached : translations_of parts.iommu (space_in stage.mode stage.number, access.address / 4096) ≡ Some translation) (allowed : allows translation.rights access.kind ≡ true)
     (pending : IsPending parts.driver id) where
-  reach_in : (both_stages : Bool) → in_both_stages (shown_attachment (attachment_of parts.driver.devices id)) ≡ both_stages → (scene : Scene) → IsSceneOf (values_of parts) scene
+  reach_in : (both_stages : Bool) → in_both_stages (shown_attachment (attachment_by_id parts.driver.devices id)) ≡ both_stages → (scene : Scene) → IsSceneOf (values_of parts) scene
       → IsFaithful scene → IsReachable both_stages state.history (copy_of id (access.address / 4096) translation)
   reach_in both_stages is scene shown facts = reachable_in parts events state id (access.address / 4096) stage translation sound own shows owned cached both_stages is scene shown facts
 
   -- in one stage it is what is held at the page, or what lingers there
-  accept_in : in_both_stages (shown_attachment (attachment_of parts.driver.devices id)) ≡ false → (scene : Scene) → IsSceneOf (values_of parts) scene → IsFaithful scene
+  accept_in : in_both_stages (shown_attachment (attachment_by_id parts.driver.devices id)) ≡ false → (scene : Scene) → IsSceneOf (values_of parts) scene → IsFaithful scene
       → MayAcceptInOneStage state.history id access translation.frame
   accept_in one scene shown facts =
       elim (reach_in false one scene shown facts) [
@@ -144,24 +144,24 @@ module _ (parts : Parts) (events : ℕ) (state : State) (id : ℕ) (access : Acc
       ]
 
   -- in both its frame may be reached
-  may_in : in_both_stages (shown_attachment (attachment_of parts.driver.devices id)) ≡ true → (scene : Scene) → IsSceneOf (values_of parts) scene → IsFaithful scene
+  may_in : in_both_stages (shown_attachment (attachment_by_id parts.driver.devices id)) ≡ true → (scene : Scene) → IsSceneOf (values_of parts) scene → IsFaithful scene
       → May state.history id translation.frame access.kind
   may_in both scene shown facts = reach_in true both scene shown facts access.kind allowed
 
-  by_mode : (mode : Mode) (ats : Bool) → in_both_stages (shown_attachment (attachment_of parts.driver.devices id)) ≡ is_both mode → MayAccept (Attached mode ats) state id access translation.frame
+  by_mode : (mode : Mode) (ats : Bool) → in_both_stages (shown_attachment (attachment_by_id parts.driver.devices id)) ≡ is_both mode → MayAccept (Attached mode ats) state id access translation.frame
   by_mode (First size) ats is = accept_merely state.history id translation.frame access (∥∥₁_map sound.copies (λ (scene, shown, facts). accept_in is scene shown facts))
   by_mode (Second size) ats is = accept_merely state.history id translation.frame access (∥∥₁_map sound.copies (λ (scene, shown, facts). accept_in is scene shown facts))
   by_mode (Both size) ats is = may_merely state.history id translation.frame access.kind (∥∥₁_map sound.copies (λ (scene, shown, facts). may_in is scene shown facts))
 
   -- of a device that is cut off it is what lingers
-  cut_off : (ticket : ℕ) (s : Stages) → attachment_of parts.driver.devices id ≡ driver.Quarantined ticket s → MayAccept (shown_attachment (driver.Quarantined ticket s)) state id access translation.frame
+  cut_off : (ticket : ℕ) (s : Stages) → attachment_by_id parts.driver.devices id ≡ driver.Quarantined ticket s → MayAccept (shown_attachment (driver.Quarantined ticket s)) state id access translation.frame
   cut_off ticket s is = (
     shows.none_later ticket (pending ticket s is),
     accept_formerly state.history id (access.address / 4096) translation.frame translation.rights (cut_off_holds parts.driver own state.history shows.ledger id ticket s is) s.mode access refl allowed
         (∥∥₁_map sound.copies (λ (scene, shown, facts). reach_in (is_both s.mode) (ap (λ a. in_both_stages (shown_attachment a)) is) scene shown facts)),
   )
 
-  by_attachment : (a : Attachment) → attachment_of parts.driver.devices id ≡ a → MayAccept (shown_attachment a) state id access translation.frame
+  by_attachment : (a : Attachment) → attachment_by_id parts.driver.devices id ≡ a → MayAccept (shown_attachment a) state id access translation.frame
   by_attachment driver.Detached is = absurd (detached_none parts events state id (access.address / 4096) stage translation sound own shows owned cached is)
   by_attachment (driver.Attached s) is = by_mode s.mode s.ats (ap (λ a. in_both_stages (shown_attachment a)) is)
   by_attachment (driver.Quarantined ticket s) is = cut_off ticket s is
@@ -169,6 +169,6 @@ module _ (parts : Parts) (events : ℕ) (state : State) (id : ℕ) (access : Acc
 
 pub cached_accept : (parts : Parts) (events : ℕ) (state : State) (id : ℕ) (access : Access) (stage : Stages) (translation : Translation) → AreSound parts events → IsSoundDriver parts.driver
     → PartsShow parts state → owned_stages_of parts.driver.devices id ≡ Some stage → translations_of parts.iommu (space_in stage.mode stage.number, access.address / 4096) ≡ Some translation
-    → allows translation.rights access.kind ≡ true → IsPending parts.driver id → MayAccept (shown_attachment (attachment_of parts.driver.devices id)) state id access translation.frame
+    → allows translation.rights access.kind ≡ true → IsPending parts.driver id → MayAccept (shown_attachment (attachment_by_id parts.driver.devices id)) state id access translation.frame
 cached_accept parts events state id access stage translation sound own shows owned cached allowed pending =
-    by_attachment parts events state id access stage translation sound own shows owned cached allowed pending (attachment_of parts.driver.devices id) refl
+    by_attachment parts events state id access stage translation sound own shows owned cached allowed pending (attachment_by_id parts.driver.devices id) refl

@@ -1,6 +1,6 @@
 -- A poll confirms tickets one after another, as far as copies go.
 use Rattle.std.proofs.Common.{◌≡◌, ◌+◌, ◌<◌, ◌≤◌, ◌∙◌, ℕ, zero, suc, ◌∷◌, refl, sym, ap, subst, arith}
-use Rattle.iom_coherence.specs.DriverCalls.{once_confirmed}
+use Rattle.iom_coherence.specs.DriverCalls.{attachment_once_confirmed}
 use Rattle.iom_coherence.specs.Faithful.{IsFaithful}
 use Rattle.iom_coherence.specs.Transitions.{Confirm}
 use Rattle.iom_ledger.specs.declared.entry.HistoryEntry.TheVariants.{Confirmed}
@@ -13,7 +13,7 @@ use Rattle.iom_world_effects.specs.Queued.{pending_after}
 -- the attachments, where so many tickets after the first number are confirmed, one after another
 abbrev pub left_after : ℕ → ℕ → (ℕ → Attachment) → ℕ → Attachment
 left_after first zero attachment_of d = attachment_of d
-left_after first (suc n) attachment_of d = once_confirmed (first + n + 1) (left_after first n attachment_of d)
+left_after first (suc n) attachment_of d = attachment_once_confirmed (first + n + 1) (left_after first n attachment_of d)
 
 -- the scene then, where tickets wait for these fences
 abbrev pub confirmed_scene : (ℕ → ℕ) → Scene → ℕ → ℕ → Scene

@@ -18,7 +18,7 @@ use Rattle.iom_coherence.specs.Scene.{Scene}
 use Rattle.iom_coherence.proofs.LawLemmas.{contexts_are_not_over}
 use Rattle.iom_driver.specs.declared.device.Attachment.TheVariants as driver
 use Rattle.iom_driver.specs.declared.device.Stages.{Stages}
-use Rattle.iom_driver.specs.Devices.{attachment_of, attached_stages}
+use Rattle.iom_driver.specs.Devices.{attachment_by_id, attached_stages}
 use Rattle.iom_driver.specs.State.{DriverState}
 use Rattle.iom_iommu.specs.Parts.{contexts_of}
 use Rattle.iom_ledger.specs.History.{History, Pair, Holds, Lingers, May, held_at, released_at}
@@ -36,7 +36,7 @@ use Rattle.iom_world_effects.proofs.DriverLemmas.{IsSoundDriver}
 
 -- a device that is cut off is so under a ticket that isn't confirmed
 abbrev pub IsPending : DriverState → ℕ → Type 0
-IsPending d id = (ticket : ℕ) (stage : Stages) → attachment_of d.devices id ≡ driver.Quarantined ticket stage → d.confirmed < ticket
+IsPending d id = (ticket : ℕ) (stage : Stages) → attachment_by_id d.devices id ≡ driver.Quarantined ticket stage → d.confirmed < ticket
 
 -- that is so while its context is cached
 pub pending_cached : (parts : Parts) (events : ℕ) → AreSound parts events → (id : ℕ) → is_some (contexts_of parts.iommu id) ≡ true → IsPending parts.driver id
@@ -55,7 +55,7 @@ pending_cached parts events sound id there ticket stage is = by (nat_lt parts.dr
 
 -- it holds nothing
 pub cut_off_holds : (d : DriverState) → IsSoundDriver d → (history : History) → Agrees d.ledger history → (id ticket : ℕ) (stage : Stages)
-    → attachment_of d.devices id ≡ driver.Quarantined ticket stage → (page : ℕ) → held_at history id page ≡ None
+    → attachment_by_id d.devices id ≡ driver.Quarantined ticket stage → (page : ℕ) → held_at history id page ≡ None
 cut_off_holds d own history agrees id ticket stage is page = (agrees.pages id page).holds ∙ own.holders id page (ap attached_stages is)
 
 none_some : (pair : Pair) → ◌≡◌ {A = Option Pair} None (Some pair) → ⊥

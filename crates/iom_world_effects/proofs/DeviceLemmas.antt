@@ -3,13 +3,13 @@ use Rattle.std.proofs.Common.{zero, suc, ◌≡◌, ◌≢◌, ◌+◌, ◌<◌,
 use Rattle.std.specs.Option.{option_map, option_map_or}
 use Rattle.std.proofs.lemmas.Bool.{false≢true, le-leb, lt-leb}
 use Rattle.std.proofs.lemmas.Bool.Decides.{eqb_tells, leb_tells}
-use Rattle.iom_coherence.specs.DriverCalls.{once_confirmed as ticket_confirmed}
+use Rattle.iom_coherence.specs.DriverCalls.{attachment_once_confirmed}
 use Rattle.iom_driver.specs.declared.device.Attachment.{Attachment}
 use Rattle.iom_driver.specs.declared.device.Attachment.TheVariants.{Detached, Attached, Quarantined, Leaving}
 use Rattle.iom_driver.specs.declared.device.Device.{Device}
 use Rattle.iom_driver.specs.declared.device.Stages.{Stages}
-use Rattle.iom_driver.specs.Confirmed.{has_left, once_confirmed}
-use Rattle.iom_driver.specs.Devices.{device_of, is_plugged, attachment_of, owned_stages, with_attachment, is_trusted}
+use Rattle.iom_driver.specs.Confirmed.{has_left_until, driven_once_confirmed}
+use Rattle.iom_driver.specs.Devices.{device_by_id, has_device, attachment_by_id, owned_stages, with_attachment, has_trusted_cache}
 use Rattle.iom_driver.proofs.Lists.{differs}
 use Rattle.iom_machine.specs.declared.state.Attachment as machine
 use Rattle.iom_machine.specs.declared.state.Attachment.TheVariants as shown
@@ -19,48 +19,48 @@ use Rattle.iom_world_effects.proofs.ConfirmScenes.{left_after}
 
 -- how an attachment is once the tickets up to a number are confirmed
 abbrev pub after : ℕ → Attachment → Attachment
-after done a = if has_left done a then Detached else a
+after done a = if has_left_until done a then Detached else a
 
-device_confirmed : (done : ℕ) (devices : List Device) (id : ℕ) → device_of (map (once_confirmed done) devices) id ≡ option_map (once_confirmed done) (device_of devices id)
+device_confirmed : (done : ℕ) (devices : List Device) (id : ℕ) → device_by_id (map (driven_once_confirmed done) devices) id ≡ option_map (driven_once_confirmed done) (device_by_id devices id)
 device_confirmed done [] id = refl
 device_confirmed done (device ∷ others) id = by (device.id == id) (device_confirmed done others id)
   where
-    by : (b : Bool) → device_of (map (once_confirmed done) others) id ≡ option_map (once_confirmed done) (device_of others id)
-        → ◌≡◌ {A = Option Device} (if b then Some (once_confirmed done device) else device_of (map (once_confirmed done) others) id)
-        (option_map (once_confirmed done) (if b then Some device else device_of others id))
+    by : (b : Bool) → device_by_id (map (driven_once_confirmed done) others) id ≡ option_map (driven_once_confirmed done) (device_by_id others id)
+        → ◌≡◌ {A = Option Device} (if b then Some (driven_once_confirmed done device) else device_by_id (map (driven_once_confirmed done) others) id)
+        (option_map (driven_once_confirmed done) (if b then Some device else device_by_id others id))
     by true rest = refl
     by false rest = rest
 
-pub attachment_confirmed : (done : ℕ) (devices : List Device) (id : ℕ) → attachment_of (map (once_confirmed done) devices) id ≡ after done (attachment_of devices id)
+pub attachment_confirmed : (done : ℕ) (devices : List Device) (id : ℕ) → attachment_by_id (map (driven_once_confirmed done) devices) id ≡ after done (attachment_by_id devices id)
 attachment_confirmed done devices id =
-    ap (λ (o : Option Device). option_map_or (λ (d : Device). d.attachment) o Detached) (device_confirmed done devices id) ∙ by (device_of devices id)
+    ap (λ (o : Option Device). option_map_or (λ (d : Device). d.attachment) o Detached) (device_confirmed done devices id) ∙ by (device_by_id devices id)
   where
-    by : (o : Option Device) → option_map_or (λ (d : Device). d.attachment) (option_map (once_confirmed done) o) Detached ≡ after done (option_map_or (λ (d : Device). d.attachment) o Detached)
+    by : (o : Option Device) → option_map_or (λ (d : Device). d.attachment) (option_map (driven_once_confirmed done) o) Detached ≡ after done (option_map_or (λ (d : Device). d.attachment) o Detached)
     by None = refl
     by (Some device) = refl
 
-pub plugged_confirmed : (done : ℕ) (devices : List Device) (id : ℕ) → is_plugged (map (once_confirmed done) devices) id ≡ is_plugged devices id
-plugged_confirmed done devices id = ap (λ (o : Option Device). is_some o) (device_confirmed done devices id) ∙ by (device_of devices id)
+pub plugged_confirmed : (done : ℕ) (devices : List Device) (id : ℕ) → has_device (map (driven_once_confirmed done) devices) id ≡ has_device devices id
+plugged_confirmed done devices id = ap (λ (o : Option Device). is_some o) (device_confirmed done devices id) ∙ by (device_by_id devices id)
   where
-    by : (o : Option Device) → is_some (option_map (once_confirmed done) o) ≡ is_some o
+    by : (o : Option Device) → is_some (option_map (driven_once_confirmed done) o) ≡ is_some o
     by None = refl
     by (Some device) = refl
 
-pub trusted_confirmed : (done : ℕ) (devices : List Device) (id : ℕ) → is_trusted (map (once_confirmed done) devices) id ≡ is_trusted devices id
-trusted_confirmed done devices id = ap (λ (o : Option Device). option_map_or (λ (d : Device). d.trusted) o false) (device_confirmed done devices id) ∙ by (device_of devices id)
+pub trusted_confirmed : (done : ℕ) (devices : List Device) (id : ℕ) → has_trusted_cache (map (driven_once_confirmed done) devices) id ≡ has_trusted_cache devices id
+trusted_confirmed done devices id = ap (λ (o : Option Device). option_map_or (λ (d : Device). d.trusted) o false) (device_confirmed done devices id) ∙ by (device_by_id devices id)
   where
-    by : (o : Option Device) → option_map_or (λ (d : Device). d.trusted) (option_map (once_confirmed done) o) false ≡ option_map_or (λ (d : Device). d.trusted) o false
+    by : (o : Option Device) → option_map_or (λ (d : Device). d.trusted) (option_map (driven_once_confirmed done) o) false ≡ option_map_or (λ (d : Device). d.trusted) o false
     by None = refl
     by (Some device) = refl
 
-pub ids_confirmed : (done : ℕ) (devices : List Device) → known_ids (map (once_confirmed done) devices) ≡ known_ids devices
+pub ids_confirmed : (done : ℕ) (devices : List Device) → known_ids (map (driven_once_confirmed done) devices) ≡ known_ids devices
 ids_confirmed done [] = refl
 ids_confirmed done (device ∷ others) = ap (λ ids. device.id ∷ ids) (ids_confirmed done others)
 
 -- what isn't leaving stays so
-left_still : (first n : ℕ) (f : ℕ → machine.Attachment) (d : ℕ) (a : machine.Attachment) → f d ≡ a → ((ticket : ℕ) → ticket_confirmed ticket a ≡ a) → left_after first n f d ≡ a
+left_still : (first n : ℕ) (f : ℕ → machine.Attachment) (d : ℕ) (a : machine.Attachment) → f d ≡ a → ((ticket : ℕ) → attachment_once_confirmed ticket a ≡ a) → left_after first n f d ≡ a
 left_still first zero f d a is still = is
-left_still first (suc n) f d a is still = ap (ticket_confirmed (first + n + 1)) (left_still first n f d a is still) ∙ still (first + n + 1)
+left_still first (suc n) f d a is still = ap (attachment_once_confirmed (first + n + 1)) (left_still first n f d a is still) ∙ still (first + n + 1)
 
 left_leaving : (first n : ℕ) (f : ℕ → machine.Attachment) (d ticket : ℕ) (stage : Stages) → f d ≡ shown.Leaving ticket stage.mode stage.ats → first < ticket
     → left_after first n f d ≡ shown_attachment (after (first + n) (Leaving ticket stage))
@@ -68,14 +68,14 @@ left_leaving first zero f d ticket stage is above =
     let waits : nat_le ticket (first + 0) ≡ false = lt-leb ticket (first + 0) (omega (arith, above)) in
     is ∙ sym (ap (λ b. shown_attachment (if b then Detached else Leaving ticket stage)) waits)
 left_leaving first (suc n) f d ticket stage is above =
-    ap (ticket_confirmed (first + n + 1)) (left_leaving first n f d ticket stage is above)
+    ap (attachment_once_confirmed (first + n + 1)) (left_leaving first n f d ticket stage is above)
     ∙ elim (leb_tells ticket (first + n)) [
       | inl low ↦
           let gone : nat_le ticket (first + suc n) ≡ true = le-leb ticket (first + suc n) (let l = low.1 in omega (arith, l)) in
-          ap (λ b. ticket_confirmed (first + n + 1) (shown_attachment (if b then Detached else Leaving ticket stage))) low.0
+          ap (λ b. attachment_once_confirmed (first + n + 1) (shown_attachment (if b then Detached else Leaving ticket stage))) low.0
           ∙ sym (ap (λ b. shown_attachment (if b then Detached else Leaving ticket stage)) gone)
       | inr high ↦
-          ap (λ b. ticket_confirmed (first + n + 1) (shown_attachment (if b then Detached else Leaving ticket stage))) high.0
+          ap (λ b. attachment_once_confirmed (first + n + 1) (shown_attachment (if b then Detached else Leaving ticket stage))) high.0
           ∙ elim (eqb_tells (first + n + 1) ticket) [
             | inl e ↦
                 let gone : nat_le ticket (first + suc n) ≡ true = le-leb ticket (first + suc n) (let l = e.1 in omega (arith, l)) in
@@ -101,41 +101,41 @@ left_is first n f d (Quarantined own stage) is later = left_still first n f d (s
 left_is first n f d (Leaving ticket stage) is later = left_leaving first n f d ticket stage is (later ticket stage refl)
 
 -- one device is attached so
-device_set : (devices : List Device) (id : ℕ) (a : Attachment) (other : ℕ) → is_plugged (with_attachment devices id a) other ≡ is_plugged devices other
+device_set : (devices : List Device) (id : ℕ) (a : Attachment) (other : ℕ) → has_device (with_attachment devices id a) other ≡ has_device devices other
 device_set [] id a other = refl
 device_set (device ∷ others) id a other = elim (eqb_tells device.id id) [
   | inl e ↦ rw e.0 (first_alike (device.id == other))
   | inr ne ↦ rw ne.0 (later_alike (device.id == other) (device_set others id a other))
 ]
   where
-    first_alike : (b : Bool) → is_some (if b then Some (record device { attachment = a }) else device_of others other) ≡ is_some (if b then Some device else device_of others other)
+    first_alike : (b : Bool) → is_some (if b then Some (record device { attachment = a }) else device_by_id others other) ≡ is_some (if b then Some device else device_by_id others other)
     first_alike true = refl
     first_alike false = refl
 
-    later_alike : (b : Bool) → is_some (device_of (with_attachment others id a) other) ≡ is_some (device_of others other)
-        → is_some (if b then Some device else device_of (with_attachment others id a) other) ≡ is_some (if b then Some device else device_of others other)
+    later_alike : (b : Bool) → is_some (device_by_id (with_attachment others id a) other) ≡ is_some (device_by_id others other)
+        → is_some (if b then Some device else device_by_id (with_attachment others id a) other) ≡ is_some (if b then Some device else device_by_id others other)
     later_alike true rest = refl
     later_alike false rest = rest
 
-pub plugged_set : (devices : List Device) (id : ℕ) (a : Attachment) (other : ℕ) → is_plugged (with_attachment devices id a) other ≡ is_plugged devices other
+pub plugged_set : (devices : List Device) (id : ℕ) (a : Attachment) (other : ℕ) → has_device (with_attachment devices id a) other ≡ has_device devices other
 plugged_set devices id a other = device_set devices id a other
 
-pub trusted_set : (devices : List Device) (id : ℕ) (a : Attachment) (other : ℕ) → is_trusted (with_attachment devices id a) other ≡ is_trusted devices other
+pub trusted_set : (devices : List Device) (id : ℕ) (a : Attachment) (other : ℕ) → has_trusted_cache (with_attachment devices id a) other ≡ has_trusted_cache devices other
 trusted_set [] id a other = refl
 trusted_set (device ∷ others) id a other = by (device.id == id) (trusted_set others id a other)
   where
-    by : (b : Bool) → is_trusted (with_attachment others id a) other ≡ is_trusted others other
-        → is_trusted (if b then (record device { attachment = a }) ∷ others else device ∷ with_attachment others id a) other ≡ is_trusted (device ∷ others) other
+    by : (b : Bool) → has_trusted_cache (with_attachment others id a) other ≡ has_trusted_cache others other
+        → has_trusted_cache (if b then (record device { attachment = a }) ∷ others else device ∷ with_attachment others id a) other ≡ has_trusted_cache (device ∷ others) other
     by true rest = first_alike (device.id == other)
       where
-        first_alike : (d : Bool) → option_map_or (λ (e : Device). e.trusted) (if d then Some (record device { attachment = a }) else device_of others other) false
-            ≡ option_map_or (λ (e : Device). e.trusted) (if d then Some device else device_of others other) false
+        first_alike : (d : Bool) → option_map_or (λ (e : Device). e.trusted) (if d then Some (record device { attachment = a }) else device_by_id others other) false
+            ≡ option_map_or (λ (e : Device). e.trusted) (if d then Some device else device_by_id others other) false
         first_alike true = refl
         first_alike false = refl
     by false rest = later_alike (device.id == other)
       where
-        later_alike : (d : Bool) → option_map_or (λ (e : Device). e.trusted) (if d then Some device else device_of (with_attachment others id a) other) false
-            ≡ option_map_or (λ (e : Device). e.trusted) (if d then Some device else device_of others other) false
+        later_alike : (d : Bool) → option_map_or (λ (e : Device). e.trusted) (if d then Some device else device_by_id (with_attachment others id a) other) false
+            ≡ option_map_or (λ (e : Device). e.trusted) (if d then Some device else device_by_id others other) false
         later_alike true = refl
         later_alike false = rest
 
@@ -148,31 +148,31 @@ ids_set (device ∷ others) id a = by (device.id == id) (ids_set others id a)
     by true rest = refl
     by false rest = ap (λ ids. device.id ∷ ids) rest
 
-pub attachment_set : (devices : List Device) (id : ℕ) (a : Attachment) → is_plugged devices id ≡ true → attachment_of (with_attachment devices id a) id ≡ a
+pub attachment_set : (devices : List Device) (id : ℕ) (a : Attachment) → has_device devices id ≡ true → attachment_by_id (with_attachment devices id a) id ≡ a
 attachment_set [] id a there = absurd (false≢true there)
 attachment_set (device ∷ others) id a there = elim (eqb_tells device.id id) [
   | inl e ↦ rw (e.0, e.0) refl
   | inr ne ↦ rw (ne.0, ne.0) (attachment_set others id a (rw ne.0 at there))
 ]
 
-pub attachment_other : (devices : List Device) (id other : ℕ) (a : Attachment) → other ≢ id → attachment_of (with_attachment devices id a) other ≡ attachment_of devices other
+pub attachment_other : (devices : List Device) (id other : ℕ) (a : Attachment) → other ≢ id → attachment_by_id (with_attachment devices id a) other ≡ attachment_by_id devices other
 attachment_other [] id other a ne = refl
 attachment_other (device ∷ others) id other a ne = elim (eqb_tells device.id id) [
   | inl e ↦ let apart : device.id ≢ other = λ same. ne (sym same ∙ e.1) in rw (e.0, differs device.id other apart) refl
   | inr apart ↦ rw apart.0 (by (device.id == other) (attachment_other others id other a ne))
 ]
   where
-    by : (b : Bool) → attachment_of (with_attachment others id a) other ≡ attachment_of others other
-        → ◌≡◌ {A = Attachment} (option_map_or (λ (d : Device). d.attachment) (if b then Some device else device_of (with_attachment others id a) other) Detached)
-        (option_map_or (λ (d : Device). d.attachment) (if b then Some device else device_of others other) Detached)
+    by : (b : Bool) → attachment_by_id (with_attachment others id a) other ≡ attachment_by_id others other
+        → ◌≡◌ {A = Attachment} (option_map_or (λ (d : Device). d.attachment) (if b then Some device else device_by_id (with_attachment others id a) other) Detached)
+        (option_map_or (λ (d : Device). d.attachment) (if b then Some device else device_by_id others other) Detached)
     by true rest = refl
     by false rest = rest
 
 -- how each is then, as the ledger machine has it
-pub shown_set : (devices : List Device) (id : ℕ) (a : Attachment) → is_plugged devices id ≡ true → (d : ℕ)
-    → shown_attachment (attachment_of (with_attachment devices id a) d) ≡ (if id == d then shown_attachment a else shown_attachment (attachment_of devices d))
+pub shown_set : (devices : List Device) (id : ℕ) (a : Attachment) → has_device devices id ≡ true → (d : ℕ)
+    → shown_attachment (attachment_by_id (with_attachment devices id a) d) ≡ (if id == d then shown_attachment a else shown_attachment (attachment_by_id devices d))
 shown_set devices id a there d = elim (eqb_tells id d) [
-  | inl e ↦ rw e.0 (ap (λ k. shown_attachment (attachment_of (with_attachment devices id a) k)) (sym e.1) ∙ ap shown_attachment (attachment_set devices id a there))
+  | inl e ↦ rw e.0 (ap (λ k. shown_attachment (attachment_by_id (with_attachment devices id a) k)) (sym e.1) ∙ ap shown_attachment (attachment_set devices id a there))
   | inr ne ↦ rw ne.0 (ap shown_attachment (attachment_other devices id d a (λ same. ne.1 (sym same))))
 ]
 

@@ -14,7 +14,7 @@ use Rattle.iom_machine.specs.Devices.{replaced_device}
 use Rattle.iom_device.specs.declared.device.Device.{Device}
 use Rattle.iom_device.specs.Caches.{device_with, kind_in, cache_in, epoch_of, epoch_in, with_has_disk, HasItsCache, HaveTheirCaches}
 use Rattle.iom_world_effects.specs.Devices.{shown_device, shown_devices}
-use Rattle.iom_world_effects.specs.Sound.{HaveOwnIds, HasAsker, IsAsked, ids_of}
+use Rattle.iom_world_effects.specs.Sound.{HaveDistinctIds, HasAsker, IsAsked, plugged_ids}
 use Rattle.iom_world_effects.specs.Traffic.{entries_by, entries_in}
 use Rattle.iom_world_effects.proofs.RowPlaces.{found_of, shown_of}
 
@@ -67,12 +67,12 @@ epoch_has devices id has d =
     ∙ sym (cache_flat (device_with devices d)))
 
 -- ids stay, and what is in the caches
-pub ids_has : (devices : List Device) (id : ℕ) (has : Bool) → ids_of (with_has_disk devices id has) ≡ ids_of devices
+pub ids_has : (devices : List Device) (id : ℕ) (has : Bool) → plugged_ids (with_has_disk devices id has) ≡ plugged_ids devices
 ids_has [] id has = refl
 ids_has (first ∷ others) id has = by (first.id == id) (ids_has others id has)
   where
-    by : (b : Bool) → ids_of (with_has_disk others id has) ≡ ids_of others
-        → ids_of (if b then (record first { has_disk = has }) ∷ others else first ∷ with_has_disk others id has) ≡ first.id ∷ ids_of others
+    by : (b : Bool) → plugged_ids (with_has_disk others id has) ≡ plugged_ids others
+        → plugged_ids (if b then (record first { has_disk = has }) ∷ others else first ∷ with_has_disk others id has) ≡ first.id ∷ plugged_ids others
     by true rest = refl
     by false rest = ap (λ ids. first.id ∷ ids) rest
 
@@ -99,7 +99,7 @@ place_has (first ∷ others) id has k one at = by (first.id == id) k (λ j there
     by false zero rest at = (one, at, refl)
     by false (suc k) rest at = rest k at
 
-pub own_ids_has : (devices : List Device) (id : ℕ) (has : Bool) → HaveOwnIds devices → HaveOwnIds (with_has_disk devices id has)
+pub own_ids_has : (devices : List Device) (id : ℕ) (has : Bool) → HaveDistinctIds devices → HaveDistinctIds (with_has_disk devices id has)
 own_ids_has devices id has own j k one other at at' same =
     let a = place_has devices id has j one at in
     let b = place_has devices id has k other at' in

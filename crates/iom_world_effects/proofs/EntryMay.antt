@@ -32,7 +32,7 @@ use Rattle.iom_device_dir.specs.declared.context.Context.{Context}
 use Rattle.iom_driver.specs.declared.device.Attachment.{Attachment}
 use Rattle.iom_driver.specs.declared.device.Attachment.TheVariants as driver
 use Rattle.iom_driver.specs.declared.device.Stages.{Stages}
-use Rattle.iom_driver.specs.Devices.{attachment_of, attached_stages, owned_stages}
+use Rattle.iom_driver.specs.Devices.{attachment_by_id, attached_stages, owned_stages}
 use Rattle.iom_driver.specs.Directory.{context_for}
 use Rattle.iom_driver.specs.Sound.{IsGrant}
 use Rattle.iom_driver.proofs.Lists.{get_within}
@@ -105,34 +105,34 @@ found_entry devices id page kind frame found = by (cache_of devices id) refl fou
 
 -- what the device's cache has may be used: the device isn't cut off, or its context is cached
 abbrev pub IsUsable : Parts → ℕ → Type 0
-IsUsable parts id = (ticket : ℕ) (stage : Stages) → attachment_of parts.driver.devices id ≡ driver.Quarantined ticket stage
+IsUsable parts id = (ticket : ℕ) (stage : Stages) → attachment_by_id parts.driver.devices id ≡ driver.Quarantined ticket stage
     → (context : Context) × (contexts_of parts.iommu id ≡ Some context)
 
 -- or else the device is cut off, and no context of it is cached
 abbrev pub IsForgotten : Parts → ℕ → Type 0
-IsForgotten parts id = (ticket : ℕ) × (stage : Stages) × (attachment_of parts.driver.devices id ≡ driver.Quarantined ticket stage) × (contexts_of parts.iommu id ≡ None)
+IsForgotten parts id = (ticket : ℕ) × (stage : Stages) × (attachment_by_id parts.driver.devices id ≡ driver.Quarantined ticket stage) × (contexts_of parts.iommu id ≡ None)
 
 pub usable_or : (parts : Parts) (id : ℕ) → IsUsable parts id ⊎ IsForgotten parts id
-usable_or parts id = by (attachment_of parts.driver.devices id) refl (contexts_of parts.iommu id) refl
+usable_or parts id = by (attachment_by_id parts.driver.devices id) refl (contexts_of parts.iommu id) refl
   where
-    none : (a : Attachment) → attachment_of parts.driver.devices id ≡ a → is_quarantined (shown_attachment a) ≡ false → IsUsable parts id
+    none : (a : Attachment) → attachment_by_id parts.driver.devices id ≡ a → is_quarantined (shown_attachment a) ≡ false → IsUsable parts id
     none a is never ticket stage at = absurd (false≢true (sym never ∙ ap (λ b. is_quarantined (shown_attachment b)) (sym is ∙ at)))
 
-    by : (a : Attachment) → attachment_of parts.driver.devices id ≡ a → (cached : Option Context) → contexts_of parts.iommu id ≡ cached → IsUsable parts id ⊎ IsForgotten parts id
+    by : (a : Attachment) → attachment_by_id parts.driver.devices id ≡ a → (cached : Option Context) → contexts_of parts.iommu id ≡ cached → IsUsable parts id ⊎ IsForgotten parts id
     by driver.Detached is cached at = inl (none driver.Detached is refl)
     by (driver.Attached stage) is cached at = inl (none (driver.Attached stage) is refl)
     by (driver.Quarantined ticket stage) is None at = inr (ticket, stage, is, at)
     by (driver.Quarantined ticket stage) is (Some context) at = inl (λ t s same. (context, at))
     by (driver.Leaving ticket stage) is cached at = inl (none (driver.Leaving ticket stage) is refl)
 
-pub used_by : (parts : Parts) (id : ℕ) → IsUsable parts id → (scene : Scene) → scene.attachment_of id ≡ shown_attachment (attachment_of parts.driver.devices id)
+pub used_by : (parts : Parts) (id : ℕ) → IsUsable parts id → (scene : Scene) → scene.attachment_of id ≡ shown_attachment (attachment_by_id parts.driver.devices id)
     → (is_some (contexts_of parts.iommu id) ≡ true → Contains scene.contexts id) → IsInUse scene id
-used_by parts id usable scene attached cached cut_off = by (attachment_of parts.driver.devices id) refl
+used_by parts id usable scene attached cached cut_off = by (attachment_by_id parts.driver.devices id) refl
   where
-    never : (a : Attachment) → attachment_of parts.driver.devices id ≡ a → is_quarantined (shown_attachment a) ≡ false → Contains scene.contexts id
+    never : (a : Attachment) → attachment_by_id parts.driver.devices id ≡ a → is_quarantined (shown_attachment a) ≡ false → Contains scene.contexts id
     never a is none = absurd (false≢true (sym none ∙ ap is_quarantined (sym (attached ∙ ap shown_attachment is)) ∙ cut_off))
 
-    by : (a : Attachment) → attachment_of parts.driver.devices id ≡ a → Contains scene.contexts id
+    by : (a : Attachment) → attachment_by_id parts.driver.devices id ≡ a → Contains scene.contexts id
     by driver.Detached is = never driver.Detached is refl
     by (driver.Attached stage) is = never (driver.Attached stage) is refl
     by (driver.Quarantined ticket stage) is = cached (ap is_some (usable ticket stage is).1)
@@ -176,7 +176,7 @@ module _ (parts : Parts) (events id : ℕ) (access : Access) (frame : ℕ) (soun
   faithful_in scene shown facts = (facts.entries copy (entry_in scene shown) (used_in scene shown)).0
 
   -- who leaves holds nothing, and nothing lingers for it
-  never_leaving : (ticket : ℕ) (stage : Stages) → attachment_of parts.driver.devices id ≡ driver.Leaving ticket stage → ⊥
+  never_leaving : (ticket : ℕ) (stage : Stages) → attachment_by_id parts.driver.devices id ≡ driver.Leaving ticket stage → ⊥
   never_leaving ticket stage is = not_there sound.copies (λ (scene, shown, facts).
       let fits : GrantsFit scene.history id (Leaving ticket stage.mode stage.ats) = subst (GrantsFit scene.history id) (shown.attachments id ∙ ap shown_attachment is) (facts.order.grants id) in
       let backed = (facts.entries copy (entry_in scene shown) (used_in scene shown)).1 in
@@ -189,7 +189,7 @@ module _ (parts : Parts) (events id : ℕ) (access : Access) (frame : ℕ) (soun
       none_some rights same = cc
 
   -- the device is, or was, attached with ATS
-  with_ats : (a : Attachment) → attachment_of parts.driver.devices id ≡ a → has_ats (shown_attachment a) ≡ true
+  with_ats : (a : Attachment) → attachment_by_id parts.driver.devices id ≡ a → has_ats (shown_attachment a) ≡ true
   with_ats a is = by (has_ats (shown_attachment a)) refl
     where
       by : (b : Bool) → has_ats (shown_attachment a) ≡ b → has_ats (shown_attachment a) ≡ true
@@ -199,13 +199,13 @@ module _ (parts : Parts) (events id : ℕ) (access : Access) (frame : ℕ) (soun
 
   -- so its context lets it through
   pub entry_context : ServiceLaws → (stage : Stages) × (ats_context_for parts.memory (registers_of parts.iommu) (contexts_of parts.iommu) id ≡ Ok (context_for stage))
-  entry_context laws = by (attachment_of parts.driver.devices id) refl (finds_ats laws parts events sound own id)
+  entry_context laws = by (attachment_by_id parts.driver.devices id) refl (finds_ats laws parts events sound own id)
     where
       let_through : (stage : Stages) → stage.ats ≡ true → ats_context stage ≡ Ok (context_for stage)
       let_through stage ats = ap (λ (b : Bool). if b then Ok (context_for stage) else Err TransactionTypeDisallowed) ats
 
-      by : (a : Attachment) → attachment_of parts.driver.devices id ≡ a
-          → FindsAts (attachment_of parts.driver.devices id) parts.driver id (ats_context_for parts.memory (registers_of parts.iommu) (contexts_of parts.iommu) id)
+      by : (a : Attachment) → attachment_by_id parts.driver.devices id ≡ a
+          → FindsAts (attachment_by_id parts.driver.devices id) parts.driver id (ats_context_for parts.memory (registers_of parts.iommu) (contexts_of parts.iommu) id)
           → (stage : Stages) × (ats_context_for parts.memory (registers_of parts.iommu) (contexts_of parts.iommu) id ≡ Ok (context_for stage))
       by driver.Detached is finds = absurd (false≢true (with_ats driver.Detached is))
       by (driver.Attached stage) is finds = (
@@ -249,27 +249,27 @@ module _ (parts : Parts) (events id : ℕ) (access : Access) (frame : ℕ) (soun
 
   module _ (state : State) (shows : PartsShow parts state) where
     -- what the facts on copies say of it, in a history with which the ledger agrees
-    reachable_in : (both_stages : Bool) → in_both_stages (shown_attachment (attachment_of parts.driver.devices id)) ≡ both_stages → (scene : Scene) → IsSceneOf (values_of parts) scene
+    reachable_in : (both_stages : Bool) → in_both_stages (shown_attachment (attachment_by_id parts.driver.devices id)) ≡ both_stages → (scene : Scene) → IsSceneOf (values_of parts) scene
         → IsFaithful scene → IsReachable both_stages state.history (copy_of id (page_of access) (record { frame = frame; rights = entry.rights }))
     reachable_in both_stages is scene shown facts =
         let kept = facts_of_history parts.driver.ledger scene state.history shown.ledger shows.ledger (λ ticket later. shows.none_later ticket (subst (λ n. n < ticket) shown.confirmed later)) facts in
         subst (λ b. IsReachable b state.history copy) (ap in_both_stages (shown.attachments id) ∙ is)
         (entries_reachable (record scene { history = state.history }) copy kept (entry_in scene shown) (used_in scene shown))
 
-    have_in : in_both_stages (shown_attachment (attachment_of parts.driver.devices id)) ≡ false → (scene : Scene) → IsSceneOf (values_of parts) scene → IsFaithful scene
+    have_in : in_both_stages (shown_attachment (attachment_by_id parts.driver.devices id)) ≡ false → (scene : Scene) → IsSceneOf (values_of parts) scene → IsFaithful scene
         → MayHaveCached state.history id access frame
     have_in one scene shown facts = elim (reachable_in false one scene shown facts) [
       | inl held ↦ inl (entry.rights, held, entry.allowed)
       | inr lingers ↦ inr (entry.rights, lingers, entry.allowed)
     ]
 
-    by_mode : (mode : Mode) (ats : Bool) → in_both_stages (shown_attachment (attachment_of parts.driver.devices id)) ≡ is_both mode → MayGoThrough (Attached mode ats) state id access frame
+    by_mode : (mode : Mode) (ats : Bool) → in_both_stages (shown_attachment (attachment_by_id parts.driver.devices id)) ≡ is_both mode → MayGoThrough (Attached mode ats) state id access frame
     by_mode (First size) ats is = have_merely state.history id frame access (∥∥₁_map sound.copies (λ (scene, shown, facts). have_in is scene shown facts))
     by_mode (Second size) ats is = have_merely state.history id frame access (∥∥₁_map sound.copies (λ (scene, shown, facts). have_in is scene shown facts))
     by_mode (Both size) ats is = may_merely state.history id frame access.kind (∥∥₁_map sound.copies (λ (scene, shown, facts). reachable_in true is scene shown facts access.kind entry.allowed))
 
     -- of a device that is cut off it is what lingers
-    cut_off : (ticket : ℕ) (stage : Stages) → attachment_of parts.driver.devices id ≡ driver.Quarantined ticket stage → MayGoThrough (shown_attachment (driver.Quarantined ticket stage)) state id access frame
+    cut_off : (ticket : ℕ) (stage : Stages) → attachment_by_id parts.driver.devices id ≡ driver.Quarantined ticket stage → MayGoThrough (shown_attachment (driver.Quarantined ticket stage)) state id access frame
     cut_off ticket stage is = (
       shows.none_later ticket (pending_cached parts events sound id (ap is_some (usable ticket stage is).1) ticket stage is),
       accept_formerly state.history id (page_of access) frame entry.rights (cut_off_holds parts.driver own state.history shows.ledger id ticket stage is) stage.mode access refl entry.allowed
@@ -277,10 +277,10 @@ module _ (parts : Parts) (events id : ℕ) (access : Access) (frame : ℕ) (soun
     )
 
     -- and the machine lets the access go through
-    pub entry_may : MayGoThrough (shown_attachment (attachment_of parts.driver.devices id)) state id access frame
-    entry_may = by (attachment_of parts.driver.devices id) refl
+    pub entry_may : MayGoThrough (shown_attachment (attachment_by_id parts.driver.devices id)) state id access frame
+    entry_may = by (attachment_by_id parts.driver.devices id) refl
       where
-        by : (a : Attachment) → attachment_of parts.driver.devices id ≡ a → MayGoThrough (shown_attachment a) state id access frame
+        by : (a : Attachment) → attachment_by_id parts.driver.devices id ≡ a → MayGoThrough (shown_attachment a) state id access frame
         by driver.Detached is = absurd (false≢true (with_ats driver.Detached is))
         by (driver.Attached stage) is = by_mode stage.mode stage.ats (ap (λ a. in_both_stages (shown_attachment a)) is)
         by (driver.Quarantined ticket stage) is = cut_off ticket stage is

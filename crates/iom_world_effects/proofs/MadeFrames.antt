@@ -11,7 +11,7 @@ use Rattle.iom_coherence.proofs.ListLemmas.{cons_cases, contains_head, contains_
 use Rattle.iom_coherence.proofs.SourceLemmas.{accesses_may}
 use Rattle.iom_driver.specs.Sound.{IsGrant}
 use Rattle.iom_inflight.specs.declared.made.MadeAt.{MadeAt}
-use Rattle.iom_inflight.specs.Calls.{IsMade, Makes, Performs}
+use Rattle.iom_inflight.specs.Calls.{IsMade, MakesOldestInFlight, Performs}
 use Rattle.iom_inflight.specs.Flights.{Flights}
 use Rattle.iom_iommu.specs.Parts.{flights_of}
 use Rattle.iom_ledger.specs.declared.ledger.Ledger.{Ledger}
@@ -21,7 +21,7 @@ use Rattle.iom_machine.specs.declared.outcome.Outcome.{Outcome}
 use Rattle.iom_table_frames.specs.Marks.{is_marked}
 use Rattle.iom_world_effects.specs.Commits.{TellsRead, TellsKind}
 use Rattle.iom_world_effects.specs.Parts.{Parts}
-use Rattle.iom_world_effects.specs.Read.{access_of, accesses_of}
+use Rattle.iom_world_effects.specs.Read.{access_in_flight, accesses_of}
 use Rattle.iom_world_effects.specs.Sound.{AreSound}
 use Rattle.iom_world_effects.proofs.DriverLemmas.{IsSoundDriver}
 use Rattle.iom_world_effects.proofs.RowLemmas.{row_accesses}
@@ -61,13 +61,13 @@ access_unreserved parts events access sound own there =
     a_fact b = hlevel props
 
 pub made_unreserved : (parts : Parts) (events id : ℕ) (made : Option MadeAt) (memory : List (List ℕ)) (now : Flights) → AreSound parts events → IsSoundDriver parts.driver
-    → Makes parts.memory (flights_of parts.iommu) id made memory now → IfSome made (λ it. is_marked parts.driver.marks it.frame ≡ false)
+    → MakesOldestInFlight parts.memory (flights_of parts.iommu) id made memory now → IfSome made (λ it. is_marked parts.driver.marks it.frame ≡ false)
 made_unreserved parts events id None memory now sound own makes = tt
 made_unreserved parts events id (Some made) memory now sound own makes =
     let row = makes.row in
     let there : Contains row.waiting makes.oldest = subst (λ l. Contains l makes.oldest) (sym makes.waiting) (contains_head makes.oldest makes.later) in
-    let among = row_accesses (flights_of parts.iommu).rows id row makes.stands (access_of row.device makes.oldest) (contains_map (access_of row.device) row.waiting makes.oldest there) in
-    ap (λ (m : MadeAt). is_marked parts.driver.marks m.frame) makes.told ∙ access_unreserved parts events (access_of row.device makes.oldest) sound own among
+    let among = row_accesses (flights_of parts.iommu).rows id row makes.stands (access_in_flight row.device makes.oldest) (contains_map (access_in_flight row.device) row.waiting makes.oldest there) in
+    ap (λ (m : MadeAt). is_marked parts.driver.marks m.frame) makes.told ∙ access_unreserved parts events (access_in_flight row.device makes.oldest) sound own among
 
 -- a read leaves memory, so what it tells stood there before
 pub read_told : (old memory : List (List ℕ)) (flights : Flights) (id : ℕ) (made : MadeAt) (now : Flights) (told : Outcome) → IsMade old flights id made memory now → made.kind ≡ Read

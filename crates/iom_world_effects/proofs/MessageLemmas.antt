@@ -12,7 +12,7 @@ use Rattle.iom_fabric.specs.declared.message.Message.{Message}
 use Rattle.iom_fabric.specs.declared.message.Message.TheVariants as sent
 use Rattle.iom_fabric.specs.declared.message.Range.{Range}
 use Rattle.iom_world_effects.specs.Messages.{with_sent}
-use Rattle.iom_world_effects.specs.Traffic.{message_on, messages_in, invalidation_by, pages_of}
+use Rattle.iom_world_effects.specs.Traffic.{message_on, messages_in, invalidation_by, extent_of_range}
 use Rattle.iom_device.specs.declared.device.Device.{Device}
 use Rattle.iom_device.specs.Caches.{device_with}
 use Rattle.iom_world_effects.specs.Sound.{IsAsked, HasAsker}
@@ -42,9 +42,9 @@ the_one x y there = elim (cons_cases x [] y there) [ inl same ↦ sym same | inr
 
 -- a request to invalidate is sent
 pub requested : (fabric : List OnLink) (device serial : ℕ) (range : Range) (x : AtsMessage) → Contains (messages_in (with_sent fabric device (sent.InvReq serial range))) x
-    → (x ≡ InvalidateRequest (invalidation_by serial device) (pages_of range)) ⊎ Contains (messages_in fabric) x
+    → (x ≡ InvalidateRequest (invalidation_by serial device) (extent_of_range range)) ⊎ Contains (messages_in fabric) x
 requested fabric device serial range x there = elim (sent_cases fabric device (sent.InvReq serial range) x there) [
-  | inl new ↦ inl (the_one (InvalidateRequest (invalidation_by serial device) (pages_of range)) x new)
+  | inl new ↦ inl (the_one (InvalidateRequest (invalidation_by serial device) (extent_of_range range)) x new)
   | inr before ↦ inr before
 ]
 

@@ -3,7 +3,7 @@ use Rattle.std.proofs.Common.{◌≡◌, ◌≢◌, ◌+◌, ◌<◌, ◌==◌, 
 use Rattle.std.proofs.lemmas.Bool.Decides.{eqb_tells}
 use Rattle.iom_base.specs.declared.mode.Mode.{Mode}
 use Rattle.iom_command_queue.specs.declared.entry.QueueEntry.{QueueEntry}
-use Rattle.iom_coherence.specs.DriverCalls.{with_attachment, with_ticket, leave_commands}
+use Rattle.iom_coherence.specs.DriverCalls.{attachments_with, with_ticket, leave_commands}
 use Rattle.iom_coherence.specs.Faithful.{IsFaithful}
 use Rattle.iom_coherence.specs.Transitions.{Quarantine}
 use Rattle.iom_coherence.specs.Queue.{Fence}
@@ -51,7 +51,7 @@ pub quarantine_scene : (old new : Values) (id : ℕ) (mode : Mode) (ats : Bool) 
 quarantine_scene old new id mode ats commands queues attached cut agrees (scene, shows, facts) =
     let ordered = queues.ordered in
     let ticket = scene.given + 1 in
-    let now = with_attachment scene.attachment_of id (Quarantined ticket mode ats) in
+    let now = attachments_with scene.attachment_of id (Quarantined ticket mode ats) in
     let next : Scene = record (with_ticket scene (leave_commands id)) { history = AllReleased id ticket ∷ scene.history; attachment_of = now } in
     let cut_so : AttachesOne old new id (Quarantined ticket mode ats) = rw shows.given cut in
     let agreed : Agrees new.ledger (AllReleased id ticket ∷ scene.history) =

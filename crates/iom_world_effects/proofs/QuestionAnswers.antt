@@ -8,7 +8,7 @@ use Rattle.iom_device_dir.specs.declared.context.Context.{Context}
 use Rattle.iom_driver.specs.declared.device.Attachment.{Attachment}
 use Rattle.iom_driver.specs.declared.device.Attachment.TheVariants.{Detached, Attached, Quarantined, Leaving}
 use Rattle.iom_driver.specs.declared.device.Stages.{Stages}
-use Rattle.iom_driver.specs.Devices.{attachment_of}
+use Rattle.iom_driver.specs.Devices.{attachment_by_id}
 use Rattle.iom_driver.specs.Directory.{context_for}
 use Rattle.iom_driver.specs.State.{DriverState}
 use Rattle.iom_iommu.specs.Parts.{registers_of, contexts_of}
@@ -17,7 +17,7 @@ use Rattle.iom_machine.specs.Requests.{IsPageFaultOf}
 use Rattle.iom_stage_walk.specs.declared.walked.WalkFault.{WalkFault}
 use Rattle.iom_stage_walk.specs.Both.{plain}
 use Rattle.iom_tlb.specs.declared.trans_cache.Translation.{Translation}
-use Rattle.iom_tlb.specs.Content.{Content as Translations, Stays}
+use Rattle.iom_tlb.specs.Content.{Translations, TranslationsStay}
 use Rattle.iom_world_effects.specs.Devices.{shown_attachment}
 use Rattle.iom_world_effects.specs.Parts.{Parts}
 use Rattle.iom_world_effects.specs.Sound.{AreSound}
@@ -42,8 +42,8 @@ RefusedAs (Leaving ticket stage) d id address cause = (cause ≡ cause_at d.leve
 -- how it is answered
 abbrev pub IsToldOf : Bool → DriverState → ℕ → ℕ → Translations → Result Translation WalkFault → Translations → Type 0
 IsToldOf sure d id address old (Ok answer) new =
-    (has_ats (shown_attachment (attachment_of d.devices id)) ≡ true) × IsAnswered sure d id address Read old (Ok answer) new
-IsToldOf sure d id address old (Err fault) new = RefusedAs (attachment_of d.devices id) d id address fault.cause × Stays old new
+    (has_ats (shown_attachment (attachment_by_id d.devices id)) ≡ true) × IsAnswered sure d id address Read old (Ok answer) new
+IsToldOf sure d id address old (Err fault) new = RefusedAs (attachment_by_id d.devices id) d id address fault.cause × TranslationsStay old new
 
 module _ (laws : ServiceLaws) (parts : Parts) (events : ℕ) (sound : AreSound parts events) (own : IsSoundDriver parts.driver) (id address : ℕ) (fits : address < 2 ^ 64)
     (sure : Bool) (old new : Translations) where
@@ -57,14 +57,14 @@ module _ (laws : ServiceLaws) (parts : Parts) (events : ℕ) (sound : AreSound p
   Told answer = IsToldOf sure parts.driver id address old answer new
 
   -- without a context that lets it through
-  refused_for : (answer : Result Translation WalkFault) (cause : Cause) → RefusedAs (attachment_of d.devices id) d id address cause → answer ≡ Err (plain cause) → Stays old new → Told answer
+  refused_for : (answer : Result Translation WalkFault) (cause : Cause) → RefusedAs (attachment_by_id d.devices id) d id address cause → answer ≡ Err (plain cause) → TranslationsStay old new → Told answer
   refused_for (Ok answer) cause refused same stays = cc
   refused_for (Err fault) cause refused same stays =
       let c : fault ≡ plain cause = cc in
-      (subst (RefusedAs (attachment_of d.devices id) d id address) (sym (ap (λ (f : WalkFault). f.cause) c)) refused, stays)
+      (subst (RefusedAs (attachment_by_id d.devices id) d id address) (sym (ap (λ (f : WalkFault). f.cause) c)) refused, stays)
 
   -- with one
-  told_attached : (stage : Stages) (answer : Result Translation WalkFault) → attachment_of d.devices id ≡ Attached stage → stage.ats ≡ true
+  told_attached : (stage : Stages) (answer : Result Translation WalkFault) → attachment_by_id d.devices id ≡ Attached stage → stage.ats ≡ true
       → IsAnswered sure d id address Read old answer new → Told answer
   told_attached stage (Ok answer) is ats answered = (ap (λ a. has_ats (shown_attachment a)) is ∙ ats, answered)
   told_attached stage (Err fault) is ats (faults, stays) = (
@@ -77,7 +77,7 @@ module _ (laws : ServiceLaws) (parts : Parts) (events : ℕ) (sound : AreSound p
   cut_off ticket stage cause ats (inl (pending, page)) = inr (pending, inl (ats, page))
   cut_off ticket stage cause ats (inr none) = inl none
 
-  told_cut_off : (ticket : ℕ) (stage : Stages) (answer : Result Translation WalkFault) → attachment_of d.devices id ≡ Quarantined ticket stage → stage.ats ≡ true
+  told_cut_off : (ticket : ℕ) (stage : Stages) (answer : Result Translation WalkFault) → attachment_by_id d.devices id ≡ Quarantined ticket stage → stage.ats ≡ true
       → IsAnswered sure d id address Read old answer new → Told answer
   told_cut_off ticket stage (Ok answer) is ats answered = (ap (λ a. has_ats (shown_attachment a)) is ∙ ats, answered)
   told_cut_off ticket stage (Err fault) is ats (faults, stays) = (
@@ -90,7 +90,7 @@ module _ (laws : ServiceLaws) (parts : Parts) (events : ℕ) (sound : AreSound p
   left stage cause ats (inl page) = inr (inl (ats, page))
   left stage cause ats (inr none) = inl none
 
-  told_leaving : (ticket : ℕ) (stage : Stages) (answer : Result Translation WalkFault) → attachment_of d.devices id ≡ Leaving ticket stage → stage.ats ≡ true
+  told_leaving : (ticket : ℕ) (stage : Stages) (answer : Result Translation WalkFault) → attachment_by_id d.devices id ≡ Leaving ticket stage → stage.ats ≡ true
       → IsAnswered sure d id address Read old answer new → Told answer
   told_leaving ticket stage (Ok answer) is ats answered = (ap (λ a. has_ats (shown_attachment a)) is ∙ ats, answered)
   told_leaving ticket stage (Err fault) is ats (faults, stays) = (
@@ -99,20 +99,20 @@ module _ (laws : ServiceLaws) (parts : Parts) (events : ℕ) (sound : AreSound p
   )
 
   -- by whether the context of its stages lets it through
-  by_attached : (stage : Stages) (answer : Result Translation WalkFault) → attachment_of d.devices id ≡ Attached stage → (b : Bool) → stage.ats ≡ b
+  by_attached : (stage : Stages) (answer : Result Translation WalkFault) → attachment_by_id d.devices id ≡ Attached stage → (b : Bool) → stage.ats ≡ b
       → Served (if b then Ok (context_for stage) else Err TransactionTypeDisallowed) answer → Told answer
   by_attached stage answer is true ats served = told_attached stage answer is ats (of_attached laws parts events sound own id address Read fits sure old new stage answer is served)
   by_attached stage answer is false none served =
       refused_for answer TransactionTypeDisallowed (subst (λ a. RefusedAs a d id address TransactionTypeDisallowed) (sym is) (inr (none, refl))) served.0 served.1
 
-  by_cut_off : (ticket : ℕ) (stage : Stages) (answer : Result Translation WalkFault) → attachment_of d.devices id ≡ Quarantined ticket stage → IsPending parts.driver id → (b : Bool) → stage.ats ≡ b
+  by_cut_off : (ticket : ℕ) (stage : Stages) (answer : Result Translation WalkFault) → attachment_by_id d.devices id ≡ Quarantined ticket stage → IsPending parts.driver id → (b : Bool) → stage.ats ≡ b
       → Served (if b then Ok (context_for stage) else Err TransactionTypeDisallowed) answer → Told answer
   by_cut_off ticket stage answer is pending true ats served =
       told_cut_off ticket stage answer is ats (of_cut_off laws parts events sound own id address Read fits sure old new ticket stage answer is pending served)
   by_cut_off ticket stage answer is pending false none served =
       refused_for answer TransactionTypeDisallowed (subst (λ a. RefusedAs a d id address TransactionTypeDisallowed) (sym is) (inr (pending ticket stage is, inr (none, refl)))) served.0 served.1
 
-  by_leaving : (ticket : ℕ) (stage : Stages) (answer : Result Translation WalkFault) → attachment_of d.devices id ≡ Leaving ticket stage → (b : Bool) → stage.ats ≡ b
+  by_leaving : (ticket : ℕ) (stage : Stages) (answer : Result Translation WalkFault) → attachment_by_id d.devices id ≡ Leaving ticket stage → (b : Bool) → stage.ats ≡ b
       → Served (if b then Ok (context_for stage) else Err TransactionTypeDisallowed) answer → Told answer
   by_leaving ticket stage answer is true ats served =
       told_leaving ticket stage answer is ats (of_leaving laws parts events sound own id address Read fits sure old new ticket stage answer is served)
@@ -120,7 +120,7 @@ module _ (laws : ServiceLaws) (parts : Parts) (events : ℕ) (sound : AreSound p
       refused_for answer TransactionTypeDisallowed (subst (λ a. RefusedAs a d id address TransactionTypeDisallowed) (sym is) (inr (inr (none, refl)))) served.0 served.1
 
   -- by how the device is attached
-  by_found : (a : Attachment) (found : Result Context Cause) (answer : Result Translation WalkFault) → attachment_of d.devices id ≡ a → FindsAts a parts.driver id found → Served found answer → Told answer
+  by_found : (a : Attachment) (found : Result Context Cause) (answer : Result Translation WalkFault) → attachment_by_id d.devices id ≡ a → FindsAts a parts.driver id found → Served found answer → Told answer
   by_found Detached found answer is none served =
       let by : Served (Err (cause_at d.levels id)) answer = subst (λ f. Served f answer) none served in
       refused_for answer (cause_at d.levels id) (subst (λ a. RefusedAs a d id address (cause_at d.levels id)) (sym is) refl) by.0 by.1
@@ -141,5 +141,5 @@ pub told_of : ServiceLaws → (parts : Parts) (events : ℕ) → AreSound parts 
     → ServesBy sure (ats_context_for parts.memory (registers_of parts.iommu) (contexts_of parts.iommu) id) parts.memory address Read old answer new
     → IsToldOf sure parts.driver id address old answer new
 told_of laws parts events sound own id address sure old new answer fits served =
-    by_found laws parts events sound own id address fits sure old new (attachment_of parts.driver.devices id) (ats_context_for parts.memory (registers_of parts.iommu) (contexts_of parts.iommu) id)
+    by_found laws parts events sound own id address fits sure old new (attachment_by_id parts.driver.devices id) (ats_context_for parts.memory (registers_of parts.iommu) (contexts_of parts.iommu) id)
     answer refl (finds_ats laws parts events sound own id) served

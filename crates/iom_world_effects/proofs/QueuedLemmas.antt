@@ -5,7 +5,7 @@ use Rattle.iom_command_queue.specs.declared.command.Command.{Command as Commande
 use Rattle.iom_command_queue.specs.declared.command.Command.TheVariants.{IotinvalVma, IotinvalGvma, IofenceC, IodirInvalDdt, AtsInval}
 use Rattle.iom_command_queue.specs.declared.entry.QueueEntry.{QueueEntry}
 use Rattle.iom_command_queue.specs.declared.entry.QueueEntry.TheVariants.{Command}
-use Rattle.iom_coherence.specs.DriverCalls.{released_extent, release_commands}
+use Rattle.iom_coherence.specs.DriverCalls.{released_extent, queued_by_release}
 use Rattle.iom_coherence.specs.Queue.{Extent, WholeSpace, QueuedCommand, DropTranslations, DropContext, Invalidate, Fence}
 use Rattle.iom_coherence.specs.ToCome.{FencesRise}
 use Rattle.iom_coherence.proofs.ListLemmas.{in_none, cons_cases, contains_head, contains_tail}
@@ -18,7 +18,7 @@ use Rattle.iom_tlb.specs.declared.space.Space.TheVariants as space
 use Rattle.iom_world_effects.specs.Read.{space_in}
 use Rattle.iom_world_effects.specs.Queued.{IsInvalidation, IsQueuedAs, AreQueuedAs, ComeBefore, pending_after}
 use Rattle.iom_world_effects.specs.Messages.{range_of}
-use Rattle.iom_world_effects.specs.Traffic.{pages_of}
+use Rattle.iom_world_effects.specs.Traffic.{extent_of_range}
 
 pub queued_append : (address : ℕ) (spaces : ℕ → Option Space) (entries more : List QueueEntry) (queued added : List QueuedCommand) → AreQueuedAs address spaces entries queued
     → AreQueuedAs address spaces more added → AreQueuedAs address spaces (entries ++ more) (queued ++ added)
@@ -83,7 +83,7 @@ queued_space address spaces (Second size) number device own = record { space = s
 queued_space address spaces (Both size) number device own = record { space = space.Both number number; page = None; own = own; named = refl; about = refl }
 
 -- with ATS the device is asked to drop what the IOMMU dropped
-queued_device : (mode : Mode) (page : ℕ) → released_extent mode page ≡ pages_of (range_of (dropped_range mode page))
+queued_device : (mode : Mode) (page : ℕ) → released_extent mode page ≡ extent_of_range (range_of (dropped_range mode page))
 queued_device (First size) page = refl
 queued_device (Second size) page = refl
 queued_device (Both size) page = refl
@@ -91,12 +91,12 @@ queued_device (Both size) page = refl
 -- what a release queues in front of its fence
 pub queued_release : (address : ℕ) (spaces : ℕ → Option Space) (id page : ℕ) (stage : Stages) → spaces id ≡ Some (space_in stage.mode stage.number)
     → AreQueuedAs address spaces (Command (invalidation stage.mode stage.number page) ∷ map Command (device_invalidation id stage page))
-    (release_commands id (released_extent stage.mode page) stage.ats)
+    (queued_by_release id (released_extent stage.mode page) stage.ats)
 queued_release address spaces id page stage own = by stage.ats
   where
     by : (ats : Bool) → AreQueuedAs address spaces
         (Command (invalidation stage.mode stage.number page) ∷ map Command (if ats then AtsInval id (dropped_range stage.mode page) ∷ [] else []))
-        (release_commands id (released_extent stage.mode page) ats)
+        (queued_by_release id (released_extent stage.mode page) ats)
     by true = (queued_page address spaces stage.mode stage.number page id own, ((refl, queued_device stage.mode page), tt))
     by false = (queued_page address spaces stage.mode stage.number page id own, tt)
 

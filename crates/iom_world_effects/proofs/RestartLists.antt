@@ -12,7 +12,7 @@ use Rattle.iom_driver.specs.declared.device.Attachment.TheVariants as attached
 use Rattle.iom_driver.specs.declared.device.Device.{Device}
 use Rattle.iom_driver.specs.declared.device.Stages.{Stages}
 use Rattle.iom_driver.specs.Appends.{context_invalidation, space_invalidation, fence}
-use Rattle.iom_driver.specs.Devices.{attachment_of, owned_stages, has_ats, HaveOwnIds}
+use Rattle.iom_driver.specs.Devices.{attachment_by_id, owned_stages, is_attached_with_ats, HaveOwnIds}
 use Rattle.iom_driver.specs.Restarts.{device_reset, requeued_for, requeued, all_requeued, restart_commands}
 use Rattle.iom_driver.proofs.Ids.{device_at}
 use Rattle.iom_driver.proofs.Places.{attachment_is}
@@ -31,13 +31,13 @@ space_of a = option_map (λ (stage : Stages). space_in stage.mode stage.number) 
 
 -- those of an attached device, with ATS or without
 queued_attached : (address : ℕ) (spaces : ℕ → Option Space) (id : ℕ) (stage : Stages) (ats : Bool) → spaces id ≡ Some (space_in stage.mode stage.number)
-    → AreQueuedAs address spaces (map Command (context_invalidation id ∷ space_invalidation stage.mode stage.number ∷ device_reset id ats)) (copies.requeued id (shown.Attached stage.mode ats))
+    → AreQueuedAs address spaces (map Command (context_invalidation id ∷ space_invalidation stage.mode stage.number ∷ device_reset id ats)) (copies.queued_again id (shown.Attached stage.mode ats))
 queued_attached address spaces id stage true own = (refl, (queued_space address spaces stage.mode stage.number id own, ((refl, refl), tt)))
 queued_attached address spaces id stage false own = (refl, (queued_space address spaces stage.mode stage.number id own, tt))
 
 -- those of a device, however it is attached
 queued_one : (address : ℕ) (spaces : ℕ → Option Space) (id : ℕ) (a : driver.Attachment) → spaces id ≡ space_of a
-    → AreQueuedAs address spaces (map Command (requeued_for id (owned_stages a) (has_ats a))) (copies.requeued id (shown_attachment a))
+    → AreQueuedAs address spaces (map Command (requeued_for id (owned_stages a) (is_attached_with_ats a))) (copies.queued_again id (shown_attachment a))
 queued_one address spaces id attached.Detached own = tt
 queued_one address spaces id (attached.Attached stage) own = queued_attached address spaces id stage stage.ats own
 queued_one address spaces id (attached.Quarantined ticket stage) own = (refl, (queued_space address spaces stage.mode stage.number id own, tt))
@@ -49,20 +49,20 @@ AreThese how spaces devices = (k : ℕ) (device : Device) → slice_get devices 
     → (how device.id ≡ shown_attachment device.attachment) × (spaces device.id ≡ space_of device.attachment)
 
 queued_these : (address : ℕ) (spaces : ℕ → Option Space) (how : ℕ → Attachment) (devices : List Device) → AreThese how spaces devices
-    → AreQueuedAs address spaces (map Command (all_requeued devices)) (copies.all_requeued how (known_ids devices))
+    → AreQueuedAs address spaces (map Command (all_requeued devices)) (copies.all_queued_again how (known_ids devices))
 queued_these address spaces how [] these = tt
 queued_these address spaces how (device ∷ others) these =
     let own = these 0 device refl in
-    let first = subst (λ a. AreQueuedAs address spaces (map Command (requeued device)) (copies.requeued device.id a)) (sym own.0) (queued_one address spaces device.id device.attachment own.1) in
-    subst (λ l. AreQueuedAs address spaces l (copies.all_requeued how (known_ids (device ∷ others)))) (sym (map-append Command (requeued device) (all_requeued others)))
-    (queued_append address spaces (map Command (requeued device)) (map Command (all_requeued others)) (copies.requeued device.id (how device.id)) (copies.all_requeued how (known_ids others)) first
+    let first = subst (λ a. AreQueuedAs address spaces (map Command (requeued device)) (copies.queued_again device.id a)) (sym own.0) (queued_one address spaces device.id device.attachment own.1) in
+    subst (λ l. AreQueuedAs address spaces l (copies.all_queued_again how (known_ids (device ∷ others)))) (sym (map-append Command (requeued device) (all_requeued others)))
+    (queued_append address spaces (map Command (requeued device)) (map Command (all_requeued others)) (copies.queued_again device.id (how device.id)) (copies.all_queued_again how (known_ids others)) first
     (queued_these address spaces how others (λ k other at. these (suc k) other at)))
 
 -- THE COMMANDS for all devices, each of which has an id of its own
 pub queued_requeued : (address : ℕ) (devices : List Device) → HaveOwnIds devices
-    → AreQueuedAs address (space_at devices) (map Command (all_requeued devices)) (copies.all_requeued (λ id. shown_attachment (attachment_of devices id)) (known_ids devices))
+    → AreQueuedAs address (space_at devices) (map Command (all_requeued devices)) (copies.all_queued_again (λ id. shown_attachment (attachment_by_id devices id)) (known_ids devices))
 queued_requeued address devices own =
-    queued_these address (space_at devices) (λ id. shown_attachment (attachment_of devices id)) devices
+    queued_these address (space_at devices) (λ id. shown_attachment (attachment_by_id devices id)) devices
     (λ k device at.
     let is = attachment_is devices device.id device (device_at devices k device own at) in
     (ap shown_attachment is, ap space_of is))
@@ -72,7 +72,7 @@ pub restart_last : (devices : List Device) (address number : ℕ) → map Comman
 restart_last devices address number = map-append Command (all_requeued devices) (fence address number ∷ [])
 
 -- no device that is attached, quarantined or leaving is left out
-pub known_there : (devices : List Device) (id : ℕ) → IsKnown (shown_attachment (attachment_of devices id)) → Contains (known_ids devices) id
+pub known_there : (devices : List Device) (id : ℕ) → IsKnown (shown_attachment (attachment_by_id devices id)) → Contains (known_ids devices) id
 known_there [] id known = cc
 known_there (device ∷ others) id known = elim (eqb_tells device.id id) [
   | inl e ↦ subst (λ n. Contains (known_ids (device ∷ others)) n) e.1 (contains_head device.id (known_ids others))

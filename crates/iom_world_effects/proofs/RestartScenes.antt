@@ -4,7 +4,7 @@ use Rattle.iom_base.specs.declared.mode.Mode.{Mode}
 use Rattle.iom_command_queue.specs.declared.entry.QueueEntry.{QueueEntry}
 use Rattle.iom_command_queue.specs.declared.entry.QueueEntry.TheVariants.{Command}
 use Rattle.iom_coherence.specs.Attachments.{IsKnown}
-use Rattle.iom_coherence.specs.DriverCalls.{all_requeued, restarted, waiting_for}
+use Rattle.iom_coherence.specs.DriverCalls.{all_queued_again, restarted, waiting_for}
 use Rattle.iom_coherence.specs.Transitions.{Restart}
 use Rattle.iom_coherence.specs.Queue.{QueuedCommand, Fence}
 use Rattle.iom_coherence.specs.Scene.{Scene}
@@ -29,7 +29,7 @@ pub record RestartsAll (old new : Values) (devices : List ℕ) (commands : List 
   pub ordered : old.confirmed ≤ old.given
   pub known : (d : ℕ) → IsKnown (old.attachment_of d) → Contains devices d
   pub given_to : (d ticket : ℕ) (mode : Mode) (ats : Bool) → old.attachment_of d ≡ Leaving ticket mode ats → ticket ≤ old.given
-  pub appended : AreQueuedAs old.address old.space_of commands (all_requeued old.attachment_of devices)
+  pub appended : AreQueuedAs old.address old.space_of commands (all_queued_again old.attachment_of devices)
   pub agrees : (h : History) → Agrees old.ledger h → Agrees new.ledger h
   pub waiting : new.waiting ≡ commands ++ Command (fence old.address (old.last_fence + 1)) ∷ []
   pub address : new.address ≡ old.address
@@ -60,7 +60,7 @@ waiting_all before after first (suc n) fence same =
 
 module _ (old new : Values) (scene : Scene) (devices : List ℕ) (commands : List QueueEntry) (shows : IsSceneOf old scene) (all : RestartsAll old new devices commands) where
   abbrev queued : List QueuedCommand
-  queued = all_requeued scene.attachment_of devices
+  queued = all_queued_again scene.attachment_of devices
 
   abbrev last : List QueuedCommand
   last = Fence (scene.last_fence + 1) ∷ []
@@ -68,7 +68,7 @@ module _ (old new : Values) (scene : Scene) (devices : List ℕ) (commands : Lis
   waiting_now : AreQueuedAs new.address new.space_of new.waiting (queued ++ last)
   waiting_now =
       let alike : old.attachment_of ≡ scene.attachment_of = same_function old.attachment_of scene.attachment_of (λ d. sym (shows.attachments d)) in
-      let these : AreQueuedAs old.address old.space_of commands queued = subst (λ f. AreQueuedAs old.address old.space_of commands (all_requeued f devices)) alike all.appended in
+      let these : AreQueuedAs old.address old.space_of commands queued = subst (λ f. AreQueuedAs old.address old.space_of commands (all_queued_again f devices)) alike all.appended in
       let number : fence old.address (old.last_fence + 1) ≡ fence old.address (scene.last_fence + 1) = ap (λ n. fence old.address (n + 1)) (sym shows.last_fence) in
       rw (all.address, all.waiting)
       (queued_still old.address old.space_of new.space_of (commands ++ Command (fence old.address (old.last_fence + 1)) ∷ []) (queued ++ last) (λ d space extent there own. all.spaces d space own)

@@ -2,7 +2,7 @@
 use Rattle.std.proofs.Common.{◌≡◌, ◌≤◌, ◌==◌, ◌∙◌, ℕ, Bool, true, List, Some, refl, sym, ap, subst, if◌then◌else◌}
 use Rattle.iom_base.specs.declared.mode.Mode.{Mode}
 use Rattle.iom_coherence.specs.Deliveries.{AreOthers, raised}
-use Rattle.iom_coherence.specs.DriverCalls.{with_attachment}
+use Rattle.iom_coherence.specs.DriverCalls.{attachments_with}
 use Rattle.iom_coherence.specs.Transitions.{Revive}
 use Rattle.iom_coherence.specs.Scene.{Copy, Scene}
 use Rattle.iom_coherence.proofs.ListLemmas.{same_function}
@@ -49,7 +49,7 @@ abbrev revived : Scene → ℕ → Mode → Bool → List Copy → Scene
 revived scene id mode ats left = record scene {
   entries = left;
   epoch_of = raised scene.kind_of scene.epoch_of id;
-  attachment_of = with_attachment scene.attachment_of id (Attached mode ats);
+  attachment_of = attachments_with scene.attachment_of id (Attached mode ats);
 }
 
 shows_revived : (old new : Values) (id : ℕ) (left : List Copy) (scene : Scene) → (revives : RevivesOne old new id left) → IsSceneOf old scene

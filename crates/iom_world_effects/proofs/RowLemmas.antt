@@ -13,39 +13,39 @@ use Rattle.iom_base.specs.declared.access.AccessKind.TheVariants.{Read, Write}
 use Rattle.iom_inflight.specs.Calls.{with_access}
 use Rattle.iom_inflight.specs.Flights.{NumberedAccess, FlightRow, Flights, row_of, with_row, is_same_kind, is_awaited, is_row_drained, are_drained}
 use Rattle.iom_inflight.proofs.Rows.{row_is_own}
-use Rattle.iom_world_effects.specs.Read.{access_of, accesses_of}
+use Rattle.iom_world_effects.specs.Read.{access_in_flight, accesses_of}
 use Rattle.iom_world_effects.specs.Sound.{row_ids}
 
 -- the accesses of a row are among those of all
 pub row_accesses : (rows : List FlightRow) (id : ℕ) (row : FlightRow) → row_of rows id ≡ Some row
-    → AreAmong (map (access_of row.device) row.waiting) (accesses_of rows)
+    → AreAmong (map (access_in_flight row.device) row.waiting) (accesses_of rows)
 row_accesses [] id row at x there = cc
 row_accesses (first ∷ others) id row at x there = elim (eqb_tells first.device id) [
   | inl e ↦
       let same : Some first ≡ Some row = rw e.0 at at in
       let is : first ≡ row = cc in
-      Contains-append_left (map (access_of first.device) first.waiting) (accesses_of others) x (subst (λ (r : FlightRow). Contains (map (access_of r.device) r.waiting) x) (sym is) there)
-  | inr ne ↦ Contains-append_right (map (access_of first.device) first.waiting) (accesses_of others) x (row_accesses others id row (rw ne.0 at at) x there)
+      Contains-append_left (map (access_in_flight first.device) first.waiting) (accesses_of others) x (subst (λ (r : FlightRow). Contains (map (access_in_flight r.device) r.waiting) x) (sym is) there)
+  | inr ne ↦ Contains-append_right (map (access_in_flight first.device) first.waiting) (accesses_of others) x (row_accesses others id row (rw ne.0 at at) x there)
 ]
 
 -- where a row is replaced each access is one of its, or was there
 pub replaced_accesses : (rows : List FlightRow) (own : FlightRow) (x : AccessInFlight) → Contains (accesses_of (with_row rows own)) x
-    → Contains (map (access_of own.device) own.waiting) x ⊎ Contains (accesses_of rows) x
+    → Contains (map (access_in_flight own.device) own.waiting) x ⊎ Contains (accesses_of rows) x
 replaced_accesses [] own x there = absurd (in_none x there)
 replaced_accesses (first ∷ others) own x there = elim (eqb_tells first.device own.device) [
   | inl e ↦
-      let here : Contains (map (access_of own.device) own.waiting ++ accesses_of others) x = rw e.0 at there in
-      elim (Contains-append_cases (map (access_of own.device) own.waiting) (accesses_of others) x here) [
+      let here : Contains (map (access_in_flight own.device) own.waiting ++ accesses_of others) x = rw e.0 at there in
+      elim (Contains-append_cases (map (access_in_flight own.device) own.waiting) (accesses_of others) x here) [
         | inl mine ↦ inl mine
-        | inr other ↦ inr (Contains-append_right (map (access_of first.device) first.waiting) (accesses_of others) x other)
+        | inr other ↦ inr (Contains-append_right (map (access_in_flight first.device) first.waiting) (accesses_of others) x other)
       ]
   | inr ne ↦
-      let here : Contains (map (access_of first.device) first.waiting ++ accesses_of (with_row others own)) x = rw ne.0 at there in
-      elim (Contains-append_cases (map (access_of first.device) first.waiting) (accesses_of (with_row others own)) x here) [
-        | inl mine ↦ inr (Contains-append_left (map (access_of first.device) first.waiting) (accesses_of others) x mine)
+      let here : Contains (map (access_in_flight first.device) first.waiting ++ accesses_of (with_row others own)) x = rw ne.0 at there in
+      elim (Contains-append_cases (map (access_in_flight first.device) first.waiting) (accesses_of (with_row others own)) x here) [
+        | inl mine ↦ inr (Contains-append_left (map (access_in_flight first.device) first.waiting) (accesses_of others) x mine)
         | inr other ↦ elim (replaced_accesses others own x other) [
           | inl mine ↦ inl mine
-          | inr before ↦ inr (Contains-append_right (map (access_of first.device) first.waiting) (accesses_of others) x before)
+          | inr before ↦ inr (Contains-append_right (map (access_in_flight first.device) first.waiting) (accesses_of others) x before)
         ]
       ]
 ]
@@ -59,8 +59,8 @@ pub made_among : (rows : List FlightRow) (id : ℕ) (row : FlightRow) (oldest : 
     → AreAmong (accesses_of (with_row rows (record row { waiting = later }))) (accesses_of rows)
 made_among rows id row oldest later at waiting x there = elim (replaced_accesses rows (record row { waiting = later }) x there) [
   | inl mine ↦ row_accesses rows id row at x
-      (subst (λ (l : List NumberedAccess). Contains (map (access_of row.device) l) x) (sym waiting)
-      (contains_tail (access_of row.device oldest) (map (access_of row.device) later) x mine))
+      (subst (λ (l : List NumberedAccess). Contains (map (access_in_flight row.device) l) x) (sym waiting)
+      (contains_tail (access_in_flight row.device oldest) (map (access_in_flight row.device) later) x mine))
   | inr before ↦ before
 ]
 
@@ -71,8 +71,8 @@ pub accepted_among : (rows : List FlightRow) (id : ℕ) (row : FlightRow) (accep
 accepted_among rows id row accepted number at x there =
     let own : row.device ≡ id = row_is_own rows id row at in
     elim (replaced_accesses rows (with_access row accepted number) x there) [
-      | inl mine ↦ elim (Contains-push_cases (map (access_of row.device) row.waiting) last x
-          (subst (λ (l : List AccessInFlight). Contains l x) (map_push (access_of row.device) row.waiting (record { accepted = accepted; number = number })) mine)) [
+      | inl mine ↦ elim (Contains-push_cases (map (access_in_flight row.device) row.waiting) last x
+          (subst (λ (l : List AccessInFlight). Contains l x) (map_push (access_in_flight row.device) row.waiting (record { accepted = accepted; number = number })) mine)) [
             | inl before ↦ inr (row_accesses rows id row at x before)
             | inr same ↦ inl (is_last x same ∙ ap (λ (d : ℕ). record { device = d; frame = accepted.frame; kind = accepted.access.kind; number = number }) own)
           ]
@@ -80,7 +80,7 @@ accepted_among rows id row accepted number at x there =
     ]
   where
     last : AccessInFlight
-    last = access_of row.device (record { accepted = accepted; number = number })
+    last = access_in_flight row.device (record { accepted = accepted; number = number })
 
     is_last : (y : AccessInFlight) → last ≡ y → y ≡ last
     is_last y same = sym same
@@ -107,12 +107,12 @@ access_after device before access Read is reads writes = later_than before acces
 access_after device before access Write is reads writes = later_than before access.number (ap (λ k. not (is_same_kind k Write && nat_le access.number before)) (sym is) ∙ writes)
 
 row_after : (device before : ℕ) (waiting : List NumberedAccess) → list_all (λ access. not (is_awaited before Read access)) waiting ≡ true
-    → list_all (λ access. not (is_awaited before Write access)) waiting ≡ true → (x : AccessInFlight) → Contains (map (access_of device) waiting) x → before < x.number
+    → list_all (λ access. not (is_awaited before Write access)) waiting ≡ true → (x : AccessInFlight) → Contains (map (access_in_flight device) waiting) x → before < x.number
 row_after device before [] reads writes x there = absurd (in_none x there)
 row_after device before (access ∷ later) reads writes x there =
     let read = and_parts (not (is_awaited before Read access)) (list_all (λ access. not (is_awaited before Read access)) later) reads in
     let write = and_parts (not (is_awaited before Write access)) (list_all (λ access. not (is_awaited before Write access)) later) writes in
-    elim (cons_cases (access_of device access) (map (access_of device) later) x there) [
+    elim (cons_cases (access_in_flight device access) (map (access_in_flight device) later) x there) [
       | inl same ↦ subst (λ (y : AccessInFlight). before < y.number) same (access_after device before access access.accepted.access.kind refl read.0 write.0)
       | inr rest ↦ row_after device before later read.1 write.1 x rest
     ]
@@ -123,7 +123,7 @@ rows_after before [] reads writes x there = absurd (in_none x there)
 rows_after before (row ∷ rows) reads writes x there =
     let read = and_parts (is_row_drained before Read row) (list_all (is_row_drained before Read) rows) reads in
     let write = and_parts (is_row_drained before Write row) (list_all (is_row_drained before Write) rows) writes in
-    elim (Contains-append_cases (map (access_of row.device) row.waiting) (accesses_of rows) x there) [
+    elim (Contains-append_cases (map (access_in_flight row.device) row.waiting) (accesses_of rows) x there) [
       | inl mine ↦ row_after row.device before row.waiting read.0 write.0 x mine
       | inr other ↦ rows_after before rows read.1 write.1 x other
     ]

@@ -6,7 +6,7 @@ use Rattle.std.proofs.lemmas.Option.{slice_get-get_or}
 use Rattle.iom_base.specs.declared.access.AcceptedAccess.{AcceptedAccess}
 use Rattle.iom_coherence.proofs.ListLemmas.{in_none, cons_cases, contains_head, contains_tail}
 use Rattle.iom_driver.specs.declared.device.Device as driver
-use Rattle.iom_driver.specs.Devices.{attachment_of}
+use Rattle.iom_driver.specs.Devices.{attachment_by_id}
 use Rattle.iom_driver.proofs.Lists.{differs}
 use Rattle.iom_inflight.specs.Flights.{NumberedAccess, FlightRow, row_of, with_row}
 use Rattle.iom_inflight.proofs.Rows.{row_of_own, row_of_other}
@@ -15,7 +15,7 @@ use Rattle.iom_machine.specs.declared.state.Device as machine
 use Rattle.iom_device.specs.declared.device.Device.{Device}
 use Rattle.iom_world_effects.specs.Devices.{accepted_of, in_flight_of, shown_attachment, shown_device, shown_devices}
 use Rattle.iom_world_effects.specs.Places.{IsAbsent, IsPresent}
-use Rattle.iom_world_effects.specs.Sound.{HaveOwnIds}
+use Rattle.iom_world_effects.specs.Sound.{HaveDistinctIds}
 
 -- the device of the world, and of the machine, with this id
 abbrev pub found_of : List Device → ℕ → Option Device
@@ -59,7 +59,7 @@ same_shown known rows rows' device same = ap (λ (row : Option FlightRow). of_ro
       id = device.id;
       kind = device.kind;
       has_disk = device.has_disk;
-      attachment = shown_attachment (attachment_of known device.id);
+      attachment = shown_attachment (attachment_by_id known device.id);
       accepted = option_map_or (λ (r : FlightRow). r.accepted) row 0;
       in_flight = option_map_or (λ (r : FlightRow). map (λ (flight : NumberedAccess). flight.accepted) r.waiting) row [];
     }
@@ -73,18 +73,18 @@ others_shown known rows rows' (device ∷ others) id absent same =
     (others_shown known rows rows' others id (λ other there. absent other (contains_tail device others other there)) same)
 
 -- behind the first device with an id there is no other
-absent_behind : (first : Device) (others : List Device) (id : ℕ) → HaveOwnIds (first ∷ others) → first.id ≡ id → IsAbsent others id
+absent_behind : (first : Device) (others : List Device) (id : ℕ) → HaveDistinctIds (first ∷ others) → first.id ≡ id → IsAbsent others id
 absent_behind first others id ids own other (k, below, at) same =
     let there : slice_get others k ≡ Some other = slice_get-get_or others k other below ∙ ap Some at in
     let never : 0 ≡ suc k = ids 0 (suc k) first other refl there (own ∙ sym same) in
     absurd (omega (arith, never))
 
-ids_behind : (first : Device) (others : List Device) → HaveOwnIds (first ∷ others) → HaveOwnIds others
+ids_behind : (first : Device) (others : List Device) → HaveDistinctIds (first ∷ others) → HaveDistinctIds others
 ids_behind first others ids j k one other at at' same =
     let both : suc j ≡ suc k = ids (suc j) (suc k) one other at at' same in omega (arith, both)
 
 -- the device is replaced in the machine where the world shows other rows, which are the same of each other device
-pub replaced_shown : (known : List driver.Device) (rows rows' : List FlightRow) (devices : List Device) (id : ℕ) (device : Device) (now : machine.Device) → HaveOwnIds devices
+pub replaced_shown : (known : List driver.Device) (rows rows' : List FlightRow) (devices : List Device) (id : ℕ) (device : Device) (now : machine.Device) → HaveDistinctIds devices
     → found_of devices id ≡ Some device → now ≡ shown_device known rows' device → ((d : ℕ) → d ≢ id → row_of rows' d ≡ row_of rows d)
     → replaced_device (shown_devices known rows devices) id now ≡ shown_devices known rows' devices
 replaced_shown known rows rows' [] id device now ids found is same = cc
@@ -113,7 +113,7 @@ pub in_flight_at : (rows : List FlightRow) (id : ℕ) (row : FlightRow) → row_
 in_flight_at rows id row at = ap (λ (o : Option FlightRow). option_map_or (λ (r : FlightRow). map (λ (flight : NumberedAccess). flight.accepted) r.waiting) o []) at
 
 -- a row is replaced: its device is in the machine
-pub row_shown : (known : List driver.Device) (rows : List FlightRow) (devices : List Device) (id : ℕ) (device : Device) (row own : FlightRow) → HaveOwnIds devices
+pub row_shown : (known : List driver.Device) (rows : List FlightRow) (devices : List Device) (id : ℕ) (device : Device) (row own : FlightRow) → HaveDistinctIds devices
     → found_of devices id ≡ Some device → device.id ≡ id → row_of rows id ≡ Some row → own.device ≡ id
     → replaced_device (shown_devices known rows devices) id (with_own (shown_device known rows device) own) ≡ shown_devices known (with_row rows own) devices
 row_shown known rows devices id device row own ids found is at mine =

@@ -6,7 +6,7 @@ use Rattle.iom_base.specs.declared.rights.Rights.{Rights}
 use Rattle.iom_command_queue.specs.declared.entry.QueueEntry.{QueueEntry}
 use Rattle.iom_command_queue.specs.declared.entry.QueueEntry.TheVariants.{Command}
 use Rattle.iom_coherence.specs.Attachments.{IsAttached, caches_translations}
-use Rattle.iom_coherence.specs.DriverCalls.{with_attachment, with_kind, with_ticket, released_extent, release_commands, leave_commands, once_confirmed}
+use Rattle.iom_coherence.specs.DriverCalls.{attachments_with, with_kind, with_ticket, released_extent, queued_by_release, leave_commands, attachment_once_confirmed}
 use Rattle.iom_coherence.proofs.ListLemmas.{in_none, contains_head, contains_tail}
 use Rattle.iom_ledger.specs.History.{confirmed_from, History, Pair, confirms, lingering_at}
 use Rattle.iom_coherence.specs.Faithful.{GrantsFit, IsFaithful}
@@ -155,7 +155,7 @@ abbrev pub AttachesOne : Values → Values → ℕ → Attachment → Type 0
 AttachesOne old new id now = (d : ℕ) → new.attachment_of d ≡ (if id == d then now else old.attachment_of d)
 
 attached_as : (old new : Values) (scene : Scene) (id : ℕ) (now : Attachment) → IsSceneOf old scene → AttachesOne old new id now
-    → (d : ℕ) → with_attachment scene.attachment_of id now d ≡ new.attachment_of d
+    → (d : ℕ) → attachments_with scene.attachment_of id now d ≡ new.attachment_of d
 attached_as old new scene id now shows attaches d = ap (λ before. if id == d then now else before) (shows.attachments d) ∙ sym (attaches d)
 
 -- a device that is attached leaves no more, and others leave as before
@@ -187,7 +187,7 @@ pub record AttachesDetached (old new : Values) (id : ℕ) (mode : Mode) (ats : B
 
 pub attach_scene : (old new : Values) (id : ℕ) (mode : Mode) (ats : Bool) → AttachesDetached old new id mode ats → HasFaithfulScene old → HasFaithfulScene new
 attach_scene old new id mode ats attaches (scene, shows, facts) =
-    let next : Scene = record scene { attachment_of = with_attachment scene.attachment_of id (Attached mode ats) } in (
+    let next : Scene = record scene { attachment_of = attachments_with scene.attachment_of id (Attached mode ats) } in (
       next,
       record {
         ledger = attaches.agrees scene.history shows.ledger;
@@ -337,14 +337,14 @@ unconfirmed_next values scene ticket shows facts above = by (confirms scene.hist
 
 -- no invalidation of an attached device is one of a leaving device
 release_goes : (old : Values) (scene : Scene) (id number d : ℕ) (extent : Extent) (mode : Mode) (ats : Bool) (a : Attachment) → old.attachment_of id ≡ Attached mode ats → old.attachment_of d ≡ a → GoesInOrder old.fence_of d a scene.waiting
-    → GoesInOrder old.fence_of d a (scene.waiting ++ (release_commands id extent ats ++ Fence number ∷ []))
+    → GoesInOrder old.fence_of d a (scene.waiting ++ (queued_by_release id extent ats ++ Fence number ∷ []))
 release_goes old scene id number d extent mode with Detached attached is goes = tt
 release_goes old scene id number d extent mode with (Attached own ats) attached is goes = tt
 release_goes old scene id number d extent mode with (Quarantined ticket own ats) attached is goes = tt
 release_goes old scene id number d extent mode with (Leaving ticket own ats) attached is goes =
-    come_on d (old.fence_of ticket) scene.waiting (release_commands id extent with ++ Fence number ∷ []) goes (by with (λ same. let both = sym attached ∙ ap old.attachment_of same ∙ is in cc))
+    come_on d (old.fence_of ticket) scene.waiting (queued_by_release id extent with ++ Fence number ∷ []) goes (by with (λ same. let both = sym attached ∙ ap old.attachment_of same ∙ is in cc))
   where
-    by : (b : Bool) → (id ≡ d → ⊥) → ComeBefore d (old.fence_of ticket) (release_commands id extent b ++ Fence number ∷ [])
+    by : (b : Bool) → (id ≡ d → ⊥) → ComeBefore d (old.fence_of ticket) (queued_by_release id extent b ++ Fence number ∷ [])
     by true other = ((λ same. absurd (other same)), tt)
     by false other = ((λ same. absurd (other same)), tt)
 
@@ -367,12 +367,12 @@ detached_goes scene id number =
 
 -- RELEASE
 pub release_scene : (old new : Values) (id page : ℕ) (mode : Mode) (ats : Bool) (commands : List QueueEntry)
-    → QueuesTicket old new commands (release_commands id (released_extent mode page) ats)
+    → QueuesTicket old new commands (queued_by_release id (released_extent mode page) ats)
     → old.attachment_of id ≡ Attached mode ats → ((d : ℕ) → new.attachment_of d ≡ old.attachment_of d)
     → ((h : History) → Agrees old.ledger h → confirms h (old.given + 1) ≡ false → Agrees new.ledger (Released id page (old.given + 1) ∷ h))
     → HasFaithfulScene old → HasFaithfulScene new
 release_scene old new id page mode ats commands queues attached same agrees (scene, shows, facts) =
-    let queued = release_commands id (released_extent mode page) ats in
+    let queued = queued_by_release id (released_extent mode page) ats in
     let ordered = queues.ordered in
     let next : Scene = record (with_ticket scene queued) { history = Released id page (scene.given + 1) ∷ scene.history } in
     let agreed : Agrees new.ledger (Released id page (scene.given + 1) ∷ scene.history) =
@@ -390,7 +390,7 @@ pub detach_scene : (old new : Values) (id : ℕ) (mode : Mode) (ats : Bool) (com
     → ((page : ℕ) → (held_in old.ledger id page ≡ None) × (lingering_in old.ledger id page ≡ None))
     → ((h : History) → Agrees old.ledger h → Agrees new.ledger h) → HasFaithfulScene old → HasFaithfulScene new
 detach_scene old new id mode ats commands queues attached leaves nothing agrees (scene, shows, facts) =
-    let now = with_attachment scene.attachment_of id (Leaving (scene.given + 1) mode ats) in
+    let now = attachments_with scene.attachment_of id (Leaving (scene.given + 1) mode ats) in
     let next : Scene = record (with_ticket scene (leave_commands id)) { attachment_of = now } in
     let leaves_so : AttachesOne old new id (Leaving (scene.given + 1) mode ats) = rw shows.given leaves in (
       next,
@@ -451,7 +451,7 @@ none_queued fence_of scene device extent (Leaving ticket mode ats) first n facts
 
 -- who leaves still does so in order, or has left
 goes_once : (fence_of : ℕ → ℕ) (d ticket : ℕ) (a : Attachment) (waiting : List QueuedCommand) → GoesInOrder fence_of d a waiting
-    → GoesInOrder fence_of d (once_confirmed ticket a) waiting
+    → GoesInOrder fence_of d (attachment_once_confirmed ticket a) waiting
 goes_once fence_of d ticket Detached waiting goes = tt
 goes_once fence_of d ticket (Attached mode ats) waiting goes = tt
 goes_once fence_of d ticket (Quarantined own mode ats) waiting goes = tt
@@ -491,7 +491,7 @@ pub record ConfirmsSome (old new : Values) (n rest : ℕ) : Type 0 where
 
 left_alike : (first n : ℕ) (one other : ℕ → Attachment) (d : ℕ) → ((e : ℕ) → one e ≡ other e) → left_after first n one d ≡ left_after first n other d
 left_alike first zero one other d same = same d
-left_alike first (suc n) one other d same = ap (once_confirmed (first + n + 1)) (left_alike first n one other d same)
+left_alike first (suc n) one other d same = ap (attachment_once_confirmed (first + n + 1)) (left_alike first n one other d same)
 
 pub poll_scene : (old new : Values) (n rest : ℕ) → ConfirmsSome old new n rest → HasFaithfulScene old → HasFaithfulScene new
 poll_scene old new n rest confirms_some (scene, shows, facts) =

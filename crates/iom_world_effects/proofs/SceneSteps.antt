@@ -17,7 +17,7 @@ use Rattle.iom_coherence.specs.Attachments.{in_both_stages, IsAttached}
 use Rattle.iom_coherence.specs.Backing.{ComesFrom}
 use Rattle.iom_coherence.specs.Faithful.{IsFaithful}
 use Rattle.iom_coherence.specs.Fetches.{next_invalidation}
-use Rattle.iom_coherence.specs.Queue.{Extent, covers, QueuedCommand, DropTranslations, DropContext, Invalidate, Fence}
+use Rattle.iom_coherence.specs.Queue.{Extent, extent_covers, QueuedCommand, DropTranslations, DropContext, Invalidate, Fence}
 use Rattle.iom_coherence.specs.Transitions.{KeepContext, KeepTranslation, Accept, Make, FetchIotinval, FetchIodir, FetchAtsInval, TakeStock, CompleteFence}
 use Rattle.iom_coherence.specs.Requests.{IsWalked, IsSource, next_access}
 use Rattle.iom_coherence.specs.Scene.{Copy, AccessInFlight, AtsMessage, InvalidateRequest, Invalidation, Scene, Stock}
@@ -34,14 +34,14 @@ use Rattle.iom_iommu.specs.Fetches.{accepted_before}
 use Rattle.iom_tlb.specs.declared.space.Space.{Space}
 use Rattle.iom_tlb.specs.declared.space.Space.TheVariants as space
 use Rattle.iom_tlb.specs.declared.trans_cache.Translation.{Translation}
-use Rattle.iom_tlb.specs.Content.{Key, Content as Translations}
+use Rattle.iom_tlb.specs.Content.{Key, Translations}
 use Rattle.iom_tlb.specs.Covers.{are_covering}
 use Rattle.iom_tlb.specs.Invalidations.{covers_of}
 use Rattle.iom_world_effects.specs.Queued.{invalidation_in, extent_in, IsInvalidation, IsQueuedAs, AreQueuedAs}
 use Rattle.iom_world_effects.proofs.QueuedLemmas.{SpacesStay, queued_first, queued_still, come_after}
 use Rattle.iom_world_effects.specs.Scenes.{Values, copy_of, IsSomebodys, IsStockOf, GoesInOrder, IsSceneOf, HasFaithfulScene}
 use Rattle.iom_world_effects.specs.Messages.{range_of}
-use Rattle.iom_world_effects.specs.Traffic.{Traffic, under_way, pages_of, invalidation_by}
+use Rattle.iom_world_effects.specs.Traffic.{Traffic, under_way, extent_of_range, invalidation_by}
 
 -- what neither a request nor a commit nor a fetch changes
 pub record KeepsGrants (old new : Values) : Type 0 where
@@ -359,7 +359,7 @@ pub record OpensSlot (device : ℕ) (extent : Extent) (before after : Traffic) :
 
 -- what is under way after a command: ATS.INVAL opens a slot
 abbrev pub TrafficAfter : Commanded → Traffic → Traffic → Type 0
-TrafficAfter (AtsInval device range) before after = OpensSlot device (pages_of (range_of range)) before after
+TrafficAfter (AtsInval device range) before after = OpensSlot device (extent_of_range (range_of range)) before after
 TrafficAfter (IotinvalVma gscid pscid page) before after = after ≡ before
 TrafficAfter (IotinvalGvma gscid page) before after = after ≡ before
 TrafficAfter (IofenceC store wsi pr pw) before after = after ≡ before
@@ -403,7 +403,7 @@ not_true true it = absurd (false≢true it)
 not_true false it = refl
 
 -- an invalidation covers the pages of its extent
-covered_there : (space : Space) (named : Option ℕ) (page : ℕ) → covers (extent_in space named) page ≡ true → are_covering (covers_of (invalidation_in space named)) (space, page) ≡ true
+covered_there : (space : Space) (named : Option ℕ) (page : ℕ) → extent_covers (extent_in space named) page ≡ true → are_covering (covers_of (invalidation_in space named)) (space, page) ≡ true
 covered_there (space.First pscid) None page is = rw (eq-eqb pscid pscid refl) refl
 covered_there (space.First pscid) (Some own) page is = rw (eq-eqb pscid pscid refl, is) refl
 covered_there (space.Second gscid) None page is = rw (eq-eqb gscid gscid refl) refl
@@ -479,7 +479,7 @@ module _ (old new : Values) (scene : Scene) (shows : IsSceneOf old scene) (facts
       → scene.waiting ≡ DropTranslations device extent ∷ later → IsInvalidation old.space_of device extent command → AreQueuedAs old.address old.space_of new.waiting later
       → HasFaithfulScene new
   drops_translations device extent later command does waiting is queued =
-      let outside : Copy → Bool = λ copy. not ((device == copy.device) && covers extent copy.page) in
+      let outside : Copy → Bool = λ copy. not ((device == copy.device) && extent_covers extent copy.page) in
       let left = filter outside scene.translations in
       let next : Scene = record scene { waiting = later; translations = left } in
       let none = snapshot_none scene (DropTranslations device extent) later scene.fence_snapshot facts waiting (λ number same. cc) refl in (
@@ -499,32 +499,32 @@ module _ (old new : Values) (scene : Scene) (shows : IsSceneOf old scene) (facts
           later,
           left,
           waiting,
-          (λ copy there. let kept = contains_from_filter outside scene.translations copy there in (kept.0, not_true ((device == copy.device) && covers extent copy.page) kept.1)),
+          (λ copy there. let kept = contains_from_filter outside scene.translations copy there in (kept.0, not_true ((device == copy.device) && extent_covers extent copy.page) kept.1)),
           refl,
         ),
       )
     where
-      outside_kept : (d p : ℕ) → (device ≡ d → covers extent p ≡ true → ⊥) → not ((device == d) && covers extent p) ≡ true
-      outside_kept d p apart = by (device == d) (covers extent p) refl refl
+      outside_kept : (d p : ℕ) → (device ≡ d → extent_covers extent p ≡ true → ⊥) → not ((device == d) && extent_covers extent p) ≡ true
+      outside_kept d p apart = by (device == d) (extent_covers extent p) refl refl
         where
-          by : (a b : Bool) → (device == d) ≡ a → covers extent p ≡ b → not (a && b) ≡ true
+          by : (a b : Bool) → (device == d) ≡ a → extent_covers extent p ≡ b → not (a && b) ≡ true
           by false b own covered = refl
           by true false own covered = refl
           by true true own covered = absurd (apart (eqb-true device d own) covered)
 
       somebodys : (key : Key) (translation : Translation) → new.translations key ≡ Some translation
-          → IsSomebodys old.space_of (filter (λ copy. not ((device == copy.device) && covers extent copy.page)) scene.translations) key translation
+          → IsSomebodys old.space_of (filter (λ copy. not ((device == copy.device) && extent_covers extent copy.page)) scene.translations) key translation
       somebodys key translation at =
           let before = does.translations key translation at in
           let was = shows.translations key translation before.0 in record {
             device = was.device;
             own = was.own;
-            there = contains_filter (λ (copy : Copy). not ((device == copy.device) && covers extent copy.page)) scene.translations (copy_of was.device key.1 translation) was.there
+            there = contains_filter (λ (copy : Copy). not ((device == copy.device) && extent_covers extent copy.page)) scene.translations (copy_of was.device key.1 translation) was.there
                 (outside_kept was.device key.1 (λ same covered.
                 let spaces : key.0 ≡ is.space = some_of key.0 is.space (sym was.own ∙ ap old.space_of (sym same) ∙ is.own) in
                 let key_is : key ≡ (is.space, key.1) = ap (λ (s : Space). (s, key.1)) spaces in
                 false≢true (sym (ap (are_covering (covers_of (invalidation_in is.space is.page))) (sym key_is) ∙ named before.1)
-                ∙ covered_there is.space is.page key.1 (subst (λ e. covers e key.1 ≡ true) is.about covered))));
+                ∙ covered_there is.space is.page key.1 (subst (λ e. extent_covers e key.1 ≡ true) is.about covered))));
           }
         where
           some_of : (x y : Space) → Some x ≡ Some y → x ≡ y
@@ -562,10 +562,10 @@ module _ (old new : Values) (scene : Scene) (shows : IsSceneOf old scene) (facts
 
   -- a slot is opened, and its request is sent or lost
   opens : (device id : ℕ) (range : AtsRange) (extent : Extent) (later : List QueuedCommand) → DoesFirst old new (AtsInval id range) → scene.waiting ≡ Invalidate device extent ∷ later
-      → (id ≡ device) × (extent ≡ pages_of (range_of range)) → AreQueuedAs old.address old.space_of new.waiting later → HasFaithfulScene new
+      → (id ≡ device) × (extent ≡ extent_of_range (range_of range)) → AreQueuedAs old.address old.space_of new.waiting later → HasFaithfulScene new
   opens device id range extent later does waiting is queued =
       let opened : OpensSlot device extent old.traffic new.traffic =
-      subst (λ e. OpensSlot device e old.traffic new.traffic) (sym is.1) (subst (λ d. OpensSlot d (pages_of (range_of range)) old.traffic new.traffic) is.0 does.traffic) in
+      subst (λ e. OpensSlot device e old.traffic new.traffic) (sym is.1) (subst (λ d. OpensSlot d (extent_of_range (range_of range)) old.traffic new.traffic) is.0 does.traffic) in
       let serial : scene.last_serial ≡ old.traffic.last_serial = ap (λ (t : Traffic). t.last_serial) shows.traffic in
       let next : Scene = record scene {
         waiting = later;

@@ -22,17 +22,17 @@ use Rattle.iom_directory_build.specs.Pages.{root_level}
 use Rattle.iom_driver.specs.declared.device.Attachment.{Attachment}
 use Rattle.iom_driver.specs.declared.device.Attachment.TheVariants.{Detached, Attached, Quarantined, Leaving}
 use Rattle.iom_driver.specs.declared.device.Stages.{Stages}
-use Rattle.iom_driver.specs.Devices.{attachment_of, stages_of, owned_stages_of, attached_stages, owned_stages}
+use Rattle.iom_driver.specs.Devices.{attachment_by_id, stages_of, owned_stages_of, attached_stages, owned_stages}
 use Rattle.iom_driver.specs.Directory.{context_in, context_for, located_for, mode_of, NamesDirectory}
 use Rattle.iom_driver.specs.Layout.{IsLevels, directory_frame, id_limit}
 use Rattle.iom_driver.specs.State.{DriverState}
 use Rattle.iom_driver.specs.Tables.{AreTablesOf}
 use Rattle.iom_driver.proofs.Lists.{get_within}
 use Rattle.iom_iommu.specs.Parts.{registers_of, contexts_of}
-use Rattle.iom_iommu.specs.Service.{Serves, ServesBy, ServesIn, LooksOrWalks, Walks, cached_for, translation_of, found_context, context_for as context_found}
+use Rattle.iom_iommu.specs.Service.{Serves, ServesBy, ServesIn, LooksOrWalks, Walks, cached_for, translation_of, found_context, context_or_cause}
 use Rattle.iom_tlb.specs.declared.space.Space.TheVariants as space
 use Rattle.iom_tlb.specs.declared.trans_cache.Translation.{Translation}
-use Rattle.iom_tlb.specs.Content.{Content as Translations, Stays, Keeps}
+use Rattle.iom_tlb.specs.Content.{Translations, TranslationsStay, Keeps}
 use Rattle.iom_ledger.specs.declared.ledger.Ledger.{Ledger}
 use Rattle.iom_ledger.specs.History.{Pair}
 use Rattle.iom_ledger.specs.Shown.{held_in}
@@ -63,7 +63,7 @@ cause_at levels id = if nat_le (id_limit levels) id then TransactionTypeDisallow
 -- of an attached device, what is held is reached by a walk, and kept
 pub record ReachesHeld (sure : Bool) (d : DriverState) (id address : ℕ) (kind : AccessKind) (old : Translations) (answer : Translation) (new : Translations) : Type 0 where
   pub stage : Stages
-  pub attached : attachment_of d.devices id ≡ Attached stage
+  pub attached : attachment_by_id d.devices id ≡ Attached stage
   pub translation : Translation
   pub answer_is : answer ≡ translation
   pub held : HoldsWalked d.ledger stage.mode id (address / 4096) translation
@@ -79,7 +79,7 @@ pub record FindsCached (d : DriverState) (id address : ℕ) (kind : AccessKind) 
   pub answer_is : answer ≡ translation
   pub cached : old (space_in stage.mode stage.number, address / 4096) ≡ Some translation
   pub allowed : allows translation.rights kind ≡ true
-  pub stays : Stays old new
+  pub stays : TranslationsStay old new
 
 -- by how the device is attached
 abbrev pub FaultsAs : Attachment → DriverState → ℕ → ℕ → AccessKind → Cause → Type 0
@@ -90,7 +90,7 @@ FaultsAs (Leaving ticket stage) d id address kind cause = IsPageFaultOf stage.mo
 
 abbrev pub IsAnswered : Bool → DriverState → ℕ → ℕ → AccessKind → Translations → Result Translation WalkFault → Translations → Type 0
 IsAnswered sure d id address kind old (Ok answer) new = ReachesHeld sure d id address kind old answer new ⊎ FindsCached d id address kind old answer new
-IsAnswered sure d id address kind old (Err fault) new = FaultsAs (attachment_of d.devices id) d id address kind fault.cause × Stays old new
+IsAnswered sure d id address kind old (Err fault) new = FaultsAs (attachment_by_id d.devices id) d id address kind fault.cause × TranslationsStay old new
 
 -- a page fault of the mode
 page_fault_by : (mode : Mode) (ledger : Ledger) (id page : ℕ) (kind : AccessKind) (cause : Cause) → FaultsBy mode ledger id page kind cause → IsPageFaultOf mode kind cause
@@ -215,7 +215,7 @@ module _ (laws : ServiceLaws) (parts : Parts) (events : ℕ) (sound : AreSound p
   located_high : (id : ℕ) → id_limit d.levels ≤ id → (stage : Option Stages) → stages_of d.devices id ≡ stage → Err TransactionTypeDisallowed ≡ located_as d.levels id stage
   located_high id high None is = rw (le-leb (id_limit d.levels) id high) refl
   located_high id high (Some stage) is =
-      let low = own.named id stage (attached_owns (attachment_of d.devices id) stage is) in absurd (omega (arith, low, high))
+      let low = own.named id stage (attached_owns (attachment_by_id d.devices id) stage is) in absurd (omega (arith, low, high))
 
   pub located : (id : ℕ) → located_context parts.memory (registers_of parts.iommu).ddtp id ≡ located_as parts.driver.levels id (stages_of parts.driver.devices id)
   located id = located_at id ∙ by (nat_lt id (id_limit d.levels)) refl
@@ -232,7 +232,7 @@ module _ (laws : ServiceLaws) (parts : Parts) (events : ℕ) (sound : AreSound p
           located_high id (omega (arith, high)) (stages_of d.devices id) refl
 
   -- the context that is found: that of the directory, or a cached one, which is true: its device has stages, and so no id that is too wide
-  pub found_as : (id : ℕ) → context_found parts.memory (registers_of parts.iommu) (contexts_of parts.iommu) id
+  pub found_as : (id : ℕ) → context_or_cause parts.memory (registers_of parts.iommu) (contexts_of parts.iommu) id
       ≡ found_context (contexts_of parts.iommu id) (located_as parts.driver.levels id (stages_of parts.driver.devices id))
   found_as id =
       ap (λ b. if b then found_context (contexts_of parts.iommu id) (located_context parts.memory r.ddtp id) else Err TransactionTypeDisallowed)
@@ -290,7 +290,7 @@ module _ (laws : ServiceLaws) (parts : Parts) (events : ℕ) (sound : AreSound p
         looked_by sure stage.mode stage.ats parts.memory stage.root stage.number address kind old answer new (omega (arith, below, many)) (omega (arith, few))
         (root_aligned parts.memory d.marks d.ledger id stage.mode stage.root tables) served
 
-    by_tables : (stage : Stages) (answer : Result Translation WalkFault) → attachment_of d.devices id ≡ Attached stage → IsWalked stage answer → IsAnswered sure d id address kind old answer new
+    by_tables : (stage : Stages) (answer : Result Translation WalkFault) → attachment_by_id d.devices id ≡ Attached stage → IsWalked stage answer → IsAnswered sure d id address kind old answer new
     by_tables stage (Ok answer) attached (walked, reaches, same, kept) =
         let held = reached laws.walks parts.memory d.marks d.ledger id stage.mode stage.root (tables_of stage (ap owned_stages attached)) (held_inside id) address kind low_page walked reaches in
         inl (record { stage = stage; attached = attached; translation = translation_of walked; answer_is = same; held = held.0; allowed = held.1; kept = kept })
@@ -302,7 +302,7 @@ module _ (laws : ServiceLaws) (parts : Parts) (events : ℕ) (sound : AreSound p
 
     -- a device that is cut off or leaves holds nothing
     none_reached : (stage : Stages) (answer : Result Translation WalkFault) → owned_stages_of d.devices id ≡ Some stage → stages_of d.devices id ≡ None
-        → ((cause : Cause) → IsPageFaultOf stage.mode kind cause → FaultsAs (attachment_of d.devices id) d id address kind cause)
+        → ((cause : Cause) → IsPageFaultOf stage.mode kind cause → FaultsAs (attachment_by_id d.devices id) d id address kind cause)
         → IsWalked stage answer → IsAnswered sure d id address kind old answer new
     none_reached stage (Ok answer) owned away faults (walked, reaches, same, kept) =
         let held = reached laws.walks parts.memory d.marks d.ledger id stage.mode stage.root (tables_of stage owned) (held_inside id) address kind low_page walked reaches in
@@ -323,7 +323,7 @@ module _ (laws : ServiceLaws) (parts : Parts) (events : ℕ) (sound : AreSound p
     by_cache stage answer owned pending walks looked = by (old (space_in stage.mode stage.number, address / 4096)) refl looked
       where
         finds : (translation : Translation) → old (space_in stage.mode stage.number, address / 4096) ≡ Some translation → allows translation.rights kind ≡ true
-            → (answer : Result Translation WalkFault) → answer ≡ Ok translation → Stays old new → IsAnswered sure d id address kind old answer new
+            → (answer : Result Translation WalkFault) → answer ≡ Ok translation → TranslationsStay old new → IsAnswered sure d id address kind old answer new
         finds translation at allowed (Ok found) same stays = inr (record {
           stage = stage;
           owned = owned;
@@ -348,16 +348,16 @@ module _ (laws : ServiceLaws) (parts : Parts) (events : ℕ) (sound : AreSound p
             allow false allowed it = walks it
 
     -- without a context
-    no_context : (a : Attachment) (answer : Result Translation WalkFault) → attachment_of d.devices id ≡ a
+    no_context : (a : Attachment) (answer : Result Translation WalkFault) → attachment_by_id d.devices id ≡ a
         → ((cause : Cause) → cause ≡ cause_at d.levels id → FaultsAs a d id address kind cause)
-        → answer ≡ Err (plain (cause_at d.levels id)) → Stays old new → IsAnswered sure d id address kind old answer new
+        → answer ≡ Err (plain (cause_at d.levels id)) → TranslationsStay old new → IsAnswered sure d id address kind old answer new
     no_context a (Ok answer) is faults same stays = cc
     no_context a (Err fault) is faults same stays =
         let c : fault ≡ plain (cause_at d.levels id) = cc in
         (subst (λ a. FaultsAs a d id address kind fault.cause) (sym is) (faults fault.cause (ap (λ (f : WalkFault). f.cause) c)), stays)
 
     -- by the context of its stages, of a device that is attached, of one that is cut off, and of one that leaves
-    pub of_attached : (stage : Stages) (answer : Result Translation WalkFault) → attachment_of parts.driver.devices id ≡ Attached stage
+    pub of_attached : (stage : Stages) (answer : Result Translation WalkFault) → attachment_by_id parts.driver.devices id ≡ Attached stage
         → ServesBy sure (Ok (context_for stage)) parts.memory address kind old answer new → IsAnswered sure parts.driver id address kind old answer new
     of_attached stage answer is served =
         by_cache stage answer (ap owned_stages is) (λ ticket other at. absurd (never ticket other (sym is ∙ at))) (by_tables stage answer is) (from_tables stage answer (ap owned_stages is) served)
@@ -365,7 +365,7 @@ module _ (laws : ServiceLaws) (parts : Parts) (events : ℕ) (sound : AreSound p
         never : (ticket : ℕ) (other : Stages) → Attached stage ≡ Quarantined ticket other → ⊥
         never ticket other same = cc
 
-    pub of_cut_off : (ticket : ℕ) (stage : Stages) (answer : Result Translation WalkFault) → attachment_of parts.driver.devices id ≡ Quarantined ticket stage → IsPending parts.driver id
+    pub of_cut_off : (ticket : ℕ) (stage : Stages) (answer : Result Translation WalkFault) → attachment_by_id parts.driver.devices id ≡ Quarantined ticket stage → IsPending parts.driver id
         → ServesBy sure (Ok (context_for stage)) parts.memory address kind old answer new → IsAnswered sure parts.driver id address kind old answer new
     of_cut_off ticket stage answer is pending served =
         by_cache stage answer (ap owned_stages is) pending
@@ -373,7 +373,7 @@ module _ (laws : ServiceLaws) (parts : Parts) (events : ℕ) (sound : AreSound p
         (λ cause fault. subst (λ a. FaultsAs a d id address kind cause) (sym is) (inl (pending ticket stage is, fault))))
         (from_tables stage answer (ap owned_stages is) served)
 
-    pub of_leaving : (ticket : ℕ) (stage : Stages) (answer : Result Translation WalkFault) → attachment_of parts.driver.devices id ≡ Leaving ticket stage
+    pub of_leaving : (ticket : ℕ) (stage : Stages) (answer : Result Translation WalkFault) → attachment_by_id parts.driver.devices id ≡ Leaving ticket stage
         → ServesBy sure (Ok (context_for stage)) parts.memory address kind old answer new → IsAnswered sure parts.driver id address kind old answer new
     of_leaving ticket stage answer is served =
         by_cache stage answer (ap owned_stages is) (λ t other at. absurd (never t other (sym is ∙ at)))
@@ -384,7 +384,7 @@ module _ (laws : ServiceLaws) (parts : Parts) (events : ℕ) (sound : AreSound p
         never t other same = cc
 
     -- by how it is attached, and what is cached
-    by_attachment : (a : Attachment) (cached : Option Context) (answer : Result Translation WalkFault) → attachment_of d.devices id ≡ a
+    by_attachment : (a : Attachment) (cached : Option Context) (answer : Result Translation WalkFault) → attachment_by_id d.devices id ≡ a
         → ((context : Context) → cached ≡ Some context → option_map context_for (owned_stages a) ≡ Some context) → (is_some cached ≡ true → IsPending d id)
         → ServesBy sure (found_context cached (located_as d.levels id (attached_stages a))) parts.memory address kind old answer new → IsAnswered sure d id address kind old answer new
     by_attachment Detached None answer is true_for pends served = no_context Detached answer is (λ cause same. same) served.0 served.1
@@ -408,10 +408,10 @@ module _ (laws : ServiceLaws) (parts : Parts) (events : ℕ) (sound : AreSound p
     pub service : (answer : Result Translation WalkFault) → Serves sure parts.memory (registers_of parts.iommu) (contexts_of parts.iommu) id address kind old answer new → IsAnswered sure parts.driver id address kind old answer new
     service answer served =
         let cached = contexts_of parts.iommu id in
-        let found = context_found parts.memory r (contexts_of parts.iommu) id in
+        let found = context_or_cause parts.memory r (contexts_of parts.iommu) id in
         let by_mode : ServesIn sure (mode_of d.levels) found parts.memory address kind old answer new =
         subst (λ m. ServesIn sure m found parts.memory address kind old answer new) names.mode served in
-        by_attachment (attachment_of d.devices id) cached answer refl (λ context is. sound.contexts id context is) (λ there. pending_cached parts events sound id there)
+        by_attachment (attachment_by_id d.devices id) cached answer refl (λ context is. sound.contexts id context is) (λ there. pending_cached parts events sound id there)
         (subst (λ f. ServesBy sure f parts.memory address kind old answer new) (found_as id)
         (served_in sure d.levels own.sizes.in_range found parts.memory address kind old answer new by_mode))
 

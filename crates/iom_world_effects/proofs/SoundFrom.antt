@@ -8,7 +8,7 @@ use Rattle.iom_base.specs.declared.owner.Owner.{Owner}
 use Rattle.iom_base.specs.declared.owner.Owner.TheVariants.{System}
 use Rattle.iom_command_queue.specs.Waiting.{commands_in}
 use Rattle.iom_driver.specs.Fences.{last_fence, fence_of}
-use Rattle.iom_driver.specs.Devices.{attachment_of}
+use Rattle.iom_driver.specs.Devices.{attachment_by_id}
 use Rattle.iom_driver.specs.Laws.{KeepsReserved, KeepsRing, LeavesCommands, LeavesAllElse}
 use Rattle.iom_driver.specs.Layout.{AreFixed, command_frame, completion_frame, completion_address}
 use Rattle.iom_driver.specs.Ready.{IsReady}
@@ -90,7 +90,7 @@ module _ (old new : Parts) (events : ℕ) (sound : AreSound old events) (own : I
     fences = ap (λ (d : DriverState). fence_of d) leaves.driver;
     stopped = ap (λ (r : Registers). (command_status r).cmd_to) leaves.registers;
     kinds = kinds_kept old new leaves.devices;
-    attachments = λ id. ap (λ (d : DriverState). shown_attachment (attachment_of d.devices id)) leaves.driver;
+    attachments = λ id. ap (λ (d : DriverState). shown_attachment (attachment_by_id d.devices id)) leaves.driver;
     spaces = λ id. ap (λ (d : DriverState). space_at d.devices id) leaves.driver;
   }
 
@@ -166,7 +166,7 @@ module _ (old new : Parts) (events : ℕ) (sound : AreSound old events) (own : I
     fences = ap (λ (d : DriverState). fence_of d) leaves.driver;
     stopped = ap (λ c. c.cmd_to) leaves.else_same.registers.status;
     kinds = kinds_kept old new leaves.devices;
-    attachments = λ id. ap (λ (d : DriverState). shown_attachment (attachment_of d.devices id)) leaves.driver;
+    attachments = λ id. ap (λ (d : DriverState). shown_attachment (attachment_by_id d.devices id)) leaves.driver;
     spaces = λ id. ap (λ (d : DriverState). space_at d.devices id) leaves.driver;
   }
 

@@ -12,7 +12,7 @@ use Rattle.iom_coherence.specs.Scene.{Scene}
 use Rattle.iom_coherence.proofs.ToComeLemmas.{rise_le}
 use Rattle.iom_device_dir.specs.declared.context.Context.{Context}
 use Rattle.iom_driver.specs.Fences.{last_fence}
-use Rattle.iom_driver.specs.Devices.{attachment_of}
+use Rattle.iom_driver.specs.Devices.{attachment_by_id}
 use Rattle.iom_driver.specs.Layout.{AreFixed, command_frame, completion_frame, completion_address}
 use Rattle.iom_driver.specs.Ready.{IsReady}
 use Rattle.iom_driver.proofs.Ring.{same_commands}
@@ -53,7 +53,7 @@ completed_given parts events sound =
 
 -- no context of a detached device is cached
 pub detached_uncached : (parts : Parts) (id : ℕ) (context : Context) → ∥ HasFaithfulScene (values_of parts) ∥₁ → contexts_of parts.iommu id ≡ Some context
-    → shown_attachment (attachment_of parts.driver.devices id) ≡ Detached → ⊥
+    → shown_attachment (attachment_by_id parts.driver.devices id) ≡ Detached → ⊥
 detached_uncached parts id context copies cached detached =
     ∥∥₁_elim copies (λ x y. absurd x) (λ (scene, shows, facts). by scene shows facts)
   where

@@ -7,7 +7,7 @@ use Rattle.iom_base.specs.declared.mode.Mode.{Mode}
 use Rattle.iom_base.specs.declared.mode.Mode.TheVariants.{First, Second, Both}
 use Rattle.iom_base.specs.declared.owner.Owner.{Owner}
 use Rattle.iom_base.specs.declared.owner.Owner.TheVariants.{System, OneDevice}
-use Rattle.iom_driver.specs.Attaching.{ArePages, IsRootBelow, limit_below, root_frames}
+use Rattle.iom_driver.specs.Attaching.{AreDirectoryPages, IsRootBelow, limit_below, root_frames}
 use Rattle.iom_driver.specs.Choices.{AreHighestFree, marked_for}
 use Rattle.iom_driver.specs.State.{DriverState}
 use Rattle.iom_driver.proofs.Marks.{Among, NotAmong, among_contained, among_get, marked_among, marked_still, mark_stays, length-marked_for}
@@ -72,7 +72,7 @@ root_free (First size) d limit root n is (inr never) = absurd never
 root_free (Second size) d limit root n is here = four_free d limit root n is here
 root_free (Both size) d limit root n is here = four_free d limit root n is here
 
-module _ (d : DriverState) (memory : List (List ℕ)) (id root : ℕ) (mode : Mode) (pages : List ℕ) (chosen : ArePages d memory id pages) (is_root : IsRootBelow mode d (limit_below (length memory) pages) root) where
+module _ (d : DriverState) (memory : List (List ℕ)) (id root : ℕ) (mode : Mode) (pages : List ℕ) (chosen : AreDirectoryPages d memory id pages) (is_root : IsRootBelow mode d (limit_below (length memory) pages) root) where
   pages_free : (limit count : ℕ) (fs : List ℕ) (n : ℕ) → AreHighestFree d.marks d.ledger None limit count fs → Among n fs → (n < limit) × IsFreeForTable d.marks d.ledger None n
   pages_free limit count [] n chose here = absurd here
   pages_free limit zero (f ∷ fs) n chose here = absurd chose

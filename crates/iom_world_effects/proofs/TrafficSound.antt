@@ -8,7 +8,7 @@ use Rattle.iom_coherence.specs.Deliveries.{MayBeSent}
 use Rattle.iom_coherence.specs.Faithful.{IsFaithful}
 use Rattle.iom_coherence.specs.Scene.{AtsMessage, Scene}
 use Rattle.iom_driver.specs.Fences.{last_fence, fence_of}
-use Rattle.iom_driver.specs.Devices.{attachment_of, owned_stages_of}
+use Rattle.iom_driver.specs.Devices.{attachment_by_id, owned_stages_of}
 use Rattle.iom_driver.specs.Directory.{context_for}
 use Rattle.iom_driver.specs.Layout.{completion_address}
 use Rattle.iom_driver.specs.Ready.{IsReady}
@@ -70,7 +70,7 @@ rest_kept old new keeps = record {
     fences = ap (λ (d : DriverState). fence_of d) keeps.driver;
     stopped = ap (λ (r : Registers). (command_status r).cmd_to) keeps.iommu.registers;
     kinds = keeps.kinds;
-    attachments = λ id. ap (λ (d : DriverState). shown_attachment (attachment_of d.devices id)) keeps.driver;
+    attachments = λ id. ap (λ (d : DriverState). shown_attachment (attachment_by_id d.devices id)) keeps.driver;
     spaces = λ id. ap (λ (d : DriverState). space_at d.devices id) keeps.driver;
   };
   waiting = ap (λ m. commands_in m (registers_of new.iommu)) keeps.memory ∙ ap (commands_in old.memory) keeps.iommu.registers;

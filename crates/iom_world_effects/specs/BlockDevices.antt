@@ -23,7 +23,7 @@ use Rattle.iom_device.specs.Calls.{with_reset}
 use Rattle.iom_world_effects.specs.Messages.{with_sent}
 use Rattle.iom_world_effects.specs.Parts.{Parts}
 use Rattle.iom_world_effects.specs.Requests.{AsksAccess}
-use Rattle.iom_world_effects.specs.ThroughCache.{AsksThroughCache}
+use Rattle.iom_world_effects.specs.ThroughCache.{DeviceAsksThroughCache}
 use Rattle.iom_world_effects.specs.Unable.{IsUnknown, IsUnable}
 
 -- the block device with this id
@@ -54,8 +54,8 @@ SetsLayout old id layout told new =
     ⊎ ((¬ IsLayout layout) × (told ≡ outcome.Refused BadQueue) × (new ≡ old))
 
 -- THE QUEUE OF A BLOCK DEVICE IS SET
-abbrev pub SetsQueue : Parts → ℕ → Layout → Outcome → Parts → Type 0
-SetsQueue old id layout told new =
+abbrev pub SetsBlockQueue : Parts → ℕ → Layout → Outcome → Parts → Type 0
+SetsBlockQueue old id layout told new =
     IsUnknown old id told new ⊎ IsUnable is_block_device old id told new
     ⊎ (IsAble is_block_device old.devices id × SetsLayout old id layout told new)
 
@@ -69,7 +69,7 @@ AsksIfMissed first old id access told new = (told ≡ first) × (new ≡ old)
 pub record GoesThroughCache (old : Parts) (id : ℕ) (access : Access) (told : Outcome) (new : Parts) : Type 0 where
   pub first : Outcome
   pub between : Parts
-  pub tries : AsksThroughCache is_block_device old id access first between
+  pub tries : DeviceAsksThroughCache is_block_device old id access first between
   pub asks : AsksIfMissed first between id access told new
 
 -- to the IOMMU, which translates it, or through the device's own cache
@@ -101,12 +101,12 @@ abbrev pub WantsAccess : Parts → ℕ → Outcome → Parts → Type 0
 WantsAccess old id told new = (access : Access) × (access.address < 2 ^ 64) × MayWant access × BeginsAccess old id access told new
 
 -- A BLOCK DEVICE TAKES A STEP of its own choice
-abbrev pub TakesStep : Parts → ℕ → Outcome → Parts → Type 0
-TakesStep old id told new = WantsAccess old id told new ⊎ ((step : BlockStep) × IsRest step × Rests old id step told new)
+abbrev pub TakesBlockStep : Parts → ℕ → Outcome → Parts → Type 0
+TakesBlockStep old id told new = WantsAccess old id told new ⊎ ((step : BlockStep) × IsRest step × Rests old id step told new)
 
 -- THE STATUS OF A BLOCK DEVICE is this one, and nothing changes
-abbrev pub TellsStatus : Parts → ℕ → ℕ → Outcome → Parts → Type 0
-TellsStatus old id status told new =
+abbrev pub TellsBlockStatus : Parts → ℕ → ℕ → Outcome → Parts → Type 0
+TellsBlockStatus old id status told new =
     IsUnknown old id told new ⊎ IsUnable is_block_device old id told new
     ⊎ (IsAble is_block_device old.devices id × (told ≡ outcome.Status status) × (new ≡ old))
 

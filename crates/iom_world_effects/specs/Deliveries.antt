@@ -51,9 +51,9 @@ obeyed_told serial None = outcome.Ignored
 obeyed_told serial (Some done) = outcome.Invalidated serial
 
 -- what is under way then
-abbrev pub with_done : List OnLink → ℕ → Option Message → List OnLink
-with_done others device None = others
-with_done others device (Some done) = with_sent others device done
+abbrev pub with_completion_sent : List OnLink → ℕ → Option Message → List OnLink
+with_completion_sent others device None = others
+with_completion_sent others device (Some done) = with_sent others device done
 
 -- and all else stays, but that the request isn't under way any more, and the word is
 pub record ObeysRequest (old : Parts) (device serial : ℕ) (range : Range) (others : List OnLink) (told : Outcome) (new : Parts) : Type 0 where
@@ -61,7 +61,7 @@ pub record ObeysRequest (old : Parts) (device serial : ℕ) (range : Range) (oth
   pub after : Option Cache
   pub cache : Obeys (cache_of old.devices device) serial range done after
   pub told_so : told ≡ obeyed_told serial done
-  pub rest : new ≡ record old { devices = with_cache old.devices device after; fabric = with_done others device done }
+  pub rest : new ≡ record old { devices = with_cache old.devices device after; fabric = with_completion_sent others device done }
 
 -- THE IOMMU IS TOLD that a request is completed, by the device on whose link that comes
 pub record HearsCompletion (old : Parts) (device serial : ℕ) (others : List OnLink) (told : Outcome) (new : Parts) : Type 0 where

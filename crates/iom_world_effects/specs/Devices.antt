@@ -5,7 +5,7 @@ use Rattle.iom_base.specs.declared.access.AcceptedAccess.{AcceptedAccess}
 use Rattle.iom_driver.specs.declared.device.Attachment as driver
 use Rattle.iom_driver.specs.declared.device.Attachment.TheVariants as attached
 use Rattle.iom_driver.specs.declared.device.Device as known
-use Rattle.iom_driver.specs.Devices.{attachment_of}
+use Rattle.iom_driver.specs.Devices.{attachment_by_id}
 use Rattle.iom_inflight.specs.Flights.{NumberedAccess, FlightRow, row_of}
 use Rattle.iom_machine.specs.declared.state.Attachment.{Attachment}
 use Rattle.iom_machine.specs.declared.state.Attachment.TheVariants.{Detached, Attached, Quarantined, Leaving}
@@ -33,7 +33,7 @@ shown_device known rows device = record {
   id = device.id;
   kind = device.kind;
   has_disk = device.has_disk;
-  attachment = shown_attachment (attachment_of known device.id);
+  attachment = shown_attachment (attachment_by_id known device.id);
   accepted = accepted_of rows device.id;
   in_flight = in_flight_of rows device.id;
 }

@@ -38,7 +38,7 @@ use Rattle.iom_device.specs.Calls.{new_cache}
 use Rattle.iom_device.specs.declared.device.Device.{Device}
 use Rattle.iom_virtqueue.specs.Layouts.{layout_of}
 use Rattle.iom_world_effects.specs.Answers.{told_of, ticket_told_of}
-use Rattle.iom_world_effects.specs.BlockDevices.{InsertsMedium, SetsQueue, TakesStep, TellsStatus, devices_left}
+use Rattle.iom_world_effects.specs.BlockDevices.{InsertsMedium, SetsBlockQueue, TakesBlockStep, TellsBlockStatus, devices_left}
 use Rattle.iom_world_effects.specs.Commits.{CommitsAccess}
 use Rattle.iom_world_effects.specs.Deliveries.{DeliversMessage}
 use Rattle.iom_world_effects.specs.Messages.{with_fetched, AsksQuestion, ForgesCompletion, DropsMessage, RepeatsMessage}
@@ -46,7 +46,7 @@ use Rattle.iom_world_effects.specs.Parts.{Parts}
 use Rattle.iom_world_effects.specs.Processor.{PokesBytes, PeeksBytes, AsksFree}
 use Rattle.iom_world_effects.specs.Recovery.{QuarantinesDevice, RevivesDevice, RestartsQueue, TimesOutFence, ResetsDevice}
 use Rattle.iom_world_effects.specs.Requests.{AsksAccess, AsksTranslated}
-use Rattle.iom_world_effects.specs.ThroughCache.{AsksThroughCache}
+use Rattle.iom_world_effects.specs.ThroughCache.{DeviceAsksThroughCache}
 
 -- what a poll is told as
 abbrev pub polled_told_of : Result Polled Refusal → Outcome
@@ -192,17 +192,17 @@ Does disks old (events.Write id address bytes) told new = AsksAccess sends_untra
 Does disks old (events.Commit id) told new = CommitsAccess old id told new
 Does disks old (events.ReadTranslated id address len) told new = AsksTranslated old id (read_of address len) told new
 Does disks old (events.WriteTranslated id address bytes) told new = AsksTranslated old id (write_of address bytes) told new
-Does disks old (events.ReadThroughCache id address len) told new = AsksThroughCache sends_through_cache old id (read_of address len) told new
-Does disks old (events.WriteThroughCache id address bytes) told new = AsksThroughCache sends_through_cache old id (write_of address bytes) told new
+Does disks old (events.ReadThroughCache id address len) told new = DeviceAsksThroughCache sends_through_cache old id (read_of address len) told new
+Does disks old (events.WriteThroughCache id address bytes) told new = DeviceAsksThroughCache sends_through_cache old id (write_of address bytes) told new
 Does disks old (events.Ask id page) told new = AsksQuestion old id page told new
 Does disks old (events.Forge id serial) told new = ForgesCompletion old id serial told new
 Does disks old (events.Deliver place) told new = DeliversMessage old place told new
 Does disks old (events.Drop place) told new = DropsMessage old place told new
 Does disks old (events.Repeat place) told new = RepeatsMessage old place told new
 Does disks old (events.Reset id) told new = ResetsDevice old id told new
-Does disks old (events.Queue id size descriptors available used) told new = SetsQueue old id (layout_of size descriptors available used) told new
-Does disks old (events.Step id) told new = TakesStep old id told new
-Does disks old (events.Status id) told new = (status : ℕ) × TellsStatus old id status told new
+Does disks old (events.Queue id size descriptors available used) told new = SetsBlockQueue old id (layout_of size descriptors available used) told new
+Does disks old (events.Step id) told new = TakesBlockStep old id told new
+Does disks old (events.Status id) told new = (status : ℕ) × TellsBlockStatus old id status told new
 Does disks old (events.Poke address bytes) told new = PokesBytes old address bytes told new
 Does disks old (events.Peek address len) told new = PeeksBytes old address len told × (new ≡ old)
 Does disks old (events.Free frame) told new = AsksFree old frame told × (new ≡ old)

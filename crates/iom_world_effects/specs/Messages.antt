@@ -52,7 +52,7 @@ abbrev pub sent_told : List OnLink → Outcome
 sent_told fabric = if nat_lt (length fabric) 64 then outcome.Sent else outcome.Lost
 
 -- a device sends a message, and nothing else changes
-pub record Sends (old : Parts) (id : ℕ) (message : Message) (told : Outcome) (new : Parts) : Type 0 where
+pub record SendsOnLink (old : Parts) (id : ℕ) (message : Message) (told : Outcome) (new : Parts) : Type 0 where
   pub told_so : told ≡ sent_told old.fabric
   pub sent : new ≡ record old { fabric = with_sent old.fabric id message }
 
@@ -60,13 +60,13 @@ pub record Sends (old : Parts) (id : ℕ) (message : Message) (told : Outcome) (
 abbrev pub AsksQuestion : Parts → ℕ → ℕ → Outcome → Parts → Type 0
 AsksQuestion old id page told new =
     IsUnknown old id told new ⊎ IsUnable asks_questions old id told new
-    ⊎ (IsAble asks_questions old.devices id × Sends old id (Ask (epoch_in old.devices id) page) told new)
+    ⊎ (IsAble asks_questions old.devices id × SendsOnLink old id (Ask (epoch_in old.devices id) page) told new)
 
 -- A DEVICE SAYS that it completed a request, whether it was asked or not (Invalidate Completion, section 10.3.2)
 abbrev pub ForgesCompletion : Parts → ℕ → ℕ → Outcome → Parts → Type 0
 ForgesCompletion old id serial told new =
     IsUnknown old id told new ⊎ IsUnable forges old id told new
-    ⊎ (IsAble forges old.devices id × Sends old id (InvDone serial) told new)
+    ⊎ (IsAble forges old.devices id × SendsOnLink old id (InvDone serial) told new)
 
 -- A MESSAGE IS LOST, if there is one at the place
 pub record DropsMessage (old : Parts) (place : ℕ) (told : Outcome) (new : Parts) : Type 0 where

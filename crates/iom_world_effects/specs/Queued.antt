@@ -12,7 +12,7 @@ use Rattle.iom_driver.specs.Appends.{fence}
 use Rattle.iom_driver.specs.Layout.{completion_address}
 use Rattle.iom_phys_mem.specs.Words.{word_at}
 use Rattle.iom_world_effects.specs.Messages.{range_of}
-use Rattle.iom_world_effects.specs.Traffic.{pages_of}
+use Rattle.iom_world_effects.specs.Traffic.{extent_of_range}
 use Rattle.iom_tlb.specs.declared.space.Space.{Space}
 use Rattle.iom_tlb.specs.declared.space.Space.TheVariants as space
 
@@ -51,7 +51,7 @@ IsQueuedAs address space_of (Command (IotinvalVma gscid pscid page)) (DropTransl
 IsQueuedAs address space_of (Command (IotinvalGvma gscid page)) (DropTranslations device extent) = IsInvalidation space_of device extent (IotinvalGvma gscid page)
 IsQueuedAs address space_of (Command (IofenceC store wsi pr pw)) (Fence number) = IofenceC store wsi pr pw ≡ fence address number
 IsQueuedAs address space_of (Command (IodirInvalDdt (Some id))) (DropContext device) = id ≡ device
-IsQueuedAs address space_of (Command (AtsInval id range)) (Invalidate device extent) = (id ≡ device) × (extent ≡ pages_of (range_of range))
+IsQueuedAs address space_of (Command (AtsInval id range)) (Invalidate device extent) = (id ≡ device) × (extent ≡ extent_of_range (range_of range))
 IsQueuedAs address space_of _ _ = ⊥
 
 -- what stands in the ring are these, one by one

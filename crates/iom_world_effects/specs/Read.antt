@@ -7,7 +7,7 @@ use Rattle.iom_command_queue.specs.Waiting.{commands_in}
 use Rattle.iom_coherence.specs.Scene.{AccessInFlight}
 use Rattle.iom_driver.specs.declared.device.Device.{Device}
 use Rattle.iom_driver.specs.declared.device.Stages.{Stages}
-use Rattle.iom_driver.specs.Devices.{attachment_of, owned_stages_of}
+use Rattle.iom_driver.specs.Devices.{attachment_by_id, owned_stages_of}
 use Rattle.iom_driver.specs.Fences.{last_fence, fence_of}
 use Rattle.iom_driver.specs.Layout.{completion_address}
 use Rattle.iom_inflight.specs.Flights.{NumberedAccess, FlightRow}
@@ -23,13 +23,13 @@ use Rattle.iom_world_effects.specs.Scenes.{Values}
 use Rattle.iom_world_effects.specs.Traffic.{traffic_of}
 
 -- an access in flight, as far as copies go
-abbrev pub access_of : ℕ → NumberedAccess → AccessInFlight
-access_of device flight = record { device = device; frame = flight.accepted.frame; kind = flight.accepted.access.kind; number = flight.number }
+abbrev pub access_in_flight : ℕ → NumberedAccess → AccessInFlight
+access_in_flight device flight = record { device = device; frame = flight.accepted.frame; kind = flight.accepted.access.kind; number = flight.number }
 
 -- those of all devices
 abbrev pub accesses_of : List FlightRow → List AccessInFlight
 accesses_of [] = []
-accesses_of (row ∷ rows) = map (access_of row.device) row.waiting ++ accesses_of rows
+accesses_of (row ∷ rows) = map (access_in_flight row.device) row.waiting ++ accesses_of rows
 
 -- the address space of a device that is attached in the mode, with this number
 abbrev pub space_in : Mode → ℕ → Space
@@ -54,7 +54,7 @@ values_of parts = record {
   so_far = (flights_of parts.iommu).so_far;
   in_flight = accesses_of (flights_of parts.iommu).rows;
   kind_of = kind_in parts.devices;
-  attachment_of = λ id. shown_attachment (attachment_of parts.driver.devices id);
+  attachment_of = λ id. shown_attachment (attachment_by_id parts.driver.devices id);
   is_cached = λ id. is_some (contexts_of parts.iommu id);
   space_of = space_at parts.driver.devices;
   translations = translations_of parts.iommu;

@@ -6,7 +6,7 @@ use Rattle.iom_driver.specs.Quarantines.{AnswersQuarantine}
 use Rattle.iom_driver.specs.Restarts.{AnswersRestart}
 use Rattle.iom_driver.specs.Revivals.{AnswersRevive}
 use Rattle.iom_iommu.specs.Parts.{mmio}
-use Rattle.iom_iommu.specs.Timeouts.{TimesOut}
+use Rattle.iom_iommu.specs.Timeouts.{TimesFenceOut}
 use Rattle.iom_base.specs.declared.refusal.Refusal.{Refusal}
 use Rattle.iom_machine.specs.declared.outcome.Outcome.{Outcome}
 use Rattle.iom_machine.specs.declared.outcome.Outcome.TheVariants as outcome
@@ -46,7 +46,7 @@ pub record RestartsQueue (old : Parts) (told : Outcome) (new : Parts) : Type 0 w
 pub record TimesOutFence (old : Parts) (told : Outcome) (new : Parts) : Type 0 where
   pub answer : Bool
   pub told_so : told ≡ (if answer then outcome.TimedOut else outcome.NoEffect)
-  pub call : TimesOut old.iommu answer new.iommu
+  pub call : TimesFenceOut old.iommu answer new.iommu
   pub memory : new.memory ≡ old.memory
   pub driver : new.driver ≡ old.driver
   pub devices : new.devices ≡ old.devices

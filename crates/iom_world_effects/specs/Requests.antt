@@ -13,7 +13,7 @@ use Rattle.iom_iommu.specs.declared.reply.Reply.{Reply}
 use Rattle.iom_iommu.specs.declared.reply.Reply.TheVariants.{Accepted, Busy, BadSpan, Fault}
 use Rattle.iom_iommu.specs.Parts.{registers_of, contexts_of}
 use Rattle.iom_iommu.specs.Requests.{AnswersRequest}
-use Rattle.iom_iommu.specs.Service.{context_for}
+use Rattle.iom_iommu.specs.Service.{context_or_cause}
 use Rattle.iom_iommu.specs.Translated.{AnswersTranslated}
 use Rattle.iom_ledger.specs.History.{History, May}
 use Rattle.iom_machine.specs.declared.outcome.Outcome.{Outcome}
@@ -59,7 +59,7 @@ AsksTranslated old id access told new =
 -- that is found
 pub record IsInBoth (parts : Parts) (id : ℕ) (first_size : Size) (first : ℕ) (second_size : Size) (second : ℕ) : Type 0 where
   pub context : Context
-  pub found : context_for parts.memory (registers_of parts.iommu) (contexts_of parts.iommu) id ≡ Ok context
+  pub found : context_or_cause parts.memory (registers_of parts.iommu) (contexts_of parts.iommu) id ≡ Ok context
   pub guest : Ppn
   pub guest_is : guest.number ≡ first
   pub first_stage : context.first_stage ≡ first_stage.Tables first_size guest

@@ -12,7 +12,7 @@ use Rattle.iom_machine.specs.declared.state.Attachment.TheVariants.{Detached, At
 use Rattle.iom_base.specs.declared.device_kind.DeviceKind.{DeviceKind}
 use Rattle.iom_tlb.specs.declared.space.Space.{Space}
 use Rattle.iom_tlb.specs.declared.trans_cache.Translation.{Translation}
-use Rattle.iom_tlb.specs.Content.{Key, Content as Translations}
+use Rattle.iom_tlb.specs.Content.{Key, Translations}
 use Rattle.iom_world_effects.specs.Queued.{AreQueuedAs, ComeBefore, pending_after}
 use Rattle.iom_world_effects.specs.Traffic.{Traffic, under_way}
 

@@ -6,7 +6,7 @@ use Rattle.std.specs.Option.{option_map}
 use Rattle.iom_device_dir.specs.declared.context.Context.{Context}
 use Rattle.iom_driver.specs.declared.device.Device as driver
 use Rattle.iom_driver.specs.declared.driver.Driver.{Driver}
-use Rattle.iom_driver.specs.Devices.{owned_stages_of, is_trusted}
+use Rattle.iom_driver.specs.Devices.{owned_stages_of, has_trusted_cache}
 use Rattle.iom_driver.specs.Directory.{context_for}
 use Rattle.iom_driver.specs.Ready.{IsReady}
 use Rattle.iom_driver.specs.Seen.{state_of}
@@ -26,8 +26,8 @@ use Rattle.iom_world_effects.specs.Read.{values_of}
 use Rattle.iom_world_effects.specs.Scenes.{HasFaithfulScene}
 
 -- the ids of the plugged devices, in the order of plugging: of the world's, of the driver's, and of the IOMMU's rows
-abbrev pub ids_of : List Device → List ℕ
-ids_of devices = map (λ (device : Device). device.id) devices
+abbrev pub plugged_ids : List Device → List ℕ
+plugged_ids devices = map (λ (device : Device). device.id) devices
 
 abbrev pub known_ids : List driver.Device → List ℕ
 known_ids devices = map (λ (device : driver.Device). device.id) devices
@@ -43,8 +43,8 @@ IsAsked is_plugged (sent.InvReq serial range) = ⊤
 IsAsked is_plugged (sent.InvDone serial) = ⊤
 
 -- no two devices have the same id
-abbrev pub HaveOwnIds : List Device → Type 0
-HaveOwnIds devices =
+abbrev pub HaveDistinctIds : List Device → Type 0
+HaveDistinctIds devices =
     (j k : ℕ) (one other : Device) → slice_get devices j ≡ Some one → slice_get devices k ≡ Some other → one.id ≡ other.id → j ≡ k
 
 -- a question is one of a device that is plugged in
@@ -53,11 +53,11 @@ HasAsker devices on = IsAsked (is_some (device_with devices on.device)) on.messa
 
 -- driver and IOMMU have exactly the devices that are there, in their order; the driver trusts those with a cache of their own; and questions are theirs
 pub record AreKnown (parts : Parts) : Type 0 where
-  pub own_ids : HaveOwnIds parts.devices
-  pub driver : known_ids parts.driver.devices ≡ ids_of parts.devices
-  pub iommu : row_ids (flights_of parts.iommu).rows ≡ ids_of parts.devices
+  pub own_ids : HaveDistinctIds parts.devices
+  pub driver : known_ids parts.driver.devices ≡ plugged_ids parts.devices
+  pub iommu : row_ids (flights_of parts.iommu).rows ≡ plugged_ids parts.devices
   pub caches : HaveTheirCaches parts.devices
-  pub trusted : (id : ℕ) → is_trusted parts.driver.devices id ≡ caches_translations (kind_in parts.devices id)
+  pub trusted : (id : ℕ) → has_trusted_cache parts.driver.devices id ≡ caches_translations (kind_in parts.devices id)
   pub askers : All (HasAsker parts.devices) parts.fabric
 
 -- a context that is cached is that of an attached device, or of one that is quarantined or leaving, with its root and its number

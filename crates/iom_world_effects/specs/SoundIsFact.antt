@@ -21,6 +21,6 @@ asked_prop is_plugged (sent.InvDone serial) = hlevel props
 asker_prop : (devices : List Device) (on : OnLink) → IsProp (HasAsker devices on)
 asker_prop devices on = asked_prop (is_some (device_with devices on.device)) on.message
 
-pub sound_prop : (memory : List (List ℕ)) (iommu : Iommu) (driver : Driver) (devices : List Device) (fabric : List OnLink) (events : ℕ)
+pub sound_world_prop : (memory : List (List ℕ)) (iommu : Iommu) (driver : Driver) (devices : List Device) (fabric : List OnLink) (events : ℕ)
     → IsProp (IsSoundWorld memory iommu driver devices fabric events)
-sound_prop memory iommu driver devices fabric events = hlevel (props, ready_prop, asker_prop)
+sound_world_prop memory iommu driver devices fabric events = hlevel (props, ready_prop, asker_prop)

@@ -33,7 +33,7 @@ TriesCache old id access told new =
     ⊎ (IsWithinPage access × HasRoom (flights_of old.iommu) id × FindsFrame (cached_frame old id access) old id access told new)
 
 -- A DEVICE ASKS for an access through its cache, if it is of a kind that can
-abbrev pub AsksThroughCache : (DeviceKind → Bool) → Parts → ℕ → Access → Outcome → Parts → Type 0
-AsksThroughCache can old id access told new =
+abbrev pub DeviceAsksThroughCache : (DeviceKind → Bool) → Parts → ℕ → Access → Outcome → Parts → Type 0
+DeviceAsksThroughCache can old id access told new =
     IsUnknown old id told new ⊎ IsUnable can old id told new
     ⊎ (IsAble can old.devices id × TriesCache old id access told new)

@@ -39,9 +39,9 @@ under_way scene = record {
 }
 
 -- which pages a request to invalidate is about
-abbrev pub pages_of : Range → Extent
-pages_of (ranges.Page page) = OnePage page
-pages_of ranges.Everything = WholeSpace
+abbrev pub extent_of_range : Range → Extent
+extent_of_range (ranges.Page page) = OnePage page
+extent_of_range ranges.Everything = WholeSpace
 
 -- a request to invalidate, by its serial and its device
 abbrev pub invalidation_by : ℕ → ℕ → Invalidation
@@ -56,7 +56,7 @@ abbrev pub message_on : ℕ → Message → List AtsMessage
 message_on device (sent.Ask epoch page) = Question device epoch page ∷ []
 message_on device (sent.Answer epoch page (Page frame rights)) = Answer epoch (record { device = device; page = page; pair = (frame, rights) }) ∷ []
 message_on device (sent.Answer epoch page (Refused cause)) = []
-message_on device (sent.InvReq serial range) = InvalidateRequest (invalidation_by serial device) (pages_of range) ∷ []
+message_on device (sent.InvReq serial range) = InvalidateRequest (invalidation_by serial device) (extent_of_range range) ∷ []
 message_on device (sent.InvDone serial) = InvalidateCompletion (invalidation_by serial device) ∷ []
 
 -- those of all links
@@ -73,14 +73,14 @@ abbrev pub entries_in : List Device → List Copy
 entries_in devices = flat_map (λ (device : Device). entries_by device.id device.cache) devices
 
 -- a slot, as far as copies go
-abbrev pub invalidation_of : Slot → Invalidation
-invalidation_of slot = invalidation_by slot.serial slot.device
+abbrev pub invalidation_in_slot : Slot → Invalidation
+invalidation_in_slot slot = invalidation_by slot.serial slot.device
 
 abbrev pub traffic_of : List Device → List OnLink → OpenSlots → Traffic
 traffic_of devices fabric slots = record {
   entries = entries_in devices;
   epoch_of = epoch_in devices;
   messages = messages_in fabric;
-  slots = map invalidation_of slots.open_slots;
+  slots = map invalidation_in_slot slots.open_slots;
   last_serial = slots.last;
 }

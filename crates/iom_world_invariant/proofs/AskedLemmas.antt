@@ -10,7 +10,7 @@ use Rattle.iom_world_effects.specs.Below.{LawsBelow}
 use Rattle.iom_world_effects.specs.Parts.{Parts}
 use Rattle.iom_world_effects.specs.Requests.{AsksAccess, AsksTranslated}
 use Rattle.iom_world_effects.specs.Sound.{AreSound}
-use Rattle.iom_world_effects.specs.ThroughCache.{AsksThroughCache}
+use Rattle.iom_world_effects.specs.ThroughCache.{DeviceAsksThroughCache}
 use Rattle.iom_world_effects.proofs.DriverLemmas.{IsSoundDriver}
 use Rattle.iom_world_effects.proofs.PartsLemmas.{StaysReady, stays_of, StaysReported, reported_of}
 use Rattle.iom_world_invariant.proofs.RequestKeeps.{keeps_asked}
@@ -50,7 +50,7 @@ keeps_translated_counted laws driver old new events id access told sound own is 
     (subst StaysReady (sym is) (stays_of laws.stays driver)) (subst StaysReported (sym is) (reported_of laws.reported driver)) below asks
 
 pub keeps_through_cache_counted : (can : DeviceKind → Bool) → LawsBelow → (driver : Driver) (old new : Parts) (events id : ℕ) (access : Access) (told : Outcome) → AreSound old events → IsSoundDriver old.driver → old.driver ≡ state_of driver
-    → (flights_of old.iommu).so_far < events → AsksThroughCache can old id access told new → AreSound new events
+    → (flights_of old.iommu).so_far < events → DeviceAsksThroughCache can old id access told new → AreSound new events
 keeps_through_cache_counted can laws driver old new events id access told sound own is below asks =
     keeps_through_cache can (service_laws laws) old new events id access told sound own
     (subst StaysReady (sym is) (stays_of laws.stays driver)) (subst StaysReported (sym is) (reported_of laws.reported driver)) below asks

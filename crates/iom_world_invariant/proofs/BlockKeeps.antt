@@ -27,7 +27,7 @@ use Rattle.iom_base.specs.DeviceKinds.{is_block_device}
 use Rattle.iom_virtqueue.specs.declared.layout.Layout.{Layout}
 use Rattle.iom_device.specs.declared.device.Device.{Device}
 use Rattle.iom_world_effects.specs.Below.{LawsBelow}
-use Rattle.iom_world_effects.specs.BlockDevices.{InsertsMedium, SetsQueue, AsksIfMissed, GoesThroughCache, with_block_reset}
+use Rattle.iom_world_effects.specs.BlockDevices.{InsertsMedium, SetsBlockQueue, AsksIfMissed, GoesThroughCache, with_block_reset}
 use Rattle.iom_device.specs.Caches.{device_with, kind_in, cache_of, epoch_in, with_has_disk}
 use Rattle.iom_world_effects.specs.Devices.{shown_devices}
 use Rattle.iom_world_effects.specs.Parts.{Parts}
@@ -36,7 +36,7 @@ use Rattle.iom_device.specs.Calls.{reset_of, with_reset}
 use Rattle.iom_world_effects.specs.Requests.{reply_told_of}
 use Rattle.iom_world_effects.specs.Scenes.{Values, HasFaithfulScene}
 use Rattle.iom_world_effects.specs.Sound.{AreSound}
-use Rattle.iom_world_effects.specs.ThroughCache.{AsksThroughCache, FindsFrame, cached_frame}
+use Rattle.iom_world_effects.specs.ThroughCache.{DeviceAsksThroughCache, FindsFrame, cached_frame}
 use Rattle.iom_world_effects.specs.Traffic.{Traffic, traffic_of}
 use Rattle.iom_world_invariant.proofs.AskedLemmas.{keeps_through_cache_counted}
 use Rattle.iom_world_effects.proofs.CacheSets.{shown_set}
@@ -123,7 +123,7 @@ keeps_medium disks old new events id disk told sound (inr (inl unable)) = subst 
 keeps_medium disks old new events id disk told sound (inr (inr (device, is, inl puts))) = subst (λ parts. AreSound parts events) (sym puts.2) (disk_sound old events id true sound)
 keeps_medium disks old new events id disk told sound (inr (inr (device, is, inr refuses))) = subst (λ parts. AreSound parts events) (sym refuses.2) sound
 
-pub keeps_queue : (old new : Parts) (events id : ℕ) (layout : Layout) (told : Outcome) → AreSound old events → epoch_in old.devices id < events → SetsQueue old id layout told new
+pub keeps_queue : (old new : Parts) (events id : ℕ) (layout : Layout) (told : Outcome) → AreSound old events → epoch_in old.devices id < events → SetsBlockQueue old id layout told new
     → AreSound new events
 keeps_queue old new events id layout told sound below (inl unknown) = subst (λ parts. AreSound parts events) (sym unknown.same) sound
 keeps_queue old new events id layout told sound below (inr (inl unable)) = subst (λ parts. AreSound parts events) (sym unable.same) sound
@@ -137,7 +137,7 @@ pub record Misses (old between : Parts) (id : ℕ) : Type 0 where
   pub there : kind_in old.devices id ≡ Some kind
   pub same : between ≡ old
 
-pub missed : (can : DeviceKind → Bool) (old between : Parts) (id : ℕ) (access : Access) → AsksThroughCache can old id access outcome.Miss between → Misses old between id
+pub missed : (can : DeviceKind → Bool) (old between : Parts) (id : ℕ) (access : Access) → DeviceAsksThroughCache can old id access outcome.Miss between → Misses old between id
 missed can old between id access (inl unknown) = let is = unknown.told_so in cc
 missed can old between id access (inr (inl unable)) = let is = unable.told_so in cc
 missed can old between id access (inr (inr (able, inl far))) = let is = far.1 in cc
@@ -156,7 +156,7 @@ missed can old between id access (inr (inr (able, inr (inr finds)))) = by (cache
 
 -- and then the device asks
 pub asked_sound : (first : Outcome) (old between new : Parts) (events id : ℕ) (access : Access) (told : Outcome) → AreSound between events → access.address < 2 ^ 64
-    → AsksThroughCache is_block_device old id access first between → AsksIfMissed first between id access told new → AreSound new events
+    → DeviceAsksThroughCache is_block_device old id access first between → AsksIfMissed first between id access told new → AreSound new events
 asked_sound outcome.Miss old between new events id access told sound fits tries asks =
     let misses = missed is_block_device old between id access tries in
     let there : kind_in between.devices id ≡ Some misses.kind = ap (λ (parts : Parts). kind_in parts.devices id) misses.same ∙ misses.there in

@@ -9,7 +9,7 @@ use Rattle.iom_device_dir.specs.Located.{located_context}
 use Rattle.iom_driver.specs.declared.device.Attachment.{Attachment}
 use Rattle.iom_driver.specs.declared.device.Attachment.TheVariants.{Detached, Attached, Quarantined, Leaving}
 use Rattle.iom_driver.specs.declared.device.Stages.{Stages}
-use Rattle.iom_driver.specs.Devices.{attachment_of, owned_stages_of, attached_stages, owned_stages}
+use Rattle.iom_driver.specs.Devices.{attachment_by_id, owned_stages_of, attached_stages, owned_stages}
 use Rattle.iom_driver.specs.Directory.{context_for, mode_of}
 use Rattle.iom_driver.specs.Layout.{IsLevels}
 use Rattle.iom_iommu.specs.Parts.{registers_of, contexts_of}
@@ -39,13 +39,13 @@ by_attachment levels id (Quarantined ticket stage) None old new keeps = inl keep
 by_attachment levels id (Leaving ticket stage) None old new keeps = inl keeps
 
 pub keeps_attached : ServiceLaws → (parts : Parts) (events : ℕ) → AreSound parts events → IsSoundDriver parts.driver → (id : ℕ) (new : Content ℕ Context)
-    → KeepsContext parts.memory (registers_of parts.iommu) (contexts_of parts.iommu) id new → KeepsAttached (attachment_of parts.driver.devices id) id (contexts_of parts.iommu) new
+    → KeepsContext parts.memory (registers_of parts.iommu) (contexts_of parts.iommu) id new → KeepsAttached (attachment_by_id parts.driver.devices id) id (contexts_of parts.iommu) new
 keeps_attached laws parts events sound own id new keeps =
     let names = sound.ready.directory sound.started in
     let levels = parts.driver.levels in
     let old = contexts_of parts.iommu in
     let found = located_context parts.memory (registers_of parts.iommu).ddtp id in
-    by_attachment levels id (attachment_of parts.driver.devices id) (old id) old new
+    by_attachment levels id (attachment_by_id parts.driver.devices id) (old id) old new
     (subst (λ f. KeepsLocated (old id) f old id new) (located laws parts events sound own id)
     (keeps_in levels own.sizes.in_range (old id) found old id new
     (subst (λ m. KeepsIn m (old id) found old id new) names.mode keeps)))
@@ -63,7 +63,7 @@ cached_or a id old new (inr (stage, is, inl (here, lost, others))) d there = eli
 ]
 
 -- and each is true
-contexts_true : (old : Parts) (id : ℕ) (new : Content ℕ Context) → ContextsAreTrue old → KeepsAttached (attachment_of old.driver.devices id) id (contexts_of old.iommu) new
+contexts_true : (old : Parts) (id : ℕ) (new : Content ℕ Context) → ContextsAreTrue old → KeepsAttached (attachment_by_id old.driver.devices id) id (contexts_of old.iommu) new
     → (d : ℕ) (context : Context) → new d ≡ Some context → option_map context_for (owned_stages_of old.driver.devices d) ≡ Some context
 contexts_true old id new are (inl same) d context at = are d context (sym (same d) ∙ at)
 contexts_true old id new are (inr (stage, is, inr none)) d context at = are d context (sym (none.1 d) ∙ at)
@@ -80,6 +80,6 @@ contexts_true old id new are (inr (stage, is, inl (here, lost, others))) d conte
     none_some : ◌≡◌ {A = Option Context} None (Some context) → ⊥
     none_some same = cc
 
-pub contexts_kept : (old new : Parts) (id : ℕ) → ContextsAreTrue old → KeepsAttached (attachment_of old.driver.devices id) id (contexts_of old.iommu) (contexts_of new.iommu)
+pub contexts_kept : (old new : Parts) (id : ℕ) → ContextsAreTrue old → KeepsAttached (attachment_by_id old.driver.devices id) id (contexts_of old.iommu) (contexts_of new.iommu)
     → new.driver ≡ old.driver → ContextsAreTrue new
 contexts_kept old new id are keeps driver = λ d context at. rw driver (contexts_true old id (contexts_of new.iommu) are keeps d context at)

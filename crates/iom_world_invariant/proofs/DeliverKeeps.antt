@@ -4,7 +4,7 @@ use Rattle.std.specs.List.{All}
 use Rattle.std.specs.Option.{option_map}
 use Rattle.std.proofs.lemmas.Bool.{false≢true, eqb-true, and_parts}
 use Rattle.std.proofs.lemmas.List.Elements.{All-contains, Contains-push_cases}
-use Rattle.iom_ats_cache.specs.Cache.{Cache, covers, outside, with_room, with_entry}
+use Rattle.iom_ats_cache.specs.Cache.{Cache, range_covers, outside, with_room, with_entry}
 use Rattle.iom_ats_cache.specs.Calls.{TakesAnswer}
 use Rattle.iom_ats_cache.specs.declared.entry.Entry.{Entry}
 use Rattle.iom_ats_cache.specs.declared.taken.Taken.{Taken}
@@ -15,7 +15,7 @@ use Rattle.iom_coherence.specs.Among.{AreAmongWith}
 use Rattle.iom_coherence.specs.Attachments.{caches_translations}
 use Rattle.iom_coherence.specs.Deliveries.{raised}
 use Rattle.iom_coherence.specs.Fetches.{AreOutside}
-use Rattle.iom_coherence.specs.Queue.{covers as covers_page}
+use Rattle.iom_coherence.specs.Queue.{extent_covers}
 use Rattle.iom_coherence.specs.Scene.{Answer, InvalidateRequest, InvalidateCompletion, Copy, Invalidation}
 use Rattle.iom_coherence.proofs.ListLemmas.{in_none, cons_cases, contains_head, contains_tail, contains_filter, contains_from_filter, contains_map, same_function}
 use Rattle.iom_driver.proofs.Lists.{differs}
@@ -31,13 +31,13 @@ use Rattle.iom_iommu.specs.Parts.{slots_of}
 use Rattle.iom_machine.specs.declared.outcome.Outcome.{Outcome}
 use Rattle.iom_device.specs.declared.device.Device.{Device}
 use Rattle.iom_device.specs.Caches.{device_with, kind_in, cache_in, cache_of, epoch_of, epoch_in, with_cache, HasItsCache}
-use Rattle.iom_world_effects.specs.Deliveries.{TakesInto, TakesAnswered, ObeysRequest, HearsCompletion, with_done}
+use Rattle.iom_world_effects.specs.Deliveries.{TakesInto, TakesAnswered, ObeysRequest, HearsCompletion, with_completion_sent}
 use Rattle.iom_device.specs.Calls.{Obeys}
 use Rattle.iom_world_effects.specs.Messages.{with_sent}
 use Rattle.iom_world_effects.specs.Parts.{Parts}
 use Rattle.iom_world_effects.specs.Read.{values_of}
 use Rattle.iom_world_effects.specs.Sound.{AreSound, AreKnown, HasAsker}
-use Rattle.iom_world_effects.specs.Traffic.{entry_copy, entries_by, entries_in, messages_in, pages_of, invalidation_by, invalidation_of, traffic_of}
+use Rattle.iom_world_effects.specs.Traffic.{entry_copy, entries_by, entries_in, messages_in, extent_of_range, invalidation_by, invalidation_in_slot, traffic_of}
 use Rattle.iom_world_effects.proofs.CacheSets.{kind_set, asker_set, epoch_set, ids_set, own_ids_set, caches_set, same_set, entries_set, entries_there}
 use Rattle.iom_world_invariant.proofs.MessageKeeps.{left_among, there_at, askers_left, dropped_sound}
 use Rattle.iom_world_effects.proofs.MessageLemmas.{sent_cases, the_one, askers_sent}
@@ -69,7 +69,7 @@ kept_cases : (entries : List Entry) (new entry : Entry) → Contains (with_entry
 kept_cases entries new entry there =
     let left = outside (ranges.Page new.page) entries in
     elim (Contains-push_cases (with_room left) new entry there) [
-      | inl before ↦ inr (contains_from_filter (λ e. not (covers (ranges.Page new.page) e.page)) entries entry (roomy left entry before)).0
+      | inl before ↦ inr (contains_from_filter (λ e. not (range_covers (ranges.Page new.page) e.page)) entries entry (roomy left entry before)).0
       | inr same ↦ inl (sym same)
     ]
 
@@ -193,7 +193,7 @@ keeps_taken old new events place device epoch page answer outcome sound at takes
     by (Some cache) has into = some cache into.1 into.0 answer has at into.2 (leaves (Some into.1) into.4)
 
 -- A REQUEST TO INVALIDATE IS OBEYED
-same_cover : (range : Range) (page : ℕ) → covers_page (pages_of range) page ≡ covers range page
+same_cover : (range : Range) (page : ℕ) → extent_covers (extent_of_range range) page ≡ range_covers range page
 same_cover (ranges.Page own) page = refl
 same_cover ranges.Everything page = refl
 
@@ -243,19 +243,19 @@ module _ (old : Parts) (events place device serial : ℕ) (range : Range) (cache
       by true is = let low : epoch_in old.devices d < events = subst (λ n. epoch_in old.devices n < events) (eqb-true device d is) below in omega (arith, low)
       by false is = sound.epochs d
 
-  are_outside : AreOutside (entries_in (with_cache old.devices device (Some after))) device (pages_of range) (entries_in old.devices)
+  are_outside : AreOutside (entries_in (with_cache old.devices device (Some after))) device (extent_of_range range) (entries_in old.devices)
   are_outside x there = elim (entries_set old.devices device (Some after) x sound.known.own_ids (having_there old.devices device cache has) there) [
     | inl mine ↦
         let from = map_cases (entry_copy device) after.entries x mine in
         let inside : Contains (outside range cache.entries) from.0 = subst (λ (c : Cache). Contains c.entries from.0) left from.1 in
-        let was = contains_from_filter (λ e. not (covers range e.page)) cache.entries from.0 inside in (
+        let was = contains_from_filter (λ e. not (range_covers range e.page)) cache.entries from.0 inside in (
           entries_there old.devices device cache x has (subst (Contains (entries_by device (Some cache))) from.2 (contains_map (entry_copy device) cache.entries from.0 was.0)),
-          and_false (device == x.device) (covers_page (pages_of range) x.page)
-              (subst (λ (c : Copy). covers_page (pages_of range) c.page ≡ false) from.2 (same_cover range from.0.page ∙ not_false (covers range from.0.page) was.1)),
+          and_false (device == x.device) (extent_covers (extent_of_range range) x.page)
+              (subst (λ (c : Copy). extent_covers (extent_of_range range) c.page ≡ false) from.2 (same_cover range from.0.page ∙ not_false (range_covers range from.0.page) was.1)),
         )
     | inr other ↦ (
       other.0,
-      ap (λ (b : Bool). b && covers_page (pages_of range) x.page) (differs device x.device (λ same. other.1 (sym same))),
+      ap (λ (b : Bool). b && extent_covers (extent_of_range range) x.page) (differs device x.device (λ same. other.1 (sym same))),
     )
   ]
 
@@ -269,11 +269,11 @@ module _ (old : Parts) (events place device serial : ℕ) (range : Range) (cache
       (askers_sent (with_cache old.devices device (Some after)) gone device (sent.InvDone serial)
       (askers_then old.devices device (Some after) gone (askers_left old.devices old.fabric place sound.known.askers)) tt))
       epochs_then
-      (obey_scene (values_of old) (values_of obeyed) (invalidation_by serial device) (pages_of range) (entries_in (with_cache old.devices device (Some after))) (messages_in fabric) (rest_kept old obeyed keeps_obeyed)
+      (obey_scene (values_of old) (values_of obeyed) (invalidation_by serial device) (extent_of_range range) (entries_in (with_cache old.devices device (Some after))) (messages_in fabric) (rest_kept old obeyed keeps_obeyed)
       (ap (λ (es : ℕ → ℕ). record (traffic_of (with_cache old.devices device (Some after)) fabric (slots_of old.iommu)) { epoch_of = es })
       (same_function (epoch_in (with_cache old.devices device (Some after))) (raised (kind_in old.devices) (epoch_in old.devices) device) risen))
-      (there_at old.fabric place (record { device = device; message = sent.InvReq serial range }) (InvalidateRequest (invalidation_by serial device) (pages_of range)) at
-      (contains_head (InvalidateRequest (invalidation_by serial device) (pages_of range)) []))
+      (there_at old.fabric place (record { device = device; message = sent.InvReq serial range }) (InvalidateRequest (invalidation_by serial device) (extent_of_range range)) at
+      (contains_head (InvalidateRequest (invalidation_by serial device) (extent_of_range range)) []))
       are_outside
       (λ x there. elim (sent_cases gone device (sent.InvDone serial) x there) [
         | inl new ↦ inl (the_one (InvalidateCompletion (invalidation_by serial device)) x new)
@@ -287,7 +287,7 @@ pub keeps_requested : (old new : Parts) (events place device serial : ℕ) (rang
 keeps_requested old new events place device serial range outcome sound below at obeys = by (cache_of old.devices device) obeys.done refl obeys.cache obeys.rest
   where
     by : (found : Option Cache) (done : Option Message) → cache_of old.devices device ≡ found → Obeys found serial range done obeys.after
-        → new ≡ record old { devices = with_cache old.devices device obeys.after; fabric = with_done (remove old.fabric place) device done } → AreSound new events
+        → new ≡ record old { devices = with_cache old.devices device obeys.after; fabric = with_completion_sent (remove old.fabric place) device done } → AreSound new events
     by None None has is rest = unchanged old new events place device obeys.after sound (has ∙ sym is) rest
     by None (Some done) has is rest = absurd is
     by (Some cache) None has is rest = absurd is
@@ -298,33 +298,33 @@ keeps_requested old new events place device serial range outcome sound below at 
         (obeyed_sound old events place device serial range cache left sound at has invalidates.left below)
 
 -- THE WORD ARRIVES that a request is done
-request_is : (serial device : ℕ) (slot : Slot) → is_request serial device slot ≡ true → invalidation_of slot ≡ invalidation_by serial device
+request_is : (serial device : ℕ) (slot : Slot) → is_request serial device slot ≡ true → invalidation_in_slot slot ≡ invalidation_by serial device
 request_is serial device slot is =
     let both = and_parts (slot.serial == serial) (slot.device == device) is in
     ap (λ n. invalidation_by n slot.device) (eqb-true slot.serial serial both.0) ∙ ap (invalidation_by serial) (eqb-true slot.device device both.1)
 
 closed_by : (slots : List Slot) (serial device : ℕ) (slot : Slot) → Contains slots slot
-    → (invalidation_of slot ≡ invalidation_by serial device) ⊎ Contains (map invalidation_of (filter (λ s. not (is_request serial device s)) slots)) (invalidation_of slot)
+    → (invalidation_in_slot slot ≡ invalidation_by serial device) ⊎ Contains (map invalidation_in_slot (filter (λ s. not (is_request serial device s)) slots)) (invalidation_in_slot slot)
 closed_by slots serial device slot inside = by (is_request serial device slot) refl
   where
     by : (b : Bool) → is_request serial device slot ≡ b
-        → (invalidation_of slot ≡ invalidation_by serial device) ⊎ Contains (map invalidation_of (filter (λ s. not (is_request serial device s)) slots)) (invalidation_of slot)
+        → (invalidation_in_slot slot ≡ invalidation_by serial device) ⊎ Contains (map invalidation_in_slot (filter (λ s. not (is_request serial device s)) slots)) (invalidation_in_slot slot)
     by true is = inl (request_is serial device slot is)
-    by false is = inr (contains_map invalidation_of (filter (λ s. not (is_request serial device s)) slots) slot (contains_filter (λ s. not (is_request serial device s)) slots slot inside (ap not is)))
+    by false is = inr (contains_map invalidation_in_slot (filter (λ s. not (is_request serial device s)) slots) slot (contains_filter (λ s. not (is_request serial device s)) slots slot inside (ap not is)))
 
-closed_or : (slots : List Slot) (serial device : ℕ) (one : Invalidation) → Contains (map invalidation_of slots) one
-    → (one ≡ invalidation_by serial device) ⊎ Contains (map invalidation_of (filter (λ slot. not (is_request serial device slot)) slots)) one
+closed_or : (slots : List Slot) (serial device : ℕ) (one : Invalidation) → Contains (map invalidation_in_slot slots) one
+    → (one ≡ invalidation_by serial device) ⊎ Contains (map invalidation_in_slot (filter (λ slot. not (is_request serial device slot)) slots)) one
 closed_or slots serial device one there =
-    let from = map_cases invalidation_of slots one there in
-    subst (λ (o : Invalidation). (o ≡ invalidation_by serial device) ⊎ Contains (map invalidation_of (filter (λ slot. not (is_request serial device slot)) slots)) o) from.2
+    let from = map_cases invalidation_in_slot slots one there in
+    subst (λ (o : Invalidation). (o ≡ invalidation_by serial device) ⊎ Contains (map invalidation_in_slot (filter (λ slot. not (is_request serial device slot)) slots)) o) from.2
     (closed_by slots serial device from.0 from.1)
 
-still_open : (slots : List Slot) (serial device : ℕ) (one : Invalidation) → Contains (map invalidation_of (filter (λ slot. not (is_request serial device slot)) slots)) one
-    → Contains (map invalidation_of slots) one
+still_open : (slots : List Slot) (serial device : ℕ) (one : Invalidation) → Contains (map invalidation_in_slot (filter (λ slot. not (is_request serial device slot)) slots)) one
+    → Contains (map invalidation_in_slot slots) one
 still_open slots serial device one there =
-    let from = map_cases invalidation_of (filter (λ slot. not (is_request serial device slot)) slots) one there in
-    subst (Contains (map invalidation_of slots)) from.2
-    (contains_map invalidation_of slots from.0 (contains_from_filter (λ slot. not (is_request serial device slot)) slots from.0 from.1).0)
+    let from = map_cases invalidation_in_slot (filter (λ slot. not (is_request serial device slot)) slots) one there in
+    subst (Contains (map invalidation_in_slot slots)) from.2
+    (contains_map invalidation_in_slot slots from.0 (contains_from_filter (λ slot. not (is_request serial device slot)) slots from.0 from.1).0)
 
 -- the IOMMU where it is closed
 heard_sound : (old : Parts) (events place device serial : ℕ) → AreSound old events → slice_get old.fabric place ≡ Some (record { device = device; message = sent.InvDone serial })
@@ -349,7 +349,7 @@ heard_sound old events place device serial sound at =
       askers = askers_left old.devices old.fabric place sound.known.askers;
     })
     sound.epochs
-    (close_scene (values_of old) (values_of new) (invalidation_by serial device) (map invalidation_of (filter (λ slot. not (is_request serial device slot)) slots)) (messages_in gone)
+    (close_scene (values_of old) (values_of new) (invalidation_by serial device) (map invalidation_in_slot (filter (λ slot. not (is_request serial device slot)) slots)) (messages_in gone)
     (rest_kept old new keeps) refl
     (there_at old.fabric place (record { device = device; message = sent.InvDone serial }) (InvalidateCompletion (invalidation_by serial device)) at
     (contains_head (InvalidateCompletion (invalidation_by serial device)) []))

@@ -19,7 +19,7 @@ use Rattle.iom_driver.specs.declared.device.Stages.{Stages}
 use Rattle.iom_driver.specs.Attaching.{AnswersAttach, TakesRoot, root_frames}
 use Rattle.iom_driver.specs.Calls.{AnswersGrant, TakesTables, IsSame}
 use Rattle.iom_driver.specs.Choices.{AreHighestFree, marked_for, cleared}
-use Rattle.iom_driver.specs.Devices.{attachment_of, is_plugged, attached_stages, owned_stages, owned_stages_of, is_trusted}
+use Rattle.iom_driver.specs.Devices.{attachment_by_id, has_device, attached_stages, owned_stages, owned_stages_of, has_trusted_cache}
 use Rattle.iom_driver.specs.Directory.{context_for, DirectoryStands}
 use Rattle.iom_driver.specs.Layout.{IsLevels, id_limit, command_frame, completion_frame, directory_frame, completion_address}
 use Rattle.iom_driver.specs.Ready.{IsReady}
@@ -179,8 +179,8 @@ module _ (old new : Parts) (events id : ℕ) (sound : AreSound old events) (own 
     word = attach_keeps_word old new events id sound own ats admitted mode takes;
   }
 
-  plugged : is_plugged old.driver.devices id ≡ true
-  plugged = not_false (is_plugged old.driver.devices id) (none_at (why_not_attach old.driver id ats) 1 _ NoSuchDevice refl admitted)
+  plugged : has_device old.driver.devices id ≡ true
+  plugged = not_false (has_device old.driver.devices id) (none_at (why_not_attach old.driver id ats) 1 _ NoSuchDevice refl admitted)
 
   owns_none : owned_stages_of old.driver.devices id ≡ None
   owns_none = none_of (owned_stages_of old.driver.devices id) (none_at (why_not_attach old.driver id ats) 2 _ AlreadyAttached refl admitted)
@@ -196,16 +196,16 @@ module _ (old new : Parts) (events id : ℕ) (sound : AreSound old events) (own 
   -- with ATS only a device that has a cache of its own
   trusted_if : ats ≡ true → caches_translations (kind_in old.devices id) ≡ true
   trusted_if with =
-      let tested : (ats && not (is_trusted old.driver.devices id)) ≡ false = none_at (why_not_attach old.driver id ats) 4 _ NotTrusted refl admitted in
-      sym (sound.known.trusted id) ∙ not_false (is_trusted old.driver.devices id) (ap (λ (b : Bool). b && not (is_trusted old.driver.devices id)) (sym with) ∙ tested)
+      let tested : (ats && not (has_trusted_cache old.driver.devices id)) ≡ false = none_at (why_not_attach old.driver id ats) 4 _ NotTrusted refl admitted in
+      sym (sound.known.trusted id) ∙ not_false (has_trusted_cache old.driver.devices id) (ap (λ (b : Bool). b && not (has_trusted_cache old.driver.devices id)) (sym with) ∙ tested)
 
   attaches_detached : AttachesDetached (values_of old) (values_of new) id mode ats
   attaches_detached = record {
     trusted = trusted_if;
-    detached = ap shown_attachment (owns_nothing (attachment_of old.driver.devices id) owns_none);
-    attached = λ d. ap (λ (s : DriverState). shown_attachment (attachment_of s.devices d)) takes.driver ∙ shown_set old.driver.devices id (Attached takes.stage) plugged d
-        ∙ ap (λ m. if id == d then shown.Attached m takes.stage.ats else shown_attachment (attachment_of old.driver.devices d)) takes.in_mode
-        ∙ ap (λ a. if id == d then shown.Attached mode a else shown_attachment (attachment_of old.driver.devices d)) takes.with_ats;
+    detached = ap shown_attachment (owns_nothing (attachment_by_id old.driver.devices id) owns_none);
+    attached = λ d. ap (λ (s : DriverState). shown_attachment (attachment_by_id s.devices d)) takes.driver ∙ shown_set old.driver.devices id (Attached takes.stage) plugged d
+        ∙ ap (λ m. if id == d then shown.Attached m takes.stage.ats else shown_attachment (attachment_by_id old.driver.devices d)) takes.in_mode
+        ∙ ap (λ a. if id == d then shown.Attached mode a else shown_attachment (attachment_by_id old.driver.devices d)) takes.with_ats;
     agrees = λ h agrees. subst (λ (s : DriverState). Agrees s.ledger h) (sym takes.driver) agrees;
     address = ap completion_address leaves_attached.size;
     waiting = same_waiting old new events sound (ap registers_of iommu) (attach_keeps_ring old new events id sound own ats admitted mode takes);
@@ -237,7 +237,7 @@ module _ (old new : Parts) (events id : ℕ) (sound : AreSound old events) (own 
   attached_sound =
       sound_from old new events sound leaves_attached (same_iommu old new iommu) (ap (λ (d : DriverState). d.started) takes.driver) ready
       (same_known old new devices fabric (ap (λ (d : DriverState). known_ids d.devices) takes.driver ∙ ids_set old.driver.devices id (Attached takes.stage))
-      (λ d. ap (λ (s : DriverState). is_trusted s.devices d) takes.driver ∙ trusted_set old.driver.devices id (Attached takes.stage) d) (ap (λ i. row_ids (flights_of i).rows) iommu) sound.known)
+      (λ d. ap (λ (s : DriverState). has_trusted_cache s.devices d) takes.driver ∙ trusted_set old.driver.devices id (Attached takes.stage) d) (ap (λ i. row_ids (flights_of i).rows) iommu) sound.known)
       (same_epochs old new events sound devices)
       (subst (λ (d : DriverState). d.given < 2 ^ 32) (sym takes.driver) sound.small)
       contexts_attached
@@ -288,7 +288,7 @@ module _ (old new : Parts) (events id page frame : ℕ) (rights : GrantRights) (
       record {
         mode = takes.stage.mode;
         ats = takes.stage.ats;
-        attached = ap shown_attachment (attached_is (attachment_of old.driver.devices id) takes.stage takes.attached);
+        attached = ap shown_attachment (attached_is (attachment_by_id old.driver.devices id) takes.stage takes.attached);
         not_held = vacant.0;
         not_lingering = vacant.1;
         agrees = takes.agrees;
@@ -301,7 +301,7 @@ module _ (old new : Parts) (events id page frame : ℕ) (rights : GrantRights) (
         so_far = ap (λ i. (flights_of i).so_far) iommu;
         in_flight = ap (λ i. accesses_of (flights_of i).rows) iommu;
         kinds = kinds_kept old new devices;
-        attachments = λ d. ap (λ (s : DriverState). shown_attachment (attachment_of s.devices d)) takes.driver;
+        attachments = λ d. ap (λ (s : DriverState). shown_attachment (attachment_by_id s.devices d)) takes.driver;
         contexts = λ d is. ap (λ i. is_some (contexts_of i d)) (sym iommu) ∙ is;
         cached = same_cached old new iommu devices fabric (ap (λ (d : DriverState). fence_of d) takes.driver) (spaces_same old.driver.devices new.driver.devices (ap (λ (d : DriverState). d.devices) takes.driver));
       }
@@ -309,7 +309,7 @@ module _ (old new : Parts) (events id page frame : ℕ) (rights : GrantRights) (
   pub granted_sound : AreSound new events
   granted_sound =
       sound_from old new events sound leaves_granted (same_iommu old new iommu) (ap (λ (d : DriverState). d.started) takes.driver) ready
-      (same_known old new devices fabric (ap (λ (d : DriverState). known_ids d.devices) takes.driver) (λ d. ap (λ (s : DriverState). is_trusted s.devices d) takes.driver)
+      (same_known old new devices fabric (ap (λ (d : DriverState). known_ids d.devices) takes.driver) (λ d. ap (λ (s : DriverState). has_trusted_cache s.devices d) takes.driver)
       (ap (λ i. row_ids (flights_of i).rows) iommu) sound.known)
       (same_epochs old new events sound devices)
       (subst (λ n. n < 2 ^ 32) (sym (ap (λ (d : DriverState). d.given) takes.driver)) sound.small)
@@ -334,12 +334,12 @@ roomy_sound old new events sound ready same memory iommu devices fabric =
       so_far = ap (λ i. (flights_of i).so_far) iommu;
       in_flight = ap (λ i. accesses_of (flights_of i).rows) iommu;
       kinds = kinds_kept old new devices;
-      attachments = λ d. ap (λ (s : DriverState). shown_attachment (attachment_of s.devices d)) same.rest;
+      attachments = λ d. ap (λ (s : DriverState). shown_attachment (attachment_by_id s.devices d)) same.rest;
       contexts = λ d is. ap (λ i. is_some (contexts_of i d)) (sym iommu) ∙ is;
       cached = same_cached old new iommu devices fabric (ap (λ (d : DriverState). fence_of d) same.rest) (spaces_same old.driver.devices new.driver.devices (ap (λ (d : DriverState). d.devices) same.rest));
     } in
     sound_from old new events sound (record { size = size; word = word }) (same_iommu old new iommu) (ap (λ (d : DriverState). d.started) same.rest) ready
-    (same_known old new devices fabric (ap (λ (d : DriverState). known_ids d.devices) same.rest) (λ d. ap (λ (s : DriverState). is_trusted s.devices d) same.rest)
+    (same_known old new devices fabric (ap (λ (d : DriverState). known_ids d.devices) same.rest) (λ d. ap (λ (s : DriverState). has_trusted_cache s.devices d) same.rest)
     (ap (λ i. row_ids (flights_of i).rows) iommu) sound.known)
     (same_epochs old new events sound devices)
     (subst (λ n. n < 2 ^ 32) (sym (ap (λ (d : DriverState). d.given) same.rest)) sound.small)

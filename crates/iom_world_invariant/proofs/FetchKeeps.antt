@@ -18,7 +18,7 @@ use Rattle.iom_device_dir.specs.declared.context.Context.{Context}
 use Rattle.iom_device_dir.specs.Contents.{Content}
 use Rattle.iom_driver.specs.Fences.{last_fence, fence_of}
 use Rattle.iom_driver.specs.Appends.{fence}
-use Rattle.iom_driver.specs.Devices.{attachment_of}
+use Rattle.iom_driver.specs.Devices.{attachment_by_id}
 use Rattle.iom_driver.specs.Laws.{KeepsReserved, KeepsRing}
 use Rattle.iom_driver.specs.Layout.{completion_frame, completion_address}
 use Rattle.iom_driver.specs.Ready.{IsRing}
@@ -31,7 +31,7 @@ use Rattle.iom_iommu.specs.declared.fetched.Fetched.{Fetched}
 use Rattle.iom_iommu.specs.declared.fetched.Fetched.TheVariants.{Did, Waiting, Empty, Stopped}
 use Rattle.iom_world_effects.specs.OwnIommu.{Iommu}
 use Rattle.iom_iommu.specs.Fetches.{FetchesCommand, counted_in, with_store, IsStorable, head_entry}
-use Rattle.iom_iommu.specs.Effects.{FetchesByAnswer, DropsContexts, DropsTranslations, waits_for_accesses, waits_for_slots, is_held, slots_by, asks_for_interrupt, after_none, after_nothing, fence_snapshot_at, waits_at, WaitsAt, store_of, with_done, IsStoredIn, IsOffRing, StopsAtEntry, StopsFetching}
+use Rattle.iom_iommu.specs.Effects.{FetchesByAnswer, DropsContexts, DropsTranslations, waits_for_accesses, waits_for_slots, is_held_back, slots_by, asks_for_interrupt, after_none, after_nothing, fence_snapshot_at, waits_at, WaitsAt, store_of, with_done, IsStoredIn, IsOffRing, StopsAtEntry, StopsFetching}
 use Rattle.iom_iommu.proofs.ByAnswer.{by_answer}
 use Rattle.iom_iommu.specs.Parts.{registers_of, contexts_of, translations_of, flights_of, fence_snapshot_of, slots_of}
 use Rattle.iom_iommu.proofs.FetchLemmas.{takes_first, leaves_frames}
@@ -45,7 +45,7 @@ use Rattle.iom_world_effects.specs.Does.{FetchesNext}
 use Rattle.iom_world_effects.specs.Parts.{Parts}
 use Rattle.iom_world_effects.specs.Queued.{IsQueuedAs, AreQueuedAs, completed_in}
 use Rattle.iom_tlb.specs.declared.trans_cache.Translation.{Translation}
-use Rattle.iom_tlb.specs.Content.{Content as Translations}
+use Rattle.iom_tlb.specs.Content.{Translations}
 use Rattle.iom_tlb.specs.Covers.{are_covering}
 use Rattle.iom_tlb.specs.Invalidations.{covers_of}
 use Rattle.iom_tlb.specs.declared.space.Space.{Space}
@@ -60,7 +60,7 @@ use Rattle.iom_world_effects.proofs.SceneSteps.{KeepsGrants, DoesFirst, CountsAt
 use Rattle.std.proofs.lemmas.List.{map-append}
 use Rattle.iom_fabric.specs.declared.fabric.OnLink.{OnLink}
 use Rattle.iom_world_effects.specs.Messages.{range_of, with_fetched}
-use Rattle.iom_world_effects.specs.Traffic.{invalidation_of, entries_in, messages_in}
+use Rattle.iom_world_effects.specs.Traffic.{invalidation_in_slot, entries_in, messages_in}
 use Rattle.iom_world_effects.proofs.MessageLemmas.{requested, askers_sent}
 use Rattle.iom_world_effects.proofs.SoundLemmas.{kinds_kept, same_epochs, traffic_kept, processes}
 use Rattle.iom_device.specs.Caches.{epoch_in}
@@ -311,9 +311,9 @@ none_open : {X : Type 0} (xs : List X) → not (length xs == 0) ≡ false → xs
 none_open [] it = refl
 none_open (x ∷ xs) it = absurd (false≢true (sym it ∙ ap not (differs (length (x ∷ xs)) 0 (λ none. absurd (omega (arith, none))))))
 
-closed_if : (command : Commanded) (slots : OpenSlots) → waits_for_slots command slots ≡ false → ClosedIfFence command (map invalidation_of slots.open_slots)
+closed_if : (command : Commanded) (slots : OpenSlots) → waits_for_slots command slots ≡ false → ClosedIfFence command (map invalidation_in_slot slots.open_slots)
 closed_if (IotinvalVma gscid pscid page) slots free = tt
-closed_if (IofenceC store wsi pr pw) slots free = ap (map invalidation_of) (none_open slots.open_slots free)
+closed_if (IofenceC store wsi pr pw) slots free = ap (map invalidation_in_slot) (none_open slots.open_slots free)
 closed_if (IodirInvalDdt device) slots free = tt
 closed_if (IotinvalGvma gscid page) slots free = tt
 closed_if (AtsInval device range) slots free = tt
@@ -338,8 +338,8 @@ module _ (old new : Parts) (devices : new.devices ≡ old.devices) where
     entries = ap entries_in devices;
     epochs = ap epoch_in devices;
     messages = λ x there. requested old.fabric device ((slots_of old.iommu).last + 1) (range_of range) x (subst (λ (ms : List OnLink). Contains (messages_in ms) x) fabric there);
-    slots = ap (λ (s : OpenSlots). map invalidation_of s.open_slots) slots
-        ∙ map-append invalidation_of (slots_of old.iommu).open_slots (record { serial = (slots_of old.iommu).last + 1; device = device } ∷ []);
+    slots = ap (λ (s : OpenSlots). map invalidation_in_slot s.open_slots) slots
+        ∙ map-append invalidation_in_slot (slots_of old.iommu).open_slots (record { serial = (slots_of old.iommu).last + 1; device = device } ∷ []);
     last_serial = ap (λ (s : OpenSlots). s.last) slots;
   }
 
@@ -427,7 +427,7 @@ keeps_done old new events command sound own stays below fetches driver devices f
       fences = ap (λ (d : DriverState). fence_of d) driver;
       stopped = timeout_kept r (registers_of new.iommu) command left.registers;
       kinds = kinds_kept old new devices;
-      attachments = λ id. ap (λ (d : DriverState). shown_attachment (attachment_of d.devices id)) driver;
+      attachments = λ id. ap (λ (d : DriverState). shown_attachment (attachment_by_id d.devices id)) driver;
       spaces = λ id. ap (λ (d : DriverState). space_at d.devices id) driver;
     } in
     let does : DoesFirst (values_of old) (values_of new) command = record {
@@ -536,7 +536,7 @@ module _ (old : Parts) (events : ℕ) (sound : AreSound old events) where
         contexts = λ d is. is;
         translations = λ key translation there. there;
         fence_snapshot = refl;
-        closed = ap (map invalidation_of) (none_open (slots_of old.iommu).open_slots free);
+        closed = ap (map invalidation_in_slot) (none_open (slots_of old.iommu).open_slots free);
         traffic = refl;
       } in
       record {
@@ -557,7 +557,7 @@ module _ (old : Parts) (events : ℕ) (sound : AreSound old events) where
   abbrev waiting : Bool → Parts
   waiting slots = record old { iommu = after_none old.iommu (registers_of old.iommu) (if slots then fence_snapshot_of old.iommu else Some (counted_in old.iommu)) }
 
-  keeps_command : (command_status (registers_of old.iommu)).cmd_to ≡ false → (command : Commanded) → head_entry old.memory (registers_of old.iommu) ≡ Some (Command command) → is_held command old.iommu ≡ true
+  keeps_command : (command_status (registers_of old.iommu)).cmd_to ≡ false → (command : Commanded) → head_entry old.memory (registers_of old.iommu) ≡ Some (Command command) → is_held_back command old.iommu ≡ true
       → AreSound (waiting (waits_for_slots command (slots_of old.iommu))) events
   keeps_command going (IotinvalVma gscid pscid page) at held = absurd (false≢true held)
   keeps_command going (IotinvalGvma gscid page) at held = absurd (false≢true held)

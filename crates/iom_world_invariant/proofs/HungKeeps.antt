@@ -5,7 +5,7 @@ use Rattle.iom_device_dir.specs.declared.context.Context.{Context}
 use Rattle.iom_device_dir.specs.Located.{loaded_entry}
 use Rattle.iom_device_dir.specs.Paths.{ddi, entry_place, context_place}
 use Rattle.iom_directory_build.specs.Pages.{next_page, page_at, page_named}
-use Rattle.iom_directory_build.specs.Written.{word_of, entry_word, with_context_at, with_entry_at, hung}
+use Rattle.iom_directory_build.specs.Written.{encoded_word, entry_word, with_context_at, with_entry_at, hung}
 use Rattle.iom_directory_build.proofs.Paths.{at_root, past_root}
 use Rattle.iom_directory_build.proofs.Prefixes.{index_fits, context_index_fits}
 use Rattle.iom_directory_build.proofs.Words.{word_stays, zero_next}
@@ -31,13 +31,13 @@ context_elsewhere m page id context f other =
     let at_16 : (place + 16) / 4096 ≡ page = omega (arith, fits) in
     let at_8 : (place + 8) / 4096 ≡ page = omega (arith, fits) in
     let at_0 : place / 4096 ≡ page = omega (arith, fits) in
-    let one = with_word 8 m (place + 24) (word_of context 3) in
-    let two = with_word 8 one (place + 16) (word_of context 2) in
-    let three = with_word 8 two (place + 8) (word_of context 1) in
-    word_elsewhere three place (word_of context 0) f (λ e. other (e ∙ at_0))
-    ∙ word_elsewhere two (place + 8) (word_of context 1) f (λ e. other (e ∙ at_8))
-    ∙ word_elsewhere one (place + 16) (word_of context 2) f (λ e. other (e ∙ at_16))
-    ∙ word_elsewhere m (place + 24) (word_of context 3) f (λ e. other (e ∙ at_24))
+    let one = with_word 8 m (place + 24) (encoded_word context 3) in
+    let two = with_word 8 one (place + 16) (encoded_word context 2) in
+    let three = with_word 8 two (place + 8) (encoded_word context 1) in
+    word_elsewhere three place (encoded_word context 0) f (λ e. other (e ∙ at_0))
+    ∙ word_elsewhere two (place + 8) (encoded_word context 1) f (λ e. other (e ∙ at_8))
+    ∙ word_elsewhere one (place + 16) (encoded_word context 2) f (λ e. other (e ∙ at_16))
+    ∙ word_elsewhere m (place + 24) (encoded_word context 3) f (λ e. other (e ∙ at_24))
 
 -- and an entry
 entry_elsewhere : (m : List (List ℕ)) (page level id next f : ℕ) → f ≢ page → slice_get (with_entry_at m page level id next) f ≡ slice_get m f

@@ -7,7 +7,7 @@ use Rattle.iom_driver.specs.Fences.{last_fence, fence_of}
 use Rattle.iom_driver.specs.declared.device.Device as driver
 use Rattle.iom_driver.specs.Calls.{AnswersPlug}
 use Rattle.iom_driver.specs.declared.device.Stages.{Stages}
-use Rattle.iom_driver.specs.Devices.{device_of, is_plugged, attachment_of, owned_stages, detached, is_trusted}
+use Rattle.iom_driver.specs.Devices.{device_by_id, has_device, attachment_by_id, owned_stages, detached, has_trusted_cache}
 use Rattle.iom_driver.specs.Directory.{context_for}
 use Rattle.iom_driver.specs.Layout.{command_frame, completion_frame, completion_address}
 use Rattle.iom_driver.specs.Ready.{IsReady}
@@ -31,8 +31,8 @@ use Rattle.iom_world_effects.specs.Devices.{shown_attachment}
 use Rattle.iom_world_effects.specs.Does.{PlugsIn, AddsRow, new_device, devices_after}
 use Rattle.iom_tlb.specs.Chosen.{ioatc}
 use Rattle.iom_world_effects.specs.Parts.{Parts}
-use Rattle.iom_world_effects.specs.Read.{space_in, values_of, access_of, accesses_of}
-use Rattle.iom_world_effects.specs.Sound.{AreSound, AreKnown, HaveOwnIds, known_ids, ids_of, row_ids}
+use Rattle.iom_world_effects.specs.Read.{space_in, values_of, access_in_flight, accesses_of}
+use Rattle.iom_world_effects.specs.Sound.{AreSound, AreKnown, HaveDistinctIds, known_ids, plugged_ids, row_ids}
 use Rattle.iom_world_effects.proofs.SceneCalls.{PlugsOne, plug_scene}
 use Rattle.iom_world_effects.proofs.SoundLemmas.{same_completed, LeavesWord, sound_from, same_waiting, none_at}
 use Rattle.std.proofs.lemmas.List.Elements.{All-push}
@@ -58,22 +58,22 @@ get_pushed (first ∷ xs) x y zero at = inl at
 get_pushed (first ∷ xs) x y (suc k) at = elim (get_pushed xs x y k at) [ inl e ↦ inl e | inr e ↦ inr (ap suc e.0, e.1) ]
 
 -- where the driver knows none with the id, none of the world's has it
-pub absent_known : (known : List driver.Device) (devices : List Device) (id : ℕ) → known_ids known ≡ ids_of devices → is_plugged known id ≡ false
+pub absent_known : (known : List driver.Device) (devices : List Device) (id : ℕ) → known_ids known ≡ plugged_ids devices → has_device known id ≡ false
     → (k : ℕ) (device : Device) → slice_get devices k ≡ Some device → device.id ≢ id
 absent_known known [] id same none k device at = cc
 absent_known [] (first ∷ others) id same none k device at = cc
 absent_known (own ∷ rest) (first ∷ others) id same none k device at = by (own.id == id) refl none k at (absent_known rest others id (first_ids _ _ _ _ same).1)
   where
-    by : (b : Bool) → (own.id == id) ≡ b → is_some (if b then Some own else device_of rest id) ≡ false → (k : ℕ) → slice_get (first ∷ others) k ≡ Some device
-        → (is_plugged rest id ≡ false → (j : ℕ) (other : Device) → slice_get others j ≡ Some other → other.id ≢ id) → device.id ≢ id
+    by : (b : Bool) → (own.id == id) ≡ b → is_some (if b then Some own else device_by_id rest id) ≡ false → (k : ℕ) → slice_get (first ∷ others) k ≡ Some device
+        → (has_device rest id ≡ false → (j : ℕ) (other : Device) → slice_get others j ≡ Some other → other.id ≢ id) → device.id ≢ id
     by true test none k at later = absurd (false≢true (sym none))
     by false test none zero at later = λ e.
         let here : first ≡ device = cc in
         false≢true (sym test ∙ eq-eqb own.id id ((first_ids _ _ _ _ same).0 ∙ ap (λ (d : Device). d.id) here ∙ e))
     by false test none (suc k) at later = later none k device at
 
-own_ids_new : (devices : List Device) (device : Device) (id : ℕ) → HaveOwnIds devices → ((k : ℕ) (other : Device) → slice_get devices k ≡ Some other → other.id ≢ id) → device.id ≡ id
-    → HaveOwnIds (devices ++ device ∷ [])
+own_ids_new : (devices : List Device) (device : Device) (id : ℕ) → HaveDistinctIds devices → ((k : ℕ) (other : Device) → slice_get devices k ≡ Some other → other.id ≢ id) → device.id ≡ id
+    → HaveDistinctIds (devices ++ device ∷ [])
 own_ids_new devices device id own absent new j k one other at at' same =
     by (get_pushed devices device one j at) (get_pushed devices device other k at')
   where
@@ -90,7 +90,7 @@ map_pushed f (y ∷ ys) x = ap (λ zs. f y ∷ zs) (map_pushed f ys x)
 -- a new row has nothing in flight
 accesses_pushed : (rows : List FlightRow) (id : ℕ) → accesses_of (rows ++ new_row id ∷ []) ≡ accesses_of rows
 accesses_pushed [] id = refl
-accesses_pushed (row ∷ rows) id = ap (λ l. map (access_of row.device) row.waiting ++ l) (accesses_pushed rows id)
+accesses_pushed (row ∷ rows) id = ap (λ l. map (access_in_flight row.device) row.waiting ++ l) (accesses_pushed rows id)
 
 module _ (old new : Parts) (events id : ℕ) (what : NewDevice) (sound : AreSound old events) (ready : IsReady new.driver new.memory (registers_of new.iommu))
     (admitted : NoneApplies (why_not_plug old.driver id)) (driver_now : new.driver ≡ record old.driver { devices = old.driver.devices ++ detached id (has_cache (kind_of what)) ∷ [] })
@@ -107,8 +107,8 @@ module _ (old new : Parts) (events id : ℕ) (what : NewDevice) (sound : AreSoun
   contexts_now : (other : ℕ) → contexts_of new.iommu other ≡ contexts_of old.iommu other
   contexts_now other = ap (λ c. cached_contexts c other) row.contexts
 
-  free : is_plugged old.driver.devices id ≡ false
-  free = none_at (why_not_plug old.driver id) 0 (is_plugged old.driver.devices id) AlreadyPlugged refl admitted
+  free : has_device old.driver.devices id ≡ false
+  free = none_at (why_not_plug old.driver id) 0 (has_device old.driver.devices id) AlreadyPlugged refl admitted
 
   absent : HaveNot old.devices id
   absent = absent_known old.driver.devices old.devices id sound.known.driver free
@@ -122,14 +122,14 @@ module _ (old new : Parts) (events id : ℕ) (what : NewDevice) (sound : AreSoun
   known_now = record {
     own_ids = rw devices (own_ids_new old.devices (new_device id what) id sound.known.own_ids absent refl);
     driver = ap (λ (d : DriverState). known_ids d.devices) driver_now ∙ map_pushed (λ (d : driver.Device). d.id) old.driver.devices (detached id (has_cache (kind_of what)))
-        ∙ ap (λ ids. ids ++ id ∷ []) sound.known.driver ∙ sym (ap ids_of devices ∙ map_pushed (λ (d : Device). d.id) old.devices (new_device id what));
+        ∙ ap (λ ids. ids ++ id ∷ []) sound.known.driver ∙ sym (ap plugged_ids devices ∙ map_pushed (λ (d : Device). d.id) old.devices (new_device id what));
     iommu = ap row_ids rows_now ∙ map_pushed (λ (r : FlightRow). r.device) (flights_of old.iommu).rows (new_row id)
-        ∙ ap (λ ids. ids ++ id ∷ []) sound.known.iommu ∙ sym (ap ids_of devices ∙ map_pushed (λ (d : Device). d.id) old.devices (new_device id what));
+        ∙ ap (λ ids. ids ++ id ∷ []) sound.known.iommu ∙ sym (ap plugged_ids devices ∙ map_pushed (λ (d : Device). d.id) old.devices (new_device id what));
     caches = rw devices (All-push HasItsCache old.devices (new_device id what) sound.known.caches (its_cache id what));
     askers = rw (devices, fabric) (λ k d lt. asker_pushed old.devices (new_device id what) (get_or old.fabric k d) (sound.known.askers k d lt));
     trusted = λ d.
-        ap (λ (s : DriverState). is_trusted s.devices d) driver_now ∙ trusted_pushed old.driver.devices id (has_cache (kind_of what)) d free
-        ∙ trusts_as (id == d) (is_trusted old.driver.devices d) d (sound.known.trusted d)
+        ap (λ (s : DriverState). has_trusted_cache s.devices d) driver_now ∙ trusted_pushed old.driver.devices id (has_cache (kind_of what)) d free
+        ∙ trusts_as (id == d) (has_trusted_cache old.driver.devices d) d (sound.known.trusted d)
         ∙ sym (ap (λ (ds : List Device). caches_translations (kind_in ds d)) devices ∙ ap caches_translations (kind_pushed old.devices id what d absent));
   }
 
@@ -142,8 +142,8 @@ module _ (old new : Parts) (events id : ℕ) (what : NewDevice) (sound : AreSoun
       ∙ ap (λ (ms : List OnLink). traffic_of old.devices ms (slots_of new.iommu)) fabric
       ∙ ap (traffic_of old.devices old.fabric) row.slots
 
-  attachments_now : (other : ℕ) → attachment_of new.driver.devices other ≡ attachment_of old.driver.devices other
-  attachments_now other = ap (λ (d : DriverState). attachment_of d.devices other) driver_now ∙ attachment_plugged old.driver.devices id (has_cache (kind_of what)) other
+  attachments_now : (other : ℕ) → attachment_by_id new.driver.devices other ≡ attachment_by_id old.driver.devices other
+  attachments_now other = ap (λ (d : DriverState). attachment_by_id d.devices other) driver_now ∙ attachment_plugged old.driver.devices id (has_cache (kind_of what)) other
 
   plugs_one : PlugsOne (values_of old) (values_of new) id (kind_of what)
   plugs_one = record {

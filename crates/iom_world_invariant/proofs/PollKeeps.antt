@@ -10,8 +10,8 @@ use Rattle.iom_driver.specs.declared.answers.Polled.{Polled}
 use Rattle.iom_driver.specs.declared.device.Attachment.{Attachment}
 use Rattle.iom_driver.specs.declared.device.Attachment.TheVariants.{Detached, Attached, Quarantined, Leaving}
 use Rattle.iom_driver.specs.declared.device.Stages.{Stages}
-use Rattle.iom_driver.specs.Confirmed.{has_left, is_gone}
-use Rattle.iom_driver.specs.Devices.{attachment_of, is_trusted, owned_stages, owned_stages_of}
+use Rattle.iom_driver.specs.Confirmed.{has_left_until, is_gone}
+use Rattle.iom_driver.specs.Devices.{attachment_by_id, has_trusted_cache, owned_stages, owned_stages_of}
 use Rattle.iom_driver.specs.Directory.{context_for}
 use Rattle.iom_driver.specs.Fences.{last_fence, fence_of, done_by}
 use Rattle.iom_driver.specs.Layout.{command_frame, completion_frame, completion_address}
@@ -30,7 +30,7 @@ use Rattle.iom_world_effects.specs.Queued.{completed_in}
 use Rattle.iom_tlb.specs.declared.space.Space.{Space}
 use Rattle.iom_world_effects.specs.Read.{space_in, space_at, values_of, accesses_of}
 use Rattle.iom_world_effects.specs.Scenes.{HasFaithfulScene}
-use Rattle.iom_world_effects.specs.Sound.{AreSound, AreKnown, ContextsAreTrue, known_ids, ids_of, row_ids}
+use Rattle.iom_world_effects.specs.Sound.{AreSound, AreKnown, ContextsAreTrue, known_ids, plugged_ids, row_ids}
 use Rattle.iom_world_effects.proofs.DeviceLemmas.{after, attachment_confirmed, trusted_confirmed, ids_confirmed, left_is}
 use Rattle.iom_world_effects.proofs.DriverLemmas.{IsSoundDriver}
 use Rattle.iom_world_effects.proofs.CachedLemmas.{none_spaced}
@@ -43,12 +43,12 @@ use Rattle.iom_device.specs.declared.device.Device.{Device}
 
 -- driver and world and IOMMU have the same ids as before, and the driver trusts the same devices
 pub same_known : (old new : Parts) → new.devices ≡ old.devices → new.fabric ≡ old.fabric → known_ids new.driver.devices ≡ known_ids old.driver.devices
-    → ((id : ℕ) → is_trusted new.driver.devices id ≡ is_trusted old.driver.devices id) → row_ids (flights_of new.iommu).rows ≡ row_ids (flights_of old.iommu).rows
+    → ((id : ℕ) → has_trusted_cache new.driver.devices id ≡ has_trusted_cache old.driver.devices id) → row_ids (flights_of new.iommu).rows ≡ row_ids (flights_of old.iommu).rows
     → AreKnown old → AreKnown new
 same_known old new devices fabric driver trusted rows known = record {
   own_ids = rw devices known.own_ids;
-  driver = driver ∙ known.driver ∙ ap ids_of (sym devices);
-  iommu = rows ∙ known.iommu ∙ ap ids_of (sym devices);
+  driver = driver ∙ known.driver ∙ ap plugged_ids (sym devices);
+  iommu = rows ∙ known.iommu ∙ ap plugged_ids (sym devices);
   caches = rw devices known.caches;
   trusted = λ id. trusted id ∙ known.trusted id ∙ sym (ap (λ (ds : List Device). caches_translations (kind_in ds id)) devices);
   askers = rw (devices, fabric) known.askers;
@@ -83,12 +83,12 @@ module _ (old new : Parts) (events : ℕ) (polled : Polled) (sound : AreSound ol
   leaves : LeavesWord old new
   leaves = record { size = confirms.cleared.size; word = system_kept (completion_frame (length old.memory)) (fixed_frames old events sound own).completion }
 
-  attachment_now : (id : ℕ) → attachment_of new.driver.devices id ≡ after (done_after old.driver polled) (attachment_of old.driver.devices id)
-  attachment_now id = ap (λ (d : DriverState). attachment_of d.devices id) confirms.driver ∙ attachment_confirmed (done_after old.driver polled) old.driver.devices id
+  attachment_now : (id : ℕ) → attachment_by_id new.driver.devices id ≡ after (done_after old.driver polled) (attachment_by_id old.driver.devices id)
+  attachment_now id = ap (λ (d : DriverState). attachment_by_id d.devices id) confirms.driver ∙ attachment_confirmed (done_after old.driver polled) old.driver.devices id
 
   -- who has an address space keeps it, or has left
-  spaces_polled : (id : ℕ) (space : Space) (a : Attachment) → attachment_of old.driver.devices id ≡ a → space_at old.driver.devices id ≡ Some space
-      → (space_at new.driver.devices id ≡ Some space) ⊎ HasLeft (shown_attachment (attachment_of old.driver.devices id)) old.driver.confirmed (old.driver.confirmed + polled.count)
+  spaces_polled : (id : ℕ) (space : Space) (a : Attachment) → attachment_by_id old.driver.devices id ≡ a → space_at old.driver.devices id ≡ Some space
+      → (space_at new.driver.devices id ≡ Some space) ⊎ HasLeft (shown_attachment (attachment_by_id old.driver.devices id)) old.driver.confirmed (old.driver.confirmed + polled.count)
   spaces_polled id space Detached is at = absurd (none_spaced old.driver.devices id space (ap owned_stages is) at)
   spaces_polled id space (Attached stage) is at = inl (
       ap (λ a. option_map (λ (s : Stages). space_in s.mode s.number) (owned_stages a)) (attachment_now id ∙ ap (after (done_after old.driver polled)) is)
@@ -99,7 +99,7 @@ module _ (old new : Parts) (events : ℕ) (polled : Polled) (sound : AreSound ol
   spaces_polled id space (Leaving ticket stage) is at = by (nat_le ticket (done_after old.driver polled)) refl
     where
       by : (b : Bool) → nat_le ticket (done_after old.driver polled) ≡ b
-          → (space_at new.driver.devices id ≡ Some space) ⊎ HasLeft (shown_attachment (attachment_of old.driver.devices id)) old.driver.confirmed (old.driver.confirmed + polled.count)
+          → (space_at new.driver.devices id ≡ Some space) ⊎ HasLeft (shown_attachment (attachment_by_id old.driver.devices id)) old.driver.confirmed (old.driver.confirmed + polled.count)
       by true gone =
           let low : ticket ≤ old.driver.confirmed + polled.count = leb-true ticket (old.driver.confirmed + polled.count) gone in
           inr (subst (λ a. HasLeft (shown_attachment a) old.driver.confirmed (old.driver.confirmed + polled.count)) (sym is) ((own.leaving id ticket stage is).0, low))
@@ -128,7 +128,7 @@ module _ (old new : Parts) (events : ℕ) (polled : Polled) (sound : AreSound ol
         agrees = confirms.agrees;
         attachments = λ d.
             ap shown_attachment (attachment_now d)
-            ∙ sym (left_is old.driver.confirmed polled.count (λ e. shown_attachment (attachment_of old.driver.devices e)) d (attachment_of old.driver.devices d) refl
+            ∙ sym (left_is old.driver.confirmed polled.count (λ e. shown_attachment (attachment_by_id old.driver.devices e)) d (attachment_by_id old.driver.devices d) refl
             (λ ticket stage is. (own.leaving d ticket stage is).0));
         address = ap completion_address leaves.size;
         waiting = same_waiting old new events sound (ap registers_of iommu) (system_kept (command_frame (length old.memory)) (fixed_frames old events sound own).command);
@@ -142,22 +142,22 @@ module _ (old new : Parts) (events : ℕ) (polled : Polled) (sound : AreSound ol
         in_flight = ap (λ i. accesses_of (flights_of i).rows) iommu;
         kinds = kinds_kept old new devices;
         contexts = λ d is. ap (λ i. is_some (contexts_of i d)) (sym iommu) ∙ is;
-        spaces = λ d space at. spaces_polled d space (attachment_of old.driver.devices d) refl at;
+        spaces = λ d space at. spaces_polled d space (attachment_by_id old.driver.devices d) refl at;
         translations = ap translations_of iommu;
         fence_snapshot = ap fence_snapshot_of iommu;
         traffic = traffic_kept old new devices fabric (ap slots_of iommu);
       }
 
   contexts_true : ∥ HasFaithfulScene (values_of new) ∥₁ → ContextsAreTrue new
-  contexts_true copies id context cached = by (has_left (done_after old.driver polled) (attachment_of old.driver.devices id)) refl
+  contexts_true copies id context cached = by (has_left_until (done_after old.driver polled) (attachment_by_id old.driver.devices id)) refl
     where
-      by : (b : Bool) → has_left (done_after old.driver polled) (attachment_of old.driver.devices id) ≡ b → option_map context_for (owned_stages_of new.driver.devices id) ≡ Some context
+      by : (b : Bool) → has_left_until (done_after old.driver polled) (attachment_by_id old.driver.devices id) ≡ b → option_map context_for (owned_stages_of new.driver.devices id) ≡ Some context
       by true gone =
           absurd (detached_uncached new id context copies cached
-          (ap shown_attachment (attachment_now id) ∙ ap (λ b. shown_attachment (if b then Detached else attachment_of old.driver.devices id)) gone))
+          (ap shown_attachment (attachment_now id) ∙ ap (λ b. shown_attachment (if b then Detached else attachment_by_id old.driver.devices id)) gone))
       by false stays =
           ap (λ a. option_map context_for (owned_stages a)) (attachment_now id)
-          ∙ ap (λ b. option_map context_for (owned_stages (if b then Detached else attachment_of old.driver.devices id))) stays
+          ∙ ap (λ b. option_map context_for (owned_stages (if b then Detached else attachment_by_id old.driver.devices id))) stays
           ∙ sound.contexts id context (ap (λ i. contexts_of i id) (sym iommu) ∙ cached)
 
   pub polled_sound : AreSound new events
@@ -167,7 +167,7 @@ module _ (old new : Parts) (events : ℕ) (polled : Polled) (sound : AreSound ol
       let copies = ∥∥₁_map sound.copies (poll_scene (values_of old) (values_of new) polled.count rest confirms_some) in
       sound_from old new events sound leaves (same_iommu old new iommu) (ap (λ (d : DriverState). d.started) confirms.driver) ready
       (same_known old new devices fabric (ap (λ (d : DriverState). known_ids d.devices) confirms.driver ∙ ids_confirmed (done_after old.driver polled) old.driver.devices)
-      (λ d. ap (λ (s : DriverState). is_trusted s.devices d) confirms.driver ∙ trusted_confirmed (done_after old.driver polled) old.driver.devices d)
+      (λ d. ap (λ (s : DriverState). has_trusted_cache s.devices d) confirms.driver ∙ trusted_confirmed (done_after old.driver polled) old.driver.devices d)
       (ap (λ i. row_ids (flights_of i).rows) iommu) sound.known)
       (same_epochs old new events sound devices)
       (omega (arith, given, small)) (contexts_true copies) copies

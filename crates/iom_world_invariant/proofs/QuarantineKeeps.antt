@@ -13,7 +13,7 @@ use Rattle.iom_driver.specs.declared.answers.Ticket as answers
 use Rattle.iom_driver.specs.declared.device.Attachment.TheVariants.{Attached, Quarantined}
 use Rattle.iom_driver.specs.declared.device.Stages.{Stages}
 use Rattle.iom_driver.specs.Appends.{context_invalidation, space_invalidation, detach_commands}
-use Rattle.iom_driver.specs.Devices.{attachment_of, is_plugged, owned_stages, owned_stages_of, is_trusted, with_attachment}
+use Rattle.iom_driver.specs.Devices.{attachment_by_id, has_device, owned_stages, owned_stages_of, has_trusted_cache, with_attachment}
 use Rattle.iom_driver.specs.Directory.{context_for}
 use Rattle.iom_driver.specs.Fences.{last_fence, fence_of}
 use Rattle.iom_driver.specs.Layout.{completion_frame, completion_address, directory_frame}
@@ -69,10 +69,10 @@ module _ (old new : Parts) (events id ticket : ℕ) (sound : AreSound old events
   given_now : new.driver.given ≡ old.driver.given + 1
   given_now = ap (λ (d : DriverState). d.given) queues.driver ∙ queues.next
 
-  was_attached : attachment_of old.driver.devices id ≡ Attached queues.stage
-  was_attached = attached_is (attachment_of old.driver.devices id) queues.stage queues.attached
+  was_attached : attachment_by_id old.driver.devices id ≡ Attached queues.stage
+  was_attached = attached_is (attachment_by_id old.driver.devices id) queues.stage queues.attached
 
-  plugged : is_plugged old.driver.devices id ≡ true
+  plugged : has_device old.driver.devices id ≡ true
   plugged = attached_there old.driver.devices id queues.stage queues.attached
 
   abbrev commands : List QueueEntry
@@ -118,7 +118,7 @@ module _ (old new : Parts) (events id ticket : ℕ) (sound : AreSound old events
   quarantined_sound =
       sound_from old new events sound leaves (rung_leaves old new (sound.ready.ring sound.started).on rung) (ap (λ (d : DriverState). d.started) queues.driver) ready
       (same_known old new devices fabric (ap (λ (d : DriverState). known_ids d.devices) queues.driver ∙ ids_set old.driver.devices id (Quarantined ticket queues.stage))
-      (λ d. ap (λ (s : DriverState). is_trusted s.devices d) queues.driver ∙ trusted_set old.driver.devices id (Quarantined ticket queues.stage) d)
+      (λ d. ap (λ (s : DriverState). has_trusted_cache s.devices d) queues.driver ∙ trusted_set old.driver.devices id (Quarantined ticket queues.stage) d)
       (ap (λ f. row_ids f.rows) rung.flights) sound.known)
       (same_epochs old new events sound devices)
       (subst (λ n. n < 2 ^ 32) (sym given_now) (next_small old.driver.given old.driver.restarts numbers))
@@ -126,8 +126,8 @@ module _ (old new : Parts) (events id ticket : ℕ) (sound : AreSound old events
       (∥∥₁_map sound.copies
       (quarantine_scene (values_of old) (values_of new) id queues.stage.mode queues.stage.ats commands queues_ticket
       (ap shown_attachment was_attached)
-      (λ d. ap (λ (s : DriverState). shown_attachment (attachment_of s.devices d)) queues.driver ∙ shown_set old.driver.devices id (Quarantined ticket queues.stage) plugged d
-      ∙ ap (λ t. if id == d then shown.Quarantined t queues.stage.mode queues.stage.ats else shown_attachment (attachment_of old.driver.devices d)) queues.next)
+      (λ d. ap (λ (s : DriverState). shown_attachment (attachment_by_id s.devices d)) queues.driver ∙ shown_set old.driver.devices id (Quarantined ticket queues.stage) plugged d
+      ∙ ap (λ t. if id == d then shown.Quarantined t queues.stage.mode queues.stage.ats else shown_attachment (attachment_by_id old.driver.devices d)) queues.next)
       (subst (λ t. (h : History) → Agrees old.driver.ledger h → confirms h t ≡ false → Agrees new.driver.ledger (AllReleased id t ∷ h)) queues.next queues.agrees)))
 
 pub keeps_quarantined : (old new : Parts) (events id : ℕ) (told : Outcome) → AreSound old events → IsSoundDriver old.driver → IsReady new.driver new.memory (registers_of new.iommu)

@@ -9,7 +9,7 @@ use Rattle.iom_coherence.specs.Deliveries.{MayBeSent}
 use Rattle.iom_coherence.specs.Requests.{IsWalked}
 use Rattle.iom_coherence.specs.Scene.{AtsMessage, Question, Answer, Scene}
 use Rattle.iom_coherence.proofs.ListLemmas.{contains_head, in_none}
-use Rattle.iom_driver.specs.Devices.{attachment_of}
+use Rattle.iom_driver.specs.Devices.{attachment_by_id}
 use Rattle.iom_fabric.specs.declared.message.Message.TheVariants as sent
 use Rattle.iom_fabric.specs.declared.message.Translation.{Translation as Told}
 use Rattle.iom_fabric.specs.declared.message.Translation.TheVariants.{Page, Refused}
@@ -65,7 +65,7 @@ module _ (laws : ServiceLaws) (old new : Parts) (events device page : ℕ) (soun
   -- memory and registers are the same: only what is cached changed
   quiet_sound : new.memory ≡ old.memory → registers_of new.iommu ≡ registers_of old.iommu → frames_of new.iommu ≡ frames_of old.iommu → slots_of new.iommu ≡ slots_of old.iommu
       → flights_of new.iommu ≡ flights_of old.iommu → fence_snapshot_of new.iommu ≡ fence_snapshot_of old.iommu
-      → KeepsAttached (attachment_of old.driver.devices device) device (contexts_of old.iommu) (contexts_of new.iommu)
+      → KeepsAttached (attachment_by_id old.driver.devices device) device (contexts_of old.iommu) (contexts_of new.iommu)
       → TranslationsChange (values_of old) device (translations_of new.iommu) → AreSound (answering old new) events
   quiet_sound memory registers frames slots flights fence_snapshot keeps change =
       let leaves : Leaves old after = record {
@@ -114,7 +114,7 @@ module _ (laws : ServiceLaws) (old new : Parts) (events device page : ℕ) (soun
       fields : Fields
       fields = record_of (faulted_of device AtsRequest (page * 4096)) (fault_of call.fault)
 
-      keeps : KeepsAttached (attachment_of old.driver.devices device) device (contexts_of old.iommu) (contexts_of new.iommu)
+      keeps : KeepsAttached (attachment_by_id old.driver.devices device) device (contexts_of old.iommu) (contexts_of new.iommu)
       keeps = keeps_attached laws old events sound own device (contexts_of new.iommu) call.contexts
 
       change : TranslationsChange (values_of old) device (translations_of new.iommu)

@@ -14,7 +14,7 @@ use Rattle.iom_driver.specs.declared.answers.Ticket as answers
 use Rattle.iom_driver.specs.Appends.{invalidation, device_invalidation, release_commands, Appends, AppendsAll}
 use Rattle.iom_driver.specs.Calls.{AnswersRelease, QueuesRelease}
 use Rattle.iom_driver.specs.declared.device.Stages.{Stages}
-use Rattle.iom_driver.specs.Devices.{attachment_of, owned_stages, owned_stages_of}
+use Rattle.iom_driver.specs.Devices.{attachment_by_id, owned_stages, owned_stages_of}
 use Rattle.iom_driver.specs.Directory.{context_for}
 use Rattle.iom_driver.specs.Layout.{completion_frame, completion_address}
 use Rattle.iom_driver.specs.Ready.{IsReady}
@@ -31,7 +31,7 @@ use Rattle.iom_machine.specs.declared.outcome.Outcome.{Outcome}
 use Rattle.iom_page_table.specs.FirstTables.{unmapped}
 use Rattle.iom_registers.specs.Queues.{command_status, is_command_queue_on}
 use Rattle.iom_world_effects.proofs.DriverLemmas.{next_fence}
-use Rattle.iom_tlb.specs.Content.{Content}
+use Rattle.iom_tlb.specs.Content.{Translations}
 use Rattle.iom_world_effects.specs.Devices.{shown_attachment}
 use Rattle.iom_world_effects.specs.Does.{ReleasesPage}
 use Rattle.iom_world_effects.specs.Parts.{Parts}
@@ -41,14 +41,14 @@ use Rattle.iom_world_effects.specs.Sound.{AreSound, known_ids, row_ids}
 use Rattle.iom_world_invariant.proofs.DriverKeeps.{attached_is}
 use Rattle.iom_world_effects.proofs.DriverLemmas.{IsSoundDriver}
 use Rattle.iom_world_invariant.proofs.PollKeeps.{same_known}
-use Rattle.iom_coherence.specs.DriverCalls.{released_extent, release_commands as queued_commands}
+use Rattle.iom_coherence.specs.DriverCalls.{released_extent, queued_by_release}
 use Rattle.iom_world_effects.proofs.CachedLemmas.{spaces_same}
 use Rattle.iom_world_effects.proofs.QueuedLemmas.{queued_release, released_last}
 use Rattle.iom_world_effects.proofs.SceneCalls.{KeepsCached, QueuesTicket, release_scene}
 use Rattle.iom_world_effects.proofs.SoundLemmas.{same_completed, LeavesWord, LeavesIommu, sound_from, fixed_frames, none_at}
 use Rattle.iom_command_queue.specs.declared.entry.QueueEntry.{QueueEntry}
 use Rattle.iom_iommu.specs.Parts.{slots_of}
-use Rattle.iom_driver.specs.Devices.{is_trusted}
+use Rattle.iom_driver.specs.Devices.{has_trusted_cache}
 use Rattle.iom_world_effects.proofs.SoundLemmas.{traffic_kept, kinds_kept, same_epochs}
 
 -- a frame of the system's isn't a device's
@@ -121,7 +121,7 @@ pub rung_cached : (old new : Parts) → is_command_queue_on (registers_of old.io
     → ((id : ℕ) (space : Space) → space_at old.driver.devices id ≡ Some space → space_at new.driver.devices id ≡ Some space) → KeepsCached (values_of old) (values_of new)
 rung_cached old new on rung devices fabric fences spaces = record {
   spaces = spaces;
-  translations = λ key translation at. sym (ap (λ (c : Content). c key) rung.translations) ∙ at;
+  translations = λ key translation at. sym (ap (λ (c : Translations). c key) rung.translations) ∙ at;
   fence_snapshot = rung.fence_snapshot on;
   fences = fences;
   stopped = ap (λ c. c.cmd_to) rung.status;
@@ -153,12 +153,12 @@ module _ (old new : Parts) (events id page ticket : ℕ) (sound : AreSound old e
   given_now : new.driver.given ≡ old.driver.given + 1
   given_now = ap (λ (d : DriverState). d.given) queues.driver ∙ queues.next
 
-  queues_ticket : QueuesTicket (values_of old) (values_of new) commands (queued_commands id (released_extent queues.stage.mode page) queues.stage.ats)
+  queues_ticket : QueuesTicket (values_of old) (values_of new) commands (queued_by_release id (released_extent queues.stage.mode page) queues.stage.ats)
   queues_ticket =
       record {
         ordered = own.tickets.ordered;
         appended = queued_release (completion_address (length old.memory)) (space_at old.driver.devices) id page queues.stage
-            (ap (option_map (λ (stage : Stages). space_in stage.mode stage.number)) (ap owned_stages (attached_is (attachment_of old.driver.devices id) queues.stage queues.attached)));
+            (ap (option_map (λ (stage : Stages). space_in stage.mode stage.number)) (ap owned_stages (attached_is (attachment_by_id old.driver.devices id) queues.stage queues.attached)));
         waiting = queues.list
             ∙ ap (λ l. commands_in old.memory (registers_of old.iommu) ++ l) (released_last id page (completion_address (length old.memory)) (last_fence old.driver + 1) queues.stage);
         address = ap completion_address leaves.size;
@@ -177,7 +177,7 @@ module _ (old new : Parts) (events id page ticket : ℕ) (sound : AreSound old e
   pub released_sound : AreSound new events
   released_sound =
       sound_from old new events sound leaves (rung_leaves old new (sound.ready.ring sound.started).on rung) (ap (λ (d : DriverState). d.started) queues.driver) ready
-      (same_known old new devices fabric (ap (λ (d : DriverState). known_ids d.devices) queues.driver) (λ d. ap (λ (s : DriverState). is_trusted s.devices d) queues.driver)
+      (same_known old new devices fabric (ap (λ (d : DriverState). known_ids d.devices) queues.driver) (λ d. ap (λ (s : DriverState). has_trusted_cache s.devices d) queues.driver)
       (ap (λ f. row_ids f.rows) rung.flights) sound.known)
       (same_epochs old new events sound devices)
       (subst (λ n. n < 2 ^ 32) (sym given_now) (next_small old.driver.given old.driver.restarts numbers))
@@ -185,8 +185,8 @@ module _ (old new : Parts) (events id page ticket : ℕ) (sound : AreSound old e
       ap (λ (s : DriverState). option_map context_for (owned_stages_of s.devices other)) queues.driver ∙ sound.contexts other context (sym (rung.contexts other) ∙ cached))
       (∥∥₁_map sound.copies
       (release_scene (values_of old) (values_of new) id page queues.stage.mode queues.stage.ats commands queues_ticket
-      (ap shown_attachment (attached_is (attachment_of old.driver.devices id) queues.stage queues.attached))
-      (λ d. ap (λ (s : DriverState). shown_attachment (attachment_of s.devices d)) queues.driver)
+      (ap shown_attachment (attached_is (attachment_by_id old.driver.devices id) queues.stage queues.attached))
+      (λ d. ap (λ (s : DriverState). shown_attachment (attachment_by_id s.devices d)) queues.driver)
       (subst (λ t. (h : History) → Agrees old.driver.ledger h → confirms h t ≡ false → Agrees new.driver.ledger (Released id page t ∷ h)) queues.next queues.agrees)))
 
 pub keeps_released : (old new : Parts) (events id page : ℕ) (told : Outcome) → AreSound old events → IsSoundDriver old.driver → IsReady new.driver new.memory (registers_of new.iommu)

@@ -19,7 +19,7 @@ use Rattle.iom_machine.specs.declared.state.State.{State}
 use Rattle.iom_machine.specs.Machine as machine
 use Rattle.iom_registers.specs.declared.register.Register.TheVariants.{Fqh, Fqcsr}
 use Rattle.iom_registers.specs.Queues.{is_command_queue_on}
-use Rattle.iom_tlb.specs.Content.{Content}
+use Rattle.iom_tlb.specs.Content.{Translations}
 use Rattle.iom_world_effects.specs.Does.{TakesReport, report_told_of}
 use Rattle.iom_world_effects.specs.Stays.{AreSame, SameIfRefused, waiting_in}
 use Rattle.iom_world_effects.specs.OwnIommu.{Iommu}
@@ -108,7 +108,7 @@ keeps_taken old new events told sound own ready takes =
     (ap (λ (f : Flights). f.so_far) writes.flights)
     (subst (λ (f : Flights). AreAmong (accesses_of f.rows) (accesses_of (flights_of old.iommu).rows)) (sym writes.flights) (λ x there. there))
     (λ d is. ap (λ o. is_some o) (sym (writes.contexts d)) ∙ is)
-    (λ key translation at. sym (ap (λ (c : Content). c key) writes.translations) ∙ at) has)
+    (λ key translation at. sym (ap (λ (c : Translations). c key) writes.translations) ∙ at) has)
 
 pub taken_waiting : (old new : Parts) (events : ℕ) (told : Outcome) → AreSound old events → IsSoundDriver old.driver → TakesReport old told new → waiting_in new ≡ waiting_in old
 taken_waiting old new events told sound own takes =

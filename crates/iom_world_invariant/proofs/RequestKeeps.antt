@@ -6,7 +6,7 @@ use Rattle.iom_base.specs.declared.cause.Cause.{Cause}
 use Rattle.iom_base.specs.Rights.{allows}
 use Rattle.iom_coherence.specs.Among.{AreAmong, AreAmongWith}
 use Rattle.iom_driver.specs.declared.device.Stages.{Stages}
-use Rattle.iom_driver.specs.Devices.{attachment_of, owned_stages}
+use Rattle.iom_driver.specs.Devices.{attachment_by_id, owned_stages}
 use Rattle.iom_fault_queue.specs.declared.ring.Put.{Put}
 use Rattle.iom_fault_queue.specs.Calls.{PutsRecord}
 use Rattle.iom_fault_queue.specs.Records.{record_of}
@@ -17,7 +17,7 @@ use Rattle.iom_iommu.specs.declared.reply.Reply.TheVariants.{Accepted, Busy, Bad
 use Rattle.iom_iommu.specs.Parts.{registers_of, contexts_of, translations_of, flights_of, frames_of, slots_of}
 use Rattle.iom_fault_queue.specs.declared.transaction.Transaction.{Transaction}
 use Rattle.iom_fault_queue.specs.Fields.{Fields}
-use Rattle.iom_iommu.specs.Requests.{Accepts, Refuses, faulted_of, fault_of, AnswersRequest, AcceptsRequest, RefusesRequest}
+use Rattle.iom_iommu.specs.Requests.{IommuAccepts, Refuses, faulted_of, fault_of, AnswersRequest, AcceptsRequest, RefusesRequest}
 use Rattle.iom_machine.specs.declared.outcome.Outcome.{Outcome}
 use Rattle.iom_stage_walk.specs.declared.walked.WalkFault.{WalkFault}
 use Rattle.iom_machine.specs.declared.state.Attachment.TheVariants as shown
@@ -26,7 +26,7 @@ use Rattle.iom_base.specs.declared.mode.Mode.{Mode}
 use Rattle.iom_tlb.specs.declared.space.Space.{Space}
 use Rattle.iom_tlb.specs.declared.trans_cache.Translation.{Translation}
 use Rattle.iom_tlb.specs.Chosen.{ioatc}
-use Rattle.iom_tlb.specs.Content.{Key, Content as Translations, Keeps, Stays}
+use Rattle.iom_tlb.specs.Content.{Key, Translations, Keeps, TranslationsStay}
 use Rattle.iom_tlb.proofs.KeyLemmas.{one_or_other}
 use Rattle.iom_world_effects.specs.Devices.{shown_attachment}
 use Rattle.iom_world_effects.specs.Parts.{Parts}
@@ -102,22 +102,22 @@ abbrev pub between_values : Parts → Parts → Values
 between_values old new = cached_so (values_of old) (λ d. is_some (contexts_of new.iommu d)) (translations_of new.iommu)
 
 -- by what is kept of contexts and of translations
-pub between_scene : (old new : Parts) (id : ℕ) → KeepsAttached (attachment_of old.driver.devices id) id (contexts_of old.iommu) (contexts_of new.iommu)
+pub between_scene : (old new : Parts) (id : ℕ) → KeepsAttached (attachment_by_id old.driver.devices id) id (contexts_of old.iommu) (contexts_of new.iommu)
     → TranslationsChange (values_of old) id (translations_of new.iommu) → HasFaithfulScene (values_of old) → HasFaithfulScene (between_values old new)
 between_scene old new id keeps change has =
     kept_scene (cached_so (values_of old) (values_of old).is_cached (translations_of new.iommu)) (λ d. is_some (contexts_of new.iommu d)) id (by keeps)
     (translated_scene (values_of old) (translations_of new.iommu) id change has)
   where
-    by : KeepsAttached (attachment_of old.driver.devices id) id (contexts_of old.iommu) (contexts_of new.iommu)
+    by : KeepsAttached (attachment_by_id old.driver.devices id) id (contexts_of old.iommu) (contexts_of new.iommu)
         → ((d : ℕ) → is_some (contexts_of new.iommu d) ≡ true → is_some (contexts_of old.iommu d) ≡ true)
-        ⊎ ((mode : Mode) × (ats : Bool) × (shown_attachment (attachment_of old.driver.devices id) ≡ shown.Attached mode ats)
+        ⊎ ((mode : Mode) × (ats : Bool) × (shown_attachment (attachment_by_id old.driver.devices id) ≡ shown.Attached mode ats)
         × ((d : ℕ) → is_some (contexts_of new.iommu d) ≡ true → (is_some (contexts_of old.iommu d) ≡ true) ⊎ (d ≡ id)))
     by (inl same) = inl (λ d there. ap is_some (sym (same d)) ∙ there)
     by (inr (stage, is, one)) = inr (
       stage.mode,
       stage.ats,
       ap shown_attachment is,
-      cached_or (attachment_of old.driver.devices id) id (contexts_of old.iommu) (contexts_of new.iommu) (inr (stage, is, one)),
+      cached_or (attachment_by_id old.driver.devices id) id (contexts_of old.iommu) (contexts_of new.iommu) (inr (stage, is, one)),
     )
 
 -- between those values and the new ones little lies
@@ -182,7 +182,7 @@ served_from old id address kind cached translations answer own (inr finds) = (
 
 -- where nothing else changed but what is cached, and perhaps the fault queue, the facts on copies stay
 pub settled_scene : (old new : Parts) (id : ℕ) → KeepsGrants (values_of old) (values_of new) → KeepsQueue (values_of old) (values_of new) → flights_of new.iommu ≡ flights_of old.iommu
-    → KeepsAttached (attachment_of old.driver.devices id) id (contexts_of old.iommu) (contexts_of new.iommu) → TranslationsChange (values_of old) id (translations_of new.iommu)
+    → KeepsAttached (attachment_by_id old.driver.devices id) id (contexts_of old.iommu) (contexts_of new.iommu) → TranslationsChange (values_of old) id (translations_of new.iommu)
     → HasFaithfulScene (values_of old) → HasFaithfulScene (values_of new)
 settled_scene old new id grants queue flights keeps change has =
     let cached : ℕ → Bool = λ d. is_some (contexts_of new.iommu d) in
@@ -239,7 +239,7 @@ module _ (laws : ServiceLaws) (old new : Parts) (events id : ℕ) (access : Acce
 
   -- a request is refused, of whatever transaction: what is cached of translations stays, and the context that was found is kept
   pub keeps_refused : {Served : Result Translation WalkFault → Translations → Type 0} {transaction : Transaction} (cause : Cause) → Refuses Served transaction old.memory old.iommu id access cause new.memory new.iommu
-      → Stays (translations_of old.iommu) (translations_of new.iommu) → AreSound new events
+      → TranslationsStay (translations_of old.iommu) (translations_of new.iommu) → AreSound new events
   keeps_refused cause call stays =
       let keeps = keeps_attached laws old events sound own id (contexts_of new.iommu) call.contexts in
       let leaves = report_leaves old new events id access sound report_ready driver devices fabric cause call in
@@ -255,7 +255,7 @@ module _ (laws : ServiceLaws) (old new : Parts) (events id : ℕ) (access : Acce
 
   -- an access is accepted on the frame of a copy, which the scene has to serve it from
   pub keeps_accepted : {Served : Result Translation WalkFault → Translations → Type 0} (page : ℕ) (translation : Translation) → new.memory ≡ old.memory → (number : ℕ)
-      → (call : Accepts Served old.memory old.iommu id access number new.iommu) → call.frame ≡ translation.frame → allows translation.rights access.kind ≡ true
+      → (call : IommuAccepts Served old.memory old.iommu id access number new.iommu) → call.frame ≡ translation.frame → allows translation.rights access.kind ≡ true
       → TranslationsChange (values_of old) id (translations_of new.iommu) → HasSource (cached_so (values_of old) (λ d. is_some (contexts_of new.iommu d)) (translations_of new.iommu)) (copy_of id page translation) → AreSound new events
   keeps_accepted page translation memory number call frame allowed change source =
       let keeps = keeps_attached laws old events sound own id (contexts_of new.iommu) call.contexts in

@@ -8,7 +8,7 @@ use Rattle.iom_base.specs.Rights.{allows}
 use Rattle.iom_driver.specs.declared.device.Attachment.{Attachment}
 use Rattle.iom_driver.specs.declared.device.Attachment.TheVariants as driver
 use Rattle.iom_driver.specs.declared.device.Device as known
-use Rattle.iom_driver.specs.Devices.{attachment_of}
+use Rattle.iom_driver.specs.Devices.{attachment_by_id}
 use Rattle.iom_driver.specs.Layout.{fault_frame}
 use Rattle.iom_base.specs.Sizes.{in_flight_limit}
 use Rattle.iom_inflight.specs.Calls.{with_access, IsAccepted, IsFull}
@@ -35,7 +35,7 @@ use Rattle.iom_machine.specs.Requests.{MayAccept, MayFault, MayAnswer, IsBusy, s
 use Rattle.iom_ledger.specs.Shown.{Agrees, held_in}
 use Rattle.iom_tlb.specs.declared.trans_cache.Translation.{Translation}
 use Rattle.iom_tlb.specs.Chosen.{ioatc}
-use Rattle.iom_tlb.specs.Content.{Content as Translations}
+use Rattle.iom_tlb.specs.Content.{Translations}
 use Rattle.iom_world_effects.specs.Devices.{accepted_of, in_flight_of, shown_device, shown_devices, shown_attachment}
 use Rattle.iom_world_effects.specs.Frames.{ShowsFrames}
 use Rattle.iom_world_effects.specs.Parts.{Parts}
@@ -108,13 +108,13 @@ none_held_shown state ledger id access agrees none frame held =
 -- what the machine lets an attached device be accepted, and each fault
 may_accept : (parts : Parts) (events : ℕ) (state : State) (id : ℕ) (answer : Translation) (access : Access) (sure : Bool) (old new : Translations) → AreSound parts events → IsSoundDriver parts.driver → PartsShow parts state
     → old ≡ translations_of parts.iommu → IsAnswered sure parts.driver id access.address access.kind old (Ok answer) new
-    → MayAccept (shown_attachment (attachment_of parts.driver.devices id)) state id access answer.frame
+    → MayAccept (shown_attachment (attachment_by_id parts.driver.devices id)) state id access answer.frame
 may_accept parts events state id answer access sure old new sound own shows same (inl reaches) =
     subst (λ a. MayAccept (shown_attachment a) state id access answer.frame) (sym reaches.attached)
     (subst (λ n. MayAccept (shown.Attached reaches.stage.mode reaches.stage.ats) state id access n) (sym (ap (λ (t : Translation). t.frame) reaches.answer_is))
     (held_shown state parts.driver.ledger reaches.stage.mode reaches.stage.ats id access reaches.translation shows.ledger reaches.held reaches.allowed))
 may_accept parts events state id answer access sure old new sound own shows same (inr finds) =
-    subst (λ n. MayAccept (shown_attachment (attachment_of parts.driver.devices id)) state id access n) (sym (ap (λ (t : Translation). t.frame) finds.answer_is))
+    subst (λ n. MayAccept (shown_attachment (attachment_by_id parts.driver.devices id)) state id access n) (sym (ap (λ (t : Translation). t.frame) finds.answer_is))
     (cached_accept parts events state id access finds.stage finds.translation sound own shows finds.owned
     (ap (λ (c : Translations). c (space_in finds.stage.mode finds.stage.number, access.address / 4096)) (sym same) ∙ finds.cached) finds.allowed finds.pending)
 
@@ -125,7 +125,7 @@ attached_fault (Second size) ats state ledger id access cause agrees faults = (n
 attached_fault (Both size) ats state ledger id access cause agrees faults = faults
 
 may_fault : (a : Attachment) (parts : Parts) (state : State) (id : ℕ) (access : Access) (cause : Cause) → IsSoundDriver parts.driver → PartsShow parts state
-    → attachment_of parts.driver.devices id ≡ a → FaultsAs a parts.driver id access.address access.kind cause → MayFault (shown_attachment a) state id access cause
+    → attachment_by_id parts.driver.devices id ≡ a → FaultsAs a parts.driver id access.address access.kind cause → MayFault (shown_attachment a) state id access cause
 may_fault driver.Detached parts state id access cause own shows is faults = faults ∙ ap (λ l. cause_at l id) (sym shows.levels)
 may_fault (driver.Attached stage) parts state id access cause own shows is faults = attached_fault stage.mode stage.ats state parts.driver.ledger id access cause shows.ledger faults
 may_fault (driver.Quarantined ticket stage) parts state id access cause own shows is (inl (pending, page)) = inr (shows.none_later ticket pending, page)
@@ -259,9 +259,9 @@ module _ (can : DeviceKind → Bool) (laws : ServiceLaws) (old new : Parts) (eve
       let leaves = report_leaves old new events id access sound reported driver devices fabric cause call in
       step_same (outcome.Fault cause) (
         (call.within, not_busy old new events id sound state shows is call.room.row call.room.stands call.room.room),
-        subst (λ n. MayFault (shown_attachment (attachment_of old.driver.devices n)) state n access cause) (sym is.own)
-            (subst (λ c. MayFault (shown_attachment (attachment_of old.driver.devices id)) state id access c) (sym call.told)
-            (may_fault (attachment_of old.driver.devices id) old state id access call.fault.cause own shows refl faults)),
+        subst (λ n. MayFault (shown_attachment (attachment_by_id old.driver.devices n)) state n access cause) (sym is.own)
+            (subst (λ c. MayFault (shown_attachment (attachment_by_id old.driver.devices id)) state id access c) (sym call.told)
+            (may_fault (attachment_by_id old.driver.devices id) old state id access call.fault.cause own shows refl faults)),
       )
       refl (shows_reported old new state leaves sound.ready.stand.size own shows) call.flights
 
@@ -276,7 +276,7 @@ module _ (can : DeviceKind → Bool) (laws : ServiceLaws) (old new : Parts) (eve
         acts_at can (MayTell call.frame next (outcome.Accepted number)) old state id (outcome.Accepted number) next shows.devices is able (
           (
             (call.within, not_busy old new events id sound state shows is it.row it.stands it.room),
-            subst (λ n. MayAccept (shown_attachment (attachment_of old.driver.devices n)) state n access call.frame) (sym is.own)
+            subst (λ n. MayAccept (shown_attachment (attachment_by_id old.driver.devices n)) state n access call.frame) (sym is.own)
                 (may_accept old events state id (record { frame = call.frame; rights = call.rights }) access ioatc.SURE (translations_of old.iommu) (translations_of new.iommu) sound own shows refl answers),
             after.0,
           ),

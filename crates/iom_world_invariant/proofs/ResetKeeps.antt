@@ -8,7 +8,7 @@ use Rattle.iom_command_queue.specs.OpenSlots.{OpenSlots}
 use Rattle.iom_coherence.specs.Attachments.{caches_translations}
 use Rattle.iom_coherence.specs.Deliveries.{AreOthers, raised}
 use Rattle.iom_coherence.proofs.ListLemmas.{in_none, contains_head, contains_tail, same_function}
-use Rattle.iom_driver.specs.Devices.{is_trusted}
+use Rattle.iom_driver.specs.Devices.{has_trusted_cache}
 use Rattle.iom_driver.proofs.Lists.{differs}
 use Rattle.iom_fabric.specs.declared.fabric.OnLink.{OnLink}
 use Rattle.iom_iommu.specs.Parts.{flights_of, slots_of}
@@ -25,7 +25,7 @@ use Rattle.iom_world_effects.specs.Read.{values_of}
 use Rattle.iom_device.specs.Calls.{reset_of, with_reset}
 use Rattle.iom_world_effects.specs.Recovery.{ResetsDevice}
 use Rattle.iom_world_effects.specs.Shows.{PartsShow}
-use Rattle.iom_world_effects.specs.Sound.{AreSound, AreKnown, HaveOwnIds, known_ids}
+use Rattle.iom_world_effects.specs.Sound.{AreSound, AreKnown, HaveDistinctIds, known_ids}
 use Rattle.iom_world_effects.specs.Traffic.{entries_by, entries_in, traffic_of}
 use Rattle.iom_world_effects.proofs.CacheSets.{kind_set, asker_set, epoch_set, ids_set, own_ids_set, caches_set, same_set, entries_set, shown_set}
 use Rattle.iom_world_effects.proofs.CallRefused.{same_parts}
@@ -84,7 +84,7 @@ reset_epochs devices events id caches most below d =
     by false c is = most d
 
 -- the entries that are left are other devices'
-pub reset_others : (devices : List Device) (id : ℕ) → HaveOwnIds devices → is_some (device_with devices id) ≡ true → AreOthers (entries_in (with_reset devices id)) id (entries_in devices)
+pub reset_others : (devices : List Device) (id : ℕ) → HaveDistinctIds devices → is_some (device_with devices id) ≡ true → AreOthers (entries_in (with_reset devices id)) id (entries_in devices)
 reset_others devices id own found copy there = elim (entries_set devices id (reset_of (cache_of devices id)) copy own found there) [
   | inl mine ↦ absurd (none (cache_of devices id) mine)
   | inr other ↦ (other.0, differs id copy.device (λ same. other.1 (sym same)))
@@ -112,7 +112,7 @@ reset_caches devices id own = by (cache_of devices id) refl
 
 -- the devices are known as before, where the driver knows the same ones and trusts the same
 pub reset_known : (old new : Parts) (id : ℕ) → AreKnown old → new.devices ≡ with_reset old.devices id → known_ids new.driver.devices ≡ known_ids old.driver.devices
-    → ((d : ℕ) → is_trusted new.driver.devices d ≡ is_trusted old.driver.devices d) → new.iommu ≡ old.iommu → new.fabric ≡ old.fabric → AreKnown new
+    → ((d : ℕ) → has_trusted_cache new.driver.devices d ≡ has_trusted_cache old.driver.devices d) → new.iommu ≡ old.iommu → new.fabric ≡ old.fabric → AreKnown new
 reset_known old new id known devices ids trusted iommu fabric =
     let cache = reset_of (cache_of old.devices id) in
     record {

@@ -9,7 +9,7 @@ use Rattle.iom_command_queue.specs.OpenSlots.{OpenSlots}
 use Rattle.iom_driver.specs.declared.device.Attachment as driver
 use Rattle.iom_driver.specs.declared.device.Attachment.TheVariants as attached
 use Rattle.iom_driver.specs.declared.device.Device.{Device as Known}
-use Rattle.iom_driver.specs.Devices.{attachment_of, owned_stages_of, is_trusted}
+use Rattle.iom_driver.specs.Devices.{attachment_by_id, owned_stages_of, has_trusted_cache}
 use Rattle.iom_driver.specs.Directory.{context_for}
 use Rattle.iom_driver.specs.Fences.{last_fence, fence_of}
 use Rattle.iom_driver.specs.Layout.{completion_frame, completion_address}
@@ -25,7 +25,7 @@ use Rattle.iom_machine.specs.declared.outcome.Outcome.{Outcome}
 use Rattle.iom_machine.specs.declared.state.Attachment.TheVariants as shown
 use Rattle.iom_base.specs.declared.mode.Mode.{Mode}
 use Rattle.iom_registers.specs.Queues.{command_status, is_command_queue_on}
-use Rattle.iom_tlb.specs.Content.{Content}
+use Rattle.iom_tlb.specs.Content.{Translations}
 use Rattle.iom_device.specs.declared.device.Device.{Device}
 use Rattle.iom_world_effects.specs.Devices.{shown_attachment}
 use Rattle.iom_world_effects.specs.OwnIommu.{Iommu}
@@ -83,7 +83,7 @@ emptied_rung old mid new emptied rung = record {
 }
 
 -- a device that leaves does so under a ticket that was given
-given_to : (d : DriverState) → IsSoundDriver d → (id ticket : ℕ) (mode : Mode) (ats : Bool) (a : driver.Attachment) → attachment_of d.devices id ≡ a
+given_to : (d : DriverState) → IsSoundDriver d → (id ticket : ℕ) (mode : Mode) (ats : Bool) (a : driver.Attachment) → attachment_by_id d.devices id ≡ a
     → shown_attachment a ≡ shown.Leaving ticket mode ats → ticket ≤ d.given
 given_to d own id ticket mode ats attached.Detached at is = cc
 given_to d own id ticket mode ats (attached.Attached stage) at is = cc
@@ -125,7 +125,7 @@ module _ (old new : Parts) (events : ℕ) (sound : AreSound old events) (own : I
   restarts_all = record {
     ordered = own.tickets.ordered;
     known = known_there old.driver.devices;
-    given_to = λ d ticket mode ats is. given_to old.driver own d ticket mode ats (attachment_of old.driver.devices d) refl is;
+    given_to = λ d ticket mode ats is. given_to old.driver own d ticket mode ats (attachment_by_id old.driver.devices d) refl is;
     appended = queued_requeued (completion_address (length old.memory)) old.driver.devices own.ids;
     agrees = λ h agrees. subst (λ (s : DriverState). Agrees s.ledger h) (sym queues.driver) agrees;
     waiting = queues.list ∙ restart_last old.driver.devices (completion_address (length old.memory)) (last_fence old.driver + 1);
@@ -138,10 +138,10 @@ module _ (old new : Parts) (events : ℕ) (sound : AreSound old events) (own : I
     so_far = ap (λ (f : Flights). f.so_far) emptied.flights;
     in_flight = ap (λ (f : Flights). accesses_of f.rows) emptied.flights;
     kinds = kinds_kept old new devices;
-    attachments = λ d. ap (λ (s : DriverState). shown_attachment (attachment_of s.devices d)) queues.driver;
+    attachments = λ d. ap (λ (s : DriverState). shown_attachment (attachment_by_id s.devices d)) queues.driver;
     contexts = λ d is. sym (ap is_some (emptied.contexts d)) ∙ is;
     spaces = spaces_same old.driver.devices new.driver.devices same_devices;
-    translations = λ key translation at. sym (ap (λ (c : Content). c key) emptied.translations) ∙ at;
+    translations = λ key translation at. sym (ap (λ (c : Translations). c key) emptied.translations) ∙ at;
     fence_snapshot = emptied.fence_snapshot;
     stopped = emptied.stopped;
     traffic = traffic_now;
@@ -153,7 +153,7 @@ module _ (old new : Parts) (events : ℕ) (sound : AreSound old events) (own : I
     started = ap (λ (d : DriverState). d.started) queues.driver ∙ sound.started;
     unmarked = emptied.unmarked;
     size = emptied.frames ∙ sound.size ∙ sym leaves.size;
-    known = same_known old new devices fabric (ap known_ids same_devices) (λ d. ap (λ (ds : List Known). is_trusted ds d) same_devices) (ap (λ (f : Flights). row_ids f.rows) emptied.flights) sound.known;
+    known = same_known old new devices fabric (ap known_ids same_devices) (λ d. ap (λ (ds : List Known). has_trusted_cache ds d) same_devices) (ap (λ (f : Flights). row_ids f.rows) emptied.flights) sound.known;
     small = subst (λ (d : DriverState). d.given < 2 ^ 32) (sym queues.driver) sound.small;
     counted = subst (λ (f : Flights). f.so_far ≤ events) (sym emptied.flights) sound.counted;
     serials = subst (λ (s : OpenSlots). s.last ≤ events) (sym emptied.slots) sound.serials;

@@ -7,7 +7,7 @@ use Rattle.std.proofs.lemmas.Bool.Decides.{eqb_tells}
 use Rattle.iom_device_dir.specs.Paths.{ids_below}
 use Rattle.iom_directory_build.specs.Pages.{HasPage, root_level}
 use Rattle.iom_driver.specs.declared.device.Attachment.TheVariants.{Attached}
-use Rattle.iom_driver.specs.Devices.{attachment_of, is_plugged, owned_stages, owned_stages_of, is_trusted, with_attachment}
+use Rattle.iom_driver.specs.Devices.{attachment_by_id, has_device, owned_stages, owned_stages_of, has_trusted_cache, with_attachment}
 use Rattle.iom_driver.specs.Directory.{context_for}
 use Rattle.iom_driver.specs.Fences.{last_fence, fence_of}
 use Rattle.iom_driver.specs.Layout.{id_limit, command_frame, completion_frame, completion_address, directory_frame}
@@ -44,7 +44,7 @@ use Rattle.iom_world_effects.proofs.RevivalScenes.{RevivesOne, revival_scene}
 use Rattle.iom_world_effects.proofs.SoundLemmas.{same_completed, LeavesWord, same_iommu, sound_from, same_waiting, none_at}
 
 -- a device that the driver knows is there
-known_there : (parts : Parts) (events id : ℕ) → AreSound parts events → is_plugged parts.driver.devices id ≡ true → is_some (device_with parts.devices id) ≡ true
+known_there : (parts : Parts) (events id : ℕ) → AreSound parts events → has_device parts.driver.devices id ≡ true → is_some (device_with parts.devices id) ≡ true
 known_there parts events id sound there = by (kind_in parts.devices id) refl
   where
     by : (kind : Option DeviceKind) → kind_in parts.devices id ≡ kind → is_some (device_with parts.devices id) ≡ true
@@ -69,8 +69,8 @@ module _ (old new : Parts) (events id : ℕ) (sound : AreSound old events) (own 
   pub again_keeps_word : slice_get new.memory (completion_frame (length old.memory)) ≡ slice_get old.memory (completion_frame (length old.memory))
   again_keeps_word = again_keeps (completion_frame (length old.memory)) (λ g page same. ((sound.ready.stand.directory sound.started).own g page).no_completion (sym same))
 
-  pub revival_plugged : is_plugged old.driver.devices id ≡ true
-  revival_plugged = not_false (is_plugged old.driver.devices id) (none_at (why_not_revive old.driver id) 1 _ NoSuchDevice refl admitted)
+  pub revival_plugged : has_device old.driver.devices id ≡ true
+  revival_plugged = not_false (has_device old.driver.devices id) (none_at (why_not_revive old.driver id) 1 _ NoSuchDevice refl admitted)
 
   -- its ticket is confirmed
   ticket_done : writes.ticket ≤ old.driver.confirmed
@@ -105,7 +105,7 @@ module _ (old new : Parts) (events id : ℕ) (sound : AreSound old events) (own 
     ats = writes.stage.ats;
     cut_off = ap shown_attachment writes.cut_off;
     done = ticket_done old new events id sound own admitted writes;
-    attached = λ d. ap (λ (s : DriverState). shown_attachment (attachment_of s.devices d)) writes.driver
+    attached = λ d. ap (λ (s : DriverState). shown_attachment (attachment_by_id s.devices d)) writes.driver
         ∙ shown_set old.driver.devices id (Attached writes.stage) (revival_plugged old new events id sound own admitted writes) d;
     others = reset_others old.devices id sound.known.own_ids (known_there old events id sound (revival_plugged old new events id sound own admitted writes));
     traffic = ap (λ (ds : List Device). traffic_of ds new.fabric (slots_of new.iommu)) devices
@@ -135,7 +135,7 @@ module _ (old new : Parts) (events id : ℕ) (sound : AreSound old events) (own 
       sound_from old new events sound leaves (same_iommu old new iommu) (ap (λ (d : DriverState). d.started) writes.driver) ready
       (reset_known old new id sound.known devices
       (ap (λ (d : DriverState). known_ids d.devices) writes.driver ∙ ids_set old.driver.devices id (Attached writes.stage))
-      (λ d. ap (λ (s : DriverState). is_trusted s.devices d) writes.driver ∙ trusted_set old.driver.devices id (Attached writes.stage) d) iommu fabric)
+      (λ d. ap (λ (s : DriverState). has_trusted_cache s.devices d) writes.driver ∙ trusted_set old.driver.devices id (Attached writes.stage) d) iommu fabric)
       (λ d. subst (λ (ds : List Device). epoch_in ds d ≤ events) (sym devices) (reset_epochs old.devices events id sound.known.caches sound.epochs below d))
       (subst (λ (d : DriverState). d.given < 2 ^ 32) (sym writes.driver) sound.small)
       (λ other context cached.

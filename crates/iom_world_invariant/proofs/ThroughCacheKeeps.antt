@@ -5,7 +5,7 @@ use Rattle.iom_base.specs.Accesses.{page_of, at_frame}
 use Rattle.std.proofs.lemmas.Bool.{false≢true}
 use Rattle.iom_coherence.specs.Copies.{IsInUse}
 use Rattle.iom_coherence.specs.Scene.{Scene}
-use Rattle.iom_driver.specs.Devices.{attachment_of, attached_stages}
+use Rattle.iom_driver.specs.Devices.{attachment_by_id, attached_stages}
 use Rattle.iom_iommu.specs.declared.reply.Reply.{Reply}
 use Rattle.iom_iommu.specs.declared.reply.Reply.TheVariants.{Accepted, Busy, BadSpan, Fault}
 use Rattle.iom_iommu.specs.Parts.{contexts_of, translations_of, flights_of}
@@ -19,7 +19,7 @@ use Rattle.iom_world_effects.specs.Parts.{Parts}
 use Rattle.iom_world_effects.specs.Read.{values_of}
 use Rattle.iom_world_effects.specs.Scenes.{copy_of, IsSceneOf}
 use Rattle.iom_world_effects.specs.Sound.{AreSound}
-use Rattle.iom_world_effects.specs.ThroughCache.{AsksThroughCache, TriesCache, FindsFrame, cached_frame}
+use Rattle.iom_world_effects.specs.ThroughCache.{DeviceAsksThroughCache, TriesCache, FindsFrame, cached_frame}
 use Rattle.iom_world_effects.specs.Traffic.{Traffic}
 use Rattle.iom_world_effects.specs.Devices.{shown_attachment}
 use Rattle.iom_world_effects.proofs.AtsContexts.{finds_none}
@@ -47,17 +47,17 @@ module _ (laws : ServiceLaws) (old new : Parts) (events id : ℕ) (access : Acce
   stays_as same = subst (λ parts. AreSound parts events) (sym same) sound
 
   -- a context that is cached of a device that is cut off stays
-  used_still : IsUsable old id → KeepsAttached (attachment_of old.driver.devices id) id (contexts_of old.iommu) (contexts_of new.iommu) → (scene : Scene)
+  used_still : IsUsable old id → KeepsAttached (attachment_by_id old.driver.devices id) id (contexts_of old.iommu) (contexts_of new.iommu) → (scene : Scene)
       → IsSceneOf (cached_so (values_of old) (λ d. is_some (contexts_of new.iommu d)) (translations_of new.iommu)) scene → IsInUse scene id
   used_still usable keeps scene shown cut_off = by keeps
     where
-      by : KeepsAttached (attachment_of old.driver.devices id) id (contexts_of old.iommu) (contexts_of new.iommu) → Contains scene.contexts id
+      by : KeepsAttached (attachment_by_id old.driver.devices id) id (contexts_of old.iommu) (contexts_of new.iommu) → Contains scene.contexts id
       by (inl same) = used_by old id usable scene (shown.attachments id) (λ there. shown.contexts id (ap is_some (same id) ∙ there)) cut_off
       by (inr (stage, is, kept)) = absurd (false≢true (ap is_quarantined (sym (shown.attachments id ∙ ap shown_attachment is)) ∙ cut_off))
 
   -- whatever scene there is has the entry
   source : (frame : ℕ) → (entry : HasEntry old.devices id (page_of access) access.kind frame) → IsUsable old id
-      → KeepsAttached (attachment_of old.driver.devices id) id (contexts_of old.iommu) (contexts_of new.iommu)
+      → KeepsAttached (attachment_by_id old.driver.devices id) id (contexts_of old.iommu) (contexts_of new.iommu)
       → HasSource (cached_so (values_of old) (λ d. is_some (contexts_of new.iommu d)) (translations_of new.iommu)) (copy_of id (page_of access) (record { frame = frame; rights = entry.rights }))
   source frame entry usable keeps scene shown = inr (inr (
     subst (λ l. Contains l (copy_of id (page_of access) (record { frame = frame; rights = entry.rights }))) (sym (ap (λ (t : Traffic). t.entries) shown.traffic)) entry.there,
@@ -93,7 +93,7 @@ module _ (laws : ServiceLaws) (old new : Parts) (events id : ℕ) (access : Acce
   tries (inr (inr finds)) = by_frame (cached_frame old id access) refl finds.2
 
 pub keeps_through_cache : (can : DeviceKind → Bool) → ServiceLaws → (old new : Parts) (events id : ℕ) (access : Access) (told : Outcome) → AreSound old events → IsSoundDriver old.driver → StaysReady old.driver
-    → StaysReported old.driver → (flights_of old.iommu).so_far < events → AsksThroughCache can old id access told new → AreSound new events
+    → StaysReported old.driver → (flights_of old.iommu).so_far < events → DeviceAsksThroughCache can old id access told new → AreSound new events
 keeps_through_cache can laws old new events id access told sound own stays reported below asks = elim asks [
   | inl unknown ↦ subst (λ parts. AreSound parts events) (sym unknown.same) sound
   | inr (inl unable) ↦ subst (λ parts. AreSound parts events) (sym unable.same) sound

@@ -9,7 +9,7 @@ use Rattle.iom_driver.specs.Ready.{IsReady}
 use Rattle.iom_driver.specs.State.{DriverState}
 use Rattle.iom_fault_queue.specs.Ring.{records_in}
 use Rattle.iom_iommu.specs.Parts.{registers_of, flights_of}
-use Rattle.iom_iommu.specs.Timeouts.{timed_out, TimesOut}
+use Rattle.iom_iommu.specs.Timeouts.{timed_out, TimesFenceOut}
 use Rattle.iom_machine.specs.declared.outcome.Outcome.{Outcome}
 use Rattle.iom_machine.specs.declared.outcome.Outcome.TheVariants as outcome
 use Rattle.iom_machine.specs.declared.state.State.{State}
@@ -109,7 +109,7 @@ stopped_sound parts events sound = record {
 }
 
 -- the parts are the same, or those of a fence that was given up
-stopped_or_same : (old new : Parts) (told : Outcome) (answer : Bool) → TimesOutFence old told new → TimesOut old.iommu answer new.iommu
+stopped_or_same : (old new : Parts) (told : Outcome) (answer : Bool) → TimesOutFence old told new → TimesFenceOut old.iommu answer new.iommu
     → new ≡ (if answer then stopped_parts old else old)
 stopped_or_same old new told true does call = parts_are new old.memory (timed_out old.iommu) old.driver old.devices old.fabric does.memory call.1 does.driver does.devices does.fabric
 stopped_or_same old new told false does call = parts_are new old.memory old.iommu old.driver old.devices old.fabric does.memory call.1 does.driver does.devices does.fabric
@@ -142,6 +142,6 @@ timeout_step old new told does state shows = (
     by true = refl
     by false = refl
 
-    flights : (answer : Bool) → TimesOut old.iommu answer new.iommu → flights_of new.iommu ≡ flights_of old.iommu
+    flights : (answer : Bool) → TimesFenceOut old.iommu answer new.iommu → flights_of new.iommu ≡ flights_of old.iommu
     flights true call = ap (λ (i : Iommu). flights_of i) call.1
     flights false call = ap (λ (i : Iommu). flights_of i) call.1

@@ -9,7 +9,7 @@ use Rattle.iom_coherence.specs.Attachments.{has_ats, caches_translations}
 use Rattle.iom_device_dir.specs.declared.context.Context.{Context}
 use Rattle.iom_driver.specs.declared.device.Attachment.{Attachment}
 use Rattle.iom_driver.specs.declared.device.Attachment.TheVariants.{Detached, Attached, Quarantined, Leaving}
-use Rattle.iom_driver.specs.Devices.{attachment_of}
+use Rattle.iom_driver.specs.Devices.{attachment_by_id}
 use Rattle.iom_driver.specs.Directory.{context_for}
 use Rattle.iom_driver.specs.State.{DriverState}
 use Rattle.iom_iommu.specs.declared.reply.Reply.{Reply}
@@ -45,10 +45,10 @@ forges_uncached CachedBlock is = absurd (false≢true is)
 
 -- and one without a cache was never attached with ATS
 pub uncached_plain : (parts : Parts) (events id : ℕ) (kind : DeviceKind) → AreSound parts events → kind_in parts.devices id ≡ Some kind → has_cache kind ≡ false
-    → has_ats (shown_attachment (attachment_of parts.driver.devices id)) ≡ false
-uncached_plain parts events id kind sound there uncached = by (has_ats (shown_attachment (attachment_of parts.driver.devices id))) refl
+    → has_ats (shown_attachment (attachment_by_id parts.driver.devices id)) ≡ false
+uncached_plain parts events id kind sound there uncached = by (has_ats (shown_attachment (attachment_by_id parts.driver.devices id))) refl
   where
-    by : (b : Bool) → has_ats (shown_attachment (attachment_of parts.driver.devices id)) ≡ b → has_ats (shown_attachment (attachment_of parts.driver.devices id)) ≡ false
+    by : (b : Bool) → has_ats (shown_attachment (attachment_by_id parts.driver.devices id)) ≡ b → has_ats (shown_attachment (attachment_by_id parts.driver.devices id)) ≡ false
     by false is = is
     by true is = absurd (not_there sound.copies (λ (scene, shown, facts).
         false≢true (sym uncached ∙ sym (ap caches_translations (shown.kinds id ∙ there)) ∙ facts.order.cached id (ap has_ats (shown.attachments id) ∙ is))))
@@ -72,9 +72,9 @@ not_let_by (Leaving ticket stage) d id found plain_one (inr is) =
 -- WHAT A FORGED REQUEST FINDS
 pub not_let : ServiceLaws → (parts : Parts) (events id : ℕ) (kind : DeviceKind) → AreSound parts events → IsSoundDriver parts.driver → kind_in parts.devices id ≡ Some kind → forges kind ≡ true
     → (cause : Cause) × (ats_context_for parts.memory (registers_of parts.iommu) (contexts_of parts.iommu) id ≡ Err cause)
-    × IsNotLet (attachment_of parts.driver.devices id) parts.driver.levels id cause
+    × IsNotLet (attachment_by_id parts.driver.devices id) parts.driver.levels id cause
 not_let laws parts events id kind sound own there able =
-    not_let_by (attachment_of parts.driver.devices id) parts.driver id (ats_context_for parts.memory (registers_of parts.iommu) (contexts_of parts.iommu) id)
+    not_let_by (attachment_by_id parts.driver.devices id) parts.driver id (ats_context_for parts.memory (registers_of parts.iommu) (contexts_of parts.iommu) id)
     (uncached_plain parts events id kind sound there (forges_uncached kind able)) (finds_ats laws parts events sound own id)
 
 -- so it is never accepted

@@ -6,9 +6,9 @@ use Rattle.std.proofs.lemmas.List.Elements.{All-nil, All-cons}
 use Rattle.iom_base.specs.declared.owner.Owner.TheVariants.{System, OneDevice}
 use Rattle.iom_directory_build.specs.Pages.{root_level}
 use Rattle.iom_driver.specs.declared.device.Attachment.TheVariants as attached
-use Rattle.iom_driver.specs.Attaching.{AnswersAttach, TakesRoot, LacksRoot, ArePages, lacking_pages, limit_below, root_frames}
+use Rattle.iom_driver.specs.Attaching.{AnswersAttach, TakesRoot, LacksRoot, AreDirectoryPages, lacking_pages, limit_below, root_frames}
 use Rattle.iom_driver.specs.Choices.{AreHighestFree, marked_for, cleared}
-use Rattle.iom_driver.specs.Devices.{is_plugged, is_trusted, owned_stages_of, with_attachment}
+use Rattle.iom_driver.specs.Devices.{has_device, has_trusted_cache, owned_stages_of, with_attachment}
 use Rattle.iom_driver.specs.Directory.{context_for}
 use Rattle.iom_driver.specs.Layout.{id_limit, directory_frame}
 use Rattle.iom_driver.specs.Reasons.{why_not_attach}
@@ -121,7 +121,7 @@ module _ (parts : Parts) (state : State) (id : ℕ) (sound : IsSoundDriver parts
 
   -- in a second stage each free run ends in a page
   lacks_runs : (numbers : List ℕ) → (¬ HasFree parts.driver.marks parts.driver.ledger None (lacking_pages parts.driver parts.memory id) (length parts.memory))
-      ⊎ ((pages : List ℕ) × ArePages parts.driver parts.memory id pages × NoFourAreFree parts.driver.marks parts.driver.ledger 0 (limit_below (length parts.memory) pages))
+      ⊎ ((pages : List ℕ) × AreDirectoryPages parts.driver parts.memory id pages × NoFourAreFree parts.driver.marks parts.driver.ledger 0 (limit_below (length parts.memory) pages))
       → IsDistinct nat_eq numbers → All (IsFreeRun state) numbers → length numbers < 3
   lacks_runs [] lacks distinct free = omega arith
   lacks_runs (run ∷ runs) (inl lacks) distinct free =
@@ -167,7 +167,7 @@ size_attached d d' memory memory' id mode ats takes =
     ∙ length-hung (root_level d.levels) (cleared (takes.pages ++ root_frames mode takes.stage.root) memory) (directory_frame (length memory)) id takes.pages (context_for takes.stage)
     ∙ length-cleared (takes.pages ++ root_frames mode takes.stage.root) memory
 
-shows_attached : (old new : Parts) (events id : ℕ) (mode : Mode) (ats : Bool) (found : declared.Device) → AreSound old events → is_plugged old.driver.devices id ≡ true
+shows_attached : (old new : Parts) (events id : ℕ) (mode : Mode) (ats : Bool) (found : declared.Device) → AreSound old events → has_device old.driver.devices id ≡ true
     → (takes : TakesRoot old.driver old.memory id mode ats new.driver new.memory) → new.iommu ≡ old.iommu → new.devices ≡ old.devices
     → (state : State) → PartsShow old state → device_of state id ≡ Some found → PartsShow new (attached_state state id found mode ats takes.pages (root_frames mode takes.stage.root))
 shows_attached old new events id mode ats found sound there takes iommu devices state shows at =
@@ -206,7 +206,7 @@ pub attach_step : (old new : Parts) (events id : ℕ) (mode : Mode) (ats : Bool)
     → (state : State) → PartsShow old state → (pages taken : List ℕ) × (next : State) × machine.Attaches pages taken state id mode ats told next × PartsShow new next
 attach_step old new events id mode ats told sound sound_driver does state shows = by does.answer does.told_so does.call
   where
-    taken_root : (takes : TakesRoot old.driver old.memory id mode ats new.driver new.memory) → is_plugged old.driver.devices id ≡ true → first_that_applies (refusals.attach_reasons state id ats) ≡ None
+    taken_root : (takes : TakesRoot old.driver old.memory id mode ats new.driver new.memory) → has_device old.driver.devices id ≡ true → first_that_applies (refusals.attach_reasons state id ats) ≡ None
         → (pages taken : List ℕ) × (next : State) × machine.Attaches pages taken state id mode ats Done next × PartsShow new next
     taken_root takes there none =
         let d = old.driver in
@@ -232,7 +232,7 @@ attach_step old new events id mode ats told sound sound_driver does state shows 
     by (Ok done) is call =
         let d = old.driver in
         subst (λ t. (pages taken : List ℕ) × (next : State) × machine.Attaches pages taken state id mode ats t next × PartsShow new next) (sym is)
-        (taken_root call.1 (plugged_then d.started (is_plugged d.devices id) ((is_some (owned_stages_of d.devices id), AlreadyAttached) ∷ (nat_le (id_limit d.levels) id, IdTooWide) ∷ (ats && not (is_trusted d.devices id), NotTrusted) ∷ []) call.0)
+        (taken_root call.1 (plugged_then d.started (has_device d.devices id) ((is_some (owned_stages_of d.devices id), AlreadyAttached) ∷ (nat_le (id_limit d.levels) id, IdTooWide) ∷ (ats && not (has_trusted_cache d.devices id), NotTrusted) ∷ []) call.0)
         (attach_first old events state id ats sound shows ∙ call.0))
     by (Err why) is call = (
       [],

@@ -26,7 +26,7 @@ use Rattle.iom_machine.specs.Requests.{MayAnswer, state_after}
 use Rattle.iom_machine.specs.ThroughCache.{MayAnswerThroughCache, state_after_cached}
 use Rattle.iom_virtqueue.specs.declared.layout.Layout.{Layout}
 use Rattle.iom_device.specs.declared.device.Device.{Device}
-use Rattle.iom_world_effects.specs.BlockDevices.{InsertsMedium, PutsDiskIn, SetsQueue, AsksIfMissed, GoesToMemory, BeginsAccess, IsRest, Rests, TellsStatus}
+use Rattle.iom_world_effects.specs.BlockDevices.{InsertsMedium, PutsDiskIn, SetsBlockQueue, AsksIfMissed, GoesToMemory, BeginsAccess, IsRest, Rests, TellsBlockStatus}
 use Rattle.iom_device.specs.Caches.{device_with, kind_in, epoch_in, with_has_disk}
 use Rattle.iom_world_effects.specs.Devices.{shown_device, shown_devices}
 use Rattle.iom_world_effects.specs.Messages.{with_sent}
@@ -130,7 +130,7 @@ medium_step disks old new id disk told (inr (inr (device, is, puts))) state show
 abbrev IsSet : Layout → State → Outcome → machine.Device → Type 0
 IsSet layout state told device = MaySet layout told × (state ≡ state)
 
-pub queue_step : (old new : Parts) (id : ℕ) (layout : Layout) (told : Outcome) → SetsQueue old id layout told new → (state : State) → PartsShow old state
+pub queue_step : (old new : Parts) (id : ℕ) (layout : Layout) (told : Outcome) → SetsBlockQueue old id layout told new → (state : State) → PartsShow old state
     → machine_steps.SetsQueue layout state id told state × PartsShow new state
 queue_step old new id layout told (inl unknown) state shows =
     (acts_absent is_block_device (IsSet layout state told) old state id told shows.devices unknown.absent unknown.told_so, shows_same old new state unknown.same shows)
@@ -156,7 +156,7 @@ queue_step old new id layout told (inr (inr (able, inr (bad, is_told, same)))) s
 abbrev Told : State → Outcome → machine.Device → Type 0
 Told state told device = IsStatus told × (state ≡ state)
 
-pub status_step : (old new : Parts) (id status : ℕ) (told : Outcome) → TellsStatus old id status told new → (state : State) → PartsShow old state
+pub status_step : (old new : Parts) (id status : ℕ) (told : Outcome) → TellsBlockStatus old id status told new → (state : State) → PartsShow old state
     → machine_steps.TellsStatus state id told state × PartsShow new state
 status_step old new id status told (inl unknown) state shows =
     (acts_absent is_block_device (Told state told) old state id told shows.devices unknown.absent unknown.told_so, shows_same old new state unknown.same shows)

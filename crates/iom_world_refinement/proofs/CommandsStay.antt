@@ -17,7 +17,7 @@ use Rattle.iom_driver.specs.Polling.{AnswersPoll, done_after}
 use Rattle.iom_driver.specs.Layout.{command_frame}
 use Rattle.iom_driver.proofs.Lists.{get_set_other}
 use Rattle.iom_inflight.specs.declared.made.MadeAt.{MadeAt}
-use Rattle.iom_inflight.specs.Calls.{Performs, Makes}
+use Rattle.iom_inflight.specs.Calls.{Performs, MakesOldestInFlight}
 use Rattle.iom_iommu.specs.declared.reply.Reply.{Reply}
 use Rattle.iom_iommu.specs.declared.reply.Reply.TheVariants as reply
 use Rattle.iom_iommu.specs.Questions.{AnswersQuestion, RefusesQuestion, RecordsUnless, is_page_fault}
@@ -46,21 +46,21 @@ use Rattle.iom_fault_queue.specs.Records.{record_of}
 use Rattle.iom_base.specs.DeviceKinds.{asks_questions, forges, is_block_device, sends_untranslated, sends_through_cache}
 use Rattle.iom_stage_walk.specs.declared.walked.WalkFault.{WalkFault}
 use Rattle.iom_tlb.specs.declared.trans_cache.Translation.{Translation}
-use Rattle.iom_tlb.specs.Content.{Content as Translations}
+use Rattle.iom_tlb.specs.Content.{Translations}
 use Rattle.iom_virtqueue.specs.declared.layout.Layout.{Layout}
 use Rattle.iom_virtqueue.specs.Layouts.{layout_of}
 use Rattle.iom_coherence.specs.Attachments.{caches_translations}
-use Rattle.iom_world_effects.specs.BlockDevices.{InsertsMedium, SetsQueue, AsksIfMissed, GoesToMemory, BeginsAccess, TakesStep, TellsStatus}
+use Rattle.iom_world_effects.specs.BlockDevices.{InsertsMedium, SetsBlockQueue, AsksIfMissed, GoesToMemory, BeginsAccess, TakesBlockStep, TellsBlockStatus}
 use Rattle.iom_device.specs.Caches.{IsAble, epoch_in, kind_in}
 use Rattle.iom_world_effects.specs.Commits.{CommitsAccess}
 use Rattle.iom_world_effects.specs.Deliveries.{AnswersAsked, Arrives, ArrivesIfAny, DeliversMessage}
-use Rattle.iom_world_effects.specs.Messages.{Sends}
+use Rattle.iom_world_effects.specs.Messages.{SendsOnLink}
 use Rattle.iom_world_effects.specs.Does.{Does, PlugsDevice, AddsRow, AttachesDevice, GrantsPage, PollsTickets}
 use Rattle.iom_world_effects.specs.Stays.{waiting_in, KeepsCommands}
 use Rattle.iom_world_effects.specs.Parts.{Parts}
 use Rattle.iom_world_effects.specs.Processor.{StoresIfAny}
 use Rattle.iom_world_effects.specs.Requests.{AsksAccess, AsksTranslated}
-use Rattle.iom_world_effects.specs.ThroughCache.{AsksThroughCache, TriesCache, FindsFrame, cached_frame}
+use Rattle.iom_world_effects.specs.ThroughCache.{DeviceAsksThroughCache, TriesCache, FindsFrame, cached_frame}
 use Rattle.iom_world_effects.specs.Unable.{IsUnknown, IsUnable}
 use Rattle.iom_base.specs.declared.mode.Mode.{Mode}
 use Rattle.iom_world_effects.specs.Sound.{AreSound}
@@ -167,14 +167,14 @@ tries_keep old new events id access told sound own reported (inr (inl full)) = a
 tries_keep old new events id access told sound own reported (inr (inr finds)) = finds_keep (cached_frame old id access) old new events id access told sound own reported finds.2
 
 through_cache_keep : (can : DeviceKind → Bool) (old new : Parts) (events id : ℕ) (access : Access) (told : Outcome) → AreSound old events → IsSoundDriver old.driver → StaysReported old.driver
-    → AsksThroughCache can old id access told new → waiting_in new ≡ waiting_in old
+    → DeviceAsksThroughCache can old id access told new → waiting_in new ≡ waiting_in old
 through_cache_keep can old new events id access told sound own reported (inl unknown) = ap waiting_in unknown.same
 through_cache_keep can old new events id access told sound own reported (inr (inl unable)) = ap waiting_in unable.same
 through_cache_keep can old new events id access told sound own reported (inr (inr tried)) = tries_keep old new events id access told sound own reported tried.1
 
 -- nor does a message change them, but for a question whose fault is reported
 sends_keep : (can : DeviceKind → Bool) (old new : Parts) (id : ℕ) (message : Message) (told : Outcome)
-    → IsUnknown old id told new ⊎ IsUnable can old id told new ⊎ (IsAble can old.devices id × Sends old id message told new) → waiting_in new ≡ waiting_in old
+    → IsUnknown old id told new ⊎ IsUnable can old id told new ⊎ (IsAble can old.devices id × SendsOnLink old id message told new) → waiting_in new ≡ waiting_in old
 sends_keep can old new id message told asks = elim asks [
   | inl unknown ↦ ap waiting_in unknown.same
   | inr (inl unable) ↦ ap waiting_in unable.same
@@ -221,7 +221,7 @@ performs_keep old accepted memory free performed = by accepted.access.kind perfo
     by Read same = λ n system. ap (λ m. slice_get m n) same
     by Write stores = stored_keeps old accepted.frame _ memory free stores.2
 
-pub makes_keep : (old new : Parts) (events id : ℕ) (made : Option MadeAt) → AreSound old events → Makes old.memory (flights_of old.iommu) id made new.memory (flights_of new.iommu)
+pub makes_keep : (old new : Parts) (events id : ℕ) (made : Option MadeAt) → AreSound old events → MakesOldestInFlight old.memory (flights_of old.iommu) id made new.memory (flights_of new.iommu)
     → IfSome made (λ it. is_marked old.driver.marks it.frame ≡ false) → KeepsSystem old new.memory
 makes_keep old new events id None sound makes unreserved = λ n system. ap (λ m. slice_get m n) makes.1
 makes_keep old new events id (Some made) sound makes unreserved =
@@ -246,7 +246,7 @@ medium_keeps disks old new id disk told (inr (inl unable)) = ap waiting_in unabl
 medium_keeps disks old new id disk told (inr (inr (device, is, inl puts))) = ap waiting_in puts.2
 medium_keeps disks old new id disk told (inr (inr (device, is, inr refuses))) = ap waiting_in refuses.2
 
-queue_keeps : (old new : Parts) (id : ℕ) (layout : Layout) (told : Outcome) → SetsQueue old id layout told new → waiting_in new ≡ waiting_in old
+queue_keeps : (old new : Parts) (id : ℕ) (layout : Layout) (told : Outcome) → SetsBlockQueue old id layout told new → waiting_in new ≡ waiting_in old
 queue_keeps old new id layout told (inl unknown) = ap waiting_in unknown.same
 queue_keeps old new id layout told (inr (inl unable)) = ap waiting_in unable.same
 queue_keeps old new id layout told (inr (inr (able, inl sets))) = ap waiting_in sets.2
@@ -266,13 +266,13 @@ begins_keep old new events id access told sound own reported begins = by (caches
         asked_if_missed goes.first goes.between new id access told goes.asks
         ∙ through_cache_keep is_block_device old goes.between events id access goes.first sound own reported goes.tries
 
-step_keeps : (old new : Parts) (events id : ℕ) (told : Outcome) → AreSound old events → IsSoundDriver old.driver → StaysReported old.driver → TakesStep old id told new → waiting_in new ≡ waiting_in old
+step_keeps : (old new : Parts) (events id : ℕ) (told : Outcome) → AreSound old events → IsSoundDriver old.driver → StaysReported old.driver → TakesBlockStep old id told new → waiting_in new ≡ waiting_in old
 step_keeps old new events id told sound own reported (inl (access, fits, may, begins)) = begins_keep old new events id access told sound own reported begins
 step_keeps old new events id told sound own reported (inr (step, rest, inl unknown)) = ap waiting_in unknown.same
 step_keeps old new events id told sound own reported (inr (step, rest, inr (inl unable))) = ap waiting_in unable.same
 step_keeps old new events id told sound own reported (inr (step, rest, inr (inr (able, is, same)))) = ap waiting_in same
 
-status_keeps : (old new : Parts) (id status : ℕ) (told : Outcome) → TellsStatus old id status told new → waiting_in new ≡ waiting_in old
+status_keeps : (old new : Parts) (id status : ℕ) (told : Outcome) → TellsBlockStatus old id status told new → waiting_in new ≡ waiting_in old
 status_keeps old new id status told (inl unknown) = ap waiting_in unknown.same
 status_keeps old new id status told (inr (inl unable)) = ap waiting_in unable.same
 status_keeps old new id status told (inr (inr (able, is, same))) = ap waiting_in same

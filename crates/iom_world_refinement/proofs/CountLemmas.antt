@@ -20,7 +20,7 @@ use Rattle.iom_device.specs.declared.device.Device.{Device}
 use Rattle.iom_world_effects.specs.Devices.{shown_devices, in_flight_of}
 use Rattle.iom_world_effects.specs.Parts.{Parts}
 use Rattle.iom_world_effects.specs.Shows.{PartsShow}
-use Rattle.iom_world_effects.specs.Sound.{row_ids, ids_of}
+use Rattle.iom_world_effects.specs.Sound.{row_ids, plugged_ids}
 use Rattle.iom_world_refinement.proofs.FreeLemmas.{free_in_machine, free_in_world}
 
 -- each of these rows is its device's, in the whole list
@@ -39,14 +39,14 @@ own_all : (rows : List FlightRow) → AreDistinct rows → AreOwn rows rows
 own_all [] distinct = tt
 own_all (row ∷ rows) distinct = (rw (eq-eqb row.device row.device refl) refl, own_behind row rows rows distinct.0 (own_all rows distinct.1))
 
-flights_of_rows : (known : List driver.Device) (whole rest : List FlightRow) (devices : List Device) → row_ids rest ≡ ids_of devices → AreOwn whole rest
+flights_of_rows : (known : List driver.Device) (whole rest : List FlightRow) (devices : List Device) → row_ids rest ≡ plugged_ids devices → AreOwn whole rest
     → count_all rest ≡ count_in_flight (shown_devices known whole devices)
 flights_of_rows known whole [] [] same own = refl
 flights_of_rows known whole [] (device ∷ others) same own = cc
 flights_of_rows known whole (row ∷ rest) [] same own = cc
 flights_of_rows known whole (row ∷ rest) (device ∷ others) same own =
     let head : row.device ≡ device.id = cc in
-    let tail : row_ids rest ≡ ids_of others = cc in
+    let tail : row_ids rest ≡ plugged_ids others = cc in
     let there : row_of whole device.id ≡ Some row = subst (λ id. row_of whole id ≡ Some row) head own.0 in
     let many : length (in_flight_of whole device.id) ≡ length row.waiting = ap (λ (found : Option FlightRow). length (shown_flights found)) there ∙ length-map row.waiting (λ (flight : NumberedAccess). flight.accepted) in
     rw (many, flights_of_rows known whole rest others tail own.1) refl
@@ -55,7 +55,7 @@ flights_of_rows known whole (row ∷ rest) (device ∷ others) same own =
     shown_flights found = option_map_or (λ (own : FlightRow). map (λ (flight : NumberedAccess). flight.accepted) own.waiting) found []
 
 -- so many accesses are in flight in all rows as in the state
-pub flights_counted : (parts : Parts) (state : State) → PartsShow parts state → AreDistinct (flights_of parts.iommu).rows → row_ids (flights_of parts.iommu).rows ≡ ids_of parts.devices
+pub flights_counted : (parts : Parts) (state : State) → PartsShow parts state → AreDistinct (flights_of parts.iommu).rows → row_ids (flights_of parts.iommu).rows ≡ plugged_ids parts.devices
     → count_all (flights_of parts.iommu).rows ≡ count_in_flight state.devices
 flights_counted parts state shows distinct same =
     rw shows.devices (flights_of_rows parts.driver.devices (flights_of parts.iommu).rows (flights_of parts.iommu).rows parts.devices same (own_all (flights_of parts.iommu).rows distinct))

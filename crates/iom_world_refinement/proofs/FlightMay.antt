@@ -15,7 +15,7 @@ use Rattle.iom_machine.specs.Devices.{DeviceMay, EachInFlightMay}
 use Rattle.iom_device.specs.declared.device.Device.{Device}
 use Rattle.iom_world_effects.specs.Devices.{in_flight_of, shown_device}
 use Rattle.iom_world_effects.specs.Parts.{Parts}
-use Rattle.iom_world_effects.specs.Read.{access_of, accesses_of}
+use Rattle.iom_world_effects.specs.Read.{access_in_flight, accesses_of}
 use Rattle.iom_world_effects.specs.Shows.{PartsShow}
 use Rattle.iom_world_effects.specs.Sound.{AreSound}
 use Rattle.iom_world_effects.proofs.HistoryMay.{may_merely, facts_of_history}
@@ -30,7 +30,7 @@ module _ (parts : Parts) (events : ℕ) (sound : AreSound parts events) (state :
   rows = (flights_of parts.iommu).rows
 
   -- what the facts on copies say of an access
-  pub access_may : (device : ℕ) (flight : NumberedAccess) → Contains (accesses_of (flights_of parts.iommu).rows) (access_of device flight)
+  pub access_may : (device : ℕ) (flight : NumberedAccess) → Contains (accesses_of (flights_of parts.iommu).rows) (access_in_flight device flight)
       → May state.history device flight.accepted.frame flight.accepted.access.kind
   access_may device flight there =
       may_merely state.history device flight.accepted.frame flight.accepted.access.kind
@@ -39,15 +39,15 @@ module _ (parts : Parts) (events : ℕ) (sound : AreSound parts events) (state :
       accesses_may other
       (facts_of_history parts.driver.ledger scene state.history is.ledger shows.ledger
       (λ ticket later. shows.none_later ticket (subst (λ n. n < ticket) is.confirmed later)) facts)
-      (access_of device flight)
-      (subst (λ l. Contains l (access_of device flight)) (sym is.in_flight) there)))
+      (access_in_flight device flight)
+      (subst (λ l. Contains l (access_in_flight device flight)) (sym is.in_flight) there)))
 
   -- of an access in flight of a device
   pub row_may : (id : ℕ) (row : FlightRow) → row_of (flights_of parts.iommu).rows id ≡ Some row → (flight : NumberedAccess) → Contains row.waiting flight
       → May state.history id flight.accepted.frame flight.accepted.access.kind
   row_may id row at flight there =
       subst (λ d. May state.history d flight.accepted.frame flight.accepted.access.kind) (row_is_own rows id row at)
-      (access_may row.device flight (row_accesses rows id row at (access_of row.device flight) (contains_map (access_of row.device) row.waiting flight there)))
+      (access_may row.device flight (row_accesses rows id row at (access_in_flight row.device flight) (contains_map (access_in_flight row.device) row.waiting flight there)))
 
   device_may : (id : ℕ) → All (λ (a : AcceptedAccess). May state.history id a.frame a.access.kind) (in_flight_of rows id)
   device_may id = by (row_of rows id) refl

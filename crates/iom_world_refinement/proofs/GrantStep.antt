@@ -11,7 +11,7 @@ use Rattle.iom_driver.specs.declared.device.Attachment.TheVariants.{Detached, At
 use Rattle.iom_driver.specs.declared.device.Stages.{Stages}
 use Rattle.iom_driver.specs.Calls.{AnswersGrant, TakesTables, LacksTables, granted_leaf}
 use Rattle.iom_driver.specs.Choices.{marked_for, cleared}
-use Rattle.iom_driver.specs.Devices.{is_plugged, attachment_of, attached_stages, stages_of, is_away, is_quarantined}
+use Rattle.iom_driver.specs.Devices.{has_device, attachment_by_id, attached_stages, stages_of, is_away, is_cut_off}
 use Rattle.iom_driver.specs.Reasons.{why_not_grant, granting_reasons}
 use Rattle.iom_driver.specs.State.{DriverState}
 use Rattle.iom_driver.proofs.Chosen.{are_chosen}
@@ -50,7 +50,7 @@ use Rattle.iom_world_effects.proofs.StayLemmas.{shows_still, not_owned, length-m
 
 -- where no reason applies the device is attached
 attached_then : (started there : Bool) (how : Attachment) (later : List (Bool × Refusal))
-    → first_that_applies ((not started, NotStarted) ∷ (not there, NoSuchDevice) ∷ (is_away how, NotAttached) ∷ (is_quarantined how, refusal.Quarantined) ∷ later) ≡ None
+    → first_that_applies ((not started, NotStarted) ∷ (not there, NoSuchDevice) ∷ (is_away how, NotAttached) ∷ (is_cut_off how, refusal.Quarantined) ∷ later) ≡ None
     → (found : Stages) × (attached_stages how ≡ Some found)
 attached_then false there how later none = cc
 attached_then true false how later none = cc
@@ -77,7 +77,7 @@ may_lack_tables : (old : Parts) (events : ℕ) (state : State) (id page frame : 
     → stages_of old.driver.devices id ≡ Some stage → LacksTables old.driver old.memory id page frame why → MayRefuseGrant state id frame why
 may_lack_tables old events state id page frame NoFrames stage sound shows attached lacks =
     let size = size_in stage.mode in
-    let how = how_shown old events state id sound shows ∙ ap shown_attachment (attached_is (attachment_of old.driver.devices id) stage attached) in
+    let how = how_shown old events state id sound shows ∙ ap shown_attachment (attached_is (attachment_by_id old.driver.devices id) stage attached) in
     let limit : table_limit_at (refusals.attachment_of state id) ≡ table_limit_of size = ap table_limit_at how in
     subst (λ n. FewerThan n (IsFreeBesides state (Some frame))) (sym limit)
     (fewer_than_limit old state frame (missing_for size old.memory stage.root page) (table_limit_of size) shows (missing_limit size old.memory stage.root page)
@@ -152,7 +152,7 @@ grant_step old new events id page frame rights told sound does state shows = by 
             refused_as (why_not_grant d id page frame) (refusals.grant_reasons state id page frame) (LacksTables d old.memory id page frame) (MayRefuseGrant state id frame) why
                 (grant_first old events state id page frame sound shows)
                 (λ none.
-                let stage = attached_then d.started (is_plugged d.devices id) (attachment_of d.devices id) (granting_reasons d id page frame) none in
+                let stage = attached_then d.started (has_device d.devices id) (attachment_by_id d.devices id) (granting_reasons d id page frame) none in
                 may_lack_tables old events state id page frame why stage.0 sound shows stage.1) call.0,
             refl,
           ),

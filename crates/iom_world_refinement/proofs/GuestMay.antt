@@ -17,7 +17,7 @@ use Rattle.iom_device_dir.specs.declared.values.GuestRoot.{GuestRoot}
 use Rattle.iom_driver.specs.declared.device.Attachment.{Attachment}
 use Rattle.iom_driver.specs.declared.device.Attachment.TheVariants.{Detached, Attached, Quarantined, Leaving}
 use Rattle.iom_driver.specs.declared.device.Stages.{Stages}
-use Rattle.iom_driver.specs.Devices.{attachment_of, attached_stages, owned_stages}
+use Rattle.iom_driver.specs.Devices.{attachment_by_id, attached_stages, owned_stages}
 use Rattle.iom_driver.specs.Directory.{context_in, context_for}
 use Rattle.iom_driver.specs.Tables.{AreTablesOf}
 use Rattle.iom_iommu.specs.Parts.{contexts_of}
@@ -81,7 +81,7 @@ module _ (laws : ServiceLaws) (parts : Parts) (events : ℕ) (sound : AreSound p
 
   pub reads_guest_tables : ReadsGuestTables parts state.history id access
   reads_guest_tables first_size size at_first at_second walked is reaches =
-      let owner = owner_of parts.driver.levels id (attachment_of parts.driver.devices id) (contexts_of parts.iommu id) is.context (λ c at. sound.contexts id c at)
+      let owner = owner_of parts.driver.levels id (attachment_by_id parts.driver.devices id) (contexts_of parts.iommu id) is.context (λ c at. sound.contexts id c at)
       (sym (found_as laws parts events sound own id) ∙ is.found) in
       let stage = owner.0 in
       let tables = sound.ready.stand.tables id stage owner.1 in

@@ -22,10 +22,10 @@ use Rattle.iom_machine.specs.Machine.{Acts, Asks, Forges}
 use Rattle.iom_machine.specs.Messages.{Sends as MachineSends, Delivers, Drops, Repeats}
 use Rattle.iom_device.specs.declared.device.Device.{Device}
 use Rattle.iom_device.specs.Caches.{IsAble, cache_of, epoch_in, with_cache}
-use Rattle.iom_world_effects.specs.Deliveries.{TakesInto, TakesAnswered, ObeysRequest, HearsCompletion, taken_told, obeyed_told, with_done}
+use Rattle.iom_world_effects.specs.Deliveries.{TakesInto, TakesAnswered, ObeysRequest, HearsCompletion, taken_told, obeyed_told, with_completion_sent}
 use Rattle.iom_world_effects.specs.Devices.{shown_devices}
 use Rattle.iom_world_effects.specs.Stays.{SameIfRefused}
-use Rattle.iom_world_effects.specs.Messages.{sent_told, repeat_told, Sends, AsksQuestion, ForgesCompletion, DropsMessage, RepeatsMessage}
+use Rattle.iom_world_effects.specs.Messages.{sent_told, repeat_told, SendsOnLink, AsksQuestion, ForgesCompletion, DropsMessage, RepeatsMessage}
 use Rattle.iom_world_effects.specs.Parts.{Parts}
 use Rattle.iom_world_effects.specs.Shows.{PartsShow}
 use Rattle.iom_world_effects.specs.Unable.{IsUnknown, IsUnable}
@@ -58,7 +58,7 @@ sends_state state fabric told is = subst (λ t. MachineSends state t state) (sym
 
 -- A MESSAGE OF A DEVICE, which it is asked to send, and may be unable to
 abbrev SendsIfAble : (DeviceKind → Bool) → Parts → ℕ → Message → Outcome → Parts → Type 0
-SendsIfAble can old id message told new = IsUnknown old id told new ⊎ IsUnable can old id told new ⊎ (IsAble can old.devices id × Sends old id message told new)
+SendsIfAble can old id message told new = IsUnknown old id told new ⊎ IsUnable can old id told new ⊎ (IsAble can old.devices id × SendsOnLink old id message told new)
 
 abbrev SendsState : State → Outcome → Type 0
 SendsState state told = MachineSends state told state
@@ -162,7 +162,7 @@ delivers_obeyed state serial (Some done) = refl
 pub obeyed_step : (old new : Parts) (device serial : ℕ) (range : Range) (others : List OnLink) (told : Outcome) → ObeysRequest old device serial range others told new
     → (state : State) → PartsShow old state → Delivers 0 0 state told state × PartsShow new state
 obeyed_step old new device serial range others told obeys state shows =
-    (subst (λ t. Delivers 0 0 state t state) (sym obeys.told_so) (delivers_obeyed state serial obeys.done), shows_caches old new device obeys.after (with_done others device obeys.done) state obeys.rest shows)
+    (subst (λ t. Delivers 0 0 state t state) (sym obeys.told_so) (delivers_obeyed state serial obeys.done), shows_caches old new device obeys.after (with_completion_sent others device obeys.done) state obeys.rest shows)
 
 -- THE WORD ARRIVES that a request is done
 pub heard_step : (old new : Parts) (device serial : ℕ) (others : List OnLink) (told : Outcome) → HearsCompletion old device serial others told new
@@ -186,7 +186,7 @@ never_sent fabric told why is refused = by (nat_lt (length fabric) 64) (sym is �
     by false same = cc
 
 pub sends_refused : (can : DeviceKind → Bool) (old new : Parts) (id : ℕ) (message : Message) (told : Outcome)
-    → IsUnknown old id told new ⊎ IsUnable can old id told new ⊎ (IsAble can old.devices id × Sends old id message told new) → SameIfRefused told old new
+    → IsUnknown old id told new ⊎ IsUnable can old id told new ⊎ (IsAble can old.devices id × SendsOnLink old id message told new) → SameIfRefused told old new
 sends_refused can old new id message told asks why refused = elim asks [
   | inl unknown ↦ same_parts old new unknown.same
   | inr (inl unable) ↦ same_parts old new unable.same

@@ -4,14 +4,14 @@ use Rattle.std.proofs.lemmas.Bool.{false≢true}
 use Rattle.std.proofs.lemmas.Bool.Decides.{eqb_tells}
 use Rattle.iom_driver.specs.declared.device.Attachment as owned
 use Rattle.iom_driver.specs.declared.device.Device as driver
-use Rattle.iom_driver.specs.Devices.{attachment_of}
+use Rattle.iom_driver.specs.Devices.{attachment_by_id}
 use Rattle.iom_inflight.specs.Flights.{FlightRow}
 use Rattle.iom_machine.specs.declared.state.Attachment.{Attachment}
 use Rattle.iom_machine.specs.declared.state.Device as machine
 use Rattle.iom_machine.specs.Devices.{replaced_device}
 use Rattle.iom_device.specs.declared.device.Device.{Device}
 use Rattle.iom_world_effects.specs.Devices.{shown_attachment, shown_device, shown_devices, accepted_of, in_flight_of}
-use Rattle.iom_world_effects.specs.Sound.{HaveOwnIds}
+use Rattle.iom_world_effects.specs.Sound.{HaveDistinctIds}
 
 -- the device of the machine with this id
 abbrev pub shown_of : List driver.Device → List FlightRow → List Device → ℕ → Option machine.Device
@@ -34,7 +34,7 @@ NoneHas devices id = (k : ℕ) (other : Device) → slice_get devices k ≡ Some
 
 -- the driver knows the same attachments, but of the device with this id
 abbrev pub SameElsewhere : List driver.Device → List driver.Device → ℕ → Type 0
-SameElsewhere known known' id = (other : ℕ) → other ≢ id → attachment_of known' other ≡ attachment_of known other
+SameElsewhere known known' id = (other : ℕ) → other ≢ id → attachment_by_id known' other ≡ attachment_by_id known other
 
 -- devices with other ids are shown as before
 elsewhere_shown : (known known' : List driver.Device) (rows : List FlightRow) (devices : List Device) (id : ℕ) → SameElsewhere known known' id → NoneHas devices id
@@ -46,13 +46,13 @@ elsewhere_shown known known' rows (device ∷ others) id same absent =
 
 -- the device that is found is replaced by one that is attached as the driver knows then
 pub replaced_shown : (known known' : List driver.Device) (rows : List FlightRow) (devices : List Device) (id : ℕ) (how : owned.Attachment) (found : machine.Device) → SameElsewhere known known' id
-    → attachment_of known' id ≡ how → HaveOwnIds devices → shown_of known rows devices id ≡ Some found
+    → attachment_by_id known' id ≡ how → HaveDistinctIds devices → shown_of known rows devices id ≡ Some found
     → replaced_device (shown_devices known rows devices) id (record found { attachment = shown_attachment how }) ≡ shown_devices known' rows devices
 replaced_shown known known' rows [] id how found same staged own at = cc
 replaced_shown known known' rows (device ∷ others) id how found same staged own at = elim (eqb_tells device.id id) [
   | inl e ↦
       let is : shown_device known rows device ≡ found = (let both : Some (shown_device known rows device) ≡ Some found = rw e.0 at at in cc) in
-      let new : attachment_of known' device.id ≡ how = ap (λ i. attachment_of known' i) e.1 ∙ staged in
+      let new : attachment_by_id known' device.id ≡ how = ap (λ i. attachment_by_id known' i) e.1 ∙ staged in
       rw e.0 (
       ap (λ (d : machine.Device). record d { attachment = shown_attachment how } ∷ shown_devices known rows others) (sym is)
       ∙ ap (λ s. attached_so rows device (shown_attachment s) ∷ shown_devices known rows others) (sym new)
@@ -86,7 +86,7 @@ found_there (Some device) there = (device, refl)
 
 -- the machine's devices, where the one that is found is attached so
 pub replaced_found : (known known' : List driver.Device) (rows : List FlightRow) (devices : List Device) (shown : List machine.Device) (id : ℕ) (how : owned.Attachment) (found : machine.Device)
-    → SameElsewhere known known' id → attachment_of known' id ≡ how → HaveOwnIds devices → shown ≡ shown_devices known rows devices
+    → SameElsewhere known known' id → attachment_by_id known' id ≡ how → HaveDistinctIds devices → shown ≡ shown_devices known rows devices
     → find (λ (one : machine.Device). one.id == id) shown ≡ Some found
     → replaced_device shown found.id (record found { attachment = shown_attachment how }) ≡ shown_devices known' rows devices
 replaced_found known known' rows devices shown id how found same staged own is at =

@@ -19,24 +19,24 @@ use Rattle.iom_world_effects.specs.Does.{PlugsDevice}
 use Rattle.iom_world_effects.specs.Parts.{Parts}
 use Rattle.iom_device.specs.declared.device.Device.{Device}
 use Rattle.iom_world_effects.specs.Places.{IsAbsent, IsPresent}
-use Rattle.iom_world_effects.specs.Sound.{AreKnown, ids_of, known_ids, row_ids}
+use Rattle.iom_world_effects.specs.Sound.{AreKnown, plugged_ids, known_ids, row_ids}
 use Rattle.iom_world_effects.proofs.PresentLemmas.{row_absent, known_present, known_absent, length-rows, length-known}
 
-pub already_plugged : (d : DriverState) (devices : List Device) (id : ℕ) (trusted : Bool) → known_ids d.devices ≡ ids_of devices → IsPresent devices id → AnswersPlug d id trusted (Err AlreadyPlugged) d
+pub already_plugged : (d : DriverState) (devices : List Device) (id : ℕ) (trusted : Bool) → known_ids d.devices ≡ plugged_ids devices → IsPresent devices id → AnswersPlug d id trusted (Err AlreadyPlugged) d
 already_plugged d devices id trusted known present = (rw (known_present d.devices devices id known present) refl, refl)
 
-pub too_many : (d : DriverState) (devices : List Device) (id : ℕ) (trusted : Bool) → known_ids d.devices ≡ ids_of devices → IsAbsent devices id → 16 ≤ length devices → AnswersPlug d id trusted (Err TooManyDevices) d
+pub too_many : (d : DriverState) (devices : List Device) (id : ℕ) (trusted : Bool) → known_ids d.devices ≡ plugged_ids devices → IsAbsent devices id → 16 ≤ length devices → AnswersPlug d id trusted (Err TooManyDevices) d
 too_many d devices id trusted known absent many =
     let full : nat_le 16 (length d.devices) ≡ true = le-leb 16 (length d.devices) (rw (length-known d.devices devices known) many) in
     (rw (known_absent d.devices devices id known absent, full) refl, refl)
 
-pub no_memory : (d : DriverState) (devices : List Device) (id : ℕ) (trusted : Bool) → known_ids d.devices ≡ ids_of devices → IsAbsent devices id → length devices < 16 → AnswersPlug d id trusted (Err Memory) d
+pub no_memory : (d : DriverState) (devices : List Device) (id : ℕ) (trusted : Bool) → known_ids d.devices ≡ plugged_ids devices → IsAbsent devices id → length devices < 16 → AnswersPlug d id trusted (Err Memory) d
 no_memory d devices id trusted known absent few =
     let room : nat_le 16 (length d.devices) ≡ false = lt-leb 16 (length d.devices) (rw (length-known d.devices devices known) few) in
     (rw (known_absent d.devices devices id known absent, room) refl, refl)
 
 -- so the driver has no reason against it only where it isn't there, and few are
-none_plugged : (d : DriverState) (devices : List Device) (id : ℕ) → known_ids d.devices ≡ ids_of devices → IsPresent devices id → ¬ NoneApplies (why_not_plug d id)
+none_plugged : (d : DriverState) (devices : List Device) (id : ℕ) → known_ids d.devices ≡ plugged_ids devices → IsPresent devices id → ¬ NoneApplies (why_not_plug d id)
 none_plugged d devices id known present none = some_none (sym first ∙ none)
   where
     first : first_that_applies (why_not_plug d id) ≡ Some AlreadyPlugged
@@ -45,7 +45,7 @@ none_plugged d devices id known present none = some_none (sym first ∙ none)
     some_none : ◌≡◌ {A = Option Refusal} (Some AlreadyPlugged) None → ⊥
     some_none same = cc
 
-none_many : (d : DriverState) (devices : List Device) (id : ℕ) → known_ids d.devices ≡ ids_of devices → IsAbsent devices id → 16 ≤ length devices → ¬ NoneApplies (why_not_plug d id)
+none_many : (d : DriverState) (devices : List Device) (id : ℕ) → known_ids d.devices ≡ plugged_ids devices → IsAbsent devices id → 16 ≤ length devices → ¬ NoneApplies (why_not_plug d id)
 none_many d devices id known absent many none = some_none (sym first ∙ none)
   where
     full : nat_le 16 (length d.devices) ≡ true
@@ -57,7 +57,7 @@ none_many d devices id known absent many none = some_none (sym first ∙ none)
     some_none : ◌≡◌ {A = Option Refusal} (Some TooManyDevices) None → ⊥
     some_none same = cc
 
-pub admitted : (d : DriverState) (devices : List Device) (id : ℕ) → known_ids d.devices ≡ ids_of devices → IsAbsent devices id → length devices < 16 → NoneApplies (why_not_plug d id)
+pub admitted : (d : DriverState) (devices : List Device) (id : ℕ) → known_ids d.devices ≡ plugged_ids devices → IsAbsent devices id → length devices < 16 → NoneApplies (why_not_plug d id)
 admitted d devices id known absent few =
     let room : nat_le 16 (length d.devices) ≡ false = lt-leb 16 (length d.devices) (rw (length-known d.devices devices known) few) in
     rw (known_absent d.devices devices id known absent, room) refl
@@ -97,7 +97,7 @@ pub absent_if_not : (devices : List Device) (id : ℕ) (there : Bool) → there 
 absent_if_not devices id there missing present device among own = absurd (false≢true (sym missing ∙ present (device, among, own)))
 
 -- the IOMMU adds a device that isn't there, where fewer than 16 are
-pub added_new : (iommu : Iommu) (devices : List Device) (id : ℕ) (added : Bool) (new : Iommu) → row_ids (flights_of iommu).rows ≡ ids_of devices → IsAbsent devices id → length devices < 16
+pub added_new : (iommu : Iommu) (devices : List Device) (id : ℕ) (added : Bool) (new : Iommu) → row_ids (flights_of iommu).rows ≡ plugged_ids devices → IsAbsent devices id → length devices < 16
     → AddsDevice iommu id added new → AddsDevice iommu id true new
 added_new iommu devices id true new same absent few adds = adds
 added_new iommu devices id false new same absent few adds = absurd (by adds.flights.0)

@@ -6,7 +6,7 @@ use Rattle.iom_base.specs.declared.access.AcceptedAccess.{AcceptedAccess}
 use Rattle.iom_driver.specs.declared.device.Attachment.TheVariants as attached
 use Rattle.iom_driver.specs.declared.device.Device as driver
 use Rattle.iom_driver.specs.Calls.{AnswersPlug}
-use Rattle.iom_driver.specs.Devices.{is_plugged, attachment_of, detached}
+use Rattle.iom_driver.specs.Devices.{has_device, attachment_by_id, detached}
 use Rattle.iom_driver.specs.Reasons.{why_not_plug}
 use Rattle.iom_driver.specs.State.{DriverState}
 use Rattle.iom_driver.proofs.Places.{attachment_plugged}
@@ -88,26 +88,26 @@ machine_as device attachment accepted in_flight = record {
 
 -- driver and IOMMU know the same of each device
 record AreAlike (known known' : List driver.Device) (rows rows' : List FlightRow) : Type 0 where
-  attachment : (id : ℕ) → attachment_of known' id ≡ attachment_of known id
+  attachment : (id : ℕ) → attachment_by_id known' id ≡ attachment_by_id known id
   accepted : (id : ℕ) → accepted_of rows' id ≡ accepted_of rows id
   in_flight : (id : ℕ) → in_flight_of rows' id ≡ in_flight_of rows id
 
 device_alike : (known known' : List driver.Device) (rows rows' : List FlightRow) (device : Device) → AreAlike known known' rows rows' → shown_device known rows device ≡ shown_device known' rows' device
 device_alike known known' rows rows' device same =
     ap (λ how. machine_as device (shown_attachment how) (accepted_of rows device.id) (in_flight_of rows device.id)) (sym (same.attachment device.id))
-    ∙ ap (λ n. machine_as device (shown_attachment (attachment_of known' device.id)) n (in_flight_of rows device.id)) (sym (same.accepted device.id))
-    ∙ ap (λ fs. machine_as device (shown_attachment (attachment_of known' device.id)) (accepted_of rows' device.id) fs) (sym (same.in_flight device.id))
+    ∙ ap (λ n. machine_as device (shown_attachment (attachment_by_id known' device.id)) n (in_flight_of rows device.id)) (sym (same.accepted device.id))
+    ∙ ap (λ fs. machine_as device (shown_attachment (attachment_by_id known' device.id)) (accepted_of rows' device.id) fs) (sym (same.in_flight device.id))
 
 -- a device of which driver and IOMMU know nothing is shown as it is plugged in
-device_plugged : (known : List driver.Device) (rows : List FlightRow) (id : ℕ) (what : NewDevice) → attachment_of known id ≡ attached.Detached → row_of rows id ≡ None
+device_plugged : (known : List driver.Device) (rows : List FlightRow) (id : ℕ) (what : NewDevice) → attachment_by_id known id ≡ attached.Detached → row_of rows id ≡ None
     → plugged_device id what ≡ shown_device known rows (new_device id what)
 device_plugged known rows id what none no_row =
     ap (λ how. machine_as (new_device id what) (shown_attachment how) 0 []) (sym none)
-    ∙ ap (λ found. machine_as (new_device id what) (shown_attachment (attachment_of known id)) (accepted_in found) (waiting_in found)) (sym no_row)
+    ∙ ap (λ found. machine_as (new_device id what) (shown_attachment (attachment_by_id known id)) (accepted_in found) (waiting_in found)) (sym no_row)
 
 -- the machine's devices have the new one at their end
 shown_plugged : (known known' : List driver.Device) (rows rows' : List FlightRow) (devices : List Device) (id : ℕ) (what : NewDevice) → AreAlike known known' rows rows'
-    → attachment_of known id ≡ attached.Detached → row_of rows id ≡ None
+    → attachment_by_id known id ≡ attached.Detached → row_of rows id ≡ None
     → shown_devices known rows devices ++ plugged_device id what ∷ [] ≡ shown_devices known' rows' (devices ++ new_device id what ∷ [])
 shown_plugged known known' rows rows' [] id what same none no_row =
     ap (λ (d : declared.Device). d ∷ []) (device_plugged known rows id what none no_row ∙ device_alike known known' rows rows' (new_device id what) same)
@@ -131,7 +131,7 @@ shows_plugged : (old new : Parts) (id : ℕ) (what : NewDevice) → NoneApplies 
 shows_plugged old new id what none driver no_row row memory devices state shows =
     let d = old.driver in
     let rows = (flights_of old.iommu).rows in
-    let unplugged = unplugged_then (is_plugged d.devices id) (nat_le 16 (length d.devices)) none in
+    let unplugged = unplugged_then (has_device d.devices id) (nat_le 16 (length d.devices)) none in
     let plugged = shown_plugged d.devices (d.devices ++ detached id (has_cache (kind_of what)) ∷ []) rows (rows ++ new_row id ∷ []) old.devices id what
     (record { attachment = λ other. attachment_plugged d.devices id (has_cache (kind_of what)) other; accepted = λ other. accepted_plugged rows id other; in_flight = λ other. in_flight_plugged rows id other })
     (none_known d.devices id unplugged) no_row in

@@ -10,7 +10,7 @@ use Rattle.iom_driver.specs.declared.device.Attachment.TheVariants as attached
 use Rattle.iom_driver.specs.declared.device.Device as known
 use Rattle.iom_driver.specs.declared.device.Stages.{Stages}
 use Rattle.iom_driver.specs.Confirmed as driver
-use Rattle.iom_driver.specs.Devices.{attachment_of}
+use Rattle.iom_driver.specs.Devices.{attachment_by_id}
 use Rattle.iom_driver.specs.Polling.{AnswersPoll, ConfirmsDone}
 use Rattle.iom_driver.specs.State.{DriverState}
 use Rattle.iom_driver.proofs.Gone.{after, attachment_confirmed, none_left, nobody_gone, marks_same}
@@ -109,7 +109,7 @@ ConfirmsAs h done (attached.Attached stage) = Unit {0}
 ConfirmsAs h done (attached.Quarantined ticket stage) = Unit {0}
 ConfirmsAs h done (attached.Leaving ticket stage) = confirms h ticket ≡ nat_le ticket done
 
-left_as : (h : History) (done : ℕ) (how : owned.Attachment) → ConfirmsAs h done how → has_left h (shown_attachment how) ≡ driver.has_left done how
+left_as : (h : History) (done : ℕ) (how : owned.Attachment) → ConfirmsAs h done how → has_left h (shown_attachment how) ≡ driver.has_left_until done how
 left_as h done attached.Detached same = refl
 left_as h done (attached.Attached stage) same = refl
 left_as h done (attached.Quarantined ticket stage) same = refl
@@ -136,7 +136,7 @@ confirmed_as h confirmed n given (attached.Leaving ticket stage) none leaves =
 
 -- the devices that are shown once their tickets are confirmed
 shown_once : (known known' : List known.Device) (rows : List FlightRow) (devices : List Device) (h : History)
-    → ((id : ℕ) → once_confirmed h (shown_attachment (attachment_of known id)) ≡ shown_attachment (attachment_of known' id))
+    → ((id : ℕ) → once_confirmed h (shown_attachment (attachment_by_id known id)) ≡ shown_attachment (attachment_by_id known' id))
     → map (device_once_confirmed h) (shown_devices known rows devices) ≡ shown_devices known' rows devices
 shown_once known known' rows [] h same = refl
 shown_once known known' rows (device ∷ others) h same =
@@ -144,7 +144,7 @@ shown_once known known' rows (device ∷ others) h same =
     ∙ ap (λ ds. shown_device known' rows device ∷ ds) (shown_once known known' rows others h same)
 
 -- and where they are attached as before
-pub shown_alike : (known known' : List known.Device) (rows : List FlightRow) (devices : List Device) → ((id : ℕ) → attachment_of known' id ≡ attachment_of known id)
+pub shown_alike : (known known' : List known.Device) (rows : List FlightRow) (devices : List Device) → ((id : ℕ) → attachment_by_id known' id ≡ attachment_by_id known id)
     → shown_devices known rows devices ≡ shown_devices known' rows devices
 shown_alike known known' rows [] same = refl
 shown_alike known known' rows (device ∷ others) same =
@@ -155,13 +155,13 @@ shown_alike known known' rows (device ∷ others) same =
 
 -- where the machine's owners have left as the driver's, the frames are given back
 module _ (done : ℕ) (known : List known.Device) (left : Option Owner → Bool) (none : left None ≡ false) (same : (owner : Owner) → left (Some owner) ≡ driver.is_gone done known owner) where
-  mark_as : (mark : Option Owner) → mark_back left mark ≡ driver.given_back done known mark
+  mark_as : (mark : Option Owner) → mark_back left mark ≡ driver.mark_given_back done known mark
   mark_as None = ap (λ (b : Bool). if b then None else None) none
   mark_as (Some owner) = ap (λ (b : Bool). if b then None else Some owner) (same owner)
 
-  marks_as : (marks : List (Option Owner)) → map (mark_back left) marks ≡ map (driver.given_back done known) marks
+  marks_as : (marks : List (Option Owner)) → map (mark_back left) marks ≡ map (driver.mark_given_back done known) marks
   marks_as [] = refl
-  marks_as (mark ∷ marks) = ap (λ (m : Option Owner). m ∷ map (mark_back left) marks) (mark_as mark) ∙ ap (λ ms. driver.given_back done known mark ∷ ms) (marks_as marks)
+  marks_as (mark ∷ marks) = ap (λ (m : Option Owner). m ∷ map (mark_back left) marks) (mark_as mark) ∙ ap (λ ms. driver.mark_given_back done known mark ∷ ms) (marks_as marks)
 
   gives_as : (marks : List (Option Owner)) (memory memory' : List (List ℕ)) → driver.ClearsGone done known marks memory memory' → GivesFramesBack left marks memory memory'
   gives_as marks memory memory' clears = record { size = clears.size; own = own; others = others }
@@ -177,7 +177,7 @@ module _ (done : ℕ) (known : List known.Device) (left : Option Owner → Bool)
           sym (same owner) ∙ ap left (sym is) ∙ stays)
 
   frames_back : (marks : List (Option Owner)) (memory memory' : List (List ℕ)) (frames : List Frame) → ShowsFrames memory marks frames → driver.ClearsGone done known marks memory memory'
-      → ShowsFrames memory' (map (driver.given_back done known) marks) (map (back left none) frames)
+      → ShowsFrames memory' (map (driver.mark_given_back done known) marks) (map (back left none) frames)
   frames_back marks memory memory' frames shows clears =
       subst (λ ms. ShowsFrames memory' ms (map (back left none) frames)) (marks_as marks)
       (shows_given_back left none marks memory memory' frames shows (gives_as marks memory memory' clears))
@@ -190,9 +190,9 @@ confirmed_state old count state = record state { history = confirmed_from (old.d
 
 -- how a device's ticket is confirmed
 as_driver : (old : Parts) (count : ℕ) (state : State) → IsSoundDriver old.driver → PartsShow old state → (id : ℕ)
-    → ConfirmsAs (confirmed_from (old.driver.confirmed + 1) count state.history) (old.driver.confirmed + count) (attachment_of old.driver.devices id)
+    → ConfirmsAs (confirmed_from (old.driver.confirmed + 1) count state.history) (old.driver.confirmed + count) (attachment_by_id old.driver.devices id)
 as_driver old count state sound shows id =
-    confirmed_as state.history old.driver.confirmed count old.driver.given (attachment_of old.driver.devices id) shows.none_later
+    confirmed_as state.history old.driver.confirmed count old.driver.given (attachment_by_id old.driver.devices id) shows.none_later
     (λ ticket stage at. sound.leaving id ticket stage at)
 
 -- an owner has left in the machine where it has in the driver
@@ -202,7 +202,7 @@ owner_left old events count state sound sound_driver shows System = refl
 owner_left old events count state sound sound_driver shows (OneDevice id) =
     let h = confirmed_from (old.driver.confirmed + 1) count state.history in
     ap (has_left h) (how_shown old events state id sound shows)
-    ∙ left_as h (old.driver.confirmed + count) (attachment_of old.driver.devices id) (as_driver old count state sound_driver shows id)
+    ∙ left_as h (old.driver.confirmed + count) (attachment_by_id old.driver.devices id) (as_driver old count state sound_driver shows id)
 
 -- what a world shows after so many tickets were confirmed, and what they leave is given back
 shows_polled : (old new : Parts) (events : ℕ) (state : State) (polled : Polled) → AreSound old events → IsSoundDriver old.driver → new.iommu ≡ old.iommu → new.devices ≡ old.devices → PartsShow old state
@@ -215,8 +215,8 @@ shows_polled old new events state polled sound sound_driver iommu devices shows 
     let rows = (flights_of old.iommu).rows in
     let left = is_of_left (confirmed_state old polled.count state) in
     let frames = frames_back done d.devices left refl (owner_left old events polled.count state sound sound_driver shows) d.marks old.memory new.memory state.frames shows.frames does_confirm.cleared in
-    let once = shown_once d.devices (map (driver.once_confirmed done) d.devices) rows old.devices h
-    (λ id. once_as h done (attachment_of d.devices id) (as_driver old polled.count state sound_driver shows id) ∙ ap shown_attachment (sym (attachment_confirmed done d.devices id))) in
+    let once = shown_once d.devices (map (driver.driven_once_confirmed done) d.devices) rows old.devices h
+    (λ id. once_as h done (attachment_by_id d.devices id) (as_driver old polled.count state sound_driver shows id) ∙ ap shown_attachment (sym (attachment_confirmed done d.devices id))) in
     record {
       ledger = does_confirm.agrees state.history shows.ledger;
       frames = rw (ap (λ (x : DriverState). x.marks) does_confirm.driver) frames;
@@ -239,13 +239,13 @@ shows_none old new state polled sound iommu devices shows does_confirm none =
     let done = d.confirmed + polled.count in
     let same : done ≡ d.confirmed = omega (arith, none) in
     let rows = (flights_of old.iommu).rows in
-    let stay : (id : ℕ) → driver.has_left done (attachment_of d.devices id) ≡ false =
-    λ id. ap (λ n. driver.has_left n (attachment_of d.devices id)) same ∙ none_left d.devices d.given d.confirmed sound.leaving id in
+    let stay : (id : ℕ) → driver.has_left_until done (attachment_by_id d.devices id) ≡ false =
+    λ id. ap (λ n. driver.has_left_until n (attachment_by_id d.devices id)) same ∙ none_left d.devices d.given d.confirmed sound.leaving id in
     let nobody = nobody_gone d.devices done stay in
     let marks = marks_same done d.devices d.marks nobody in
     let frames = shows_kept old.memory new.memory d.marks state.frames shows.frames (λ k free. does_confirm.cleared.others k (λ owner at. nobody owner)) does_confirm.cleared.size in
-    let alike = shown_alike d.devices (map (driver.once_confirmed done) d.devices) rows old.devices
-    (λ id. attachment_confirmed done d.devices id ∙ ap (λ (b : Bool). if b then attached.Detached else attachment_of d.devices id) (stay id)) in
+    let alike = shown_alike d.devices (map (driver.driven_once_confirmed done) d.devices) rows old.devices
+    (λ id. attachment_confirmed done d.devices id ∙ ap (λ (b : Bool). if b then attached.Detached else attachment_by_id d.devices id) (stay id)) in
     record {
       ledger = subst (λ n. Agrees new.driver.ledger (confirmed_from (d.confirmed + 1) n state.history)) none (does_confirm.agrees state.history shows.ledger);
       frames = subst (λ ms. ShowsFrames new.memory ms state.frames) (sym (ap (λ (x : DriverState). x.marks) does_confirm.driver ∙ marks)) frames;

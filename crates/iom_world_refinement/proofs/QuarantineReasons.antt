@@ -3,7 +3,7 @@ use Rattle.std.proofs.Common.{◌≡◌, ◌||◌, ◌-◌, ◌∙◌, ℕ, Bool
 use Rattle.iom_driver.specs.declared.device.Attachment as owned
 use Rattle.iom_driver.specs.declared.device.Attachment.TheVariants as attached
 use Rattle.iom_driver.specs.Devices as as_known
-use Rattle.iom_driver.specs.Devices.{is_plugged, is_away}
+use Rattle.iom_driver.specs.Devices.{has_device, is_away}
 use Rattle.iom_driver.specs.Fences.{last_fence}
 use Rattle.iom_driver.specs.Reasons.{why_not_quarantine, lacks_places}
 use Rattle.iom_iommu.specs.Parts.{registers_of}
@@ -38,7 +38,7 @@ driver_first started there how many full used = first_that_applies (
     (not started, NotStarted)
     ∷ (not there, NoSuchDevice)
     ∷ (is_away how, NotAttached)
-    ∷ (as_known.is_quarantined how, refusal.Quarantined)
+    ∷ (as_known.is_cut_off how, refusal.Quarantined)
     ∷ (many, TooManyPending)
     ∷ (full, QueueFull)
     ∷ (used, NumbersUsedUp)
@@ -72,11 +72,11 @@ first_same there there' many many' attachment attachment' same attached as_many 
 -- the machine's first reason, by what the driver knows
 quarantine_first : (parts : Parts) (events : ℕ) (state : State) (id : ℕ) → AreSound parts events → PartsShow parts state
     → first_that_applies (machine.quarantine_reasons state id)
-    ≡ machine_first (is_plugged parts.driver.devices id) (shown_attachment (as_known.attachment_of parts.driver.devices id)) (nat_le pending_limit (parts.driver.given - parts.driver.confirmed))
+    ≡ machine_first (has_device parts.driver.devices id) (shown_attachment (as_known.attachment_by_id parts.driver.devices id)) (nat_le pending_limit (parts.driver.given - parts.driver.confirmed))
 quarantine_first parts events state id sound shows =
     let d = parts.driver in
-    first_same (machine.is_plugged state id) (is_plugged d.devices id) (nat_le pending_limit (pending_tickets state)) (nat_le pending_limit (d.given - d.confirmed))
-    (attachment_of state id) (shown_attachment (as_known.attachment_of d.devices id))
+    first_same (machine.is_plugged state id) (has_device d.devices id) (nat_le pending_limit (pending_tickets state)) (nat_le pending_limit (d.given - d.confirmed))
+    (attachment_of state id) (shown_attachment (as_known.attachment_by_id d.devices id))
     (there_shown parts events state id sound shows) (how_shown parts events state id sound shows) (ap (nat_le pending_limit) (pending_shown parts state shows))
 
 -- the driver's, where it is started
@@ -88,20 +88,20 @@ pub quarantine_refused_by : (parts : Parts) (events : ℕ) (state : State) (id :
     → first_that_applies (why_not_quarantine parts.driver (registers_of parts.iommu) id) ≡ Some why → IsRefusedBy (machine.quarantine_reasons state id) MayFindNoPlace why
 quarantine_refused_by parts events state id why sound shows first =
     let d = parts.driver in
-    let how = as_known.attachment_of d.devices id in
+    let how = as_known.attachment_by_id d.devices id in
     let many = nat_le pending_limit (d.given - d.confirmed) in
     let full = lacks_places 3 (registers_of parts.iommu) in
     let used = nat_le 4294967295 (last_fence d) in
     subst (λ o. MatchOption o (MayFindNoPlace why) (λ one. why ≡ one)) (sym (quarantine_first parts events state id sound shows))
-    (cut_off_refused (is_plugged d.devices id) how many full used why (started_first d.started (is_plugged d.devices id) how many full used (Some why) sound.started first))
+    (cut_off_refused (has_device d.devices id) how many full used why (started_first d.started (has_device d.devices id) how many full used (Some why) sound.started first))
 
 pub may_quarantine : (parts : Parts) (events : ℕ) (state : State) (id : ℕ) → AreSound parts events → PartsShow parts state
     → NoneApplies (why_not_quarantine parts.driver (registers_of parts.iommu) id) → NoneApplies (machine.quarantine_reasons state id)
 may_quarantine parts events state id sound shows none =
     let d = parts.driver in
-    let how = as_known.attachment_of d.devices id in
+    let how = as_known.attachment_by_id d.devices id in
     let many = nat_le pending_limit (d.given - d.confirmed) in
     let full = lacks_places 3 (registers_of parts.iommu) in
     let used = nat_le 4294967295 (last_fence d) in
     quarantine_first parts events state id sound shows
-    ∙ cut_off_none (is_plugged d.devices id) how many full used (started_first d.started (is_plugged d.devices id) how many full used None sound.started none)
+    ∙ cut_off_none (has_device d.devices id) how many full used (started_first d.started (has_device d.devices id) how many full used None sound.started none)

@@ -9,7 +9,7 @@ use Rattle.iom_directory_build.specs.Written.{without_context}
 use Rattle.iom_driver.specs.declared.answers.Ticket.{Ticket}
 use Rattle.iom_driver.specs.declared.device.Attachment.TheVariants as attached
 use Rattle.iom_driver.specs.Appends.{detach_commands}
-use Rattle.iom_driver.specs.Devices.{attachment_of, with_attachment}
+use Rattle.iom_driver.specs.Devices.{attachment_by_id, with_attachment}
 use Rattle.iom_driver.specs.Fences.{last_fence}
 use Rattle.iom_driver.specs.Layout.{command_frame, completion_address, directory_frame}
 use Rattle.iom_driver.specs.Quarantines.{all_unmapped, AnswersQuarantine, QueuesQuarantine}
@@ -130,7 +130,7 @@ quarantine_step old new events id told sound own does state shows = by does.answ
         let there = attached_there d.devices id queues.stage queues.attached in
         let found = found_there (device_of state id) (there_shown old events state id sound shows ∙ there) in
         let how : found.0.attachment ≡ Attached queues.stage.mode queues.stage.ats = how_found state id found.0 found.1 ∙ how_shown old events state id sound shows
-        ∙ ap shown_attachment (attached_is (attachment_of d.devices id) queues.stage queues.attached) in
+        ∙ ap shown_attachment (attached_is (attachment_by_id d.devices id) queues.stage queues.attached) in
         let next = cut_off state found.0 id ticket.0 in (
           next,
           subst (λ t. machine.Quarantines state id t next) (sym is) (

@@ -19,7 +19,7 @@ use Rattle.iom_coherence.proofs.ListLemmas.{contains_head, in_none}
 use Rattle.iom_driver.specs.declared.device.Attachment.{Attachment}
 use Rattle.iom_driver.specs.declared.device.Attachment.TheVariants as driver
 use Rattle.iom_driver.specs.declared.device.Stages.{Stages}
-use Rattle.iom_driver.specs.Devices.{attachment_of, owned_stages_of}
+use Rattle.iom_driver.specs.Devices.{attachment_by_id, owned_stages_of}
 use Rattle.iom_fabric.specs.declared.message.Translation.TheVariants.{Page, Refused}
 use Rattle.iom_iommu.specs.Parts.{translations_of}
 use Rattle.iom_ledger.specs.declared.ledger.Ledger.{Ledger}
@@ -31,7 +31,7 @@ use Rattle.iom_machine.specs.declared.state.Attachment.TheVariants as shown
 use Rattle.iom_machine.specs.declared.state.State.{State}
 use Rattle.iom_machine.specs.Questions.{MayShow, MayTellFormerly, MayTell}
 use Rattle.iom_tlb.specs.declared.trans_cache.Translation.{Translation}
-use Rattle.iom_tlb.specs.Content.{Content as Translations}
+use Rattle.iom_tlb.specs.Content.{Translations}
 use Rattle.iom_world_effects.specs.Devices.{shown_attachment}
 use Rattle.iom_world_effects.specs.Parts.{Parts}
 use Rattle.iom_world_effects.specs.Read.{space_in, values_of}
@@ -128,7 +128,7 @@ module _ (parts : Parts) (events : ℕ) (state : State) (id page : ℕ) (stage :
     (cached : translations_of parts.iommu (space_in stage.mode stage.number, page) ≡ Some translation) (allowed : allows translation.rights Read ≡ true)
     (pending : IsPending parts.driver id) where
   -- in one stage it is what is held at the page, or what lingers there
-  show_in : in_both_stages (shown_attachment (attachment_of parts.driver.devices id)) ≡ false → (scene : Scene) → IsSceneOf (values_of parts) scene → IsFaithful scene
+  show_in : in_both_stages (shown_attachment (attachment_by_id parts.driver.devices id)) ≡ false → (scene : Scene) → IsSceneOf (values_of parts) scene → IsFaithful scene
       → MayShow state.history id page (translation.frame, translation.rights)
   show_in one scene is facts =
       elim (reachable_in parts events state id page stage translation sound own shows owned cached false one scene is facts) [
@@ -141,7 +141,7 @@ module _ (parts : Parts) (events : ℕ) (state : State) (id page : ℕ) (stage :
       nothing lingers (Some pair) at =
           absurd ((in_history parts events state id page stage translation sound own shows owned cached scene is facts).order.apart id page lingers.0 pair (translation.frame, translation.rights) at lingers.1)
 
-  shown_cached : (mode : Mode) → in_both_stages (shown_attachment (attachment_of parts.driver.devices id)) ≡ is_both mode
+  shown_cached : (mode : Mode) → in_both_stages (shown_attachment (attachment_by_id parts.driver.devices id)) ≡ is_both mode
       → MayTell (shown.Attached mode true) state id page (Page translation.frame translation.rights)
   shown_cached (First size) is =
       shows_merely parts.driver.ledger state.history id page (translation.frame, translation.rights) shows.ledger (∥∥₁_map sound.copies (λ (scene, at, facts). show_in is scene at facts))
@@ -154,7 +154,7 @@ module _ (parts : Parts) (events : ℕ) (state : State) (id page : ℕ) (stage :
   )
 
   -- of a device that is cut off it is what lingers
-  cut_off : (ticket : ℕ) (s : Stages) → attachment_of parts.driver.devices id ≡ driver.Quarantined ticket s → s.ats ≡ true
+  cut_off : (ticket : ℕ) (s : Stages) → attachment_by_id parts.driver.devices id ≡ driver.Quarantined ticket s → s.ats ≡ true
       → MayTell (shown.Quarantined ticket s.mode s.ats) state id page (Page translation.frame translation.rights)
   cut_off ticket s is ats = inr (
     shows.none_later ticket (pending ticket s is),
@@ -164,7 +164,7 @@ module _ (parts : Parts) (events : ℕ) (state : State) (id page : ℕ) (stage :
         reachable_in parts events state id page stage translation sound own shows owned cached (is_both s.mode) (ap (λ a. in_both_stages (shown_attachment a)) is) scene at facts))),
   )
 
-  pub cached_tell : (a : Attachment) → attachment_of parts.driver.devices id ≡ a → has_ats (shown_attachment a) ≡ true
+  pub cached_tell : (a : Attachment) → attachment_by_id parts.driver.devices id ≡ a → has_ats (shown_attachment a) ≡ true
       → MayTell (shown_attachment a) state id page (Page translation.frame translation.rights)
   cached_tell driver.Detached is ats = absurd (detached_none parts events state id page stage translation sound own shows owned cached is)
   cached_tell (driver.Attached s) is ats =
@@ -185,19 +185,19 @@ walked_tell state ledger (Both size) id page translation agrees (granted, rights
 
 -- what the machine lets be told of a page
 pub may_tell : (parts : Parts) (events : ℕ) (state : State) (id address : ℕ) (answer : Translation) (sure : Bool) (new : Translations) → AreSound parts events → IsSoundDriver parts.driver
-    → PartsShow parts state → has_ats (shown_attachment (attachment_of parts.driver.devices id)) ≡ true
+    → PartsShow parts state → has_ats (shown_attachment (attachment_by_id parts.driver.devices id)) ≡ true
     → IsAnswered sure parts.driver id address Read (translations_of parts.iommu) (Ok answer) new
-    → MayTell (shown_attachment (attachment_of parts.driver.devices id)) state id (address / 4096) (Page answer.frame answer.rights)
+    → MayTell (shown_attachment (attachment_by_id parts.driver.devices id)) state id (address / 4096) (Page answer.frame answer.rights)
 may_tell parts events state id address answer sure new sound own shows ats (inl reaches) =
     let stage = reaches.stage in
     let with_ats : stage.ats ≡ true = sym (ap (λ a. has_ats (shown_attachment a)) reaches.attached) ∙ ats in
-    subst (λ (t : Translation). MayTell (shown_attachment (attachment_of parts.driver.devices id)) state id (address / 4096) (Page t.frame t.rights)) (sym reaches.answer_is)
+    subst (λ (t : Translation). MayTell (shown_attachment (attachment_by_id parts.driver.devices id)) state id (address / 4096) (Page t.frame t.rights)) (sym reaches.answer_is)
     (subst (λ a. MayTell (shown_attachment a) state id (address / 4096) (Page reaches.translation.frame reaches.translation.rights)) (sym reaches.attached)
     (subst (λ b. MayTell (shown.Attached stage.mode b) state id (address / 4096) (Page reaches.translation.frame reaches.translation.rights)) (sym with_ats)
     (walked_tell state parts.driver.ledger stage.mode id (address / 4096) reaches.translation shows.ledger reaches.held reaches.allowed)))
 may_tell parts events state id address answer sure new sound own shows ats (inr finds) =
-    subst (λ (t : Translation). MayTell (shown_attachment (attachment_of parts.driver.devices id)) state id (address / 4096) (Page t.frame t.rights)) (sym finds.answer_is)
-    (cached_tell parts events state id (address / 4096) finds.stage finds.translation sound own shows finds.owned finds.cached finds.allowed finds.pending (attachment_of parts.driver.devices id) refl ats)
+    subst (λ (t : Translation). MayTell (shown_attachment (attachment_by_id parts.driver.devices id)) state id (address / 4096) (Page t.frame t.rights)) (sym finds.answer_is)
+    (cached_tell parts events state id (address / 4096) finds.stage finds.translation sound own shows finds.owned finds.cached finds.allowed finds.pending (attachment_by_id parts.driver.devices id) refl ats)
 
 -- EACH REFUSAL
 attached_refuse : (mode : Mode) (state : State) (ledger : Ledger) (id page : ℕ) (cause : Cause) → Agrees ledger state.history → FaultsBy mode ledger id page Read cause
@@ -213,7 +213,7 @@ refuse_formerly stage state id address cause (inr (none, disallowed)) =
     subst (λ b. MayTellFormerly stage.mode b state.history id (address / 4096) (Refused cause)) (sym none) (ap Refused disallowed)
 
 pub may_refuse : (a : Attachment) (parts : Parts) (state : State) (id address : ℕ) (cause : Cause) → IsSoundDriver parts.driver → PartsShow parts state
-    → attachment_of parts.driver.devices id ≡ a → RefusedAs a parts.driver id address cause → MayTell (shown_attachment a) state id (address / 4096) (Refused cause)
+    → attachment_by_id parts.driver.devices id ≡ a → RefusedAs a parts.driver id address cause → MayTell (shown_attachment a) state id (address / 4096) (Refused cause)
 may_refuse driver.Detached parts state id address cause own shows is refused = ap Refused (refused ∙ ap (λ l. cause_at l id) (sym shows.levels))
 may_refuse (driver.Attached stage) parts state id address cause own shows is (inl (ats, faults)) =
     subst (λ b. MayTell (shown.Attached stage.mode b) state id (address / 4096) (Refused cause)) (sym ats) (attached_refuse stage.mode state parts.driver.ledger id (address / 4096) cause shows.ledger faults)

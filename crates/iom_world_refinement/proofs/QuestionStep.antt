@@ -1,7 +1,7 @@
 -- A question that is answered is a lawful step of the ledger machine: its device may be told so, and nothing changes.
 use Rattle.std.proofs.Common.{◌≡◌, ◌*◌, ◌/◌, ◌^◌, ◌<◌, ◌==◌, ◌∙◌, ℕ, Bool, true, false, find, is_some, IsSomeAnd, List, Option, Some, None, option_map, Ok, Err, remove, slice_get, refl, sym, ap, subst, arith}
 use Rattle.iom_base.specs.declared.cause.Cause.{Cause}
-use Rattle.iom_driver.specs.Devices.{attachment_of}
+use Rattle.iom_driver.specs.Devices.{attachment_by_id}
 use Rattle.iom_fabric.specs.declared.message.Message.TheVariants as sent
 use Rattle.iom_fabric.specs.declared.message.Translation.{Translation as Told}
 use Rattle.iom_fabric.specs.declared.message.Translation.TheVariants.{Page, Refused}
@@ -56,16 +56,16 @@ module _ (laws : ServiceLaws) (old new : Parts) (events device page : ℕ) (soun
   at_page = omega arith
 
   tells : (answer : Told) → AnswersQuestion old.memory old.iommu device page answer new.memory new.iommu
-      → MayTell (shown_attachment (attachment_of old.driver.devices device)) state device page answer
+      → MayTell (shown_attachment (attachment_by_id old.driver.devices device)) state device page answer
   tells (Page frame rights) call =
       let told = told_of laws old events sound own device (page * 4096) ioatc.SURE (translations_of old.iommu) (translations_of new.iommu) (Ok (record { frame = frame; rights = rights })) fits call.0.served in
-      subst (λ p. MayTell (shown_attachment (attachment_of old.driver.devices device)) state device p (Page frame rights)) at_page
+      subst (λ p. MayTell (shown_attachment (attachment_by_id old.driver.devices device)) state device p (Page frame rights)) at_page
       (may_tell old events state device (page * 4096) (record { frame = frame; rights = rights }) ioatc.SURE (translations_of new.iommu) sound own shows told.0 told.1)
   tells (Refused cause) call =
       let told = told_of laws old events sound own device (page * 4096) ioatc.SURE (translations_of old.iommu) (translations_of new.iommu) (Err call.fault) fits call.served in
-      subst (λ p. MayTell (shown_attachment (attachment_of old.driver.devices device)) state device p (Refused cause)) at_page
-      (subst (λ c. MayTell (shown_attachment (attachment_of old.driver.devices device)) state device (page * 4096 / 4096) (Refused c)) (sym call.told)
-      (may_refuse (attachment_of old.driver.devices device) old state device (page * 4096) call.fault.cause own shows refl told.0))
+      subst (λ p. MayTell (shown_attachment (attachment_by_id old.driver.devices device)) state device p (Refused cause)) at_page
+      (subst (λ c. MayTell (shown_attachment (attachment_by_id old.driver.devices device)) state device (page * 4096 / 4096) (Refused c)) (sym call.told)
+      (may_refuse (attachment_by_id old.driver.devices device) old state device (page * 4096) call.fault.cause own shows refl told.0))
 
   -- a record of a fault is in a frame that is nobody's but the driver's
   frames_recorded : (cause : Cause) → (call : RefusesQuestion old.memory old.iommu device page cause new.memory new.iommu) → (b : Bool)
@@ -88,8 +88,8 @@ module _ (laws : ServiceLaws) (old new : Parts) (events device page : ℕ) (soun
       → Delivers device page state (outcome.Answered answer) state
   delivered answer call present =
       let is = present_found old.driver.devices (flights_of old.iommu).rows old.devices device present in
-      let may : MayTell (shown_attachment (attachment_of old.driver.devices is.device.id)) state is.device.id page answer =
-      subst (λ n. MayTell (shown_attachment (attachment_of old.driver.devices n)) state n page answer) (sym is.own) (tells answer call) in
+      let may : MayTell (shown_attachment (attachment_by_id old.driver.devices is.device.id)) state is.device.id page answer =
+      subst (λ n. MayTell (shown_attachment (attachment_by_id old.driver.devices n)) state n page answer) (sym is.own) (tells answer call) in
       let found : device_of state device ≡ Some (shown_device old.driver.devices (flights_of old.iommu).rows is.device) =
       ap (λ (devices : List machine.Device). find (λ (d : machine.Device). d.id == device) devices) shows.devices ∙ is.shown in
       (subst (λ o. IsSomeAnd o (λ (d : machine.Device). MayTell d.attachment state d.id page answer)) (sym found) may, refl)

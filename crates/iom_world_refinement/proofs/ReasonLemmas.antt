@@ -8,7 +8,7 @@ use Rattle.iom_driver.specs.declared.device.Attachment as owned
 use Rattle.iom_driver.specs.declared.device.Attachment.TheVariants as attached
 use Rattle.iom_driver.specs.declared.device.Stages.{Stages}
 use Rattle.iom_driver.specs.Devices as as_known
-use Rattle.iom_driver.specs.Devices.{device_of, is_plugged, is_away, attached_stages, owned_stages}
+use Rattle.iom_driver.specs.Devices.{device_by_id, has_device, is_away, attached_stages, owned_stages}
 use Rattle.iom_driver.specs.Fences.{last_fence}
 use Rattle.iom_driver.specs.Layout.{id_limit}
 use Rattle.iom_driver.specs.Reasons.{why_not_plug, why_not_attach, why_not_grant, granting_reasons, page_limit_in, why_not_release, releasing_reasons, why_not_detach, detaching_reasons, is_busy, lacks_places, release_places, HasGrants}
@@ -36,7 +36,7 @@ use Rattle.iom_device.specs.declared.device.Device.{Device}
 use Rattle.iom_world_effects.specs.Devices.{shown_attachment, shown_devices}
 use Rattle.iom_world_effects.specs.Parts.{Parts}
 use Rattle.iom_world_effects.specs.Shows.{PartsShow}
-use Rattle.iom_world_effects.specs.Sound.{AreSound, known_ids, ids_of}
+use Rattle.iom_world_effects.specs.Sound.{AreSound, known_ids, plugged_ids}
 use Rattle.iom_world_effects.proofs.FrameLemmas.{reserved_shown}
 use Rattle.iom_world_refinement.proofs.PlaceLemmas.{shown_of}
 use Rattle.iom_coherence.specs.Attachments.{caches_translations}
@@ -46,7 +46,7 @@ use Rattle.iom_device.specs.Caches.{kind_in}
 
 -- the driver knows these devices, in their order
 abbrev pub IsKnown : List driver.Device → List Device → Type 0
-IsKnown known devices = known_ids known ≡ ids_of devices
+IsKnown known devices = known_ids known ≡ plugged_ids devices
 
 -- the first of two lists, and the others
 heads_are : (a b : ℕ) (later others : List ℕ) → ◌≡◌ {A = List ℕ} (a ∷ later) (b ∷ others) → a ≡ b
@@ -56,7 +56,7 @@ tails_are : (a b : ℕ) (later others : List ℕ) → ◌≡◌ {A = List ℕ} (
 tails_are a b later others same = cc
 
 -- the machine finds a device with the id exactly where the driver knows one
-found_known : (told known : List driver.Device) (rows : List FlightRow) (devices : List Device) (id : ℕ) → IsKnown known devices → is_some (shown_of told rows devices id) ≡ is_plugged known id
+found_known : (told known : List driver.Device) (rows : List FlightRow) (devices : List Device) (id : ℕ) → IsKnown known devices → is_some (shown_of told rows devices id) ≡ has_device known id
 found_known told [] rows [] id same = refl
 found_known told [] rows (device ∷ others) id same = cc
 found_known told (one ∷ known) rows [] id same = cc
@@ -67,10 +67,10 @@ found_known told (one ∷ known) rows (device ∷ others) id same =
 
 -- and it is attached as the driver knows
 found_attachment : (known : List driver.Device) (rows : List FlightRow) (devices : List Device) (id : ℕ) → is_some (shown_of known rows devices id) ≡ true
-    → option_map_or (λ (device : declared.Device). device.attachment) (shown_of known rows devices id) Detached ≡ shown_attachment (as_known.attachment_of known id)
+    → option_map_or (λ (device : declared.Device). device.attachment) (shown_of known rows devices id) Detached ≡ shown_attachment (as_known.attachment_by_id known id)
 found_attachment known rows [] id there = absurd (false≢true there)
 found_attachment known rows (device ∷ others) id there = elim (eqb_tells device.id id) [
-  | inl e ↦ rw e.0 (ap (λ i. shown_attachment (as_known.attachment_of known i)) e.1)
+  | inl e ↦ rw e.0 (ap (λ i. shown_attachment (as_known.attachment_by_id known i)) e.1)
   | inr ne ↦ rw ne.0 (found_attachment known rows others id (rw ne.0 at there))
 ]
 
@@ -79,26 +79,26 @@ none_attachment None none = refl
 none_attachment (Some device) none = absurd (false≢true (sym none))
 
 -- a device that the driver doesn't know is attached to nothing
-pub none_known : (known : List driver.Device) (id : ℕ) → is_plugged known id ≡ false → as_known.attachment_of known id ≡ attached.Detached
-none_known known id none = by (device_of known id) none
+pub none_known : (known : List driver.Device) (id : ℕ) → has_device known id ≡ false → as_known.attachment_by_id known id ≡ attached.Detached
+none_known known id none = by (device_by_id known id) none
   where
     by : (o : Option driver.Device) → is_some o ≡ false → option_map_or (λ (device : driver.Device). device.attachment) o attached.Detached ≡ attached.Detached
     by None none = refl
     by (Some device) none = absurd (false≢true (sym none))
 
 pub plugged_shown : (known : List driver.Device) (rows : List FlightRow) (devices : List Device) (state : State) (id : ℕ) → IsKnown known devices → state.devices ≡ shown_devices known rows devices
-    → machine.is_plugged state id ≡ is_plugged known id
+    → machine.is_plugged state id ≡ has_device known id
 plugged_shown known rows devices state id same shown =
     ap (λ (ds : List declared.Device). is_some (find (λ (d : declared.Device). d.id == id) ds)) shown ∙ found_known known known rows devices id same
 
 pub attachment_shown : (known : List driver.Device) (rows : List FlightRow) (devices : List Device) (state : State) (id : ℕ) → IsKnown known devices → state.devices ≡ shown_devices known rows devices
-    → attachment_of state id ≡ shown_attachment (as_known.attachment_of known id)
+    → attachment_of state id ≡ shown_attachment (as_known.attachment_by_id known id)
 attachment_shown known rows devices state id same shown =
     ap (λ (ds : List declared.Device). option_map_or (λ (device : declared.Device). device.attachment) (find (λ (d : declared.Device). d.id == id) ds) Detached) shown
-    ∙ by (is_plugged known id) refl
+    ∙ by (has_device known id) refl
   where
-    by : (b : Bool) → is_plugged known id ≡ b
-        → option_map_or (λ (device : declared.Device). device.attachment) (shown_of known rows devices id) Detached ≡ shown_attachment (as_known.attachment_of known id)
+    by : (b : Bool) → has_device known id ≡ b
+        → option_map_or (λ (device : declared.Device). device.attachment) (shown_of known rows devices id) Detached ≡ shown_attachment (as_known.attachment_by_id known id)
     by true there = found_attachment known rows devices id (found_known known known rows devices id same ∙ there)
     by false none =
         none_attachment (shown_of known rows devices id) (found_known known known rows devices id same ∙ none)
@@ -176,7 +176,7 @@ driver_first started there how later =
     (not started, NotStarted)
     ∷ (not there, NoSuchDevice)
     ∷ (is_away how, NotAttached)
-    ∷ (as_known.is_quarantined how, refusal.Quarantined)
+    ∷ (as_known.is_cut_off how, refusal.Quarantined)
     ∷ later)
 
 attachment_tests : (there : Bool) (how : owned.Attachment) (later later' : List (Bool × Refusal))
@@ -249,16 +249,16 @@ pub plug_first : (parts : Parts) (events : ℕ) (state : State) (id : ℕ) → A
 plug_first parts events state id sound shows =
     let d = parts.driver in
     let rows = (flights_of parts.iommu).rows in
-    plug_tests (machine.is_plugged state id) (is_plugged d.devices id) (nat_le 16 (length state.devices)) (nat_le 16 (length d.devices))
+    plug_tests (machine.is_plugged state id) (has_device d.devices id) (nat_le 16 (length state.devices)) (nat_le 16 (length d.devices))
     (plugged_shown d.devices rows parts.devices state id sound.known.driver shows.devices)
     (ap (nat_le 16) (ap (λ (ds : List declared.Device). length ds) shows.devices ∙ length-shown d.devices rows parts.devices ∙ sym (length-known d.devices parts.devices sound.known.driver)))
 
 -- whether the device is there, and how it is attached
-pub there_shown : (parts : Parts) (events : ℕ) (state : State) (id : ℕ) → AreSound parts events → PartsShow parts state → machine.is_plugged state id ≡ is_plugged parts.driver.devices id
+pub there_shown : (parts : Parts) (events : ℕ) (state : State) (id : ℕ) → AreSound parts events → PartsShow parts state → machine.is_plugged state id ≡ has_device parts.driver.devices id
 there_shown parts events state id sound shows = plugged_shown parts.driver.devices (flights_of parts.iommu).rows parts.devices state id sound.known.driver shows.devices
 
 pub how_shown : (parts : Parts) (events : ℕ) (state : State) (id : ℕ) → AreSound parts events → PartsShow parts state
-    → attachment_of state id ≡ shown_attachment (as_known.attachment_of parts.driver.devices id)
+    → attachment_of state id ≡ shown_attachment (as_known.attachment_by_id parts.driver.devices id)
 how_shown parts events state id sound shows = attachment_shown parts.driver.devices (flights_of parts.iommu).rows parts.devices state id sound.known.driver shows.devices
 
 -- whether it has a cache of its own
@@ -267,7 +267,7 @@ pub kind_shown : (known : List driver.Device) (rows : List FlightRow) (devices :
 kind_shown known rows [] id = refl
 kind_shown known rows (device ∷ others) id = elim (eqb_tells device.id id) [ inl e ↦ rw e.0 refl | inr ne ↦ rw ne.0 (kind_shown known rows others id) ]
 
-trusted_shown : (parts : Parts) (events : ℕ) (state : State) (id : ℕ) → AreSound parts events → PartsShow parts state → is_trusted state id ≡ as_known.is_trusted parts.driver.devices id
+trusted_shown : (parts : Parts) (events : ℕ) (state : State) (id : ℕ) → AreSound parts events → PartsShow parts state → is_trusted state id ≡ as_known.has_trusted_cache parts.driver.devices id
 trusted_shown parts events state id sound shows =
     ap (λ (ds : List declared.Device). option_map_or (λ (device : declared.Device). has_cache device.kind) (find (λ (d : declared.Device). d.id == id) ds) false) shows.devices
     ∙ kind_shown parts.driver.devices (flights_of parts.iommu).rows parts.devices id ∙ sym (sound.known.trusted id)
@@ -276,15 +276,15 @@ pub attach_first : (parts : Parts) (events : ℕ) (state : State) (id : ℕ) (at
     → first_that_applies (machine.attach_reasons state id ats) ≡ first_that_applies (why_not_attach parts.driver id ats)
 attach_first parts events state id ats sound shows =
     let d = parts.driver in
-    attach_same (machine.is_plugged state id) (is_plugged d.devices id) (is_too_wide state id) (nat_le (id_limit d.levels) id) ats (is_trusted state id)
-    (as_known.is_trusted d.devices id) d.started
-    (attachment_of state id) (as_known.attachment_of d.devices id)
+    attach_same (machine.is_plugged state id) (has_device d.devices id) (is_too_wide state id) (nat_le (id_limit d.levels) id) ats (is_trusted state id)
+    (as_known.has_trusted_cache d.devices id) d.started
+    (attachment_of state id) (as_known.attachment_by_id d.devices id)
     (there_shown parts events state id sound shows) (how_shown parts events state id sound shows)
     (ap (λ levels. nat_le (id_limit levels) id) shows.levels) (trusted_shown parts events state id sound shows) sound.started
 
 -- so the pages that may be granted to an attached device are those that the driver grants
 limit_shown : (parts : Parts) (events : ℕ) (state : State) (id : ℕ) → AreSound parts events → PartsShow parts state → (stage : Stages)
-    → as_known.attachment_of parts.driver.devices id ≡ attached.Attached stage → page_limit_at (attachment_of state id) ≡ page_limit_in (as_known.stages_of parts.driver.devices id)
+    → as_known.attachment_by_id parts.driver.devices id ≡ attached.Attached stage → page_limit_at (attachment_of state id) ≡ page_limit_in (as_known.stages_of parts.driver.devices id)
 limit_shown parts events state id sound shows stage is =
     ap page_limit_at (how_shown parts events state id sound shows ∙ ap shown_attachment is) ∙ sym (ap (λ a. page_limit_in (attached_stages a)) is)
 
@@ -292,7 +292,7 @@ pub grant_first : (parts : Parts) (events : ℕ) (state : State) (id page frame 
     → first_that_applies (machine.grant_reasons state id page frame) ≡ first_that_applies (why_not_grant parts.driver id page frame)
 grant_first parts events state id page frame sound shows =
     let d = parts.driver in
-    attachment_same (machine.is_plugged state id) (is_plugged d.devices id) d.started (attachment_of state id) (as_known.attachment_of d.devices id)
+    attachment_same (machine.is_plugged state id) (has_device d.devices id) d.started (attachment_of state id) (as_known.attachment_by_id d.devices id)
     (granting_tests state id page frame) (granting_reasons d id page frame)
     (there_shown parts events state id sound shows) (how_shown parts events state id sound shows) sound.started
     (λ stage is.
@@ -307,15 +307,15 @@ grant_first parts events state id page frame sound shows =
 abbrev place_shown : Parts → ℕ → Bool → Refusal → Option Refusal
 place_shown parts id test reason =
     let d = parts.driver in
-    machine_first (is_plugged d.devices id) (shown_attachment (as_known.attachment_of d.devices id))
+    machine_first (has_device d.devices id) (shown_attachment (as_known.attachment_by_id d.devices id))
     ((test, reason) ∷ (nat_le pending_limit (d.given - d.confirmed), TooManyPending) ∷ [])
 
 place_first : (parts : Parts) (events : ℕ) (state : State) (id : ℕ) (test test' : Bool) (reason : Refusal) → AreSound parts events → PartsShow parts state → test ≡ test'
     → machine_first (machine.is_plugged state id) (attachment_of state id) ((test, reason) ∷ (nat_le pending_limit (pending_tickets state), TooManyPending) ∷ []) ≡ place_shown parts id test' reason
 place_first parts events state id test test' reason sound shows as_test =
     let d = parts.driver in
-    place_same (machine.is_plugged state id) (is_plugged d.devices id) test test'
-    (nat_le pending_limit (pending_tickets state)) (nat_le pending_limit (d.given - d.confirmed)) (attachment_of state id) (as_known.attachment_of d.devices id) reason
+    place_same (machine.is_plugged state id) (has_device d.devices id) test test'
+    (nat_le pending_limit (pending_tickets state)) (nat_le pending_limit (d.given - d.confirmed)) (attachment_of state id) (as_known.attachment_by_id d.devices id) reason
     (there_shown parts events state id sound shows) (how_shown parts events state id sound shows) as_test
     (ap (nat_le pending_limit) (pending_shown parts state shows))
 
@@ -335,20 +335,20 @@ pub release_refused_by : (parts : Parts) (events : ℕ) (state : State) (id page
 release_refused_by parts events state id page why sound shows first =
     let d = parts.driver in
     let r = registers_of parts.iommu in
-    let how = as_known.attachment_of d.devices id in
+    let how = as_known.attachment_by_id d.devices id in
     subst (λ o. MatchOption o (MayFindNoPlace why) (λ one. why ≡ one)) (sym (release_first parts events state id page sound shows))
-    (place_refused (is_plugged d.devices id) how (is_none (held_in d.ledger id page)) (nat_le pending_limit (d.given - d.confirmed)) (lacks_places (release_places (as_known.stages_of d.devices id)) r) (nat_le 4294967295 (last_fence d)) NotGranted why
-    (started_first d.started (is_plugged d.devices id) how (releasing_reasons d r (release_places (as_known.stages_of d.devices id)) id page) (Some why) sound.started first))
+    (place_refused (has_device d.devices id) how (is_none (held_in d.ledger id page)) (nat_le pending_limit (d.given - d.confirmed)) (lacks_places (release_places (as_known.stages_of d.devices id)) r) (nat_le 4294967295 (last_fence d)) NotGranted why
+    (started_first d.started (has_device d.devices id) how (releasing_reasons d r (release_places (as_known.stages_of d.devices id)) id page) (Some why) sound.started first))
 
 pub may_release : (parts : Parts) (events : ℕ) (state : State) (id page : ℕ) → AreSound parts events → PartsShow parts state
     → NoneApplies (why_not_release parts.driver (registers_of parts.iommu) id page) → NoneApplies (machine.release_reasons state id page)
 may_release parts events state id page sound shows none =
     let d = parts.driver in
     let r = registers_of parts.iommu in
-    let how = as_known.attachment_of d.devices id in
+    let how = as_known.attachment_by_id d.devices id in
     release_first parts events state id page sound shows
-    ∙ place_none (is_plugged d.devices id) how (is_none (held_in d.ledger id page)) (nat_le pending_limit (d.given - d.confirmed)) (lacks_places (release_places (as_known.stages_of d.devices id)) r) (nat_le 4294967295 (last_fence d)) NotGranted
-    (started_first d.started (is_plugged d.devices id) how (releasing_reasons d r (release_places (as_known.stages_of d.devices id)) id page) None sound.started none)
+    ∙ place_none (has_device d.devices id) how (is_none (held_in d.ledger id page)) (nat_le pending_limit (d.given - d.confirmed)) (lacks_places (release_places (as_known.stages_of d.devices id)) r) (nat_le 4294967295 (last_fence d)) NotGranted
+    (started_first d.started (has_device d.devices id) how (releasing_reasons d r (release_places (as_known.stages_of d.devices id)) id page) None sound.started none)
 
 -- the machine finds that a device has grants exactly where the ledger has some
 pub grants_shown : (ledger : Ledger) (state : State) (id : ℕ) → Agrees ledger state.history → IsTrue (has_grants state id) ↔ HasGrants ledger id
@@ -372,20 +372,20 @@ pub detach_refused_by : (parts : Parts) (events : ℕ) (state : State) (id : ℕ
 detach_refused_by parts events state id why sound shows first =
     let d = parts.driver in
     let r = registers_of parts.iommu in
-    let how = as_known.attachment_of d.devices id in
+    let how = as_known.attachment_by_id d.devices id in
     subst (λ o. MatchOption o (MayFindNoPlace why) (λ one. why ≡ one)) (sym (place_first parts events state id (has_grants state id) (has_grants state id) StillGranted sound shows refl))
-    (place_refused (is_plugged d.devices id) how (has_grants state id) (nat_le pending_limit (d.given - d.confirmed)) (lacks_places 3 r) (nat_le 4294967295 (last_fence d)) StillGranted why
-    (started_first d.started (is_plugged d.devices id) how (detaching_reasons d r (has_grants state id)) (Some why) sound.started first))
+    (place_refused (has_device d.devices id) how (has_grants state id) (nat_le pending_limit (d.given - d.confirmed)) (lacks_places 3 r) (nat_le 4294967295 (last_fence d)) StillGranted why
+    (started_first d.started (has_device d.devices id) how (detaching_reasons d r (has_grants state id)) (Some why) sound.started first))
 
 pub may_detach : (parts : Parts) (events : ℕ) (state : State) (id : ℕ) → AreSound parts events → PartsShow parts state
     → NoneApplies (why_not_detach parts.driver (registers_of parts.iommu) (has_grants state id) id) → NoneApplies (machine.detach_reasons state id)
 may_detach parts events state id sound shows none =
     let d = parts.driver in
     let r = registers_of parts.iommu in
-    let how = as_known.attachment_of d.devices id in
+    let how = as_known.attachment_by_id d.devices id in
     place_first parts events state id (has_grants state id) (has_grants state id) StillGranted sound shows refl
-    ∙ place_none (is_plugged d.devices id) how (has_grants state id) (nat_le pending_limit (d.given - d.confirmed)) (lacks_places 3 r) (nat_le 4294967295 (last_fence d)) StillGranted
-    (started_first d.started (is_plugged d.devices id) how (detaching_reasons d r (has_grants state id)) None sound.started none)
+    ∙ place_none (has_device d.devices id) how (has_grants state id) (nat_le pending_limit (d.given - d.confirmed)) (lacks_places 3 r) (nat_le 4294967295 (last_fence d)) StillGranted
+    (started_first d.started (has_device d.devices id) how (detaching_reasons d r (has_grants state id)) None sound.started none)
 
 -- a refusal of the driver is one of the machine's, where what may come of the driver's after the reasons may come of the machine's
 pub refused_as : (reasons reasons' : List (Bool × Refusal)) (May May' : Refusal → Type 0) (why : Refusal) → first_that_applies reasons' ≡ first_that_applies reasons

@@ -28,11 +28,11 @@ use Rattle.iom_base.specs.DeviceKinds.{sends_untranslated, sends_through_cache, 
 use Rattle.iom_virtqueue.specs.declared.layout.Layout.{Layout}
 use Rattle.iom_virtqueue.specs.Layouts.{layout_of}
 use Rattle.iom_coherence.specs.Attachments.{caches_translations}
-use Rattle.iom_world_effects.specs.BlockDevices.{InsertsMedium, SetsQueue, AsksIfMissed, GoesToMemory, TakesStep, TellsStatus}
+use Rattle.iom_world_effects.specs.BlockDevices.{InsertsMedium, SetsBlockQueue, AsksIfMissed, GoesToMemory, TakesBlockStep, TellsBlockStatus}
 use Rattle.iom_device.specs.Caches.{IsAble, epoch_in, kind_in}
 use Rattle.iom_world_effects.specs.OwnIommu.{Iommu}
 use Rattle.iom_world_effects.specs.Requests.{AsksAccess, AsksTranslated, IsReplied, reply_told_of}
-use Rattle.iom_world_effects.specs.ThroughCache.{AsksThroughCache, TriesCache, FindsFrame, cached_frame}
+use Rattle.iom_world_effects.specs.ThroughCache.{DeviceAsksThroughCache, TriesCache, FindsFrame, cached_frame}
 use Rattle.iom_world_effects.specs.Recovery.{TimesOutFence}
 use Rattle.iom_world_effects.specs.Unable.{IsUnknown, IsUnable}
 use Rattle.iom_world_effects.proofs.CallRefused.{same_of, same_parts, plug_refused, attach_refused, grant_refused, release_refused, detach_refused, fetch_refused, poll_refused}
@@ -86,7 +86,7 @@ tries_refused old new id access told why (inl far) refused = not_far told why fa
 tries_refused old new id access told why (inr (inl full)) refused = not_busy told why full.2 refused
 tries_refused old new id access told why (inr (inr finds)) refused = found_refused (cached_frame old id access) old new id access told why finds.2 refused
 
-through_cache_refused : (can : DeviceKind → Bool) (old new : Parts) (id : ℕ) (access : Access) (told : Outcome) → AsksThroughCache can old id access told new → SameIfRefused told old new
+through_cache_refused : (can : DeviceKind → Bool) (old new : Parts) (id : ℕ) (access : Access) (told : Outcome) → DeviceAsksThroughCache can old id access told new → SameIfRefused told old new
 through_cache_refused can old new id access told (inl unknown) why refused = same_parts old new unknown.same
 through_cache_refused can old new id access told (inr (inl unable)) why refused = same_parts old new unable.same
 through_cache_refused can old new id access told (inr (inr tried)) why refused = absurd (tries_refused old new id access told why tried.1 refused)
@@ -141,7 +141,7 @@ medium_refused disks old new id disk told (inr (inl unable)) why refused = same_
 medium_refused disks old new id disk told (inr (inr (device, is, inl puts))) why refused = absurd (not_done told why puts.1 refused)
 medium_refused disks old new id disk told (inr (inr (device, is, inr refuses))) why refused = same_parts old new refuses.2
 
-queue_refused : (old new : Parts) (id : ℕ) (layout : Layout) (told : Outcome) → SetsQueue old id layout told new → SameIfRefused told old new
+queue_refused : (old new : Parts) (id : ℕ) (layout : Layout) (told : Outcome) → SetsBlockQueue old id layout told new → SameIfRefused told old new
 queue_refused old new id layout told (inl unknown) why refused = same_parts old new unknown.same
 queue_refused old new id layout told (inr (inl unable)) why refused = same_parts old new unable.same
 queue_refused old new id layout told (inr (inr (able, inl sets))) why refused = absurd (not_done told why sets.1 refused)
@@ -158,13 +158,13 @@ begins_refused false old new id access told asks = asked_refused is_block_device
 begins_refused true old new id access told goes =
     missed_refused goes.first old goes.between new id access told goes.asks (through_cache_refused is_block_device old goes.between id access goes.first goes.tries)
 
-step_refused : (old new : Parts) (id : ℕ) (told : Outcome) → TakesStep old id told new → SameIfRefused told old new
+step_refused : (old new : Parts) (id : ℕ) (told : Outcome) → TakesBlockStep old id told new → SameIfRefused told old new
 step_refused old new id told (inl (access, fits, may, begins)) why refused = begins_refused (caches_translations (kind_in old.devices id)) old new id access told begins why refused
 step_refused old new id told (inr (step, rest, inl unknown)) why refused = same_parts old new unknown.same
 step_refused old new id told (inr (step, rest, inr (inl unable))) why refused = same_parts old new unable.same
 step_refused old new id told (inr (step, rest, inr (inr (able, is, same)))) why refused = same_parts old new same
 
-status_refused : (old new : Parts) (id status : ℕ) (told : Outcome) → TellsStatus old id status told new → SameIfRefused told old new
+status_refused : (old new : Parts) (id status : ℕ) (told : Outcome) → TellsBlockStatus old id status told new → SameIfRefused told old new
 status_refused old new id status told (inl unknown) why refused = same_parts old new unknown.same
 status_refused old new id status told (inr (inl unable)) why refused = same_parts old new unable.same
 status_refused old new id status told (inr (inr (able, is, same))) why refused = same_parts old new same

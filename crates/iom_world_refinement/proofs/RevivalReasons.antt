@@ -5,7 +5,7 @@ use Rattle.iom_driver.specs.declared.device.Attachment as owned
 use Rattle.iom_driver.specs.declared.device.Attachment.TheVariants as attached
 use Rattle.iom_driver.specs.declared.device.Stages.{Stages}
 use Rattle.iom_driver.specs.Devices as as_known
-use Rattle.iom_driver.specs.Devices.{is_plugged, is_away, attached_stages}
+use Rattle.iom_driver.specs.Devices.{has_device, is_away, attached_stages}
 use Rattle.iom_driver.specs.Reasons.{why_not_revive, waits_for_its_ticket}
 use Rattle.iom_base.specs.declared.refusal.Refusal.TheVariants.{NotStarted, NoSuchDevice, NotAttached, AlreadyAttached, StillGranted}
 use Rattle.iom_ledger.specs.History.{History, confirms}
@@ -53,9 +53,9 @@ pub revive_first : (parts : Parts) (events : ℕ) (state : State) (id : ℕ) →
     → first_that_applies (machine.revive_reasons state id) ≡ first_that_applies (why_not_revive parts.driver id)
 revive_first parts events state id sound own shows =
     let d = parts.driver in
-    let how = as_known.attachment_of d.devices id in
+    let how = as_known.attachment_by_id d.devices id in
     let attachment = how_shown parts events state id sound shows in
-    revive_same (machine.is_plugged state id) (is_plugged d.devices id) d.started (may_still_reach state.history (attachment_of state id)) (waits_for_its_ticket d.confirmed how) (attachment_of state id) how
+    revive_same (machine.is_plugged state id) (has_device d.devices id) d.started (may_still_reach state.history (attachment_of state id)) (waits_for_its_ticket d.confirmed how) (attachment_of state id) how
     (there_shown parts events state id sound shows) attachment sound.started
     (ap (may_still_reach state.history) attachment
     ∙ waits_shown state.history d.confirmed how (λ ticket stage is. (own.quarantined id ticket stage is).0) shows.all_earlier shows.none_later)

@@ -13,7 +13,7 @@ use Rattle.iom_coherence.specs.Laws.{scene_after_fence}
 use Rattle.iom_coherence.proofs.TransitionLemmas.{faithful_after_fence}
 use Rattle.iom_driver.specs.Fences.{last_fence, fence_of}
 use Rattle.iom_driver.specs.Calls.{IsOpening, StartsFrom, turned_on}
-use Rattle.iom_driver.specs.Devices.{attachment_of}
+use Rattle.iom_driver.specs.Devices.{attachment_by_id}
 use Rattle.iom_driver.specs.Layout.{completion_address, directory_frame, ddtp_of, cqb_of, fqb_of}
 use Rattle.iom_driver.specs.Ready.{IsReady}
 use Rattle.iom_driver.specs.State.{DriverState}
@@ -42,14 +42,14 @@ use Rattle.iom_world_effects.specs.Read.{space_at, values_of, accesses_of}
 use Rattle.iom_world_effects.specs.Scenes.{IsSceneOf}
 use Rattle.iom_world_effects.specs.Frames.{ShowsFrames}
 use Rattle.iom_world_effects.specs.Shows.{PartsShow}
-use Rattle.iom_world_effects.specs.Sound.{AreSound, known_ids, ids_of, row_ids, HasAsker, IsUnmarked}
+use Rattle.iom_world_effects.specs.Sound.{AreSound, known_ids, plugged_ids, row_ids, HasAsker, IsUnmarked}
 use Rattle.iom_world_effects.proofs.FrameLemmas.{shows_reserved}
 use Rattle.iom_coherence.specs.Attachments.{caches_translations}
 use Rattle.iom_fabric.specs.declared.fabric.OnLink.{OnLink}
 use Rattle.iom_device.specs.Caches.{kind_in, HasItsCache}
 use Rattle.iom_world_effects.specs.Traffic.{traffic_of}
 use Rattle.std.proofs.lemmas.List.Elements.{All-nil}
-use Rattle.iom_driver.specs.Devices.{is_trusted}
+use Rattle.iom_driver.specs.Devices.{has_trusted_cache}
 
 -- there is nothing in an empty list
 none_there : {X : Type 0} (k : ℕ) (x : X) → slice_get [] k ≡ Some x → ⊥
@@ -292,7 +292,7 @@ module _ (first_fence n levels : ℕ) (first next : DriverState) (before memory 
     accepted = sym none_accepted;
     in_flight = sym (ap accesses_of rows_none);
     kinds = λ id. sym (ap (λ (ds : List Device). kind_in ds id) started.unplugged);
-    attachments = λ id. sym (ap (λ (d : DriverState). shown_attachment (attachment_of d.devices id)) driver_is);
+    attachments = λ id. sym (ap (λ (d : DriverState). shown_attachment (attachment_by_id d.devices id)) driver_is);
     contexts = λ id is. absurd (false≢true (sym (ap is_some (none_cached id)) ∙ is));
     translations = λ key translation at. absurd (no_translation key translation at);
     fence_snapshot = rw none_counted tt;
@@ -315,11 +315,11 @@ module _ (first_fence n levels : ℕ) (first next : DriverState) (before memory 
     size = ap frames_of started.starts.registers ∙ started.power_on.frames ∙ sym (ap (λ m. length m) memory_is ∙ length-replicate n zeroed);
     known = record {
       own_ids = λ j k one other at at' same. absurd (none_there j one (subst (λ ds. slice_get ds j ≡ Some one) started.unplugged at));
-      driver = ap (λ (d : DriverState). known_ids d.devices) driver_is ∙ sym (ap ids_of started.unplugged);
-      iommu = ap row_ids rows_none ∙ sym (ap ids_of started.unplugged);
+      driver = ap (λ (d : DriverState). known_ids d.devices) driver_is ∙ sym (ap plugged_ids started.unplugged);
+      iommu = ap row_ids rows_none ∙ sym (ap plugged_ids started.unplugged);
       caches = rw started.unplugged (All-nil HasItsCache);
       askers = rw started.quiet (All-nil (HasAsker devices));
-      trusted = λ id. ap (λ (d : DriverState). is_trusted d.devices id) driver_is ∙ sym (ap (λ (ds : List Device). caches_translations (kind_in ds id)) started.unplugged);
+      trusted = λ id. ap (λ (d : DriverState). has_trusted_cache d.devices id) driver_is ∙ sym (ap (λ (ds : List Device). caches_translations (kind_in ds id)) started.unplugged);
     };
     serials = rw none_open (omega arith);
     epochs = λ id. rw started.unplugged (omega arith);

@@ -38,7 +38,7 @@ use Rattle.iom_iommu.proofs.ByAnswer.{by_answer}
 use Rattle.iom_iommu.specs.Parts.{mmio, registers_of, frames_of}
 use Rattle.iom_iommu.specs.Questions.{AnswersQuestion, RefusesQuestion, RecordsUnless, is_page_fault}
 use Rattle.iom_iommu.specs.Requests.{Answers, ServesRequest, faulted_of, fault_of}
-use Rattle.iom_iommu.specs.Timeouts.{TimesOut}
+use Rattle.iom_iommu.specs.Timeouts.{TimesFenceOut}
 use Rattle.iom_iommu.specs.Translated.{ServesTranslated}
 use Rattle.iom_base.specs.declared.refusal.Refusal.{Refusal}
 use Rattle.iom_machine.specs.declared.event.Event.{Event}
@@ -52,26 +52,26 @@ use Rattle.iom_base.specs.DeviceKinds.{asks_questions, forges, is_block_device, 
 use Rattle.iom_page_table.specs.FirstTables.{unmapped}
 use Rattle.iom_phys_mem.specs.Words.{word_at}
 use Rattle.iom_registers.specs.Queues.{command_status, is_processing_commands}
-use Rattle.iom_tlb.specs.Content.{Content as Translations}
+use Rattle.iom_tlb.specs.Content.{Translations}
 use Rattle.iom_tlb.specs.declared.trans_cache.Translation.{Translation}
 use Rattle.iom_stage_walk.specs.declared.walked.WalkFault.{WalkFault}
 use Rattle.iom_world_effects.specs.Answers.{told_of}
 use Rattle.iom_virtqueue.specs.declared.layout.Layout.{Layout}
 use Rattle.iom_virtqueue.specs.Layouts.{layout_of}
 use Rattle.iom_coherence.specs.Attachments.{caches_translations}
-use Rattle.iom_world_effects.specs.BlockDevices.{InsertsMedium, SetsQueue, AsksIfMissed, GoesToMemory, TakesStep, TellsStatus}
+use Rattle.iom_world_effects.specs.BlockDevices.{InsertsMedium, SetsBlockQueue, AsksIfMissed, GoesToMemory, TakesBlockStep, TellsBlockStatus}
 use Rattle.iom_device.specs.Caches.{IsAble, epoch_in, kind_in}
 use Rattle.iom_world_effects.specs.Commits.{CommitsAccess}
 use Rattle.iom_world_effects.specs.Deliveries.{AnswersAsked, Arrives, ArrivesIfAny, DeliversMessage}
 use Rattle.iom_world_effects.specs.Does.{Does, PlugsDevice, AddsRow, AttachesDevice, ReleasesPage, DetachesDevice, FetchesNext, TakesReport, fetch_named}
 use Rattle.iom_world_effects.specs.Stays.{HasTimedOut, RemainsStopped, MayGoOn, StaysStopped}
-use Rattle.iom_world_effects.specs.Messages.{Sends}
+use Rattle.iom_world_effects.specs.Messages.{SendsOnLink}
 use Rattle.iom_world_effects.specs.OwnIommu.{Iommu}
 use Rattle.iom_world_effects.specs.Parts.{Parts}
 use Rattle.iom_world_effects.specs.Recovery.{QuarantinesDevice, RevivesDevice, RestartsQueue, TimesOutFence, ResetsDevice}
 use Rattle.iom_world_effects.specs.Requests.{AsksAccess, AsksTranslated}
 use Rattle.iom_world_effects.specs.Sound.{AreSound}
-use Rattle.iom_world_effects.specs.ThroughCache.{AsksThroughCache, TriesCache, FindsFrame, cached_frame}
+use Rattle.iom_world_effects.specs.ThroughCache.{DeviceAsksThroughCache, TriesCache, FindsFrame, cached_frame}
 use Rattle.iom_world_effects.specs.Unable.{IsUnknown, IsUnable}
 use Rattle.iom_world_refinement.proofs.CommandsStay.{KeepsSystem, grant_keeps, poll_keeps, makes_keep, poke_keeps}
 use Rattle.iom_world_invariant.proofs.DriverKeeps.{attach_keeps_word}
@@ -220,7 +220,7 @@ module _ (old : Parts) (before : ℕ) (sound : AreSound old before) (own : IsSou
   given_up : (new : Parts) (told : Outcome) → TimesOutFence old told new → LeavesFence old new.memory new.iommu
   given_up new told does = by does.answer does.call
     where
-      by : (answer : Bool) → TimesOut old.iommu answer new.iommu → LeavesFence old new.memory new.iommu
+      by : (answer : Bool) → TimesFenceOut old.iommu answer new.iommu → LeavesFence old new.memory new.iommu
       by true call = record {
         stopped = ap (λ i. (command_status (registers_of i)).cmd_to) call.1;
         frames = ap frames_of call.1;
@@ -275,7 +275,7 @@ module _ (old : Parts) (before : ℕ) (sound : AreSound old before) (own : IsSou
     tried new id access told (inr (inl full)) = same_parts new full.3
     tried new id access told (inr (inr finds)) = found (cached_frame old id access) new id access told finds.2
 
-    through_cache : (can : DeviceKind → Bool) (new : Parts) (id : ℕ) (access : Access) (told : Outcome) → AsksThroughCache can old id access told new → LeavesFence old new.memory new.iommu
+    through_cache : (can : DeviceKind → Bool) (new : Parts) (id : ℕ) (access : Access) (told : Outcome) → DeviceAsksThroughCache can old id access told new → LeavesFence old new.memory new.iommu
     through_cache can new id access told (inl unknown) = same_parts new unknown.same
     through_cache can new id access told (inr (inl unable)) = same_parts new unable.same
     through_cache can new id access told (inr (inr tries)) = tried new id access told tries.1
@@ -291,7 +291,7 @@ module _ (old : Parts) (before : ℕ) (sound : AreSound old before) (own : IsSou
     goes true new id access told does =
         missed does.first does.between new id access told does.asks (through_cache is_block_device does.between id access does.first does.tries)
 
-    stepped : (new : Parts) (id : ℕ) (told : Outcome) → TakesStep old id told new → LeavesFence old new.memory new.iommu
+    stepped : (new : Parts) (id : ℕ) (told : Outcome) → TakesBlockStep old id told new → LeavesFence old new.memory new.iommu
     stepped new id told (inl (access, fits, may, begins)) = goes (caches_translations (kind_in old.devices id)) new id access told begins
     stepped new id told (inr (step, rest, inl unknown)) = same_parts new unknown.same
     stepped new id told (inr (step, rest, inr (inl unable))) = same_parts new unable.same
@@ -330,7 +330,7 @@ module _ (old : Parts) (before : ℕ) (sound : AreSound old before) (own : IsSou
 
   -- A MESSAGE IS SENT
   sends : (can : DeviceKind → Bool) (new : Parts) (id : ℕ) (message : Message) (told : Outcome)
-      → IsUnknown old id told new ⊎ IsUnable can old id told new ⊎ (IsAble can old.devices id × Sends old id message told new) → LeavesFence old new.memory new.iommu
+      → IsUnknown old id told new ⊎ IsUnable can old id told new ⊎ (IsAble can old.devices id × SendsOnLink old id message told new) → LeavesFence old new.memory new.iommu
   sends can new id message told asks = elim asks [
     | inl unknown ↦ same_parts new unknown.same
     | inr (inl unable) ↦ same_parts new unable.same
@@ -358,13 +358,13 @@ module _ (old : Parts) (before : ℕ) (sound : AreSound old before) (own : IsSou
   inserted disks new id disk told (inr (inr (device, is, inl puts))) = subst (λ (p : Parts). LeavesFence old p.memory p.iommu) (sym puts.2) nothing
   inserted disks new id disk told (inr (inr (device, is, inr refuses))) = same_parts new refuses.2
 
-  queue_set : (new : Parts) (id : ℕ) (layout : Layout) (told : Outcome) → SetsQueue old id layout told new → LeavesFence old new.memory new.iommu
+  queue_set : (new : Parts) (id : ℕ) (layout : Layout) (told : Outcome) → SetsBlockQueue old id layout told new → LeavesFence old new.memory new.iommu
   queue_set new id layout told (inl unknown) = same_parts new unknown.same
   queue_set new id layout told (inr (inl unable)) = same_parts new unable.same
   queue_set new id layout told (inr (inr (able, inl sets))) = subst (λ (p : Parts). LeavesFence old p.memory p.iommu) (sym sets.2) nothing
   queue_set new id layout told (inr (inr (able, inr refuses))) = same_parts new refuses.2
 
-  status_told : (new : Parts) (id status : ℕ) (told : Outcome) → TellsStatus old id status told new → LeavesFence old new.memory new.iommu
+  status_told : (new : Parts) (id status : ℕ) (told : Outcome) → TellsBlockStatus old id status told new → LeavesFence old new.memory new.iommu
   status_told new id status told (inl unknown) = same_parts new unknown.same
   status_told new id status told (inr (inl unable)) = same_parts new unable.same
   status_told new id status told (inr (inr (able, is, same))) = same_parts new same

@@ -5,7 +5,7 @@ use Rattle.iom_base.specs.Accesses.{IsWithinPage, page_of, at_frame}
 use Rattle.iom_base.specs.declared.cause.Cause.{Cause}
 use Rattle.iom_driver.specs.declared.device.Attachment.TheVariants as attached
 use Rattle.iom_driver.specs.declared.device.Stages.{Stages}
-use Rattle.iom_driver.specs.Devices.{attachment_of, attached_stages}
+use Rattle.iom_driver.specs.Devices.{attachment_by_id, attached_stages}
 use Rattle.iom_inflight.specs.Calls.{IsAccepted, HasRoom}
 use Rattle.iom_iommu.specs.declared.reply.Reply.{Reply}
 use Rattle.iom_iommu.specs.declared.reply.Reply.TheVariants.{Accepted, Busy, BadSpan, Fault}
@@ -28,7 +28,7 @@ use Rattle.iom_world_effects.specs.Parts.{Parts}
 use Rattle.iom_world_effects.specs.Requests.{reply_told_of}
 use Rattle.iom_world_effects.specs.Shows.{PartsShow}
 use Rattle.iom_world_effects.specs.Sound.{AreSound}
-use Rattle.iom_world_effects.specs.ThroughCache.{AsksThroughCache, TriesCache, FindsFrame, cached_frame}
+use Rattle.iom_world_effects.specs.ThroughCache.{DeviceAsksThroughCache, TriesCache, FindsFrame, cached_frame}
 use Rattle.iom_world_effects.proofs.AtsContexts.{finds_none}
 use Rattle.iom_world_effects.proofs.DriverLemmas.{IsSoundDriver}
 use Rattle.iom_world_effects.proofs.EntryMay.{HasEntry, IsUsable, found_entry, usable_or, entry_page, entry_may}
@@ -77,7 +77,7 @@ module _ (can : DeviceKind → Bool) (laws : ServiceLaws) (old new : Parts) (eve
           acts_at can (MayTell frame next (outcome.Accepted number)) old state id (outcome.Accepted number) next shows.devices is able (
             (
               (within, not_busy old new events id sound state shows is room.row room.stands room.room),
-              subst (λ n. MayGoThrough (shown_attachment (attachment_of old.driver.devices n)) state n access frame) (sym is.own)
+              subst (λ n. MayGoThrough (shown_attachment (attachment_by_id old.driver.devices n)) state n access frame) (sym is.own)
                   (entry_may old events id access frame sound own entry usable state shows),
               after.0,
             ),
@@ -91,7 +91,7 @@ module _ (can : DeviceKind → Bool) (laws : ServiceLaws) (old new : Parts) (eve
     never_refused fault page same = cc
 
     -- of a device that is cut off no context is found
-    step_fault : (ticket : ℕ) (stage : Stages) → attachment_of old.driver.devices id ≡ attached.Quarantined ticket stage
+    step_fault : (ticket : ℕ) (stage : Stages) → attachment_by_id old.driver.devices id ≡ attached.Quarantined ticket stage
         → ats_context_for old.memory (registers_of old.iommu) (contexts_of old.iommu) id ≡ Err (cause_at old.driver.levels id)
         → (cause : Cause) → RefusesTranslated old.memory old.iommu id (at_frame frame access) cause new.memory new.iommu → Steps can state id access (outcome.Fault cause) new
     step_fault ticket stage at found cause call =
@@ -101,7 +101,7 @@ module _ (can : DeviceKind → Bool) (laws : ServiceLaws) (old new : Parts) (eve
         step_same (outcome.Fault cause) (
           (within, not_busy old new events id sound state shows is room.row room.stands room.room),
           (
-            subst (λ n. MayLackContext (shown_attachment (attachment_of old.driver.devices n))) (sym is.own) (subst (λ a. MayLackContext (shown_attachment a)) (sym at) tt),
+            subst (λ n. MayLackContext (shown_attachment (attachment_by_id old.driver.devices n))) (sym is.own) (subst (λ a. MayLackContext (shown_attachment a)) (sym at) tt),
             subst (λ n. cause ≡ cause_without_context state n) (sym is.own) (same ∙ ap (λ l. cause_at l id) (sym shows.levels)),
           ),
         )
@@ -137,7 +137,7 @@ module _ (can : DeviceKind → Bool) (laws : ServiceLaws) (old new : Parts) (eve
   tries told (inr (inr finds)) = by_frame finds.0 finds.1 (cached_frame old id access) refl told finds.2
 
 pub through_cache_step : (can : DeviceKind → Bool) → ServiceLaws → (old new : Parts) (events id : ℕ) (access : Access) (told : Outcome) → AreSound old events → IsSoundDriver old.driver → StaysReported old.driver
-    → AsksThroughCache can old id access told new → (state : State) → PartsShow old state
+    → DeviceAsksThroughCache can old id access told new → (state : State) → PartsShow old state
     → (frame : ℕ) × (next : State) × GoesAs can frame state id access told next × PartsShow new next
 through_cache_step can laws old new events id access told sound own reported asks state shows = elim asks [
   | inl unknown ↦ (

@@ -3,7 +3,7 @@ use Rattle.std.proofs.Common.{◌≡◌, ◌∙◌, inl, inr, ℕ, true, List, R
 use Rattle.iom_base.specs.declared.access.Access.{Access}
 use Rattle.iom_base.specs.declared.cause.Cause.{Cause}
 use Rattle.iom_device_dir.specs.declared.context.Context.{Context}
-use Rattle.iom_driver.specs.Devices.{attachment_of}
+use Rattle.iom_driver.specs.Devices.{attachment_by_id}
 use Rattle.iom_iommu.specs.declared.reply.Reply.{Reply}
 use Rattle.iom_iommu.specs.declared.reply.Reply.TheVariants.{Accepted, Busy, BadSpan, Fault}
 use Rattle.iom_iommu.specs.Parts.{registers_of, contexts_of, flights_of}
@@ -45,7 +45,7 @@ told_cause memory access found cause fault is served =
 
 -- a cause for which no context lets it through is one that the machine allows
 pub may_fault_translated : (parts : Parts) (state : State) (device : machine.Device) (id : ℕ) (cause : Cause) → PartsShow parts state
-    → device.attachment ≡ shown_attachment (attachment_of parts.driver.devices id) → device.id ≡ id → IsNotLet (attachment_of parts.driver.devices id) parts.driver.levels id cause
+    → device.attachment ≡ shown_attachment (attachment_by_id parts.driver.devices id) → device.id ≡ id → IsNotLet (attachment_by_id parts.driver.devices id) parts.driver.levels id cause
     → MayFaultTranslated state device cause
 may_fault_translated parts state device id cause shows attached is (inl disallowed) = inl disallowed
 may_fault_translated parts state device id cause shows attached is (inr lacks) = inr (
@@ -57,7 +57,7 @@ module _ (laws : ServiceLaws) (old new : Parts) (events id : ℕ) (access : Acce
     (reported : StaysReported old.driver) (driver : new.driver ≡ old.driver) (devices : new.devices ≡ old.devices) (fabric : new.fabric ≡ old.fabric) (state : State) (shows : PartsShow old state)
     (is : IsFound old.driver.devices (flights_of old.iommu).rows old.devices id) (able : forges is.device.kind ≡ true) (why : Cause)
     (found : ats_context_for old.memory (registers_of old.iommu) (contexts_of old.iommu) id ≡ Err why)
-    (not_let_for : IsNotLet (attachment_of old.driver.devices id) old.driver.levels id why) where
+    (not_let_for : IsNotLet (attachment_by_id old.driver.devices id) old.driver.levels id why) where
   -- what it leads to: the machine may answer so, and shows the parts as before
   abbrev Steps : Outcome → Type 0
   Steps told = RequestsTranslated state id access told state × PartsShow new state
@@ -76,8 +76,8 @@ module _ (laws : ServiceLaws) (old new : Parts) (events id : ℕ) (access : Acce
       step_same (outcome.Fault cause) (
         (call.within, not_busy old new events id sound state shows is call.room.row call.room.stands call.room.room),
         may_fault_translated old state (shown_device old.driver.devices (flights_of old.iommu).rows is.device) id cause shows
-            (ap (λ n. shown_attachment (attachment_of old.driver.devices n)) is.own) is.own
-            (subst (IsNotLet (attachment_of old.driver.devices id) old.driver.levels id) (sym same) not_let_for),
+            (ap (λ n. shown_attachment (attachment_by_id old.driver.devices n)) is.own) is.own
+            (subst (IsNotLet (attachment_by_id old.driver.devices id) old.driver.levels id) (sym same) not_let_for),
       )
       (shows_where old new state (shows_reported old new state leaves sound.ready.stand.size own shows) driver devices call.flights shows)
 

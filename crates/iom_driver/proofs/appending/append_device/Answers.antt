@@ -3,7 +3,7 @@ use Rattle.iom_command_queue.specs.declared.command.Command.{Command}
 use Rattle.iom_command_queue.specs.Waiting.{how_many}
 use Rattle.iom_driver.specs.declared.device.Stages.{Stages}
 use Rattle.iom_driver.specs.Appends.{Appends, AppendsAll}
-use Rattle.iom_driver.specs.Devices.{has_ats}
+use Rattle.iom_driver.specs.Devices.{is_attached_with_ats}
 use Rattle.iom_driver.specs.Ready.{IsRing}
 use Rattle.iom_driver.specs.Restarts.{device_reset, requeued_for}
 use Rattle.iom_driver.proofs.Appended.{GoesOn, goes_on}
@@ -66,7 +66,7 @@ returns g c =
     let count_3 : how_many r3 ≤ how_many r2 + 1 = reset.count in
     record {
       appended =
-          subst (λ (owned : Option Stages). AppendsAll g.M.Mmio m0 io0 (requeued_for id owned (has_ats attachment)) m3 io3) (sym c.in-Some.is ∙ c.owned_stages.ensures) (
+          subst (λ (owned : Option Stages). AppendsAll g.M.Mmio m0 io0 (requeued_for id owned (is_attached_with_ats attachment)) m3 io3) (sym c.in-Some.is ∙ c.owned_stages.ensures) (
             m1,
             io1,
             subst (λ (command : Command). Appends g.M.Mmio m0 io0 command m1 io1) c.context_invalidation.ensures c.append.ensures.appended,

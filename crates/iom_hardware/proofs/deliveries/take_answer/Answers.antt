@@ -3,7 +3,7 @@ use Rattle.std.proofs.lemmas.Option.{get_or_from_slice_get}
 use Rattle.iom_ats_cache.specs.Cache.{Cache}
 use Rattle.iom_device.specs.declared.device.Device.{Device}
 use Rattle.iom_fabric.specs.declared.message.Translation.{Translation}
-use Rattle.iom_device.specs.Caches.{device_with, cache_in, cache_of, IsPlaceOf}
+use Rattle.iom_device.specs.Caches.{device_with, cache_in, cache_of, IsDevicePlace}
 use Rattle.iom_hardware.specs.Deliveries.{TakesReply}
 use Rattle.iom_hardware.specs.declared.answers.Delivered.TheVariants.{Ignored}
 use Rattle.iom_device.proofs.CachePlaces.{with_none}
@@ -18,7 +18,7 @@ pub returns-in-Some : goal.returns-in-Some
 returns-in-Some c =
     let devices = c.args.devices.now.items in
     let after : Option Cache = c.take.new.device.cache in
-    let is : IsPlaceOf devices c.args.id c.in-Some.place = subst (λ (ds : List Device). IsPlaceOf ds c.args.id c.in-Some.place) c.deref.ensures.value c.in-Some.ensures in
+    let is : IsDevicePlace devices c.args.id c.in-Some.place = subst (λ (ds : List Device). IsDevicePlace ds c.args.id c.in-Some.place) c.deref.ensures.value c.in-Some.ensures in
     let read : c.index_mut.result.now ≡ is.0 = c.index_mut.ensures.value ∙ get_or_from_slice_get devices c.in-Some.place is.0 c.index_mut.result.now is.1 in (
       after,
       subst (λ (cache : Option Cache). TakesReply cache c.args.epoch c.args.page c.args.answer c.take.result after)

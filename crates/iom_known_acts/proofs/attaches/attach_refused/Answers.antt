@@ -5,7 +5,7 @@ use Rattle.iom_base.specs.Refusals.{IsRefusedBy}
 use Rattle.iom_machine.specs.Refusals.{MayRefuseAttach, attach_reasons}
 use Rattle.iom_machine.specs.declared.event.Event.TheVariants as events
 use Rattle.iom_machine.specs.declared.outcome.Outcome.TheVariants as outcomes
-use Rattle.iom_known.specs.Allowed.{state_of}
+use Rattle.iom_known.specs.Allowed.{known_state}
 use Rattle.iom_known_acts.specs.Owners.{MustLack, IsNoTaker, with_belief}
 use Rattle.iom_known.specs.Steps.{IsExplained}
 use Rattle.iom_known.specs.declared.known.Known.{Known}
@@ -29,7 +29,7 @@ pub returns : goal.returns
 returns c told past is =
     stays c.args.known.now (events.Attach c.args.id c.args.mode c.args.ats) (outcomes.Refused c.args.why) past is
     (λ frames allowed.
-    let state = state_of c.args.known.now past.history frames in
+    let state = known_state c.args.known.now past.history frames in
     let refused : IsRefusedBy (attach_reasons state c.args.id c.args.ats) (MayRefuseAttach state c.args.mode) c.args.why =
     refused_by c.attach_refusal-first.result (attach_reasons state c.args.id c.args.ats) c.is_memory.result (MayRefuseAttach state c.args.mode) c.args.why c.attach_refusal-first.ensures
     (λ memory. subst (λ (w : Refusal). MayRefuseAttach state c.args.mode w) (sym (c.is_memory.ensures.0 memory)) tt) (c.refuses.ensures.0 told) in

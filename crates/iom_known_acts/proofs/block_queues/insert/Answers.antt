@@ -3,7 +3,7 @@ use Rattle.std.proofs.lemmas.Bool.{false≢true}
 use Rattle.iom_machine.specs.BlockDevices.{MayInsert, Inserts}
 use Rattle.iom_machine.specs.declared.state.Device.{Device}
 use Rattle.iom_machine.proofs.StepLemmas.{read_again}
-use Rattle.iom_known.specs.Allowed.{state_of}
+use Rattle.iom_known.specs.Allowed.{known_state}
 use Rattle.iom_known.specs.Reasons.{bare}
 use Rattle.iom_known.proofs.BlockSteps.{inserted_led}
 use Rattle.iom_known.proofs.RequestSteps.{led_stays}
@@ -25,4 +25,4 @@ returns-else-may c told device at own past is =
     let never : ¬ MayInsert c.args.disk (bare old) device =
     λ may. false≢true (sym c.if-may.false ∙ c.may_insert-may.ensures.1 (subst (λ (d : Device). MayInsert c.args.disk (bare old) d) same may)) in
     led_stays old (λ before after. Inserts c.args.disk before device c.args.outcome.now after) past is
-    (λ frames. rw c.in-Refused.is ((never, c.is_bad_medium.ensures.0 told), same_state (state_of old past.history frames)))
+    (λ frames. rw c.in-Refused.is ((never, c.is_bad_medium.ensures.0 told), same_state (known_state old past.history frames)))

@@ -5,7 +5,7 @@ use Rattle.iom_base.specs.DeviceKinds.{is_block_device}
 use Rattle.iom_machine.specs.Machine.{TellsStatus}
 use Rattle.iom_machine.specs.declared.state.Device.{Device}
 use Rattle.iom_machine.specs.declared.state.State.{State}
-use Rattle.iom_known.specs.Allowed.{state_of}
+use Rattle.iom_known.specs.Allowed.{known_state}
 use Rattle.iom_known.proofs.RequestSteps.{able_step, absent_step, led_stays, unable_step}
 use Rattle.iom_known_acts.proofs.block_queues.status.Goals as goal
 
@@ -13,7 +13,7 @@ pub returns-in_default : goal.returns-in_default
 returns-in_default c told past is =
     let known = c.args.known.now in
     led_stays known (λ (before after : State). TellsStatus before c.args.id c.args.outcome.now after) past is
-    (λ frames. let state : State = state_of known past.history frames in
+    (λ frames. let state : State = known_state known past.history frames in
     absent_step is_block_device (λ (dev : Device). IsStatus c.args.outcome.now × (state ≡ state)) state c.args.id c.args.outcome.now (rw c.as_slice.ensures at c.in_default.ensures) (c.answers_absent.ensures.0 told))
 
 pub returns-then-not-is_block_device : goal.returns-then-not-is_block_device
@@ -24,7 +24,7 @@ returns-then-not-is_block_device c told past is =
     let at : slice_get known.devices c.in-Some.place ≡ Some device =
     slice_get_read known.devices _ c.in-Some.place device refl place.0 (rw c.as_slice-2.ensures at c.index-as_slice-place.is) in
     led_stays known (λ (before after : State). TellsStatus before c.args.id c.args.outcome.now after) past is
-    (λ frames. let state : State = state_of known past.history frames in
+    (λ frames. let state : State = known_state known past.history frames in
     unable_step is_block_device (λ (dev : Device). IsStatus c.args.outcome.now × (state ≡ state)) state c.args.id c.args.outcome.now device (place.1 ∙ at)
     (sym c.is_block_device.ensures ∙ c.if-not-is_block_device.true) (c.answers_unable.ensures.0 told))
 
@@ -36,6 +36,6 @@ returns c told past is =
     let at : slice_get known.devices c.in-Some.place ≡ Some device =
     slice_get_read known.devices _ c.in-Some.place device refl place.0 (rw c.as_slice-2.ensures at c.index-as_slice-place.is) in
     led_stays known (λ (before after : State). TellsStatus before c.args.id c.args.outcome.now after) past is
-    (λ frames. let state : State = state_of known past.history frames in
+    (λ frames. let state : State = known_state known past.history frames in
     able_step is_block_device (λ (dev : Device). IsStatus c.args.outcome.now × (state ≡ state)) state state c.args.id c.args.outcome.now device (place.1 ∙ at)
     (sym c.is_block_device.ensures ∙ c.if-not-is_block_device.false) (c.is_status.ensures.0 told, refl))

@@ -1,7 +1,7 @@
 use Rattle.iom_base.specs.Refusals.{IsRefusedBy}
 use Rattle.iom_machine.specs.Refusals.{MayFindNoPlace, quarantine_reasons}
 use Rattle.iom_machine.specs.declared.event.Event.TheVariants as events
-use Rattle.iom_known.specs.Allowed.{state_of}
+use Rattle.iom_known.specs.Allowed.{known_state}
 use Rattle.iom_known.proofs.StayLemmas.{stays, same_state, refused_by}
 use Rattle.iom_known_acts.proofs.calls.quarantine.Goals as goal
 
@@ -12,7 +12,7 @@ pub returns-in-Refused : goal.returns-in-Refused
 returns-in-Refused c true past is =
     stays c.args.known.now (events.Quarantine c.args.id) c.args.outcome.now past is
     (λ frames allowed.
-    let state = state_of c.args.known.now past.history frames in
+    let state = known_state c.args.known.now past.history frames in
     let refused : IsRefusedBy (quarantine_reasons state c.args.id) MayFindNoPlace c.in-Refused.why =
     refused_by c.quarantine_refusal.result (quarantine_reasons state c.args.id) c.may_find_no_place.result MayFindNoPlace c.in-Refused.why (c.quarantine_refusal.ensures past frames is) c.may_find_no_place.ensures.0 (c.refuses.ensures.0 true) in
     rw c.in-Refused.is (refused, same_state state))

@@ -3,7 +3,7 @@ use Rattle.std.proofs.lemmas.Bool.{false≢true}
 use Rattle.iom_base.specs.Refusals.{IsRefusedBy}
 use Rattle.iom_machine.specs.Refusals.{NeverElse, revive_reasons}
 use Rattle.iom_machine.specs.declared.event.Event.TheVariants as events
-use Rattle.iom_known.specs.Allowed.{state_of}
+use Rattle.iom_known.specs.Allowed.{known_state}
 use Rattle.iom_known.proofs.StayLemmas.{stays, same_state, refused_by}
 use Rattle.iom_known_acts.proofs.calls.revive.Goals as goal
 
@@ -14,7 +14,7 @@ pub returns-in-Refused : goal.returns-in-Refused
 returns-in-Refused c true past is =
     stays c.args.known.now (events.Revive c.args.id) c.args.outcome.now past is
     (λ frames allowed.
-    let state = state_of c.args.known.now past.history frames in
+    let state = known_state c.args.known.now past.history frames in
     let refused : IsRefusedBy (revive_reasons state c.args.id) NeverElse c.in-Refused.why =
     refused_by c.revive_refusal.result (revive_reasons state c.args.id) false NeverElse c.in-Refused.why (c.revive_refusal.ensures past frames is) (λ never. absurd (false≢true never)) (c.refuses.ensures.0 true) in
     rw c.in-Refused.is (refused, same_state state))

@@ -6,7 +6,7 @@ use Rattle.iom_machine.specs.declared.event.Event.TheVariants as events
 use Rattle.iom_machine.specs.declared.outcome.Outcome.TheVariants as outcomes
 use Rattle.iom_machine.proofs.ByteLemmas.{slice_get-set_same}
 use Rattle.iom_machine.proofs.CallLemmas.{none_if_not_some}
-use Rattle.iom_known.specs.Allowed.{state_of}
+use Rattle.iom_known.specs.Allowed.{known_state}
 use Rattle.iom_known_acts.specs.Owners.{IsNoTaker, with_belief}
 use Rattle.iom_known.specs.Steps.{IsExplained}
 use Rattle.iom_known.specs.declared.frames.BelievedFrame.{BelievedFrame}
@@ -29,7 +29,7 @@ returns c told rights past is =
     (then_nobodys IsNoTaker IsNoTaker old.frames old.frames c.args.frame there.0 there.0 (taken_same IsNoTaker IsNoTaker old.frames) there.1 there.2 there.1)
     (slice_get-set_same old.frames c.args.frame there.0 now there.1) (λ k low bit. lowest_alone k bit)
     (λ frames allowed open_frame.
-    let state = state_of old past.history frames in
+    let state = known_state old past.history frames in
     refused_by c.late_grant_refusal.result (grant_reasons state c.args.id c.args.page c.args.frame) c.is_memory.result (MayRefuseGrant state c.args.id c.args.frame) c.args.why
     (grant_open old past frames c.args.id c.args.page c.args.frame c.late_grant_refusal.result (allowed.count ∙ length-set old.frames c.args.frame now) early open_frame (c.late_grant_refusal.ensures past frames is))
     (λ memory. subst (λ (w : Refusal). MayRefuseGrant state c.args.id c.args.frame w) (sym (c.is_memory.ensures.0 memory)) tt) (c.refuses.ensures.0 c.if-not-refuses.false)))

@@ -6,7 +6,7 @@ use Rattle.iom_machine.specs.declared.event.Event.TheVariants as events
 use Rattle.iom_machine.specs.declared.outcome.Outcome.TheVariants as outcomes
 use Rattle.iom_machine.proofs.ByteLemmas.{slice_get-set_same}
 use Rattle.iom_machine.proofs.CallLemmas.{none_if_not_some}
-use Rattle.iom_known.specs.Allowed.{state_of}
+use Rattle.iom_known.specs.Allowed.{known_state}
 use Rattle.iom_known_acts.specs.Owners.{IsNoTaker, with_belief}
 use Rattle.iom_known.specs.Steps.{IsExplained}
 use Rattle.iom_known.specs.declared.frames.BelievedFrame.{BelievedFrame}
@@ -29,5 +29,5 @@ returns c told rights past is =
     (λ k low bit. inl (subst (λ (w : ℕ). bit_at w k ≡ 1) there.2 (without_lowest c.in-Some.owners c.without_bit.result c.without_bit.ensures.clear c.without_bit.ensures.others k low bit))))
     (slice_get-set_same old.frames c.args.frame there.0 now there.1) c.without_bit.ensures.clear
     (λ frames count reserved.
-    first_refuses (grant_reasons (state_of old past.history frames) c.args.id c.args.page c.args.frame) (MayRefuseGrant (state_of old past.history frames) c.args.id c.args.frame) refusals.FrameReserved
+    first_refuses (grant_reasons (known_state old past.history frames) c.args.id c.args.page c.args.frame) (MayRefuseGrant (known_state old past.history frames) c.args.id c.args.frame) refusals.FrameReserved
     (grant_taken old past frames c.args.id c.args.page c.args.frame count early reserved)))

@@ -9,7 +9,7 @@ use Rattle.iom_machine.specs.declared.event.Event.TheVariants as events
 use Rattle.iom_machine.specs.declared.outcome.Outcome.TheVariants as outcomes
 use Rattle.iom_machine.proofs.ByteLemmas.{slice_get-set_same, slice_get-set_other}
 use Rattle.iom_machine.proofs.HeadlineLemmas.{element_at}
-use Rattle.iom_known.specs.Allowed.{state_of}
+use Rattle.iom_known.specs.Allowed.{known_state}
 use Rattle.iom_known.specs.Reasons.{bare}
 use Rattle.iom_known_acts.specs.Owners.{MayBeFree, IsNoTaker, with_belief}
 use Rattle.iom_known.specs.Steps.{IsExplained}
@@ -40,7 +40,7 @@ returns c told rights past is =
     (then_nobodys IsNoTaker IsNoTaker old.frames mid.frames c.args.frame there.0 found.0 narrowed.frames there.1 there.2 found.1)
     (slice_get-set_same mid.frames c.args.frame found.0 now found.1) (λ k small bit. lowest_alone k bit)
     (λ frames allowed open_frame.
-    let state = state_of old past.history frames in
+    let state = known_state old past.history frames in
     no_reason (grant_reasons state c.args.id c.args.page c.args.frame) (MayRefuseGrant state c.args.id c.args.frame) refusals.NoFrames
     (c.may_grant.ensures c.if-not-may_grant.false past frames is (allowed.count ∙ length-set mid.frames c.args.frame now ∙ narrowed.frames.count) open_frame)
     (lack_besides old past mid.frames _ mid.is_exact most c.args.frame frames is allowed (λ n other. slice_get-set_other mid.frames c.args.frame n now other) lack)))

@@ -2,12 +2,12 @@ use Rattle.std.proofs.Common.{◌≡◌, ◌<◌, List, length, ap, arith}
 use Rattle.std.proofs.lemmas.Option.{slice_get_within}
 use Rattle.iom_machine.proofs.HeadlineLemmas.{element_at}
 use Rattle.iom_known.specs.declared.frames.BelievedFrame.{BelievedFrame}
-use Rattle.iom_known_acts.specs.Leaves.{GivesBack}
+use Rattle.iom_known_acts.specs.Leaves.{GivesBackBelieved}
 use Rattle.iom_known_acts.proofs.LeaveLemmas.{none_so_far, so_far_more}
 use Rattle.iom_known_acts.proofs.leaves.give_back_from.Goals as goal
 
 pub loop-number-init : goal.loop-number-init
-loop-number-init c = none_so_far (GivesBack (λ p. p ≡ c.args.device)) c.args.frames.now
+loop-number-init c = none_so_far (GivesBackBelieved (λ p. p ≡ c.args.device)) c.args.frames.now
 
 pub loop-number-preserved : goal.loop-number-preserved
 loop-number-preserved c =
@@ -15,7 +15,7 @@ loop-number-preserved c =
     let inside : c.loop-number.number < length c.loop-number.frames = omega (arith, all, c.loop-number-test.true, c.loop-number.invariant.size) in
     let b = element_at c.loop-number.frames c.loop-number.number inside in
     let it = c.give_back_one.ensures b.0 b.1 in
-    so_far_more (GivesBack (λ p. p ≡ c.args.device)) c.args.frames.now c.loop-number.frames c.give_back_one.new.frames c.loop-number.number b.0 it.0 c.loop-number.invariant b.1 it.1 it.2
+    so_far_more (GivesBackBelieved (λ p. p ≡ c.args.device)) c.args.frames.now c.loop-number.frames c.give_back_one.new.frames c.loop-number.number b.0 it.0 c.loop-number.invariant b.1 it.1 it.2
 
 pub returns : goal.returns
 returns c =

@@ -6,7 +6,7 @@ use Rattle.iom_machine.specs.Refusals.{NeverElse, frame_reasons}
 use Rattle.iom_machine.specs.declared.event.Event.TheVariants as events
 use Rattle.iom_machine.specs.declared.outcome.Outcome.{Outcome}
 use Rattle.iom_machine.specs.declared.outcome.Outcome.TheVariants as outcomes
-use Rattle.iom_known.specs.Allowed.{state_of}
+use Rattle.iom_known.specs.Allowed.{known_state}
 use Rattle.iom_known.specs.Steps.{IsExplained}
 use Rattle.iom_known_acts.proofs.ByteSteps.{led_as}
 use Rattle.iom_known.proofs.StayLemmas.{any_choice, stays, refused_by}
@@ -24,7 +24,7 @@ returns-in-Refused c told past is =
     subst (λ (o : Outcome). IsExplained c.args.known.now c.args.known.now (events.Peek c.args.address c.args.len) o past) (sym c.in-Refused.is)
     (stays c.args.known.now (events.Peek c.args.address c.args.len) (outcomes.Refused c.in-Refused.why) past is
     (λ frames allowed.
-    let state = state_of c.args.known.now past.history frames in
+    let state = known_state c.args.known.now past.history frames in
     let refused : IsRefusedBy (frame_reasons state _) NeverElse c.in-Refused.why =
     refused_by c.frame_refusal.result (frame_reasons state _) false NeverElse c.in-Refused.why (c.frame_refusal.ensures past frames allowed.count) (λ never. absurd (false≢true never)) (c.refuses.ensures.0 told) in
     (fits, refused, refl)))

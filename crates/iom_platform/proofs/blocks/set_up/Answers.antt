@@ -1,6 +1,6 @@
 use Rattle.std.proofs.Common.{◌≡◌, ◌∙◌, None, refl, subst, arith}
 use Rattle.iom_platform.specs.Blocks.{block_with, SetsUp}
-use Rattle.iom_platform.specs.Places.{IsPlaceOf}
+use Rattle.iom_platform.specs.Places.{IsBlockPlace}
 use Rattle.iom_platform.specs.Seen.{blocks_seen}
 use Rattle.iom_platform.proofs.BlockLemmas.{sets_up, entries_kept}
 use Rattle.iom_platform.proofs.PlaceLemmas.{at_place, changed_from, changed_none}
@@ -20,7 +20,7 @@ returns-in_default-clause-seen g c =
 
 pub returns-in-Some-clause-seen : goal.returns-in-Some-clause-seen
 returns-in-Some-clause-seen g c =
-    let here = subst (λ blocks. IsPlaceOf g.D.Disk.seen blocks c.args.id c.in-Some.place) c.deref.ensures.value c.in-Some.ensures in
+    let here = subst (λ blocks. IsBlockPlace g.D.Disk.seen blocks c.args.id c.in-Some.place) c.deref.ensures.value c.in-Some.ensures in
     let at = c.index_mut.result.now in
     let is = at_place g.D.Disk.seen c.args.blocks.now.items c.args.id c.in-Some.place at here c.index_mut.ensures.value in
     changed_from g.D.Disk.seen (SetsUp c.args.layout) c.args.blocks.now.items c.args.id c.in-Some.place at (record { id = at.id; blk = c.set_queue.new.self }) here is refl
@@ -28,7 +28,7 @@ returns-in-Some-clause-seen g c =
 
 pub returns-in-Some-clause-entries : goal.returns-in-Some-clause-entries
 returns-in-Some-clause-entries g c =
-    let here = subst (λ blocks. IsPlaceOf g.D.Disk.seen blocks c.args.id c.in-Some.place) c.deref.ensures.value c.in-Some.ensures in
+    let here = subst (λ blocks. IsBlockPlace g.D.Disk.seen blocks c.args.id c.in-Some.place) c.deref.ensures.value c.in-Some.ensures in
     let at = c.index_mut.result.now in
     let is = at_place g.D.Disk.seen c.args.blocks.now.items c.args.id c.in-Some.place at here c.index_mut.ensures.value in
     entries_kept g.D.Disk.seen c.args.blocks.now.items c.args.id c.in-Some.place at (record { id = at.id; blk = c.set_queue.new.self }) here is refl (c.set_queue.ensures.disk ∙ c.negotiate.ensures.disk ∙ c.reset.ensures.disk)

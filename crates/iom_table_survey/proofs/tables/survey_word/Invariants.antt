@@ -2,12 +2,12 @@ use Rattle.std.proofs.Common.{◌≡◌, ◌<◌, ◌+◌, ◌*◌, ℕ, true}
 use Rattle.iom_stage_walk.specs.Entries.{entries}
 use Rattle.iom_table_survey.specs.Levels.{PointsFrom, MapsFrom}
 use Rattle.iom_table_survey.specs.Reaches.{AddsReach}
-use Rattle.iom_table_survey.specs.Rows.{has, GrowsBy}
+use Rattle.iom_table_survey.specs.Rows.{row_has, GrowsBy}
 use Rattle.iom_table_survey.proofs.tables.survey_word.Given as goal
 
 -- the frames of the bits below this one are looked at
 abbrev pub invariant-loop-bit : goal.invariant-loop-bit
 invariant-loop-bit l = record {
-  pointers : GrowsBy l.fn.next l.next (λ f. (k : ℕ) × (k < l.bit) × (PointsFrom (entries l.memory) (64 * l.word + k) f × (has l.level (64 * l.word + k) ≡ true)));
-  leaves : AddsReach l.fn.reach l.reach (λ kind f. (k : ℕ) × (k < l.bit) × (MapsFrom (entries l.memory) l.below kind (64 * l.word + k) f × (has l.level (64 * l.word + k) ≡ true)));
+  pointers : GrowsBy l.fn.next l.next (λ f. (k : ℕ) × (k < l.bit) × (PointsFrom (entries l.memory) (64 * l.word + k) f × (row_has l.level (64 * l.word + k) ≡ true)));
+  leaves : AddsReach l.fn.reach l.reach (λ kind f. (k : ℕ) × (k < l.bit) × (MapsFrom (entries l.memory) l.below kind (64 * l.word + k) f × (row_has l.level (64 * l.word + k) ≡ true)));
 }

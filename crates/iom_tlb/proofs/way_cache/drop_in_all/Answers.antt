@@ -1,6 +1,6 @@
 use Rattle.std.proofs.Common.{◌≡◌, ◌∙◌, ◌≢◌, ◌<◌, ◌+◌, length, get_or, subst, ap, arith}
 use Rattle.std.proofs.lemmas.List.{get_or_default, get_or-set_other}
-use Rattle.iom_tlb.specs.Content.{Drops}
+use Rattle.iom_tlb.specs.Content.{DropsWhere}
 use Rattle.iom_tlb.specs.Covers.{covers}
 use Rattle.iom_tlb.specs.Ways.{in_set, no_ways}
 use Rattle.iom_tlb.specs.WayCalls.{AreAtHome}
@@ -15,8 +15,8 @@ loop-number-preserved c =
     let new = c.drop_where.new.self in
     let read = get_or_default c.loop-number.sets n c.index-sets-number.result no_ways within ∙ c.loop-number.invariant.rest n (omega arith) in
     record {
-      dropped = changed (λ k s. k < n + 1 → Drops (covers c.args.cover.now) (in_set (get_or old k no_ways)) (in_set s)) c.loop-number.sets n new within
-          (λ lt. subst (λ s. Drops (covers c.args.cover.now) (in_set s) (in_set new)) read c.drop_where.ensures.dropped)
+      dropped = changed (λ k s. k < n + 1 → DropsWhere (covers c.args.cover.now) (in_set (get_or old k no_ways)) (in_set s)) c.loop-number.sets n new within
+          (λ lt. subst (λ s. DropsWhere (covers c.args.cover.now) (in_set s) (in_set new)) read c.drop_where.ensures.dropped)
           (λ k ne lt. c.loop-number.invariant.dropped k (omega (arith, ne)));
       home = changed (λ k s. AreAtHome k (get_or old k no_ways) → AreAtHome k s) c.loop-number.sets n new within
           (subst (λ s. AreAtHome n s → AreAtHome n new) read (c.drop_where.ensures.home n))

@@ -1,6 +1,6 @@
 use Rattle.std.proofs.Common.{subst}
 use Rattle.iom_hardware.specs.HardwareParts.{hardware_parts}
-use Rattle.iom_iommu.specs.Parts.{cache_of}
+use Rattle.iom_iommu.specs.Parts.{translation_cache_of}
 use Rattle.iom_table_survey.specs.Reaches.{AddsReach}
 use Rattle.iom_table_survey.proofs.AddLemmas.{reach_then}
 use Rattle.iom_way_survey.specs.Found.{SpaceLeaf, IsCachedIn}
@@ -11,7 +11,7 @@ returns c =
     let parts = hardware_parts c.args.hardware.now in
     record {
       tables = c.survey_all_contexts.ensures.tables;
-      reached = reach_then c.args.reach.now c.survey_translations.new.reach c.survey_all_contexts.new.reach (IsCachedIn (cache_of parts.iommu) c.args.space) (SpaceLeaf parts c.args.space)
+      reached = reach_then c.args.reach.now c.survey_translations.new.reach c.survey_all_contexts.new.reach (IsCachedIn (translation_cache_of parts.iommu) c.args.space) (SpaceLeaf parts c.args.space)
           (subst (λ s. AddsReach c.args.reach.now c.survey_translations.new.reach (IsCachedIn s c.args.space)) c.translations.ensures c.survey_translations.ensures)
           c.survey_all_contexts.ensures.leaves;
     }

@@ -3,8 +3,8 @@ use Rattle.std.proofs.lemmas.Bool.{false≢true}
 use Rattle.iom_driver.specs.declared.device.Device.{Device}
 use Rattle.iom_driver.specs.declared.device.Stages.{Stages}
 use Rattle.iom_driver.specs.Admitted.{MayBeAttached}
-use Rattle.iom_driver.specs.Devices.{device_of, is_plugged, is_trusted, owned_stages, owned_stages_of}
-use Rattle.iom_driver.specs.Places.{IsPlaceOf}
+use Rattle.iom_driver.specs.Devices.{device_by_id, has_device, has_trusted_cache, owned_stages, owned_stages_of}
+use Rattle.iom_driver.specs.Places.{IsAttachmentPlace}
 use Rattle.iom_driver.specs.Seen.{state_of}
 use Rattle.iom_driver.proofs.AttachReasons.{not_started, no_such_device, already_attached, id_too_wide, not_trusted, may_attach}
 use Rattle.iom_driver.proofs.Lists.{read_is}
@@ -12,23 +12,23 @@ use Rattle.iom_driver.proofs.Places.{attachment_is, trusted}
 use Rattle.iom_driver.proofs.driver.Driver.admit_attach.Goals as goal
 
 -- the device that is read at its place
-found : (devices read : List Device) (id k : ℕ) (device : Device) → read ≡ devices → IsPlaceOf read id k → device ≡ get_or devices k device → device_of devices id ≡ Some device
+found : (devices read : List Device) (id k : ℕ) (device : Device) → read ≡ devices → IsAttachmentPlace read id k → device ≡ get_or devices k device → device_by_id devices id ≡ Some device
 found devices read id k device same place at =
-    let here = subst (λ (ds : List Device). IsPlaceOf ds id k) same place in
+    let here = subst (λ (ds : List Device). IsAttachmentPlace ds id k) same place in
     here.2 ∙ ap Some (sym (read_is devices k here.0 device here.1 at))
 
-is_there : (devices : List Device) (id : ℕ) (device : Device) → device_of devices id ≡ Some device → is_plugged devices id ≡ true
+is_there : (devices : List Device) (id : ℕ) (device : Device) → device_by_id devices id ≡ Some device → has_device devices id ≡ true
 is_there devices id device at = ap (λ (o : Option Device). is_some o) at
 
-owns : (devices : List Device) (id : ℕ) (device : Device) (stages : Option Stages) → device_of devices id ≡ Some device → stages ≡ owned_stages device.attachment → owned_stages_of devices id ≡ stages
+owns : (devices : List Device) (id : ℕ) (device : Device) (stages : Option Stages) → device_by_id devices id ≡ Some device → stages ≡ owned_stages device.attachment → owned_stages_of devices id ≡ stages
 owns devices id device stages at is = ap owned_stages (attachment_is devices id device at) ∙ sym is
 
 missing : {A : Type 0} (o : Option A) → is_some o ≡ false → o ≡ None
 missing None none = refl
 missing (Some x) none = absurd (false≢true (sym none))
 
-lacks : (devices : List Device) (id : ℕ) (ats : Bool) (device : Device) (test answer : Bool) → device_of devices id ≡ Some device → test ≡ (ats && not device.trusted) → test ≡ answer
-    → (ats && not (is_trusted devices id)) ≡ answer
+lacks : (devices : List Device) (id : ℕ) (ats : Bool) (device : Device) (test answer : Bool) → device_by_id devices id ≡ Some device → test ≡ (ats && not device.trusted) → test ≡ answer
+    → (ats && not (has_trusted_cache devices id)) ≡ answer
 lacks devices id ats device test answer at is answered = trusted devices id ats device device at refl ∙ sym is ∙ answered
 
 pub returns-then-not-self-clause-refused : goal.returns-then-not-self-clause-refused
@@ -37,7 +37,7 @@ returns-then-not-self-clause-refused c = not_started (state_of c.args.self.now) 
 pub returns-in_default-clause-refused : goal.returns-in_default-clause-refused
 returns-in_default-clause-refused c =
     no_such_device (state_of c.args.self.now) c.args.id c.args.ats c.if-not-self.false
-    (subst (λ (ds : List Device). device_of ds c.args.id ≡ None) c.deref.ensures.value c.in_default.ensures)
+    (subst (λ (ds : List Device). device_by_id ds c.args.id ≡ None) c.deref.ensures.value c.in_default.ensures)
 
 pub returns-then-is_some-clause-refused : goal.returns-then-is_some-clause-refused
 returns-then-is_some-clause-refused c =
@@ -91,6 +91,6 @@ returns c =
     record {
       admitted = may_attach (state_of driver) id c.args.ats may (lacks devices id c.args.ats device c.lacks_trust.result false at c.lacks_trust.ensures c.if-lacks_trust.false);
       may = may;
-      place = subst (λ (ds : List Device). IsPlaceOf ds id c.in-Some.place) c.deref.ensures.value c.in-Some.ensures;
+      place = subst (λ (ds : List Device). IsAttachmentPlace ds id c.in-Some.place) c.deref.ensures.value c.in-Some.ensures;
       refused = tt;
     }

@@ -8,7 +8,7 @@ use Rattle.iom_base.specs.declared.owner.Owner.TheVariants.{OneDevice}
 use Rattle.iom_driver.specs.declared.device.Attachment.TheVariants.{Leaving}
 use Rattle.iom_driver.specs.declared.device.Device.{Device}
 use Rattle.iom_driver.specs.Appends.{detach_commands, AppendsAll}
-use Rattle.iom_driver.specs.Devices.{attachment_of, attached_stages, stages_of, owned_stages_of, with_attachment}
+use Rattle.iom_driver.specs.Devices.{attachment_by_id, attached_stages, stages_of, owned_stages_of, with_attachment}
 use Rattle.iom_driver.specs.Directory.{NamesDirectory}
 use Rattle.iom_driver.specs.Layout.{command_frame, fault_frame, completion_address, directory_frame}
 use Rattle.iom_driver.specs.Ready.{IsRing}
@@ -53,7 +53,7 @@ pub clear_context-requires-clause-id : goal.clear_context-requires-clause-id
 clear_context-requires-clause-id g c =
     let driver = c.args.self.now in
     subst (λ n. c.args.id < n) (room_for_ids driver.levels driver.sound.sizes.in_range)
-    (driver.sound.named c.args.id c.in-Ok.stage (attached_owns (attachment_of driver.devices.items c.args.id) c.in-Ok.stage c.in-Ok.ensures.may.attached))
+    (driver.sound.named c.args.id c.in-Ok.stage (attached_owns (attachment_by_id driver.devices.items c.args.id) c.in-Ok.stage c.in-Ok.ensures.may.attached))
 
 pub clear_context-requires-clause-directory : goal.clear_context-requires-clause-directory
 clear_context-requires-clause-directory g c =
@@ -78,12 +78,12 @@ append_detach-requires-clause-room g c = c.in-Ok.ensures.may.room
 pub append_detach-requires-clause-id : goal.append_detach-requires-clause-id
 append_detach-requires-clause-id g c =
     let driver = c.args.self.now in
-    low_id driver.levels c.args.id (driver.sound.named c.args.id c.in-Ok.stage (attached_owns (attachment_of driver.devices.items c.args.id) c.in-Ok.stage c.in-Ok.ensures.may.attached))
+    low_id driver.levels c.args.id (driver.sound.named c.args.id c.in-Ok.stage (attached_owns (attachment_by_id driver.devices.items c.args.id) c.in-Ok.stage c.in-Ok.ensures.may.attached))
 
 pub append_detach-requires-clause-number : goal.append_detach-requires-clause-number
 append_detach-requires-clause-number g c =
     let driver = c.args.self.now in
-    let small = driver.sound.numbers.small c.args.id c.in-Ok.stage (attached_owns (attachment_of driver.devices.items c.args.id) c.in-Ok.stage c.in-Ok.ensures.may.attached) in
+    let small = driver.sound.numbers.small c.args.id c.in-Ok.stage (attached_owns (attachment_by_id driver.devices.items c.args.id) c.in-Ok.stage c.in-Ok.ensures.may.attached) in
     let le : c.in-Ok.stage.number ≤ 17 = small.1 in
     omega (arith, le)
 
@@ -105,7 +105,7 @@ append_detach-requires-clause-cut_off g c =
       size = c.clear_context.ensures.size;
     } in
     let tables = tables_uncontexted driver.frames memory c.clear_context.new.memory driver.marks driver.ledger driver.devices.items driver.levels c.args.id here cleared stand.tables c.args.id stage
-    (attached_owns (attachment_of driver.devices.items c.args.id) stage may.attached) in
+    (attached_owns (attachment_by_id driver.devices.items c.args.id) stage may.attached) in
     record {
       context = cleared.here;
       tables = maps_nothing c.clear_context.new.memory driver.marks driver.ledger c.args.id stage.mode stage.root tables may.none_held;

@@ -10,11 +10,11 @@ use Rattle.iom_driver.specs.declared.device.Stages.{Stages}
 use Rattle.iom_driver.specs.declared.driver.Driver.{Driver}
 use Rattle.iom_driver.specs.Attaching.{IsRootBelow, root_frames, limit_below}
 use Rattle.iom_driver.specs.Choices.{AreHighestFree, marked_for, cleared}
-use Rattle.iom_driver.specs.Devices.{attachment_of, with_attachment}
+use Rattle.iom_driver.specs.Devices.{attachment_by_id, with_attachment}
 use Rattle.iom_driver.specs.Entering.{MayEnter}
 use Rattle.iom_driver.specs.Layout.{directory_frame, fault_frame}
 use Rattle.iom_driver.specs.Orders.{MapsNothing}
-use Rattle.iom_driver.specs.Places.{IsPlaceOf}
+use Rattle.iom_driver.specs.Places.{IsAttachmentPlace}
 use Rattle.iom_driver.specs.Ready.{TablesStand}
 use Rattle.iom_driver.specs.Seen.{state_of}
 use Rattle.iom_driver.proofs.AttachDirectory.{IsPut, MayTake, may_take, stands_between, roots_zero, fresh, counted, empty, others_keep, reports_keep, devices_keep, roots_new, stands_after}
@@ -49,7 +49,7 @@ both_marked : (id : ℕ) (marks before after : List (Option Owner)) (pages roots
 both_marked id marks before after pages roots is mark_is = mark_is ∙ ap (λ (ms : List (Option Owner)). marked_for (OneDevice id) roots ms) is
 
 -- the devices, once the one at the place is attached
-set_at : (devices : List Device) (id k : ℕ) (device : Device) (stages : Stages) → IsPlaceOf devices id k → device ≡ get_or devices k device
+set_at : (devices : List Device) (id k : ℕ) (device : Device) (stages : Stages) → IsAttachmentPlace devices id k → device ≡ get_or devices k device
     → slice_set devices k (record { id = device.id; trusted = device.trusted; attachment = Attached stages }) ≡ with_attachment devices id (Attached stages)
 set_at devices id k device stages place read =
     let same : device ≡ place.0 = read_is devices k place.0 device place.1 read in
@@ -123,7 +123,7 @@ put_context-requires c =
       levels = driver.sound.sizes.in_range;
       id = low;
       directory = (stands_between d driver.frames memory id count pages roots may).tree;
-      empty = empty d driver.frames memory id count pages roots may low (not_attached (attachment_of d.devices id) c.requires.may.admitted.nothing);
+      empty = empty d driver.frames memory id count pages roots may low (not_attached (attachment_by_id d.devices id) c.requires.may.admitted.nothing);
       count = counted d driver.frames memory id count pages roots may low refl;
       fresh = fresh d driver.frames memory id count pages roots may;
     }
@@ -183,7 +183,7 @@ returns c =
       outside = c.put_context.ensures.outside;
     }) in
     let size : length after ≡ length memory = c.put_context.ensures.size ∙ ap (λ (m : List (List ℕ)). length m) cleared_is ∙ length-cleared (pages ++ roots) memory in
-    let none = not_attached (attachment_of d.devices id) admitted.nothing in
+    let none = not_attached (attachment_by_id d.devices id) admitted.nothing in
     let unreported = subst (λ n. slice_get after (fault_frame n) ≡ slice_get memory (fault_frame n)) (sym may.size) (reports_keep d driver.frames memory id count pages roots may after stages put) in
     rw (marks_is, set) (
     let stand : TablesStand (record d { marks = taken_marks id pages roots driver.marks; devices = with_attachment d.devices id (Attached stages) }) after = record {

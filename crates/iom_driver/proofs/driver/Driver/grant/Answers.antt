@@ -15,10 +15,10 @@ use Rattle.iom_ledger.specs.Shown.{Agrees}
 use Rattle.iom_page_table.specs.declared.leaf.PageLeaf.{PageLeaf}
 use Rattle.iom_page_table.specs.FirstTables.{missing_for, mapped}
 use Rattle.iom_table_frames.specs.Marks.{HasFree}
-use Rattle.iom_driver.specs.Calls.{granted_leaf, KeepsOthers, HasFrames, IsSame, LacksTables}
+use Rattle.iom_driver.specs.Calls.{granted_leaf, KeepsOtherFrames, HasFrames, IsSame, LacksTables}
 use Rattle.iom_driver.specs.Choices.{AreHighestFree, marked_for, cleared}
 use Rattle.iom_driver.specs.declared.device.Stages.{Stages}
-use Rattle.iom_driver.specs.Devices.{attachment_of, stages_of}
+use Rattle.iom_driver.specs.Devices.{attachment_by_id, stages_of}
 use Rattle.iom_driver.specs.Layout.{fault_frame}
 use Rattle.iom_driver.specs.Reasons.{why_not_grant}
 use Rattle.iom_driver.specs.Seen.{state_of}
@@ -195,7 +195,7 @@ map-requires-clause-tree c =
     let driver = c.args.self.now in
     let many = sym (c.requires.stand.size ∙ driver.sound.sizes.marked) in
     let may = may_be_mapped c.args.memory.now driver.marks driver.ledger c.args.id c.in-Ok.stage.mode c.in-Ok.stage.root c.args.page c.args.frame c.missing-lacking.result c.in-Some.tables.items
-    (c.requires.stand.tables c.args.id c.in-Ok.stage (attached_owns (attachment_of driver.devices.items c.args.id) c.in-Ok.stage c.in-Ok.ensures.may.attached)) c.in-Ok.ensures.may.page_low c.in-Ok.ensures.may.not_held
+    (c.requires.stand.tables c.args.id c.in-Ok.stage (attached_owns (attachment_by_id driver.devices.items c.args.id) c.in-Ok.stage c.in-Ok.ensures.may.attached)) c.in-Ok.ensures.may.page_low c.in-Ok.ensures.may.not_held
     (c.missing-lacking.ensures ∙ ap (λ s. missing_for s c.args.memory.now c.in-Ok.stage.root c.args.page) c.size-size.ensures)
     (chosen_below driver.marks driver.ledger c.args.frame driver.frames c.missing-lacking.result c.in-Some.tables.items c.args.memory.now many c.in-Some.ensures.chosen) in
     rw (c.size-size.ensures, c.reserve_all.ensures.memory, c.as_slice.ensures.value) may.tree
@@ -205,7 +205,7 @@ map-requires-clause-free c =
     let driver = c.args.self.now in
     let many = sym (c.requires.stand.size ∙ driver.sound.sizes.marked) in
     let may = may_be_mapped c.args.memory.now driver.marks driver.ledger c.args.id c.in-Ok.stage.mode c.in-Ok.stage.root c.args.page c.args.frame c.missing-lacking.result c.in-Some.tables.items
-    (c.requires.stand.tables c.args.id c.in-Ok.stage (attached_owns (attachment_of driver.devices.items c.args.id) c.in-Ok.stage c.in-Ok.ensures.may.attached)) c.in-Ok.ensures.may.page_low c.in-Ok.ensures.may.not_held
+    (c.requires.stand.tables c.args.id c.in-Ok.stage (attached_owns (attachment_by_id driver.devices.items c.args.id) c.in-Ok.stage c.in-Ok.ensures.may.attached)) c.in-Ok.ensures.may.page_low c.in-Ok.ensures.may.not_held
     (c.missing-lacking.ensures ∙ ap (λ s. missing_for s c.args.memory.now c.in-Ok.stage.root c.args.page) c.size-size.ensures)
     (chosen_below driver.marks driver.ledger c.args.frame driver.frames c.missing-lacking.result c.in-Some.tables.items c.args.memory.now many c.in-Some.ensures.chosen) in
     rw (c.size-size.ensures, c.reserve_all.ensures.memory, c.as_slice.ensures.value) may.free
@@ -215,7 +215,7 @@ map-requires-clause-count c =
     let driver = c.args.self.now in
     let many = sym (c.requires.stand.size ∙ driver.sound.sizes.marked) in
     let may = may_be_mapped c.args.memory.now driver.marks driver.ledger c.args.id c.in-Ok.stage.mode c.in-Ok.stage.root c.args.page c.args.frame c.missing-lacking.result c.in-Some.tables.items
-    (c.requires.stand.tables c.args.id c.in-Ok.stage (attached_owns (attachment_of driver.devices.items c.args.id) c.in-Ok.stage c.in-Ok.ensures.may.attached)) c.in-Ok.ensures.may.page_low c.in-Ok.ensures.may.not_held
+    (c.requires.stand.tables c.args.id c.in-Ok.stage (attached_owns (attachment_by_id driver.devices.items c.args.id) c.in-Ok.stage c.in-Ok.ensures.may.attached)) c.in-Ok.ensures.may.page_low c.in-Ok.ensures.may.not_held
     (c.missing-lacking.ensures ∙ ap (λ s. missing_for s c.args.memory.now c.in-Ok.stage.root c.args.page) c.size-size.ensures)
     (chosen_below driver.marks driver.ledger c.args.frame driver.frames c.missing-lacking.result c.in-Some.tables.items c.args.memory.now many c.in-Some.ensures.chosen) in
     rw (c.size-size.ensures, c.as_slice-2.ensures.value, c.reserve_all.ensures.memory, c.as_slice.ensures.value) may.count
@@ -225,7 +225,7 @@ map-requires-clause-fresh c =
     let driver = c.args.self.now in
     let many = sym (c.requires.stand.size ∙ driver.sound.sizes.marked) in
     let may = may_be_mapped c.args.memory.now driver.marks driver.ledger c.args.id c.in-Ok.stage.mode c.in-Ok.stage.root c.args.page c.args.frame c.missing-lacking.result c.in-Some.tables.items
-    (c.requires.stand.tables c.args.id c.in-Ok.stage (attached_owns (attachment_of driver.devices.items c.args.id) c.in-Ok.stage c.in-Ok.ensures.may.attached)) c.in-Ok.ensures.may.page_low c.in-Ok.ensures.may.not_held
+    (c.requires.stand.tables c.args.id c.in-Ok.stage (attached_owns (attachment_by_id driver.devices.items c.args.id) c.in-Ok.stage c.in-Ok.ensures.may.attached)) c.in-Ok.ensures.may.page_low c.in-Ok.ensures.may.not_held
     (c.missing-lacking.ensures ∙ ap (λ s. missing_for s c.args.memory.now c.in-Ok.stage.root c.args.page) c.size-size.ensures)
     (chosen_below driver.marks driver.ledger c.args.frame driver.frames c.missing-lacking.result c.in-Some.tables.items c.args.memory.now many c.in-Some.ensures.chosen) in
     rw (c.size-size.ensures, c.as_slice-2.ensures.value, c.reserve_all.ensures.memory, c.as_slice.ensures.value) may.fresh
@@ -266,10 +266,10 @@ returns-clause-effect c =
               outside = c.map.ensures.outside;
               long = c.map.ensures.size;
             } in
-            subst (λ (ms : List (Option Owner)). KeepsOthers ms c.args.id memory c.map.new.memory)
+            subst (λ (ms : List (Option Owner)). KeepsOtherFrames ms c.args.id memory c.map.new.memory)
             (sym (c.reserve_all.ensures.marks ∙ ap (λ fs. marked_for (OneDevice c.args.id) fs driver.marks) c.as_slice.ensures.value))
             (others_kept memory c.map.new.memory driver.marks driver.ledger c.args.id c.in-Ok.stage.mode root c.args.page c.args.frame c.missing-lacking.result leaf tables (sym c.requires.stand.size)
-            (c.requires.stand.tables c.args.id c.in-Ok.stage (attached_owns (attachment_of driver.devices.items c.args.id) c.in-Ok.stage c.in-Ok.ensures.may.attached))
+            (c.requires.stand.tables c.args.id c.in-Ok.stage (attached_owns (attachment_by_id driver.devices.items c.args.id) c.in-Ok.stage c.in-Ok.ensures.may.attached))
             (chosen_below driver.marks driver.ledger c.args.frame driver.frames c.missing-lacking.result tables memory many c.in-Some.ensures.chosen) mapped_so);
       },
     )
@@ -301,9 +301,9 @@ returns-clause-stand c =
       tables =
           subst (λ (ms : List (Option Owner)). HaveTables c.map.new.memory ms c.grant.new.self driver.devices.items) (sym marks)
           (tables_granted memory c.map.new.memory driver.marks driver.ledger c.grant.new.self driver.devices.items c.args.id c.args.page c.args.frame c.missing-lacking.result c.rights-rights.result c.in-Ok.stage tables
-          (sym c.requires.stand.size) c.requires.stand.tables (attached_owns (attachment_of driver.devices.items c.args.id) c.in-Ok.stage c.in-Ok.ensures.may.attached) may.page_low granted chose mapped_so);
+          (sym c.requires.stand.size) c.requires.stand.tables (attached_owns (attachment_by_id driver.devices.items c.args.id) c.in-Ok.stage c.in-Ok.ensures.may.attached) may.page_low granted chose mapped_so);
       directory = λ started.
-          let before = c.requires.stand.tables c.args.id c.in-Ok.stage (attached_owns (attachment_of driver.devices.items c.args.id) c.in-Ok.stage c.in-Ok.ensures.may.attached) in
+          let before = c.requires.stand.tables c.args.id c.in-Ok.stage (attached_owns (attachment_by_id driver.devices.items c.args.id) c.in-Ok.stage c.in-Ok.ensures.may.attached) in
           let size : length c.map.new.memory ≡ length memory = mapped_so.long ∙ length-cleared tables memory in
           stands_in driver.frames c.map.new.memory _ driver.devices.items driver.levels (size ∙ sym many)
           (directory_stay driver.frames memory c.map.new.memory driver.marks _ driver.devices.items driver.devices.items driver.levels driver.sound.sizes.in_range size

@@ -5,7 +5,7 @@ use Rattle.iom_base.specs.declared.owner.Owner.{Owner}
 use Rattle.iom_base.specs.declared.owner.Owner.TheVariants.{System}
 use Rattle.iom_phys_mem.specs.Words.{word_at}
 use Rattle.iom_driver.specs.declared.device.Device.{Device}
-use Rattle.iom_driver.specs.Confirmed.{once_confirmed, given_back, is_gone, has_left, ClearsGone}
+use Rattle.iom_driver.specs.Confirmed.{driven_once_confirmed, mark_given_back, is_gone, has_left_until, ClearsGone}
 use Rattle.iom_driver.specs.Directory.{NamesDirectory}
 use Rattle.iom_driver.specs.Fences.{fence_of, done_by}
 use Rattle.iom_driver.specs.Layout.{completion_address, fault_frame}
@@ -25,11 +25,11 @@ use Rattle.iom_driver.proofs.PollTables.{owned_stays, tables_polled, directory_p
 use Rattle.iom_driver.proofs.driver.Driver.poll.Goals as goal
 
 -- a driver of which no device has left
-unchanged_so : (d : DriverState) (n : ℕ) → n ≡ d.confirmed → map (given_back d.confirmed d.devices) d.marks ≡ d.marks → map (once_confirmed d.confirmed) d.devices ≡ d.devices
-    → d ≡ record d { ledger = d.ledger; marks = map (given_back n d.devices) d.marks; devices = map (once_confirmed n) d.devices; confirmed = n }
+unchanged_so : (d : DriverState) (n : ℕ) → n ≡ d.confirmed → map (mark_given_back d.confirmed d.devices) d.marks ≡ d.marks → map (driven_once_confirmed d.confirmed) d.devices ≡ d.devices
+    → d ≡ record d { ledger = d.ledger; marks = map (mark_given_back n d.devices) d.marks; devices = map (driven_once_confirmed n) d.devices; confirmed = n }
 unchanged_so d n same marks devices =
-    sym (ap (λ m. record d { marks = map (given_back m d.devices) d.marks; devices = map (once_confirmed m) d.devices; confirmed = m }) same
-    ∙ ap (λ (ms : List (Option Owner)). record d { marks = ms; devices = map (once_confirmed d.confirmed) d.devices }) marks
+    sym (ap (λ m. record d { marks = map (mark_given_back m d.devices) d.marks; devices = map (driven_once_confirmed m) d.devices; confirmed = m }) same
+    ∙ ap (λ (ms : List (Option Owner)). record d { marks = ms; devices = map (driven_once_confirmed d.confirmed) d.devices }) marks
     ∙ ap (λ (ds : List Device). record d { devices = ds }) devices)
 
 none_cleared : (done : ℕ) (devices : List Device) (marks : List (Option Owner)) (memory : List (List ℕ)) → ((owner : Owner) → is_gone done devices owner ≡ false) → ClearsGone done devices marks memory memory
@@ -47,8 +47,8 @@ returns-then-done-self-clause-effect g c =
     let many : length memory ≡ driver.frames = c.requires.ready.stand.size ∙ driver.sound.sizes.marked in
     let stay = none_left devices driver.given driver.confirmed driver.sound.leaving in
     let nobody = nobody_gone devices driver.confirmed stay in
-    let at_place : (k : ℕ) (device : Device) → slice_get devices k ≡ Some device → has_left driver.confirmed device.attachment ≡ false =
-    λ k device at. ap (has_left driver.confirmed) (sym (attachment_is devices device.id device (device_at devices k device driver.sound.ids at))) ∙ stay device.id in
+    let at_place : (k : ℕ) (device : Device) → slice_get devices k ≡ Some device → has_left_until driver.confirmed device.attachment ≡ false =
+    λ k device at. ap (has_left_until driver.confirmed) (sym (attachment_is devices device.id device (device_at devices k device driver.sound.ids at))) ∙ stay device.id in
     let none : driver.confirmed + 0 ≡ driver.confirmed = omega arith in
     let word = c.first_word-word.result in
     let read : word_at 4 memory (completion_address driver.frames) ≡ Some word = ap (λ f. word_at 4 memory (4096 * f)) (sym c.completion_frame.ensures) ∙ c.first_word-word.ensures in (
@@ -120,10 +120,10 @@ returns-clause-ready g c =
     let size : length c.let_go.new.memory ≡ length memory = c.let_go.ensures.memory.size in
     rw (c.let_go.ensures.marks, c.let_go.ensures.devices) record {
       stand = record {
-        size = size ∙ ready.stand.size ∙ sym (length-map driver.marks (given_back done driver.devices.items));
+        size = size ∙ ready.stand.size ∙ sym (length-map driver.marks (mark_given_back done driver.devices.items));
         tables = tables_polled done memory c.let_go.new.memory driver.marks driver.ledger c.confirm_after.new.ledger driver.devices.items ready.stand.tables c.let_go.ensures.memory c.confirm_after.ensures.shown.held;
         directory = λ started.
-            stands_in driver.frames c.let_go.new.memory (map (given_back done driver.devices.items) driver.marks) (map (once_confirmed done) driver.devices.items) driver.levels (size ∙ many)
+            stands_in driver.frames c.let_go.new.memory (map (mark_given_back done driver.devices.items) driver.marks) (map (driven_once_confirmed done) driver.devices.items) driver.levels (size ∙ many)
             (directory_polled driver.frames done memory c.let_go.new.memory driver.marks driver.devices.items driver.levels driver.sound.sizes.in_range c.let_go.ensures.memory
             (in_stands driver.frames memory driver.marks driver.devices.items driver.levels many (ready.stand.directory started)));
       };

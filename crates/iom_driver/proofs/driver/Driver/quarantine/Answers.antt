@@ -10,7 +10,7 @@ use Rattle.iom_ledger.specs.Shown.{pending_in, pages_listed}
 use Rattle.iom_driver.specs.declared.device.Attachment.TheVariants.{Quarantined}
 use Rattle.iom_driver.specs.declared.device.Device.{Device}
 use Rattle.iom_driver.specs.Appends.{detach_commands, AppendsAll}
-use Rattle.iom_driver.specs.Devices.{attachment_of, attached_stages, stages_of, with_attachment}
+use Rattle.iom_driver.specs.Devices.{attachment_by_id, attached_stages, stages_of, with_attachment}
 use Rattle.iom_driver.specs.Directory.{NamesDirectory}
 use Rattle.iom_driver.specs.Layout.{command_frame, fault_frame, completion_address, directory_frame}
 use Rattle.iom_driver.specs.Quarantines.{all_unmapped, held_pages}
@@ -42,7 +42,7 @@ pub clear_context-requires-clause-id : goal.clear_context-requires-clause-id
 clear_context-requires-clause-id g c =
     let driver = c.args.self.now in
     subst (λ n. c.args.id < n) (room_for_ids driver.levels driver.sound.sizes.in_range)
-    (driver.sound.named c.args.id c.in-Ok.stage (attached_owns (attachment_of driver.devices.items c.args.id) c.in-Ok.stage c.in-Ok.ensures.may.attached))
+    (driver.sound.named c.args.id c.in-Ok.stage (attached_owns (attachment_by_id driver.devices.items c.args.id) c.in-Ok.stage c.in-Ok.ensures.may.attached))
 
 pub clear_context-requires-clause-directory : goal.clear_context-requires-clause-directory
 clear_context-requires-clause-directory g c =
@@ -69,13 +69,13 @@ clear_leaves-requires-clause-tree g c =
       size = c.clear_context.ensures.size;
     } in
     let tables = tables_uncontexted driver.frames memory c.clear_context.new.memory driver.marks driver.ledger driver.devices.items driver.levels c.args.id here cleared stand.tables c.args.id c.in-Ok.stage
-    (attached_owns (attachment_of driver.devices.items c.args.id) c.in-Ok.stage may.attached) in
+    (attached_owns (attachment_by_id driver.devices.items c.args.id) c.in-Ok.stage may.attached) in
     rw c.size.ensures (rooted c.in-Ok.stage.mode c.clear_context.new.memory c.in-Ok.stage.root tables.tree).tree
 
 pub clear_leaves-requires-clause-pages : goal.clear_leaves-requires-clause-pages
 clear_leaves-requires-clause-pages g c = λ page present.
     let driver = c.args.self.now in
-    let tables = c.requires.ready.stand.tables c.args.id c.in-Ok.stage (attached_owns (attachment_of driver.devices.items c.args.id) c.in-Ok.stage c.in-Ok.ensures.may.attached) in
+    let tables = c.requires.ready.stand.tables c.args.id c.in-Ok.stage (attached_owns (attachment_by_id driver.devices.items c.args.id) c.in-Ok.stage c.in-Ok.ensures.may.attached) in
     rw c.size.ensures (held_low c.args.memory.now driver.marks driver.ledger c.args.id c.in-Ok.stage.mode c.in-Ok.stage.root page tables present)
 
 pub release_all-requires : goal.release_all-requires
@@ -112,12 +112,12 @@ append_detach-requires-clause-room g c = c.in-Ok.ensures.may.room
 pub append_detach-requires-clause-id : goal.append_detach-requires-clause-id
 append_detach-requires-clause-id g c =
     let driver = c.args.self.now in
-    low_id driver.levels c.args.id (driver.sound.named c.args.id c.in-Ok.stage (attached_owns (attachment_of driver.devices.items c.args.id) c.in-Ok.stage c.in-Ok.ensures.may.attached))
+    low_id driver.levels c.args.id (driver.sound.named c.args.id c.in-Ok.stage (attached_owns (attachment_by_id driver.devices.items c.args.id) c.in-Ok.stage c.in-Ok.ensures.may.attached))
 
 pub append_detach-requires-clause-number : goal.append_detach-requires-clause-number
 append_detach-requires-clause-number g c =
     let driver = c.args.self.now in
-    let small = driver.sound.numbers.small c.args.id c.in-Ok.stage (attached_owns (attachment_of driver.devices.items c.args.id) c.in-Ok.stage c.in-Ok.ensures.may.attached) in
+    let small = driver.sound.numbers.small c.args.id c.in-Ok.stage (attached_owns (attachment_by_id driver.devices.items c.args.id) c.in-Ok.stage c.in-Ok.ensures.may.attached) in
     let le : c.in-Ok.stage.number ≤ 17 = small.1 in
     omega (arith, le)
 
@@ -132,7 +132,7 @@ append_detach-requires-clause-cut_off g c =
     let between = c.clear_context.new.memory in
     let bare = c.clear_leaves.new.memory in
     let ledger = c.release_all.new.self in
-    let owns = attached_owns (attachment_of driver.devices.items id) stage may.attached in
+    let owns = attached_owns (attachment_by_id driver.devices.items id) stage may.attached in
     let here = in_stands driver.frames memory driver.marks driver.devices.items driver.levels (stand.size ∙ driver.sound.sizes.marked) (stand.directory may.started) in
     let cleared = subst (λ r. IsCleared memory between driver.levels r id) c.directory_frame-directory.ensures record {
       tree = c.clear_context.ensures.directory;
@@ -171,7 +171,7 @@ returns-clause-effect g c =
     let between = c.clear_context.new.memory in
     let bare = c.clear_leaves.new.memory in
     let new = c.append_detach.new.memory in
-    let owns = attached_owns (attachment_of driver.devices.items id) stage may.attached in
+    let owns = attached_owns (attachment_by_id driver.devices.items id) stage may.attached in
     let many : length memory ≡ driver.frames = stand.size ∙ driver.sound.sizes.marked in
     let here : DirectoryIn driver.frames memory driver.marks driver.devices.items driver.levels = in_stands driver.frames memory driver.marks driver.devices.items driver.levels many (stand.directory may.started) in
     let cleared = subst (λ r. IsCleared memory between driver.levels r id) c.directory_frame-directory.ensures record {
@@ -241,7 +241,7 @@ returns-clause-ready g c =
     let ledger = c.release_all.new.self in
     let ticket = driver.given + 1 in
     let devices = with_attachment driver.devices.items id (Quarantined ticket stage) in
-    let owns = attached_owns (attachment_of driver.devices.items id) stage may.attached in
+    let owns = attached_owns (attachment_by_id driver.devices.items id) stage may.attached in
     let many : length memory ≡ driver.frames = stand.size ∙ driver.sound.sizes.marked in
     let here : DirectoryIn driver.frames memory driver.marks driver.devices.items driver.levels = in_stands driver.frames memory driver.marks driver.devices.items driver.levels many (stand.directory may.started) in
     let cleared = subst (λ r. IsCleared memory between driver.levels r id) c.directory_frame-directory.ensures record {

@@ -12,7 +12,7 @@ use Rattle.iom_command_queue.specs.declared.entry.QueueEntry.TheVariants as stan
 use Rattle.iom_page_table.specs.FirstTables.{unmapped}
 use Rattle.iom_page_table.specs.Leaves.{leaf_of}
 use Rattle.iom_driver.specs.Appends.{release_commands, AppendsAll}
-use Rattle.iom_driver.specs.Devices.{attachment_of}
+use Rattle.iom_driver.specs.Devices.{attachment_by_id}
 use Rattle.iom_driver.specs.Directory.{NamesDirectory}
 use Rattle.iom_driver.specs.Layout.{command_frame, fault_frame, completion_address}
 use Rattle.iom_driver.specs.Ready.{IsRing}
@@ -63,13 +63,13 @@ invariant_of-self g c =
 
 pub unmap-requires-clause-tree : goal.unmap-requires-clause-tree
 unmap-requires-clause-tree g c =
-    let tables = c.requires.ready.stand.tables c.args.id c.in-Ok.stage (attached_owns (attachment_of c.args.self.now.devices.items c.args.id) c.in-Ok.stage c.in-Ok.ensures.may.attached) in
+    let tables = c.requires.ready.stand.tables c.args.id c.in-Ok.stage (attached_owns (attachment_by_id c.args.self.now.devices.items c.args.id) c.in-Ok.stage c.in-Ok.ensures.may.attached) in
     rw c.size.ensures (rooted c.in-Ok.stage.mode c.args.memory.now c.in-Ok.stage.root tables.tree).tree
 
 pub unmap-requires-clause-page : goal.unmap-requires-clause-page
 unmap-requires-clause-page g c =
     let driver = c.args.self.now in
-    let tables = c.requires.ready.stand.tables c.args.id c.in-Ok.stage (attached_owns (attachment_of driver.devices.items c.args.id) c.in-Ok.stage c.in-Ok.ensures.may.attached) in
+    let tables = c.requires.ready.stand.tables c.args.id c.in-Ok.stage (attached_owns (attachment_by_id driver.devices.items c.args.id) c.in-Ok.stage c.in-Ok.ensures.may.attached) in
     rw c.size.ensures (held_low c.args.memory.now driver.marks driver.ledger c.args.id c.in-Ok.stage.mode c.in-Ok.stage.root c.args.page tables c.in-Ok.ensures.may.held)
 
 pub append_release-requires-clause-frames : goal.append_release-requires-clause-frames
@@ -88,11 +88,11 @@ append_release-requires-clause-room g c = c.in-Ok.ensures.may.room
 pub append_release-requires-clause-id : goal.append_release-requires-clause-id
 append_release-requires-clause-id g c =
     let driver = c.args.self.now in
-    low_id driver.levels c.args.id (driver.sound.named c.args.id c.in-Ok.stage (attached_owns (attachment_of driver.devices.items c.args.id) c.in-Ok.stage c.in-Ok.ensures.may.attached))
+    low_id driver.levels c.args.id (driver.sound.named c.args.id c.in-Ok.stage (attached_owns (attachment_by_id driver.devices.items c.args.id) c.in-Ok.stage c.in-Ok.ensures.may.attached))
 
 pub append_release-requires-clause-number : goal.append_release-requires-clause-number
 append_release-requires-clause-number g c =
-    let small = c.args.self.now.sound.numbers.small c.args.id c.in-Ok.stage (attached_owns (attachment_of c.args.self.now.devices.items c.args.id) c.in-Ok.stage c.in-Ok.ensures.may.attached) in
+    let small = c.args.self.now.sound.numbers.small c.args.id c.in-Ok.stage (attached_owns (attachment_by_id c.args.self.now.devices.items c.args.id) c.in-Ok.stage c.in-Ok.ensures.may.attached) in
     let le : c.in-Ok.stage.number ≤ 17 = small.1 in
     omega arith
 
@@ -126,7 +126,7 @@ returns-clause-effect g c =
     let commands = release_commands c.args.id c.in-Ok.stage c.args.page (completion_address driver.frames) (driver.given + driver.restarts + 1) in
     let appended = subst (λ n. AppendsAll g.M.Mmio c.unmap.new.memory c.args.io.now (release_commands c.args.id c.in-Ok.stage c.args.page (completion_address driver.frames) (n + 1)) c.append_release.new.memory c.append_release.new.io)
     c.last_fence-number.ensures c.append_release.ensures.appended in
-    let tables = stand.tables c.args.id c.in-Ok.stage (attached_owns (attachment_of driver.devices.items c.args.id) c.in-Ok.stage c.in-Ok.ensures.may.attached) in (
+    let tables = stand.tables c.args.id c.in-Ok.stage (attached_owns (attachment_by_id driver.devices.items c.args.id) c.in-Ok.stage c.in-Ok.ensures.may.attached) in (
       c.in-Ok.ensures.admitted,
       record {
         stage = c.in-Ok.stage;
@@ -163,8 +163,8 @@ returns-clause-ready g c =
       long = c.unmap.ensures.size;
     } in
     let tables = tables_released c.args.memory.now c.unmap.new.memory driver.marks driver.ledger c.release.new.self driver.devices.items c.args.id c.args.page (driver.given + 1) c.in-Ok.stage
-    stand.tables (attached_owns (attachment_of driver.devices.items c.args.id) c.in-Ok.stage c.in-Ok.ensures.may.attached) unmapped_so c.release.ensures.released in
-    let before = stand.tables c.args.id c.in-Ok.stage (attached_owns (attachment_of driver.devices.items c.args.id) c.in-Ok.stage c.in-Ok.ensures.may.attached) in
+    stand.tables (attached_owns (attachment_by_id driver.devices.items c.args.id) c.in-Ok.stage c.in-Ok.ensures.may.attached) unmapped_so c.release.ensures.released in
+    let before = stand.tables c.args.id c.in-Ok.stage (attached_owns (attachment_by_id driver.devices.items c.args.id) c.in-Ok.stage c.in-Ok.ensures.may.attached) in
     let many : length c.args.memory.now ≡ driver.frames = stand.size ∙ driver.sound.sizes.marked in
     let size : length c.append_release.new.memory ≡ length c.args.memory.now = c.append_release.ensures.size ∙ c.unmap.ensures.size in
     record {

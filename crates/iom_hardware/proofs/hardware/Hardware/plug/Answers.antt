@@ -2,7 +2,7 @@ use Rattle.std.proofs.Common.{rules, ◌∙◌, ℕ, List, refl, sym, ap}
 use Rattle.iom_base.specs.Disks.{without_disk}
 use Rattle.iom_base.specs.Refusals.{NoneApplies}
 use Rattle.iom_hardware.specs.HardwareParts.{HardwareParts, hardware_parts, disks_at_hand}
-use Rattle.iom_hardware.specs.Plugging.{Adds, why_not_plugged}
+use Rattle.iom_hardware.specs.Plugging.{StandsBehindOthers, why_not_plugged}
 use Rattle.iom_hardware.proofs.SoundPlugging.{added_new, adds_sound}
 use Rattle.iom_hardware.proofs.hardware.Hardware.plug.Goals as goal
 
@@ -28,7 +28,7 @@ returns-clause-sound c =
     let disks : List ℕ = disks_at_hand h in
     let new : HardwareParts = record old { iommu = c.add.new.self; devices = c.push.new.self.items } in
     let admitted : NoneApplies (why_not_plugged disks old c.args.id c.args.what) = sym c.why_not.ensures.reason ∙ c.in_default.is in
-    let adds : Adds disks old c.args.id c.args.what new c.take_out.new.disks.items = record {
+    let adds : StandsBehindOthers disks old c.args.id c.args.what new c.take_out.new.disks.items = record {
       admitted = admitted;
       row = added_new disks old h.events c.args.id c.args.what c.add.result c.add.new.self c.requires.sound admitted c.add.ensures;
       devices = search rules;

@@ -7,7 +7,7 @@ use Rattle.iom_machine.specs.Machine.{Steps}
 use Rattle.iom_machine.specs.declared.state.Device.{Device}
 use Rattle.iom_machine.specs.declared.state.State.{State}
 use Rattle.iom_machine.proofs.StepLemmas.{own_place}
-use Rattle.iom_known.specs.Allowed.{Past, IsTrueOf, state_of}
+use Rattle.iom_known.specs.Allowed.{Past, IsTrueOf, known_state}
 use Rattle.iom_known.specs.Steps.{IsLedBack}
 use Rattle.iom_known.proofs.AskedSteps.{if_ok_as}
 use Rattle.iom_known.proofs.RequestSteps.{absent_step, acts_led, led_stays, unable_step}
@@ -17,7 +17,7 @@ pub returns-in_default : goal.returns-in_default
 returns-in_default c told past is =
     let known = c.args.self.now in
     led_stays known (λ (before after : State). Steps c.args.access c.args.frame before c.args.id c.args.outcome.now after) past is
-    (λ frames. let state : State = state_of known past.history frames in
+    (λ frames. let state : State = known_state known past.history frames in
     absent_step is_block_device (λ (dev : Device). TakesStep state dev c.args.access c.args.frame c.args.outcome.now state) state c.args.id c.args.outcome.now (rw c.as_slice.ensures at c.in_default.ensures) (c.answers_absent.ensures.0 told))
 
 pub returns-then-not-is_block_device : goal.returns-then-not-is_block_device
@@ -28,7 +28,7 @@ returns-then-not-is_block_device c told past is =
     let at : slice_get known.devices c.in-Some.place ≡ Some device =
     slice_get_read known.devices _ c.in-Some.place device refl place.0 (rw c.as_slice-2.ensures at c.index-as_slice-place.is) in
     led_stays known (λ (before after : State). Steps c.args.access c.args.frame before c.args.id c.args.outcome.now after) past is
-    (λ frames. let state : State = state_of known past.history frames in
+    (λ frames. let state : State = known_state known past.history frames in
     unable_step is_block_device (λ (dev : Device). TakesStep state dev c.args.access c.args.frame c.args.outcome.now state) state c.args.id c.args.outcome.now device (place.1 ∙ at)
     (sym c.is_block_device.ensures ∙ c.if-not-is_block_device.true) (c.answers_unable.ensures.0 told))
 

@@ -2,7 +2,7 @@ use Rattle.std.proofs.Common.{◌∙◌, ◌++◌, ◌∷◌, [], List, Some, tr
 use Rattle.iom_machine.specs.declared.event.Event.TheVariants as events
 use Rattle.iom_base.specs.Disks.{without_disk}
 use Rattle.iom_world.specs.Seen.{parts_of, disks_of}
-use Rattle.iom_platform.specs.Agreement.{Entry}
+use Rattle.iom_platform.specs.Agreement.{DiskEntry}
 use Rattle.iom_platform.proofs.PlugLemmas.{agree_pass, few_blocks, plugged, taken_by_plug}
 use Rattle.iom_platform.proofs.platform.Platform.plug.Goals as goal
 
@@ -20,7 +20,7 @@ invariant_of-self g c =
     let it = plugged (disks_of self.world) (parts_of self.world) (parts_of c.world_takes-told.new.world) c.args.device c.in-Some.number c.args.new c.world_takes-told.result.now self.world.sound.known.driver has c.in-Done.is c.world_takes-told.ensures.does in
     record {
       agrees = record {
-        devices = c.plug_in.ensures.entries ∙ ap (λ (l : List Entry). l ++ (c.args.device, true) ∷ []) self.agrees.devices ∙ sym it.known;
+        devices = c.plug_in.ensures.entries ∙ ap (λ (l : List DiskEntry). l ++ (c.args.device, true) ∷ []) self.agrees.devices ∙ sym it.known;
         disks = c.plug_in.ensures.numbers ∙ ap (without_disk (Some c.in-Some.number)) self.agrees.disks
             ∙ sym (c.world_takes-told.ensures.disks ∙ taken_by_plug c.args.device c.in-Some.number c.args.new c.world_takes-told.result.now (disks_of self.world) has c.in-Done.is);
       };

@@ -3,9 +3,9 @@ use Rattle.iom_machine.specs.declared.event.Event.TheVariants as events
 use Rattle.iom_machine.specs.declared.outcome.Outcome.TheVariants as outcome
 use Rattle.iom_virtio_blk.specs.Stages.{device_status}
 use Rattle.iom_world.specs.Seen.{parts_of}
-use Rattle.iom_platform.specs.Agreement.{Entry}
+use Rattle.iom_platform.specs.Agreement.{DiskEntry}
 use Rattle.iom_platform.specs.Blocks.{block_with}
-use Rattle.iom_platform.specs.Places.{IsPlaceOf, has_in}
+use Rattle.iom_platform.specs.Places.{IsBlockPlace, has_in}
 use Rattle.iom_platform.specs.Seen.{block_seen, blocks_seen}
 use Rattle.iom_platform.proofs.AgreementLemmas.{agree_kept}
 use Rattle.iom_platform.proofs.KnownBlocks.{able_known, unable_known}
@@ -31,7 +31,7 @@ returns-in_default g c =
     let seen = g.D.Disk.seen in
     let self = c.args.self.now in
     let none = subst (λ blocks. block_with (blocks_seen seen blocks) c.args.device ≡ None) c.deref.ensures.value c.in_default.ensures in
-    let unknown = subst (λ (entries : List Entry). has_in entries c.args.device ≡ None) self.agrees.devices (none_entries seen self.blocks.items c.args.device none) in
+    let unknown = subst (λ (entries : List DiskEntry). has_in entries c.args.device ≡ None) self.agrees.devices (none_entries seen self.blocks.items c.args.device none) in
     let refused = status_refused (parts_of self.world) (parts_of c.tell_status.new.self) c.args.device 0 c.tell_status.result.now (unable_known (parts_of self.world).devices c.args.device unknown) c.tell_status.ensures.tells in
     let found = block_with (blocks_seen seen self.blocks.items) c.args.device in
     (c.tell_status.ensures.happens, (refused_if found (parts_of self.world) (parts_of c.tell_status.new.self) c.args.device c.tell_status.result.now none refused, no_status found c.tell_status.result.now none, (refl, refl)))
@@ -46,11 +46,11 @@ pub returns : goal.returns
 returns g c =
     let seen = g.D.Disk.seen in
     let self = c.args.self.now in
-    let here = subst (λ blocks. IsPlaceOf seen blocks c.args.device c.in-Some.place) c.deref.ensures.value c.in-Some.ensures in
+    let here = subst (λ blocks. IsBlockPlace seen blocks c.args.device c.in-Some.place) c.deref.ensures.value c.in-Some.ensures in
     let is = at_place seen self.blocks.items c.args.device c.in-Some.place c.index.result.now here c.index.ensures in
     let has = is_some here.block.blk.drive.disk in
     let able = able_known (parts_of self.world).devices c.args.device has self.world.sound.known.own_ids
-    (subst (λ (entries : List Entry). has_in entries c.args.device ≡ Some has) self.agrees.devices here.has) in
+    (subst (λ (entries : List DiskEntry). has_in entries c.args.device ≡ Some has) self.agrees.devices here.has) in
     let told = status_told (parts_of self.world) (parts_of c.tell_status-2.new.self) c.args.device c.status-status.result c.tell_status-2.result.now able c.tell_status-2.ensures.tells in
     let found = block_with (blocks_seen seen self.blocks.items) c.args.device in
     let status = c.status-status.ensures ∙ ap (λ block. device_status (block_seen seen block).device.front.stage) is in (

@@ -1,6 +1,6 @@
 use Rattle.std.proofs.Common.{◌≡◌, ◌∙◌, subst, arith, true}
 use Rattle.std.proofs.lemmas.List.{length-set}
-use Rattle.iom_table_survey.specs.Rows.{has, GrowsBy}
+use Rattle.iom_table_survey.specs.Rows.{row_has, GrowsBy}
 use Rattle.iom_table_survey.proofs.RowLemmas.{union_of, union_next}
 use Rattle.iom_table_survey.proofs.frame_row.FrameRow.union.Goals as goal
 
@@ -14,5 +14,5 @@ loop-index-preserved c =
 pub returns : goal.returns
 returns c =
     let i = c.loop-index.invariant in
-    subst (λ o. GrowsBy c.args.self.now c.loop-index.self-inside.words (λ f. has o f ≡ true)) c.other.view_is
+    subst (λ o. GrowsBy c.args.self.now c.loop-index.self-inside.words (λ f. row_has o f ≡ true)) c.other.view_is
     (union_of c.args.self.now c.self.inside.words c.other.inside.words c.loop-index.self-inside.words c.self.view_is (λ k within. i.done k (omega arith)))

@@ -1,6 +1,6 @@
 use Rattle.std.proofs.Common.{◌≡◌, ◌<◌, ◌∙◌, subst, sym, Some, None}
 use Rattle.iom_virtqueue.specs.Descriptors.{number_at}
-use Rattle.iom_virtqueue.specs.Queues.{QueueState, fault_of}
+use Rattle.iom_virtqueue.specs.Queues.{QueueState, chain_fault_of}
 use Rattle.iom_virtqueue.specs.contracts.queue.Queue.{the_view}
 use Rattle.iom_virtqueue.specs.Chains.{IsTrail, fault_at}
 use Rattle.iom_virtqueue.specs.declared.descriptor.Link.{Link}
@@ -12,14 +12,14 @@ use Rattle.iom_virtqueue.proofs.queue.Queue.advance.Goals.{then-has_next, else-h
 pub invariant_of-self-in-RingEntry : goal.invariant_of-self-in-RingEntry
 invariant_of-self-in-RingEntry c =
     let q : QueueState = the_view c.self.inside in
-    let none : fault_of q c.args.bytes.now ≡ None = subst (λ (r : QueueState). fault_of r c.args.bytes.now ≡ None) (sym c.self.view_is) c.requires.none in
+    let none : chain_fault_of q c.args.bytes.now ≡ None = subst (λ (r : QueueState). chain_fault_of r c.args.bytes.now ≡ None) (sym c.self.view_is) c.requires.none in
     let lt : number_at 2 0 c.args.bytes.now < c.self.inside.layout.size = entry_below q c.args.bytes.now c.in-RingEntry.is none in
     (c.self.invariant.0, rw (c.clear.ensures, c.le16-self-inside.ensures) (begun c.self.inside.layout.size (number_at 2 0 c.args.bytes.now) lt))
 
 pub invariant_of-self-in-Table : goal.invariant_of-self-in-Table
 invariant_of-self-in-Table c =
     let q : QueueState = the_view c.self.inside in
-    let none : fault_of q c.args.bytes.now ≡ None = subst (λ (r : QueueState). fault_of r c.args.bytes.now ≡ None) (sym c.self.view_is) c.requires.none in
+    let none : chain_fault_of q c.args.bytes.now ≡ None = subst (λ (r : QueueState). chain_fault_of r c.args.bytes.now ≡ None) (sym c.self.view_is) c.requires.none in
     let link : Link = record { index = c.in-Table.index; descriptor = c.decode-descriptor.result } in
     let trail : IsTrail q.layout.size q.head q.chain (Some link.index) = table_trail q c.in-Table.index c.in-Table.is c.self.invariant.1 in
     let clear : fault_at q.layout.size q.chain link ≡ None = rw c.decode-descriptor.ensures (table_none q c.in-Table.index c.args.bytes.now c.in-Table.is none) in

@@ -11,7 +11,7 @@ use Rattle.iom_world_effects.specs.BlockDevices.{AsksIfMissed}
 use Rattle.iom_device.specs.Caches.{epoch_in}
 use Rattle.iom_world_effects.specs.Messages.{with_sent}
 use Rattle.iom_world.specs.Seen.{parts_of}
-use Rattle.iom_world_effects.specs.ThroughCache.{AsksThroughCache}
+use Rattle.iom_world_effects.specs.ThroughCache.{DeviceAsksThroughCache}
 use Rattle.iom_world.specs.Told.{outcome_of}
 use Rattle.iom_world_invariant.proofs.BlockKeeps.{asked_sound, no_miss, carries_of}
 use Rattle.iom_world_effects.proofs.MessageLemmas.{sent_as}
@@ -44,9 +44,9 @@ asks_so c =
           (fabric ∙ ap (λ n. with_sent between.hardware.fabric c.args.id (sent.Ask n c.unwrap-page.result)) c.epoch_of-epoch.ensures ∙ ap (λ p. with_sent between.hardware.fabric c.args.id (sent.Ask (epoch_in between.hardware.devices.items c.args.id) p)) page),
     )
 
-tries_so : (c : After-send) → AsksThroughCache is_block_device (parts_of c.args.self.now) c.args.id (access_of c.args.address c.args.len c.args.kind c.args.bytes.now) outcome.Miss (parts_of c.through_cache-told.new.self)
+tries_so : (c : After-send) → DeviceAsksThroughCache is_block_device (parts_of c.args.self.now) c.args.id (access_of c.args.address c.args.len c.args.kind c.args.bytes.now) outcome.Miss (parts_of c.through_cache-told.new.self)
 tries_so c =
-    subst (λ (t : Outcome). AsksThroughCache is_block_device (parts_of c.args.self.now) c.args.id (access_of c.args.address c.args.len c.args.kind c.args.bytes.now) t (parts_of c.through_cache-told.new.self))
+    subst (λ (t : Outcome). DeviceAsksThroughCache is_block_device (parts_of c.args.self.now) c.args.id (access_of c.args.address c.args.len c.args.kind c.args.bytes.now) t (parts_of c.through_cache-told.new.self))
     (c.is_miss.ensures.0 c.if-not-is_miss.false) c.through_cache-told.ensures.does
 
 pub invariant_of-self : goal.invariant_of-self

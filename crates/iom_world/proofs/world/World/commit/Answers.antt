@@ -2,7 +2,7 @@ use Rattle.std.proofs.Common.{◌≡◌, ◌+◌, ◌∙◌, inl, Option, None, 
 use Rattle.iom_base.specs.declared.access.AccessKind.{AccessKind}
 use Rattle.iom_base.specs.declared.refusal.Refusal.{Refusal}
 use Rattle.iom_driver.specs.Seen.{state_of}
-use Rattle.iom_hardware.specs.Commits.{Commits}
+use Rattle.iom_hardware.specs.Commits.{CommitsOldestAccess}
 use Rattle.iom_inflight.specs.declared.made.MadeAt.{MadeAt}
 use Rattle.iom_machine.specs.declared.outcome.Outcome.{Outcome}
 use Rattle.iom_machine.specs.declared.outcome.Outcome.TheVariants as outcome
@@ -31,11 +31,11 @@ invariant_of-self c =
 
 -- the same by what the call answered
 answered_so : (c : After-commit) (answer : Result (Option MadeAt) Refusal) → c.commit.result ≡ answer
-    → Commits (hardware_of (parts_of c.args.self.now)) c.args.id answer (hardware_of (with_driver c.commit.new.self (state_of c.args.self.now.driver)))
+    → CommitsOldestAccess (hardware_of (parts_of c.args.self.now)) c.args.id answer (hardware_of (with_driver c.commit.new.self (state_of c.args.self.now.driver)))
 answered_so c answer is =
     let world = c.args.self.now in
     let new = with_driver c.commit.new.self (state_of world.driver) in
-    subst (λ (a : Result (Option MadeAt) Refusal). Commits (hardware_of (parts_of world)) c.args.id a (hardware_of new)) is c.commit.ensures.effect
+    subst (λ (a : Result (Option MadeAt) Refusal). CommitsOldestAccess (hardware_of (parts_of world)) c.args.id a (hardware_of new)) is c.commit.ensures.effect
 
 pub returns-in-Ok-None-clause-does : goal.returns-in-Ok-None-clause-does
 returns-in-Ok-None-clause-does c =

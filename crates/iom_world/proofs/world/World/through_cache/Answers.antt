@@ -2,7 +2,7 @@ use Rattle.std.proofs.Common.{◌+◌, refl, sym, subst}
 use Rattle.iom_hardware.specs.Senders.{cached_by}
 use Rattle.iom_iommu.specs.Requests.{access_of}
 use Rattle.iom_machine.specs.declared.outcome.Outcome.{Outcome}
-use Rattle.iom_world_effects.specs.ThroughCache.{AsksThroughCache}
+use Rattle.iom_world_effects.specs.ThroughCache.{DeviceAsksThroughCache}
 use Rattle.iom_world_effects.proofs.DriverLemmas.{sound_driver}
 use Rattle.iom_world_invariant.proofs.AskedLemmas.{keeps_through_cache_counted}
 use Rattle.iom_world_refinement.proofs.EventLemmas.{below_counted}
@@ -33,5 +33,5 @@ returns-clause-does c =
     let world = c.args.self.now in
     let new = with_driver c.through_cache-answer.new.self (state_of world.driver) in
     let access = access_of c.args.address c.args.len c.args.kind c.args.bytes.now in
-    subst (λ (told : Outcome). AsksThroughCache (cached_by c.args.sender) (parts_of world) c.args.id access told new) (sym c.of_cached.ensures)
+    subst (λ (told : Outcome). DeviceAsksThroughCache (cached_by c.args.sender) (parts_of world) c.args.id access told new) (sym c.of_cached.ensures)
     (cached_in_parts (parts_of world) new refl (cached_by c.args.sender) c.args.id access c.through_cache-answer.result c.through_cache-answer.ensures.effect)
