@@ -1,14 +1,15 @@
 -- What a device does with its own cache of translations: it has one from the plug on, empties it at a reset, and obeys requests to invalidate.
-use Rattle.std.specs.Prelude.{◌≡◌, ℕ, ◌+◌, List, [], Option, None, Some, Result, Ok, Err, if◌then◌else◌}
+use Rattle.std.specs.Prelude.{◌≡◌, ℕ, ◌+◌, false, List, [], Option, None, Some, Result, Ok, Err, if◌then◌else◌}
+use Rattle.std.specs.Option.{option_map_or}
 use Rattle.iom_ats_cache.specs.Cache.{Cache, empty_cache}
 use Rattle.iom_ats_cache.specs.Calls.{Invalidates}
 use Rattle.iom_fabric.specs.declared.message.Message.{Message}
 use Rattle.iom_fabric.specs.declared.message.Range.{Range}
 use Rattle.iom_base.specs.declared.refusal.Refusal.{Refusal}
 use Rattle.iom_base.specs.declared.device_kind.DeviceKind.{DeviceKind}
-use Rattle.iom_base.specs.DeviceKinds.{has_cache}
+use Rattle.iom_base.specs.DeviceKinds.{has_cache, is_block_device}
 use Rattle.iom_device.specs.declared.device.Device.{Device}
-use Rattle.iom_device.specs.Caches.{cache_of, with_cache}
+use Rattle.iom_device.specs.Caches.{cache_of, kind_in, with_cache}
 
 -- the cache of a device of this kind that is plugged in, if it has one
 abbrev pub new_cache : DeviceKind → Option Cache
@@ -22,6 +23,10 @@ reset_of (Some cache) = Some (record { epoch = cache.epoch + 1; entries = [] })
 -- the devices after a reset of the one with this id
 abbrev pub with_reset : List Device → ℕ → List Device
 with_reset devices id = with_cache devices id (reset_of (cache_of devices id))
+
+-- the devices after a reset of the one with this id, where it is a block device
+abbrev pub with_block_reset : List Device → ℕ → List Device
+with_block_reset devices id = if option_map_or is_block_device (kind_in devices id) false then with_reset devices id else devices
 
 -- the device is reset, unless its revival was refused
 abbrev pub devices_revived : Result (Unit {0}) Refusal → List Device → ℕ → List Device

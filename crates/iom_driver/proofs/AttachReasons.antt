@@ -6,7 +6,7 @@ use Rattle.iom_base.specs.declared.refusal.Refusal.TheVariants.{NotStarted, NoSu
 use Rattle.iom_base.specs.Refusals.{first_that_applies, NoneApplies}
 use Rattle.iom_driver.specs.Admitted.{MayBeAttached}
 use Rattle.iom_driver.specs.Devices.{device_by_id, has_device, has_trusted_cache, owned_stages_of}
-use Rattle.iom_driver.specs.Layout.{id_limit}
+use Rattle.iom_base.specs.DeviceIds.{id_limit}
 use Rattle.iom_driver.specs.Reasons.{why_not_attach}
 use Rattle.iom_driver.specs.State.{DriverState}
 

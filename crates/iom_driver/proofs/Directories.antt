@@ -16,7 +16,8 @@ use Rattle.iom_driver.specs.declared.device.Stages.{Stages}
 use Rattle.iom_driver.specs.declared.device.Attachment.TheVariants.{Detached, Attached}
 use Rattle.iom_driver.specs.Devices.{attachment_by_id, attached_stages, owned_stages, stages_of, owned_stages_of}
 use Rattle.iom_driver.specs.Directory.{context_for, located_for, IsDirectoryFrame, DirectoryStands}
-use Rattle.iom_driver.specs.Layout.{IsLevels, AreFixed, directory_frame, id_limit}
+use Rattle.iom_driver.specs.Layout.{IsLevels, AreFixed, directory_frame}
+use Rattle.iom_base.specs.DeviceIds.{id_limit}
 
 -- the directory stands, in a memory of so many frames
 pub record DirectoryIn (frames : ℕ) (memory : List (List ℕ)) (marks : List (Option Owner)) (devices : List Device) (levels : ℕ) : Type 0 where

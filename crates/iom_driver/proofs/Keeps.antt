@@ -21,7 +21,8 @@ use Rattle.iom_driver.specs.declared.device.Stages.{Stages}
 use Rattle.iom_driver.specs.Choices.{marked_for}
 use Rattle.iom_driver.specs.Confirmed.{driven_once_confirmed, mark_given_back}
 use Rattle.iom_driver.specs.Devices.{device_by_id, attachment_by_id, attached_stages, owned_stages, stages_of, owned_stages_of, has_device, detached, with_attachment, IsLowestNumber}
-use Rattle.iom_driver.specs.Layout.{AreFixed, id_limit}
+use Rattle.iom_driver.specs.Layout.{AreFixed}
+use Rattle.iom_base.specs.DeviceIds.{id_limit}
 use Rattle.iom_driver.specs.Sound.{IsGrant, AreGrants, AreFences, IsSound, RiseBetween}
 use Rattle.iom_driver.proofs.Gone.{attachment_confirmed, stage_confirmed, still_owned, still_leaving, still_quarantined, detached_after, ids_confirmed, unmarked_back, marked_back}
 use Rattle.iom_driver.proofs.Ids.{ids_with, ids_plugged}

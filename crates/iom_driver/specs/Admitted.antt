@@ -13,7 +13,8 @@ use Rattle.iom_driver.specs.declared.device.Stages.{Stages}
 use Rattle.iom_driver.specs.declared.device.Attachment.TheVariants.{Quarantined}
 use Rattle.iom_driver.specs.Devices.{attachment_by_id, has_device, stages_of, owned_stages_of}
 use Rattle.iom_driver.specs.Fences.{last_fence}
-use Rattle.iom_driver.specs.Layout.{id_limit, queue_entries}
+use Rattle.iom_driver.specs.Layout.{queue_entries}
+use Rattle.iom_base.specs.DeviceIds.{id_limit}
 use Rattle.iom_driver.specs.Reasons.{release_places}
 use Rattle.iom_driver.specs.State.{DriverState}
 

@@ -1,5 +1,5 @@
 -- The four fixed frames at the end of memory, and the ids that the device directory can name.
-use Rattle.std.specs.Prelude.{◌≡◌, ℕ, ◌+◌, ◌-◌, ◌*◌, ◌^◌, ◌≤◌, ◌==◌, List, Option, Some, slice_get, if◌then◌else◌}
+use Rattle.std.specs.Prelude.{◌≡◌, ℕ, ◌+◌, ◌-◌, ◌*◌, ◌^◌, ◌≤◌, List, Option, Some, slice_get}
 use Rattle.iom_base.specs.Sizes.{page_size}
 use Rattle.iom_base.specs.declared.owner.Owner.{Owner}
 use Rattle.iom_base.specs.declared.owner.Owner.TheVariants.{System}
@@ -43,10 +43,6 @@ fqb_of frames = 2 ^ 10 * fault_frame frames + 6
 -- a device directory has one to three levels (IOMMU specification, section 2.1, "Device-Directory-Table (DDT)")
 abbrev pub IsLevels : ℕ → Type 0
 IsLevels levels = (1 ≤ levels) × (levels ≤ 3)
-
--- the ids that it can name are below this: 7, 16 or 24 bits, by its levels
-abbrev pub id_limit : ℕ → ℕ
-id_limit levels = if levels == 1 then 2 ^ 7 else if levels == 2 then 2 ^ 16 else 2 ^ 24
 
 -- the fixed frames are the system's
 pub record AreFixed (marks : List (Option Owner)) (frames : ℕ) : Type 0 where

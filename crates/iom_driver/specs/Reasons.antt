@@ -17,7 +17,7 @@ use Rattle.iom_driver.specs.declared.device.Attachment.{Attachment}
 use Rattle.iom_driver.specs.declared.device.Attachment.TheVariants as attachment
 use Rattle.iom_driver.specs.Devices.{has_device, has_trusted_cache, is_away, is_cut_off, attachment_by_id, stages_of, owned_stages_of}
 use Rattle.iom_driver.specs.Fences.{last_fence}
-use Rattle.iom_driver.specs.Layout.{id_limit}
+use Rattle.iom_base.specs.DeviceIds.{id_limit}
 use Rattle.iom_driver.specs.State.{DriverState}
 
 -- whether something is held or lingers at the page

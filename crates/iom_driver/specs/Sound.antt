@@ -11,7 +11,8 @@ use Rattle.iom_driver.specs.declared.device.Device.{Device}
 use Rattle.iom_driver.specs.declared.device.Stages.{Stages}
 use Rattle.iom_driver.specs.declared.device.Attachment.TheVariants.{Detached, Quarantined, Leaving}
 use Rattle.iom_driver.specs.Devices.{attachment_by_id, stages_of, owned_stages_of, HaveOwnIds}
-use Rattle.iom_driver.specs.Layout.{AreFixed, IsLevels, id_limit}
+use Rattle.iom_driver.specs.Layout.{AreFixed, IsLevels}
+use Rattle.iom_base.specs.DeviceIds.{id_limit}
 
 -- a pair that is granted at a page: the page is one that tables of some size map, and the frame is of memory and isn't reserved
 pub record IsGrant (marks : List (Option Owner)) (page frame : ℕ) : Type 0 where

@@ -1,6 +1,7 @@
 // Where the fixed frames are, and what the registers are told of them.
 ghost use Rattle.std.specs.Prelude.{◌≡◌, ◌≤◌, ◌<◌, ◌^◌, ◌%◌};
-ghost use Rattle.iom_driver.specs.Layout.{command_frame, completion_frame, directory_frame, completion_address, ddtp_of, cqb_of, fqb_of, id_limit};
+ghost use Rattle.iom_driver.specs.Layout.{command_frame, completion_frame, directory_frame, completion_address, ddtp_of, cqb_of, fqb_of};
+ghost use Rattle.iom_base.specs.DeviceIds.{id_limit};
 
 use iom_base::{DeviceId, PAGE_SIZE};
 

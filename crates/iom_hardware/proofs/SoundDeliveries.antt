@@ -17,7 +17,7 @@ use Rattle.iom_iommu.specs.Parts.{flights_of, slots_of, frames_of}
 use Rattle.iom_hardware.specs.Deliveries.{TakesReply, TakesCompletion, MessageArrives, with_delivery}
 use Rattle.iom_hardware.specs.HardwareParts.{HardwareParts}
 use Rattle.iom_hardware.specs.Messages.{with_message}
-use Rattle.iom_hardware.specs.OwnIommu.{Iommu}
+use Rattle.iom_iommu.specs.OwnIommu.{Iommu}
 use Rattle.iom_hardware.specs.Sound.{flight_ids, IsOfPlugged, IsMessageOf, IsSoundHardware}
 use Rattle.iom_hardware.specs.declared.answers.Delivered.{Delivered}
 use Rattle.iom_hardware.specs.declared.answers.Delivered.TheVariants.{Answered, Taken, Ignored, Invalidated, Closed, NotClosed}

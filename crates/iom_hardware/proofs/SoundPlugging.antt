@@ -16,15 +16,15 @@ use Rattle.iom_command_queue.specs.OpenSlots.{OpenSlots}
 use Rattle.iom_base.specs.declared.refusal.Refusal.{Refusal}
 use Rattle.iom_device.specs.declared.device.Device.{Device}
 use Rattle.iom_device.specs.Caches.{device_with, kind_in, cache_in, cache_of, epoch_of, epoch_in, with_has_disk, HasItsCache, HaveTheirCaches}
-use Rattle.iom_device.specs.Calls.{new_cache, reset_of, with_reset}
+use Rattle.iom_device.specs.Calls.{new_cache, reset_of, with_reset, with_block_reset}
 use Rattle.iom_fabric.specs.declared.fabric.OnLink.{OnLink}
 use Rattle.iom_fabric.specs.declared.message.Message.{Message}
 use Rattle.iom_fabric.specs.declared.message.Message.TheVariants as sent
 use Rattle.iom_inflight.specs.Flights.{FlightRow, Flights, new_row, row_of}
 use Rattle.iom_iommu.specs.Parts.{flights_of, AddsDevice}
 use Rattle.iom_hardware.specs.HardwareParts.{HardwareParts}
-use Rattle.iom_hardware.specs.OwnIommu.{Iommu}
-use Rattle.iom_hardware.specs.Plugging.{StandsBehindOthers, newly_plugged, why_not_plugged, with_block_reset}
+use Rattle.iom_iommu.specs.OwnIommu.{Iommu}
+use Rattle.iom_hardware.specs.Plugging.{StandsBehindOthers, newly_plugged, why_not_plugged}
 use Rattle.iom_hardware.specs.Sound.{device_ids, flight_ids, AreOfOneId, IsOfPlugged, IsMessageOf, IsSoundHardware}
 use Rattle.iom_hardware.proofs.DeviceLists.{ids_set, ids_has, epoch_has, caches_has, caches_reset, epochs_reset}
 use Rattle.iom_hardware.proofs.SoundThen.{KeepsDevices}

@@ -37,7 +37,7 @@ use Rattle.iom_stage_walk.specs.declared.walked.WalkFault.{WalkFault}
 use Rattle.iom_tlb.specs.declared.trans_cache.Translation.{Translation}
 use Rattle.iom_tlb.specs.Content.{Translations}
 use Rattle.iom_hardware.specs.HardwareParts.{HardwareParts}
-use Rattle.iom_hardware.specs.OwnIommu.{Iommu}
+use Rattle.iom_iommu.specs.OwnIommu.{Iommu}
 use Rattle.iom_hardware.specs.Sound.{flight_ids, IsSoundHardware}
 use Rattle.iom_hardware.specs.ThroughCache.{frame_in_cache, GoesByCachedFrame, GoesByCache}
 use Rattle.iom_hardware.specs.declared.answers.CacheReply.{CacheReply}

@@ -7,7 +7,7 @@ use Rattle.iom_device.specs.Caches.{epoch_in, HaveTheirCaches}
 use Rattle.iom_fabric.specs.declared.fabric.OnLink.{OnLink}
 use Rattle.iom_iommu.specs.Parts.{flights_of, slots_of, frames_of}
 use Rattle.iom_hardware.specs.HardwareParts.{HardwareParts}
-use Rattle.iom_hardware.specs.OwnIommu.{Iommu}
+use Rattle.iom_iommu.specs.OwnIommu.{Iommu}
 use Rattle.iom_hardware.specs.Sound.{device_ids, flight_ids, IsMessageOf, IsSoundHardware}
 use Rattle.iom_hardware.proofs.DeviceLists.{own_ids_kept, length_kept, messages_kept}
 

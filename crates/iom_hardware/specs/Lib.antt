@@ -1,4 +1,3 @@
-pub mod OwnIommu
 pub mod HardwareParts
 pub mod ByDevice
 pub mod Permits

@@ -1,5 +1,5 @@
 -- How a device is plugged in, and a disk put into one.
-use Rattle.std.specs.Prelude.{◌≡◌, ◌⊎◌, ℕ, Bool, true, false, nat_le, List, [], ◌∷◌, ◌++◌, length, Some, is_some, Result, Ok, Err, if◌then◌else◌}
+use Rattle.std.specs.Prelude.{◌≡◌, ◌⊎◌, ℕ, Bool, true, false, nat_le, List, [], ◌∷◌, ◌++◌, length, Some, is_some, Result, Ok, Err}
 use Rattle.std.specs.Option.{option_map_or}
 use Rattle.iom_base.specs.DeviceKinds.{kind_of, disk_of, is_any_kind, is_block_device}
 use Rattle.iom_base.specs.Disks.{is_among, is_missing, without_disk}
@@ -8,7 +8,7 @@ use Rattle.iom_base.specs.declared.device_kind.NewDevice.{NewDevice}
 use Rattle.iom_base.specs.declared.refusal.Refusal.{Refusal}
 use Rattle.iom_base.specs.declared.refusal.Refusal.TheVariants.{AlreadyPlugged, TooManyDevices, BadMedium, Memory}
 use Rattle.iom_device.specs.Caches.{IsAble, kind_in, with_has_disk, device_with}
-use Rattle.iom_device.specs.Calls.{new_cache, with_reset}
+use Rattle.iom_device.specs.Calls.{new_cache, with_block_reset}
 use Rattle.iom_device.specs.declared.device.Device.{Device}
 use Rattle.iom_iommu.specs.Parts.{AddsDevice}
 use Rattle.iom_hardware.specs.ByDevice.{ByDevice, FindsNoDevice, FindsWrongKind}
@@ -74,10 +74,6 @@ PutsDiskIntoDevice disks old id disk answer new left =
     ⊎ TakesNoDisk disks old id disk answer new left ⊎ TakesDisk disks old id disk answer new left
 
 -- A DISK GOES
-
--- the devices after a reset of the one with this id, where it is a block device
-abbrev pub with_block_reset : List Device → ℕ → List Device
-with_block_reset devices id = if option_map_or is_block_device (kind_in devices id) false then with_reset devices id else devices
 
 -- it has none any more, and a block device is reset
 pub record LetsDiskGo (id : ℕ) (old : HardwareParts) (done : Unit {0}) (new : HardwareParts) : Type 0 where

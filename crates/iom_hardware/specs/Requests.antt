@@ -9,7 +9,7 @@ use Rattle.iom_iommu.specs.Requests.{AnswersRequest}
 use Rattle.iom_iommu.specs.Translated.{AnswersTranslated}
 use Rattle.iom_hardware.specs.ByDevice.{ByDevice}
 use Rattle.iom_hardware.specs.HardwareParts.{HardwareParts}
-use Rattle.iom_hardware.specs.OwnIommu.{Iommu}
+use Rattle.iom_iommu.specs.OwnIommu.{Iommu}
 
 -- the IOMMU answers so: devices and messages stay, and memory too, but for a fault, which is recorded there
 pub record Replies (Call : Reply → List (List ℕ) → Iommu → Type 0) (old : HardwareParts) (reply : Reply) (new : HardwareParts) : Type 0 where

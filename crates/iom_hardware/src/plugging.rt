@@ -7,7 +7,8 @@ ghost use Rattle.iom_base.specs.declared.refusal.Refusal.TheVariants.{Memory};
 ghost use Rattle.iom_device.specs.Caches.{epoch_in, kind_in, with_has_disk};
 ghost use Rattle.iom_hardware.specs.Counted.{IsCounted};
 ghost use Rattle.iom_hardware.specs.HardwareParts.{hardware_parts, disks_at_hand};
-ghost use Rattle.iom_hardware.specs.Plugging.{why_not_plugged, with_block_reset, has_disk_in, PlugsNewDevice, PutsDiskIntoDevice, LosesDisk, CanTake};
+ghost use Rattle.iom_hardware.specs.Plugging.{why_not_plugged, has_disk_in, PlugsNewDevice, PutsDiskIntoDevice, LosesDisk, CanTake};
+ghost use Rattle.iom_device.specs.Calls.{with_block_reset};
 ghost use Rattle.iom_hardware.specs.Sound.{IsSoundHardware};
 
 use crate::disks::{is_among, is_missing, take_out};

@@ -5,7 +5,7 @@ use Rattle.iom_registers.specs.Places.{changed_by}
 use Rattle.iom_registers.specs.declared.register.RegFault.{RegFault}
 use Rattle.iom_registers.specs.declared.register.Register.{Register}
 use Rattle.iom_hardware.specs.HardwareParts.{HardwareParts}
-use Rattle.iom_hardware.specs.OwnIommu.{Iommu}
+use Rattle.iom_iommu.specs.OwnIommu.{Iommu}
 use Rattle.iom_hardware.specs.Software.{SoftwareKeepsSound, WritesAreSoftware}
 use Rattle.iom_hardware.specs.Sound.{IsSoundHardware}
 

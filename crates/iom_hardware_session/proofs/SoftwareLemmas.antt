@@ -1,7 +1,7 @@
 -- A write of a register is a change that software makes.
 use Rattle.std.proofs.Common.{◌≡◌, ℕ, Result, Ok, Err, refl, sym, subst}
 use Rattle.iom_hardware.specs.HardwareParts.{HardwareParts}
-use Rattle.iom_hardware.specs.OwnIommu.{Iommu}
+use Rattle.iom_iommu.specs.OwnIommu.{Iommu}
 use Rattle.iom_hardware.specs.Software.{ChangesAsSoftware, WritesAreSoftware}
 use Rattle.iom_iommu.specs.Parts.{after_write}
 use Rattle.iom_registers.specs.Places.{changed_by}

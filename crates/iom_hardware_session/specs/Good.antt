@@ -15,11 +15,11 @@ use Rattle.iom_reach.specs.Laws.{IsOutOfReach}
 use Rattle.iom_reach.specs.Safe.{IsRead, IsSafe, AreTimely, HasWord}
 use Rattle.iom_reach.specs.Scene.{HardwareScene}
 use Rattle.iom_reach.specs.Ways.{Way}
-use Rattle.iom_way_survey.specs.Surveys.{is_among}
+use Rattle.iom_way_survey.specs.Surveys.{is_id_among}
 
 -- what lies between devices and memory, where these devices are trusted with all memory
 abbrev pub scene_with : Hardware → List ℕ → HardwareScene
-scene_with hardware trusted = scene_of (is_among trusted) (hardware_parts hardware)
+scene_with hardware trusted = scene_of (is_id_among trusted) (hardware_parts hardware)
 
 abbrev pub scene_in : Session → HardwareScene
 scene_in session = scene_with session.hardware session.trusted.items

@@ -13,13 +13,13 @@ use Rattle.iom_hardware_ways.specs.Calls.{HardwareCall, DoInTurn}
 use Rattle.iom_hardware_ways.specs.Laws.{MakesIn}
 use Rattle.iom_inflight.specs.declared.made.MadeAt.{MadeAt}
 use Rattle.iom_ledger.specs.History.{May}
-use Rattle.iom_way_survey.specs.Surveys.{is_among}
+use Rattle.iom_way_survey.specs.Surveys.{is_id_among}
 
 -- these calls of hardware and devices alone come one after another from where the session stands, and then the device makes this access
 abbrev pub ComesToMake : Session → List HardwareCall → ℕ → MadeAt → Type 0
 ComesToMake session calls id made =
     (events : ℕ) × (between : HardwareParts) × (new : HardwareParts)
-    × DoInTurn (is_among session.trusted.items) events (hardware_parts session.hardware) calls between × MakesIn (is_among session.trusted.items) between id made new
+    × DoInTurn (is_id_among session.trusted.items) events (hardware_parts session.hardware) calls between × MakesIn (is_id_among session.trusted.items) between id made new
 
 -- WHAT WAS WITHDRAWN IS OUT OF REACH. After a claim is done and good, the device makes no access to that frame but those that what is claimed allows
 abbrev pub DoneStaysDone : Type 0

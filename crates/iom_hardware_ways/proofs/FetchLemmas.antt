@@ -19,7 +19,7 @@ use Rattle.iom_fabric.specs.declared.message.Message.TheVariants as sent
 use Rattle.iom_hardware.specs.Commits.{TakesCommand}
 use Rattle.iom_hardware.specs.HardwareParts.{HardwareParts}
 use Rattle.iom_hardware.specs.Messages.{named_range, with_message, with_opened}
-use Rattle.iom_hardware.specs.OwnIommu.{Iommu}
+use Rattle.iom_iommu.specs.OwnIommu.{Iommu}
 use Rattle.iom_inflight.specs.Flights.{Flights}
 use Rattle.iom_iommu.specs.Fetches.{with_store, head_entry, covers_device}
 use Rattle.iom_iommu.specs.Effects.{FetchesByAnswer, store_of, with_done, asks_for_interrupt, DropsContexts, IsLeft, StopsAtEntry, StopsFetching}

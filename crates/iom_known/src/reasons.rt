@@ -6,7 +6,8 @@ ghost use Rattle.iom_machine.specs.Frames.{is_reserved};
 ghost use Rattle.iom_machine.specs.declared.state.Frame.{Frame};
 ghost use Rattle.iom_known.specs.Reasons.{bare, early_grant_reasons, late_grant_reasons_by, detach_reasons_by, release_reasons_by, quarantine_reasons_by, revive_reasons_by};
 ghost use Rattle.iom_machine.specs.Refusals.{plug_reasons, attach_reasons, detach_reasons, grant_reasons, release_reasons, quarantine_reasons, revive_reasons, frame_reasons};
-ghost use Rattle.iom_machine.specs.Refusals.{is_plugged, attachment_of, is_trusted, id_limit, is_too_wide, is_held, is_lingering, has_grants, may_still_reach};
+ghost use Rattle.iom_machine.specs.Refusals.{is_plugged, attachment_of, is_trusted, is_too_wide, is_held, is_lingering, has_grants, may_still_reach};
+ghost use Rattle.iom_base.specs.DeviceIds.{id_limit};
 ghost use Rattle.iom_machine.specs.Refusals.{is_detached, is_leaving, is_quarantined, is_attached, page_limit_at, table_limit_at};
 ghost use Rattle.iom_known.specs.Allowed.{Past, IsTrueOf, known_state};
 

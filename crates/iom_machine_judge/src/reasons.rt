@@ -7,7 +7,8 @@ ghost use Rattle.iom_machine.specs.Tickets.{pending_tickets};
 ghost use Rattle.iom_base.specs.Refusals.{first_that_applies};
 ghost use Rattle.iom_machine.specs.Refusals.{plug_reasons, attach_reasons, detach_reasons, grant_reasons, release_reasons, quarantine_reasons, revive_reasons, frame_reasons, poke_reasons};
 ghost use Rattle.iom_machine.specs.Refusals.{is_plugged, attachment_of, is_detached, is_leaving, is_quarantined, is_attached, may_still_reach, table_limit_at};
-ghost use Rattle.iom_machine.specs.Refusals.{is_trusted, id_limit, is_too_wide, is_held, is_lingering, has_grants};
+ghost use Rattle.iom_machine.specs.Refusals.{is_trusted, is_too_wide, is_held, is_lingering, has_grants};
+ghost use Rattle.iom_base.specs.DeviceIds.{id_limit};
 ghost use Rattle.iom_machine.specs.Judging.{attachment_in};
 
 use crate::block_devices::is_among;

@@ -27,7 +27,7 @@ use Rattle.iom_registers.specs.declared.registers.Registers.{Registers}
 use Rattle.iom_registers.specs.Queues.{command_status, is_fault_queue_marked, with_fqmf, with_fqof}
 use Rattle.iom_world_effects.specs.Deliveries.{Arrives, ArrivesIfAny, DeliversMessage, with_completion_sent}
 use Rattle.iom_world_effects.specs.Messages.{with_sent}
-use Rattle.iom_world_effects.specs.OwnIommu.{Iommu}
+use Rattle.iom_iommu.specs.OwnIommu.{Iommu}
 use Rattle.iom_world_effects.specs.Parts.{Parts}
 use Rattle.iom_world_effects.proofs.CacheSets.{kind_set}
 use Rattle.iom_settling.specs.CatchingUp.{HasCache, NothingIsInFlight, TakesCommands}

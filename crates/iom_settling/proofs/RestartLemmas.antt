@@ -29,7 +29,7 @@ use Rattle.iom_driver.proofs.Ids.{device_at}
 use Rattle.iom_driver.proofs.Places.{attachment_is}
 use Rattle.iom_iommu.specs.Parts.{registers_of, flights_of, slots_of, mmio}
 use Rattle.iom_registers.specs.Queues.{is_command_queue_on, is_processing_commands}
-use Rattle.iom_world_effects.specs.OwnIommu.{Iommu}
+use Rattle.iom_iommu.specs.OwnIommu.{Iommu}
 use Rattle.iom_world_effects.specs.Parts.{Parts}
 use Rattle.iom_world_effects.specs.Read.{values_of}
 use Rattle.iom_world_effects.specs.Scenes.{IsSceneOf}

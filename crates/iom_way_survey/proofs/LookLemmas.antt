@@ -20,7 +20,7 @@ use Rattle.iom_table_survey.specs.Rows.{row_has, GrowsBy}
 use Rattle.iom_way_survey.specs.Directories.{DirectoryReads}
 use Rattle.iom_way_survey.specs.Found.{WayOf, SomeTable}
 use Rattle.iom_way_survey.specs.Queues.{IsFrameAmong, IsWordAmong, IsOfFaults}
-use Rattle.iom_way_survey.specs.Surveys.{is_among, reach_in, reaches_in_rows, IsReachRow, AreRowsOf, TellsTrust}
+use Rattle.iom_way_survey.specs.Surveys.{is_id_among, reach_in, reaches_in_rows, IsReachRow, AreRowsOf, TellsTrust}
 use Rattle.iom_way_survey.specs.declared.findings.DeviceReach.{DeviceReach}
 use Rattle.iom_way_survey.proofs.DirectoryLemmas.{directory_reads, tables_read}
 use Rattle.iom_way_survey.proofs.QueueLemmas.{fault_stored}
@@ -61,11 +61,11 @@ rows_reach parts trusted rows id plug kind frame are found way =
     let (row, at, is) = row_found parts trusted rows parts.devices id plug are.long are.each found in
     ap (λ (o : Option DeviceReach). reach_in o kind frame) at ∙ (is.reach kind).all frame way
 
-pub rows_trust : (parts : HardwareParts) (trusted : List ℕ) (rows : List DeviceReach) → AreRowsOf parts trusted rows → TellsTrust (scene_of (is_among trusted) parts) rows
+pub rows_trust : (parts : HardwareParts) (trusted : List ℕ) (rows : List DeviceReach) → AreRowsOf parts trusted rows → TellsTrust (scene_of (is_id_among trusted) parts) rows
 rows_trust parts trusted rows are k row at =
     let (device, here) = same_place rows parts.devices k row are.long at in
     let is = are.each k row device at here in
-    is.is_trusted ∙ ap (is_among trusted) (sym is.id)
+    is.is_trusted ∙ ap (is_id_among trusted) (sym is.id)
 
 -- WAYS
 
@@ -98,14 +98,14 @@ way_plugged trusted parts id frame kind rows (OnTheWalk s table steps_to mapping
     absurd (in_none (record { device = Some id; space = s; table = table; steps_to = steps_to }) there)
 
 pub ways_reached : (parts : HardwareParts) (trusted : List ℕ) (rows : List DeviceReach) (events : ℕ) → IsSoundHardware parts events → AreFlights (flights_of parts.iommu) → AreRowsOf parts trusted rows
-    → (id frame : ℕ) (kind : AccessKind) → Way (scene_of (is_among trusted) parts) id frame kind → reaches_in_rows rows id kind frame ≡ true
+    → (id frame : ℕ) (kind : AccessKind) → Way (scene_of (is_id_among trusted) parts) id frame kind → reaches_in_rows rows id kind frame ≡ true
 ways_reached parts trusted rows events sound flights are id frame kind way =
-    let (plug, found) = way_plugged (is_among trusted) parts id frame kind sound.rows way in
+    let (plug, found) = way_plugged (is_id_among trusted) parts id frame kind sound.rows way in
     let (k, low, (here, same)) = device_place parts.devices id plug found in
     rows_reach parts trusted rows id plug kind frame are found
-    (way_of (is_among trusted) parts plug frame kind (ap (device_with parts.devices) same ∙ found)
+    (way_of (is_id_among trusted) parts plug frame kind (ap (device_with parts.devices) same ∙ found)
     (λ own at. (sound_row (flights_of parts.iommu).so_far (flights_of parts.iommu).rows plug.id own flights.rows at).few)
-    (subst (λ (n : ℕ). Way (scene_of (is_among trusted) parts) n frame kind) (sym same) way))
+    (subst (λ (n : ℕ). Way (scene_of (is_id_among trusted) parts) n frame kind) (sym same) way))
 
 -- WHAT IS READ AND STORED
 

@@ -35,7 +35,7 @@ use Rattle.iom_table_survey.specs.Rows.{row_has, frame_place, GrowsBy}
 use Rattle.iom_way_survey.specs.Directories.{next_page_of, IsOnWay, IsOnPath, PathReads, DirectoryReads}
 use Rattle.iom_way_survey.specs.Queues.{IsFrameAmong, IsWordAmong, IsOfFaults}
 use Rattle.iom_way_survey.specs.Found.{SomeTable}
-use Rattle.iom_way_survey.specs.Surveys.{is_among, AreRowsOf}
+use Rattle.iom_way_survey.specs.Surveys.{is_id_among, AreRowsOf}
 use Rattle.iom_way_survey.specs.declared.findings.DeviceReach.{DeviceReach}
 use Rattle.iom_way_survey.proofs.BackLemmas.{found_with, has, way_back, tables_back}
 use Rattle.iom_way_survey.proofs.LookLemmas.{same_place}
@@ -168,13 +168,13 @@ device_at devices k device single at =
 
 pub rows_back : (parts : HardwareParts) (trusted : List ℕ) (rows : List DeviceReach) → AreOfOneId parts.devices → AreRowsOf parts trusted rows
     → (k : ℕ) (row : DeviceReach) (frame : ℕ) (kind : AccessKind) → slice_get rows k ≡ Some row → row_has (frames_by row.reach kind) frame ≡ true
-    → (other : ℕ) × Way (scene_of (is_among trusted) parts) row.id other kind × (frame_place other ≡ frame_place frame)
+    → (other : ℕ) × Way (scene_of (is_id_among trusted) parts) row.id other kind × (frame_place other ≡ frame_place frame)
 rows_back parts trusted rows single are k row frame kind at is =
     let (device, here) = same_place rows parts.devices k row are.long at in
     let own = are.each k row device at here in
     let (other, way, place) = (own.reach kind).sole frame is in (
       other,
-      subst (λ (n : ℕ). Way (scene_of (is_among trusted) parts) n other kind) (sym own.id)
-          (way_back (is_among trusted) parts device other kind (device_at parts.devices k device single here) way),
+      subst (λ (n : ℕ). Way (scene_of (is_id_among trusted) parts) n other kind) (sym own.id)
+          (way_back (is_id_among trusted) parts device other kind (device_at parts.devices k device single here) way),
       place,
     )

@@ -15,8 +15,8 @@ use Rattle.iom_way_survey.specs.declared.findings.DeviceReach.{DeviceReach}
 use Rattle.iom_way_survey.specs.declared.findings.Survey.{Survey}
 
 -- whether the number is one of these
-abbrev pub is_among : List ℕ → ℕ → Bool
-is_among ids id = list_any (λ own. own == id) ids
+abbrev pub is_id_among : List ℕ → ℕ → Bool
+is_id_among ids id = list_any (λ own. own == id) ids
 
 -- what a survey finds of a device: nothing, where it has no row of it
 abbrev pub reach_in : Option DeviceReach → AccessKind → ℕ → Bool
@@ -29,7 +29,7 @@ reaches_in_rows rows id kind frame = reach_in (find (λ (row : DeviceReach). row
 -- the row is the device's: what it reaches is all that is looked for
 pub record IsReachRow (parts : HardwareParts) (trusted : List ℕ) (row : DeviceReach) (device : Device) : Type 0 where
   pub id : row.id ≡ device.id
-  pub is_trusted : row.is_trusted ≡ is_among trusted device.id
+  pub is_trusted : row.is_trusted ≡ is_id_among trusted device.id
   pub reach : IsReachOf row.reach (WayOf parts device)
 
 -- so many devices have their rows, in their order

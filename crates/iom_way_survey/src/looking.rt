@@ -3,7 +3,7 @@ ghost use Rattle.std.specs.Prelude.{◌≡◌, ◌≤◌, length, IfOk};
 ghost use Rattle.iom_hardware.specs.HardwareParts.{hardware_parts};
 ghost use Rattle.iom_hardware.specs.Sound.{IsSoundHardware};
 ghost use Rattle.iom_hardware_ways.specs.Scenes.{scene_of};
-ghost use Rattle.iom_way_survey.specs.Surveys.{is_among, IsOfNothing, Surveys, InventsNone};
+ghost use Rattle.iom_way_survey.specs.Surveys.{is_id_among, IsOfNothing, Surveys, InventsNone};
 
 use crate::directory::survey_directory;
 use crate::findings::Survey;
@@ -32,8 +32,8 @@ impl Survey {
     pub fn look(&mut self, hardware: &Hardware, trusted: &[DeviceId])
         requires size { length hardware.now.memory ≤ 4096 }
         requires sound { IsSoundHardware (hardware_parts hardware.now) hardware.now.events }
-        ensures missed { Surveys self.new (scene_of (is_among trusted.now) (hardware_parts hardware.now)) }
-        ensures invented { InventsNone self.new (scene_of (is_among trusted.now) (hardware_parts hardware.now)) }
+        ensures missed { Surveys self.new (scene_of (is_id_among trusted.now) (hardware_parts hardware.now)) }
+        ensures invented { InventsNone self.new (scene_of (is_id_among trusted.now) (hardware_parts hardware.now)) }
     {
         hardware.facts();
         self.devices.clear();

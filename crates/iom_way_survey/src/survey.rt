@@ -6,7 +6,7 @@ ghost use Rattle.iom_reach.specs.Safe.{IsSafe};
 ghost use Rattle.iom_reach.specs.Scene.{HardwareScene};
 ghost use Rattle.iom_table_survey.specs.Rows.{row_has, GrowsBy, StandInBoth};
 ghost use Rattle.iom_way_survey.specs.Found.{TablesOfDevice, SomeTable};
-ghost use Rattle.iom_way_survey.specs.Surveys.{is_among, IsReachRow, reaches_in_rows, Surveys, IsSurveyOf, IsClash, AreRowsOf, IsConflictFree, IsConflict};
+ghost use Rattle.iom_way_survey.specs.Surveys.{is_id_among, IsReachRow, reaches_in_rows, Surveys, IsSurveyOf, IsClash, AreRowsOf, IsConflictFree, IsConflict};
 ghost use Rattle.iom_way_survey.specs.declared.findings.Conflict.{Conflict};
 ghost use Rattle.iom_way_survey.specs.declared.findings.DeviceReach.{DeviceReach};
 
@@ -20,7 +20,7 @@ use iom_table_survey::{FrameRow, Reach};
 
 /// Whether the id is one of these.
 fn is_among(ids: &[DeviceId], id: DeviceId) -> bool
-    ensures { result ≡ is_among ids.now id }
+    ensures { result ≡ is_id_among ids.now id }
 {
     ids.iter().any(|own| *own == id)
 }

@@ -24,7 +24,7 @@ use Rattle.iom_hardware.specs.declared.answers.Delivered.TheVariants as delivere
 use Rattle.iom_hardware.specs.Deliveries.{TakesReply, MessageArrives, MessageArrivesIfAny, DeliversAtPlace}
 use Rattle.iom_hardware.specs.HardwareParts.{HardwareParts}
 use Rattle.iom_hardware.specs.Messages.{AsksTranslation, ClaimsCompletion, LosesMessage, CopiesMessage}
-use Rattle.iom_hardware.specs.OwnIommu.{Iommu}
+use Rattle.iom_iommu.specs.OwnIommu.{Iommu}
 use Rattle.iom_hardware.specs.Plugging.{PutsDiskIntoDevice}
 use Rattle.iom_hardware.specs.Requests.{Replies, RequestsAccess, RequestsTranslatedAccess}
 use Rattle.iom_hardware.specs.ThroughCache.{GoesByCachedFrame, GoesByCache, RequestsAccessThroughCache}

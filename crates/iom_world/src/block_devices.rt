@@ -10,7 +10,8 @@ ghost use Rattle.iom_machine.specs.declared.outcome.Outcome.TheVariants as outco
 ghost use Rattle.iom_base.specs.Accesses.{MayWant};
 ghost use Rattle.iom_base.specs.DeviceKinds.{is_block_device};
 ghost use Rattle.iom_virtqueue.specs.Layouts.{layout_of};
-ghost use Rattle.iom_world_effects.specs.BlockDevices.{MayTake, InsertsMedium, SetsBlockQueue, GoesThroughCache, BeginsAccess, Rests, TellsBlockStatus, devices_left, with_block_reset};
+ghost use Rattle.iom_world_effects.specs.BlockDevices.{MayTake, InsertsMedium, SetsBlockQueue, GoesThroughCache, BeginsAccess, Rests, TellsBlockStatus, devices_left};
+ghost use Rattle.iom_device.specs.Calls.{with_block_reset};
 ghost use Rattle.iom_device.specs.Caches.{epoch_in, kind_in, with_has_disk};
 ghost use Rattle.iom_world_effects.specs.Does.{disks_after};
 ghost use Rattle.iom_world_effects.specs.Requests.{AsksAccess};

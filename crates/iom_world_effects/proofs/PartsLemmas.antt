@@ -8,7 +8,7 @@ use Rattle.iom_fault_queue.specs.Fields.{Fields}
 use Rattle.iom_driver.specs.Ready.{IsReady}
 use Rattle.iom_driver.specs.Seen.{state_of}
 use Rattle.iom_driver.specs.State.{DriverState}
-use Rattle.iom_world_effects.specs.OwnIommu.{Iommu}
+use Rattle.iom_iommu.specs.OwnIommu.{Iommu}
 use Rattle.iom_registers.specs.declared.registers.Registers.{Registers}
 use Rattle.iom_device.specs.declared.device.Device.{Device}
 use Rattle.iom_world_effects.specs.Parts.{Parts}

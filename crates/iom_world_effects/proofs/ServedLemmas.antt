@@ -24,7 +24,8 @@ use Rattle.iom_driver.specs.declared.device.Attachment.TheVariants.{Detached, At
 use Rattle.iom_driver.specs.declared.device.Stages.{Stages}
 use Rattle.iom_driver.specs.Devices.{attachment_by_id, stages_of, owned_stages_of, attached_stages, owned_stages}
 use Rattle.iom_driver.specs.Directory.{context_in, context_for, located_for, mode_of, NamesDirectory}
-use Rattle.iom_driver.specs.Layout.{IsLevels, directory_frame, id_limit}
+use Rattle.iom_driver.specs.Layout.{IsLevels, directory_frame}
+use Rattle.iom_base.specs.DeviceIds.{id_limit}
 use Rattle.iom_driver.specs.State.{DriverState}
 use Rattle.iom_driver.specs.Tables.{AreTablesOf}
 use Rattle.iom_driver.proofs.Lists.{get_within}

@@ -21,7 +21,7 @@ use Rattle.iom_registers.specs.Queues.{command_status}
 use Rattle.iom_tlb.specs.Content.{Key}
 use Rattle.iom_device.specs.Caches.{epoch_in, kind_in}
 use Rattle.iom_world_effects.specs.Devices.{shown_attachment}
-use Rattle.iom_world_effects.specs.OwnIommu.{Iommu}
+use Rattle.iom_iommu.specs.OwnIommu.{Iommu}
 use Rattle.iom_world_effects.specs.Parts.{Parts}
 use Rattle.iom_world_effects.specs.Queued.{completed_in}
 use Rattle.iom_world_effects.specs.Read.{space_at, values_of, accesses_of}

@@ -1,7 +1,6 @@
 -- What the events of block devices do (virtio 1.2): a disk is put in, a queue is set, a step is taken, a status is told. Of a device's queue, its requests
 -- and the bytes of its disk a world knows nothing. So the access that a step wants, and all else that a step is, is the device's choice.
 use Rattle.std.specs.Prelude.{◌≡◌, ◌<◌, ◌^◌, ◌⊎◌, ℕ, Bool, true, false, List, Result, Ok, Err, Some, if◌then◌else◌, ⊤}
-use Rattle.std.specs.Option.{option_map_or}
 use Rattle.iom_base.specs.declared.access.Access.{Access}
 use Rattle.iom_base.specs.Accesses.{page_of, MayWant}
 use Rattle.iom_coherence.specs.Attachments.{caches_translations}
@@ -19,7 +18,7 @@ use Rattle.iom_virtqueue.specs.declared.layout.Layout.{Layout}
 use Rattle.iom_virtqueue.specs.Layouts.{IsLayout}
 use Rattle.iom_device.specs.declared.device.Device.{Device}
 use Rattle.iom_device.specs.Caches.{IsAble, device_with, epoch_in, kind_in, with_has_disk}
-use Rattle.iom_device.specs.Calls.{with_reset}
+use Rattle.iom_device.specs.Calls.{with_reset, with_block_reset}
 use Rattle.iom_world_effects.specs.Messages.{with_sent}
 use Rattle.iom_world_effects.specs.Parts.{Parts}
 use Rattle.iom_world_effects.specs.Requests.{AsksAccess}
@@ -109,10 +108,6 @@ abbrev pub TellsBlockStatus : Parts → ℕ → ℕ → Outcome → Parts → Ty
 TellsBlockStatus old id status told new =
     IsUnknown old id told new ⊎ IsUnable is_block_device old id told new
     ⊎ (IsAble is_block_device old.devices id × (told ≡ outcome.Status status) × (new ≡ old))
-
--- the devices after a reset of the one with this id, where it is a block device
-abbrev pub with_block_reset : List Device → ℕ → List Device
-with_block_reset devices id = if option_map_or is_block_device (kind_in devices id) false then with_reset devices id else devices
 
 -- a device that leaves has no disk any more, and a block device is reset
 abbrev pub devices_left : Result Ticket Refusal → List Device → ℕ → List Device

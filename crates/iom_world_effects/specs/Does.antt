@@ -17,7 +17,7 @@ use Rattle.iom_fault_queue.specs.Fields.{Fields}
 use Rattle.iom_fault_queue.specs.Grammar.{words}
 use Rattle.iom_iommu.specs.declared.fetched.Fetched.{Fetched}
 use Rattle.iom_iommu.specs.declared.fetched.Fetched.TheVariants.{Did, Waiting, Empty, Stopped}
-use Rattle.iom_world_effects.specs.OwnIommu.{Iommu}
+use Rattle.iom_iommu.specs.OwnIommu.{Iommu}
 use Rattle.iom_iommu.specs.Fetches.{FetchesCommand}
 use Rattle.iom_iommu.specs.Parts.{mmio, registers_of, slots_of, AddsDevice}
 use Rattle.iom_base.specs.declared.refusal.Refusal.{Refusal}

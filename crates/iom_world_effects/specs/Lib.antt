@@ -1,7 +1,6 @@
 pub mod Frames
 pub mod Devices
 pub mod Places
-pub mod OwnIommu
 pub mod Parts
 pub mod Shows
 pub mod PowerOn

@@ -2,7 +2,7 @@
 use Rattle.std.specs.Prelude.{ℕ, List}
 use Rattle.iom_driver.specs.State.{DriverState}
 use Rattle.iom_fabric.specs.declared.fabric.OnLink.{OnLink}
-use Rattle.iom_world_effects.specs.OwnIommu.{Iommu}
+use Rattle.iom_iommu.specs.OwnIommu.{Iommu}
 use Rattle.iom_device.specs.declared.device.Device.{Device}
 
 -- the bytes of each frame, the IOMMU, what the driver knows, the devices in the order of plugging, and the messages under way

@@ -5,7 +5,7 @@ use Rattle.iom_driver.specs.Layout.{ddtp_of}
 use Rattle.iom_driver.specs.State.{DriverState}
 use Rattle.iom_iommu.specs.Parts.{IsAtPowerOn, mmio}
 use Rattle.iom_registers.specs.declared.register.Register.TheVariants.{Ddtp}
-use Rattle.iom_world_effects.specs.OwnIommu.{Iommu}
+use Rattle.iom_iommu.specs.OwnIommu.{Iommu}
 
 -- the IOMMU was at power-on, and then the driver wrote `ddtp` and turned its queues on
 abbrev pub IsStartedIommu : ℕ → ℕ → Iommu → Type 0

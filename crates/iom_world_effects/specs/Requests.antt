@@ -24,7 +24,7 @@ use Rattle.iom_world_effects.specs.Parts.{Parts}
 use Rattle.iom_base.specs.declared.device_kind.DeviceKind.{DeviceKind}
 use Rattle.iom_base.specs.DeviceKinds.{forges}
 use Rattle.iom_device.specs.Caches.{IsAble}
-use Rattle.iom_world_effects.specs.OwnIommu.{Iommu}
+use Rattle.iom_iommu.specs.OwnIommu.{Iommu}
 use Rattle.iom_world_effects.specs.Unable.{IsUnknown, IsUnable}
 
 -- what an answer of the IOMMU is told as

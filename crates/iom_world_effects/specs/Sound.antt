@@ -14,7 +14,7 @@ use Rattle.iom_fabric.specs.declared.fabric.OnLink.{OnLink}
 use Rattle.iom_fabric.specs.declared.message.Message.{Message}
 use Rattle.iom_fabric.specs.declared.message.Message.TheVariants as sent
 use Rattle.iom_inflight.specs.Flights.{FlightRow}
-use Rattle.iom_world_effects.specs.OwnIommu.{Iommu}
+use Rattle.iom_iommu.specs.OwnIommu.{Iommu}
 use Rattle.iom_coherence.specs.Attachments.{caches_translations}
 use Rattle.iom_iommu.specs.Parts.{registers_of, contexts_of, flights_of, slots_of, frames_of}
 use Rattle.iom_registers.specs.declared.registers.Registers.{Registers}

@@ -5,7 +5,7 @@ use Rattle.std.proofs.Props.{props}
 use Rattle.iom_driver.specs.declared.driver.Driver.{Driver}
 use Rattle.iom_driver.specs.ReadyIsFact.{ready_prop}
 use Rattle.iom_fabric.specs.declared.fabric.OnLink.{OnLink}
-use Rattle.iom_world_effects.specs.OwnIommu.{Iommu}
+use Rattle.iom_iommu.specs.OwnIommu.{Iommu}
 use Rattle.iom_device.specs.declared.device.Device.{Device}
 use Rattle.iom_fabric.specs.declared.message.Message.{Message}
 use Rattle.iom_fabric.specs.declared.message.Message.TheVariants as sent

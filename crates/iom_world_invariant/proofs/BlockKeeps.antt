@@ -27,12 +27,12 @@ use Rattle.iom_base.specs.DeviceKinds.{is_block_device}
 use Rattle.iom_virtqueue.specs.declared.layout.Layout.{Layout}
 use Rattle.iom_device.specs.declared.device.Device.{Device}
 use Rattle.iom_world_effects.specs.Below.{LawsBelow}
-use Rattle.iom_world_effects.specs.BlockDevices.{InsertsMedium, SetsBlockQueue, AsksIfMissed, GoesThroughCache, with_block_reset}
+use Rattle.iom_world_effects.specs.BlockDevices.{InsertsMedium, SetsBlockQueue, AsksIfMissed, GoesThroughCache}
 use Rattle.iom_device.specs.Caches.{device_with, kind_in, cache_of, epoch_in, with_has_disk}
 use Rattle.iom_world_effects.specs.Devices.{shown_devices}
 use Rattle.iom_world_effects.specs.Parts.{Parts}
 use Rattle.iom_world_effects.specs.Read.{values_of}
-use Rattle.iom_device.specs.Calls.{reset_of, with_reset}
+use Rattle.iom_device.specs.Calls.{reset_of, with_reset, with_block_reset}
 use Rattle.iom_world_effects.specs.Requests.{reply_told_of}
 use Rattle.iom_world_effects.specs.Scenes.{Values, HasFaithfulScene}
 use Rattle.iom_world_effects.specs.Sound.{AreSound}

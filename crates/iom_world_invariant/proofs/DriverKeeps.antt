@@ -21,7 +21,8 @@ use Rattle.iom_driver.specs.Calls.{AnswersGrant, TakesTables, IsSame}
 use Rattle.iom_driver.specs.Choices.{AreHighestFree, marked_for, cleared}
 use Rattle.iom_driver.specs.Devices.{attachment_by_id, has_device, attached_stages, owned_stages, owned_stages_of, has_trusted_cache}
 use Rattle.iom_driver.specs.Directory.{context_for, DirectoryStands}
-use Rattle.iom_driver.specs.Layout.{IsLevels, id_limit, command_frame, completion_frame, directory_frame, completion_address}
+use Rattle.iom_driver.specs.Layout.{IsLevels, command_frame, completion_frame, directory_frame, completion_address}
+use Rattle.iom_base.specs.DeviceIds.{id_limit}
 use Rattle.iom_driver.specs.Ready.{IsReady}
 use Rattle.iom_driver.specs.Reasons.{why_not_attach, why_not_grant}
 use Rattle.iom_driver.specs.State.{DriverState}

@@ -29,7 +29,7 @@ use Rattle.iom_base.specs.declared.access.AccessKind.TheVariants.{Read, Write}
 use Rattle.iom_inflight.specs.Flights.{Flights, are_drained}
 use Rattle.iom_iommu.specs.declared.fetched.Fetched.{Fetched}
 use Rattle.iom_iommu.specs.declared.fetched.Fetched.TheVariants.{Did, Waiting, Empty, Stopped}
-use Rattle.iom_world_effects.specs.OwnIommu.{Iommu}
+use Rattle.iom_iommu.specs.OwnIommu.{Iommu}
 use Rattle.iom_iommu.specs.Fetches.{FetchesCommand, counted_in, with_store, IsStorable, head_entry}
 use Rattle.iom_iommu.specs.Effects.{FetchesByAnswer, DropsContexts, DropsTranslations, waits_for_accesses, waits_for_slots, is_held_back, slots_by, asks_for_interrupt, after_none, after_nothing, fence_snapshot_at, waits_at, WaitsAt, store_of, with_done, IsStoredIn, IsOffRing, StopsAtEntry, StopsFetching}
 use Rattle.iom_iommu.proofs.ByAnswer.{by_answer}

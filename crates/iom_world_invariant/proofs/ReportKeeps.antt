@@ -22,7 +22,7 @@ use Rattle.iom_registers.specs.Queues.{is_command_queue_on}
 use Rattle.iom_tlb.specs.Content.{Translations}
 use Rattle.iom_world_effects.specs.Does.{TakesReport, report_told_of}
 use Rattle.iom_world_effects.specs.Stays.{AreSame, SameIfRefused, waiting_in}
-use Rattle.iom_world_effects.specs.OwnIommu.{Iommu}
+use Rattle.iom_iommu.specs.OwnIommu.{Iommu}
 use Rattle.iom_world_effects.specs.Parts.{Parts}
 use Rattle.iom_world_effects.specs.Read.{values_of, accesses_of}
 use Rattle.iom_world_effects.specs.Shows.{PartsShow}

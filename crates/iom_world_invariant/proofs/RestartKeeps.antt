@@ -28,7 +28,7 @@ use Rattle.iom_registers.specs.Queues.{command_status, is_command_queue_on}
 use Rattle.iom_tlb.specs.Content.{Translations}
 use Rattle.iom_device.specs.declared.device.Device.{Device}
 use Rattle.iom_world_effects.specs.Devices.{shown_attachment}
-use Rattle.iom_world_effects.specs.OwnIommu.{Iommu}
+use Rattle.iom_iommu.specs.OwnIommu.{Iommu}
 use Rattle.iom_world_effects.specs.Parts.{Parts}
 use Rattle.iom_world_effects.specs.Read.{values_of, accesses_of}
 use Rattle.iom_world_effects.specs.Recovery.{RestartsQueue}

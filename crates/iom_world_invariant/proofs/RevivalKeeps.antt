@@ -10,7 +10,8 @@ use Rattle.iom_driver.specs.declared.device.Attachment.TheVariants.{Attached}
 use Rattle.iom_driver.specs.Devices.{attachment_by_id, has_device, owned_stages, owned_stages_of, has_trusted_cache, with_attachment}
 use Rattle.iom_driver.specs.Directory.{context_for}
 use Rattle.iom_driver.specs.Fences.{last_fence, fence_of}
-use Rattle.iom_driver.specs.Layout.{id_limit, command_frame, completion_frame, completion_address, directory_frame}
+use Rattle.iom_driver.specs.Layout.{command_frame, completion_frame, completion_address, directory_frame}
+use Rattle.iom_base.specs.DeviceIds.{id_limit}
 use Rattle.iom_driver.specs.Ready.{IsReady}
 use Rattle.iom_driver.specs.Reasons.{why_not_revive, waits_for_its_ticket}
 use Rattle.iom_driver.specs.Revivals.{WritesContextAgain, AnswersRevive}

@@ -17,7 +17,7 @@ use Rattle.iom_machine.specs.Machine as machine
 use Rattle.iom_registers.specs.declared.registers.Registers.{Registers}
 use Rattle.iom_registers.specs.Queues.{with_cmd_to}
 use Rattle.iom_world_effects.specs.Stays.{waiting_in}
-use Rattle.iom_world_effects.specs.OwnIommu.{Iommu}
+use Rattle.iom_iommu.specs.OwnIommu.{Iommu}
 use Rattle.iom_world_effects.specs.Parts.{Parts}
 use Rattle.iom_world_effects.specs.Read.{values_of}
 use Rattle.iom_world_effects.specs.Recovery.{TimesOutFence}

@@ -10,14 +10,15 @@ use Rattle.iom_driver.specs.Attaching.{AnswersAttach, TakesRoot, LacksRoot, AreD
 use Rattle.iom_driver.specs.Choices.{AreHighestFree, marked_for, cleared}
 use Rattle.iom_driver.specs.Devices.{has_device, has_trusted_cache, owned_stages_of, with_attachment}
 use Rattle.iom_driver.specs.Directory.{context_for}
-use Rattle.iom_driver.specs.Layout.{id_limit, directory_frame}
+use Rattle.iom_driver.specs.Layout.{directory_frame}
+use Rattle.iom_base.specs.DeviceIds.{id_limit}
 use Rattle.iom_driver.specs.Reasons.{why_not_attach}
 use Rattle.iom_driver.specs.State.{DriverState}
 use Rattle.iom_driver.proofs.Chosen.{are_chosen}
 use Rattle.iom_driver.proofs.Lists.{differs}
 use Rattle.iom_driver.proofs.Marks.{Among, length-marked_for, length-cleared}
 use Rattle.iom_driver.proofs.Places.{attachment_set, attachment_other}
-use Rattle.iom_world_effects.specs.OwnIommu.{Iommu}
+use Rattle.iom_iommu.specs.OwnIommu.{Iommu}
 use Rattle.iom_iommu.specs.Parts.{flights_of}
 use Rattle.iom_base.specs.declared.refusal.Refusal.{Refusal}
 use Rattle.iom_base.specs.declared.refusal.Refusal.TheVariants.{NoFrames, NotStarted, NoSuchDevice, AlreadyAttached, IdTooWide, NotTrusted}

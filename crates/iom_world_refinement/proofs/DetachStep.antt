@@ -14,7 +14,7 @@ use Rattle.iom_driver.specs.Appends.{detach_commands}
 use Rattle.iom_driver.specs.Leaving.{QueuesDetach, IsToldOfDetach, DoesDetach}
 use Rattle.iom_driver.specs.State.{DriverState}
 use Rattle.iom_driver.proofs.Places.{attached_is, attached_there, attachment_set, attachment_other}
-use Rattle.iom_world_effects.specs.OwnIommu.{Iommu}
+use Rattle.iom_iommu.specs.OwnIommu.{Iommu}
 use Rattle.iom_iommu.specs.Parts.{mmio, registers_of, flights_of}
 use Rattle.iom_inflight.specs.Flights.{Flights, FlightRow}
 use Rattle.iom_base.specs.declared.refusal.Refusal.{Refusal}
@@ -30,7 +30,8 @@ use Rattle.iom_machine.specs.Machine as machine
 use Rattle.iom_machine.specs.Refusals as refusals
 use Rattle.iom_machine.specs.Refusals.{has_grants}
 use Rattle.iom_device.specs.declared.device.Device.{Device}
-use Rattle.iom_world_effects.specs.BlockDevices.{devices_left, with_block_reset}
+use Rattle.iom_world_effects.specs.BlockDevices.{devices_left}
+use Rattle.iom_device.specs.Calls.{with_block_reset}
 use Rattle.iom_device.specs.Caches.{with_has_disk}
 use Rattle.iom_world_effects.specs.Devices.{shown_attachment, shown_devices}
 use Rattle.iom_world_effects.specs.Answers.{ticket_told_of}

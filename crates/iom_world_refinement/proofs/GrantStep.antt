@@ -17,7 +17,7 @@ use Rattle.iom_driver.specs.State.{DriverState}
 use Rattle.iom_driver.proofs.Chosen.{are_chosen}
 use Rattle.iom_driver.proofs.Marks.{length-cleared}
 use Rattle.iom_driver.proofs.Places.{attached_is}
-use Rattle.iom_world_effects.specs.OwnIommu.{Iommu}
+use Rattle.iom_iommu.specs.OwnIommu.{Iommu}
 use Rattle.iom_iommu.specs.Parts.{flights_of}
 use Rattle.iom_ledger.specs.declared.entry.HistoryEntry.TheVariants as entry
 use Rattle.iom_base.specs.declared.refusal.Refusal.{Refusal}

@@ -4,7 +4,7 @@ use Rattle.std.proofs.lemmas.Bool.{false≢true, le-leb, lt-leb}
 use Rattle.iom_driver.specs.Calls.{AnswersPlug}
 use Rattle.iom_driver.specs.State.{DriverState}
 use Rattle.iom_inflight.specs.Flights.{FlightRow, row_of}
-use Rattle.iom_world_effects.specs.OwnIommu.{Iommu}
+use Rattle.iom_iommu.specs.OwnIommu.{Iommu}
 use Rattle.iom_driver.specs.Ready.{IsReady}
 use Rattle.iom_iommu.specs.Parts.{flights_of, registers_of, AddsDevice}
 use Rattle.iom_driver.specs.Reasons.{why_not_plug}

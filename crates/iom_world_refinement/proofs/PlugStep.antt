@@ -11,7 +11,7 @@ use Rattle.iom_driver.specs.Reasons.{why_not_plug}
 use Rattle.iom_driver.specs.State.{DriverState}
 use Rattle.iom_driver.proofs.Places.{attachment_plugged}
 use Rattle.iom_inflight.specs.Flights.{NumberedAccess, FlightRow, Flights, new_row, row_of}
-use Rattle.iom_world_effects.specs.OwnIommu.{Iommu}
+use Rattle.iom_iommu.specs.OwnIommu.{Iommu}
 use Rattle.iom_iommu.specs.Parts.{flights_of}
 use Rattle.iom_base.specs.declared.refusal.Refusal.{Refusal}
 use Rattle.iom_base.specs.declared.refusal.Refusal.TheVariants.{Memory, AlreadyPlugged, TooManyDevices, BadMedium}

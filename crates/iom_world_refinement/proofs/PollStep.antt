@@ -15,7 +15,7 @@ use Rattle.iom_driver.specs.Polling.{AnswersPoll, ConfirmsDone}
 use Rattle.iom_driver.specs.State.{DriverState}
 use Rattle.iom_driver.proofs.Gone.{after, attachment_confirmed, none_left, nobody_gone, marks_same}
 use Rattle.iom_driver.proofs.Lists.{differs}
-use Rattle.iom_world_effects.specs.OwnIommu.{Iommu}
+use Rattle.iom_iommu.specs.OwnIommu.{Iommu}
 use Rattle.iom_iommu.specs.Parts.{registers_of, flights_of}
 use Rattle.iom_inflight.specs.Flights.{FlightRow}
 use Rattle.iom_ledger.specs.History.{confirmed_from, History, confirms}

@@ -33,7 +33,7 @@ use Rattle.iom_world_effects.specs.Answers.{ticket_told_of}
 use Rattle.iom_world_effects.specs.Devices.{shown_attachment}
 use Rattle.iom_world_effects.specs.Frames.{ShowsFrames}
 use Rattle.iom_world_effects.specs.Stays.{AreSame, SameIfRefused}
-use Rattle.iom_world_effects.specs.OwnIommu.{Iommu}
+use Rattle.iom_iommu.specs.OwnIommu.{Iommu}
 use Rattle.iom_world_effects.specs.Parts.{Parts}
 use Rattle.iom_world_effects.specs.Recovery.{QuarantinesDevice}
 use Rattle.iom_world_effects.specs.Shows.{PartsShow}

@@ -10,7 +10,7 @@ use Rattle.iom_driver.specs.declared.device.Stages.{Stages}
 use Rattle.iom_driver.specs.Devices as as_known
 use Rattle.iom_driver.specs.Devices.{device_by_id, has_device, is_away, attached_stages, owned_stages}
 use Rattle.iom_driver.specs.Fences.{last_fence}
-use Rattle.iom_driver.specs.Layout.{id_limit}
+use Rattle.iom_base.specs.DeviceIds.{id_limit}
 use Rattle.iom_driver.specs.Reasons.{why_not_plug, why_not_attach, why_not_grant, granting_reasons, page_limit_in, why_not_release, releasing_reasons, why_not_detach, detaching_reasons, is_busy, lacks_places, release_places, HasGrants}
 use Rattle.iom_inflight.specs.Flights.{FlightRow}
 use Rattle.iom_iommu.specs.Parts.{registers_of, flights_of}

@@ -30,7 +30,7 @@ use Rattle.iom_virtqueue.specs.Layouts.{layout_of}
 use Rattle.iom_coherence.specs.Attachments.{caches_translations}
 use Rattle.iom_world_effects.specs.BlockDevices.{InsertsMedium, SetsBlockQueue, AsksIfMissed, GoesToMemory, TakesBlockStep, TellsBlockStatus}
 use Rattle.iom_device.specs.Caches.{IsAble, epoch_in, kind_in}
-use Rattle.iom_world_effects.specs.OwnIommu.{Iommu}
+use Rattle.iom_iommu.specs.OwnIommu.{Iommu}
 use Rattle.iom_world_effects.specs.Requests.{AsksAccess, AsksTranslated, IsReplied, reply_told_of}
 use Rattle.iom_world_effects.specs.ThroughCache.{DeviceAsksThroughCache, TriesCache, FindsFrame, cached_frame}
 use Rattle.iom_world_effects.specs.Recovery.{TimesOutFence}

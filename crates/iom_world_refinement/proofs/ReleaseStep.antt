@@ -8,7 +8,7 @@ use Rattle.iom_driver.specs.Calls.{AnswersRelease, QueuesRelease}
 use Rattle.iom_driver.specs.Fences.{last_fence}
 use Rattle.iom_driver.specs.Layout.{command_frame, completion_address}
 use Rattle.iom_driver.specs.State.{DriverState}
-use Rattle.iom_world_effects.specs.OwnIommu.{Iommu}
+use Rattle.iom_iommu.specs.OwnIommu.{Iommu}
 use Rattle.iom_iommu.specs.Parts.{mmio, flights_of}
 use Rattle.iom_inflight.specs.Flights.{Flights}
 use Rattle.iom_command_queue.specs.declared.command.Command.{Command}

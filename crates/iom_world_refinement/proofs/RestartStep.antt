@@ -19,7 +19,7 @@ use Rattle.iom_machine.specs.Refusals.{MayRefuseRestart}
 use Rattle.iom_world_effects.specs.Answers.{told_of}
 use Rattle.iom_world_effects.specs.Frames.{ShowsFrames}
 use Rattle.iom_world_effects.specs.Stays.{AreSame, SameIfRefused}
-use Rattle.iom_world_effects.specs.OwnIommu.{Iommu}
+use Rattle.iom_iommu.specs.OwnIommu.{Iommu}
 use Rattle.iom_world_effects.specs.Parts.{Parts}
 use Rattle.iom_world_effects.specs.Recovery.{RestartsQueue}
 use Rattle.iom_world_effects.specs.Shows.{PartsShow}

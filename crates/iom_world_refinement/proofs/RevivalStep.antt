@@ -29,7 +29,7 @@ use Rattle.iom_world_effects.specs.Answers.{told_of}
 use Rattle.iom_device.specs.Caches.{cache_of}
 use Rattle.iom_world_effects.specs.Devices.{shown_attachment}
 use Rattle.iom_world_effects.specs.Stays.{AreSame, SameIfRefused, waiting_in}
-use Rattle.iom_world_effects.specs.OwnIommu.{Iommu}
+use Rattle.iom_iommu.specs.OwnIommu.{Iommu}
 use Rattle.iom_world_effects.specs.Parts.{Parts}
 use Rattle.iom_device.specs.Calls.{reset_of, with_reset, devices_revived}
 use Rattle.iom_world_effects.specs.Recovery.{RevivesDevice}

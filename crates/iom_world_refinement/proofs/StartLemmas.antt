@@ -18,7 +18,7 @@ use Rattle.iom_driver.specs.Layout.{completion_address, directory_frame, ddtp_of
 use Rattle.iom_driver.specs.Ready.{IsReady}
 use Rattle.iom_driver.specs.State.{DriverState}
 use Rattle.iom_driver.proofs.Lists.{get_replicate, get_there}
-use Rattle.iom_world_effects.specs.OwnIommu.{Iommu}
+use Rattle.iom_iommu.specs.OwnIommu.{Iommu}
 use Rattle.iom_iommu.specs.Parts.{translations_of, fence_snapshot_of, fence_snapshot_after, slots_after, IsAtPowerOn, mmio, registers_of, contexts_of, flights_of, frames_of, slots_of}
 use Rattle.iom_ledger.specs.Shown.{Agrees}
 use Rattle.iom_machine.specs.declared.state.Frame.{Frame}

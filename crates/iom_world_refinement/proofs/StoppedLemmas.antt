@@ -66,7 +66,7 @@ use Rattle.iom_world_effects.specs.Deliveries.{AnswersAsked, Arrives, ArrivesIfA
 use Rattle.iom_world_effects.specs.Does.{Does, PlugsDevice, AddsRow, AttachesDevice, ReleasesPage, DetachesDevice, FetchesNext, TakesReport, fetch_named}
 use Rattle.iom_world_effects.specs.Stays.{HasTimedOut, RemainsStopped, MayGoOn, StaysStopped}
 use Rattle.iom_world_effects.specs.Messages.{SendsOnLink}
-use Rattle.iom_world_effects.specs.OwnIommu.{Iommu}
+use Rattle.iom_iommu.specs.OwnIommu.{Iommu}
 use Rattle.iom_world_effects.specs.Parts.{Parts}
 use Rattle.iom_world_effects.specs.Recovery.{QuarantinesDevice, RevivesDevice, RestartsQueue, TimesOutFence, ResetsDevice}
 use Rattle.iom_world_effects.specs.Requests.{AsksAccess, AsksTranslated}

@@ -2,7 +2,7 @@ use Rattle.std.proofs.Common.{◌≡◌, ◌∙◌, false, List, sym, ap, subst,
 use Rattle.iom_device.specs.declared.device.Device.{Device}
 use Rattle.iom_device.specs.Caches.{epoch_in}
 use Rattle.iom_hardware.specs.HardwareParts.{HardwareParts, hardware_parts}
-use Rattle.iom_hardware.specs.Plugging.{with_block_reset}
+use Rattle.iom_device.specs.Calls.{with_block_reset}
 use Rattle.iom_hardware.proofs.DeviceLists.{epoch_has}
 use Rattle.iom_hardware.proofs.SoundPlugging.{gone_keeps}
 use Rattle.iom_hardware.proofs.SoundThen.{KeepsDevices, devices_sound}

@@ -4,7 +4,7 @@ use Rattle.iom_hardware_ways.specs.Scenes.{waiting_places}
 use Rattle.iom_registers.specs.declared.registers.Registers.{Registers}
 use Rattle.iom_table_survey.specs.Rows.{GrowsBy}
 use Rattle.iom_way_survey.specs.Queues.{IsFrameAmong, IsWordAmong, IsOfFaults}
-use Rattle.iom_way_survey.specs.Surveys.{is_among}
+use Rattle.iom_way_survey.specs.Surveys.{is_id_among}
 use Rattle.iom_way_survey.proofs.LookLemmas.{ways_reached, rows_trust, all_read, all_stored}
 use Rattle.iom_way_survey.proofs.SoleLemmas.{rows_back, read_back, stored_back}
 use Rattle.iom_way_survey.proofs.findings.Survey.look.Goals as goal
@@ -21,9 +21,9 @@ returns-clause-missed c =
     let faults = subst (λ (r : Registers). GrowsBy c.survey_queue.new.stored c.survey_faults.new.stored (IsOfFaults r)) here c.survey_faults.ensures in
     record {
       reached = ways_reached parts trusted rows hardware.events c.requires.sound c.facts.ensures.flights c.survey_devices.ensures.rows;
-      read = all_read (is_among trusted) parts c.clear-2.new.self c.survey_devices.new.read c.survey_directory.new.read c.survey_queue.new.read
+      read = all_read (is_id_among trusted) parts c.clear-2.new.self c.survey_devices.new.read c.survey_directory.new.read c.survey_queue.new.read
           c.survey_devices.ensures.tables c.survey_directory.ensures frames;
-      stored = all_stored (is_among trusted) parts c.clear-3.new.self c.survey_queue.new.stored c.survey_faults.new.stored words faults;
+      stored = all_stored (is_id_among trusted) parts c.clear-3.new.self c.survey_queue.new.stored c.survey_faults.new.stored words faults;
       trusted = rows_trust parts trusted rows c.survey_devices.ensures.rows;
     }
 
@@ -39,7 +39,7 @@ returns-clause-invented c =
     let faults = subst (λ (r : Registers). GrowsBy c.survey_queue.new.stored c.survey_faults.new.stored (IsOfFaults r)) here c.survey_faults.ensures in
     record {
       reached = rows_back parts trusted rows c.requires.sound.own_ids c.survey_devices.ensures.rows;
-      read = read_back (is_among trusted) parts c.clear-2.new.self c.survey_devices.new.read c.survey_directory.new.read c.survey_queue.new.read
+      read = read_back (is_id_among trusted) parts c.clear-2.new.self c.survey_devices.new.read c.survey_directory.new.read c.survey_queue.new.read
           c.clear-2.ensures c.survey_devices.ensures.tables c.survey_directory.ensures frames;
-      stored = stored_back (is_among trusted) parts c.clear-3.new.self c.survey_queue.new.stored c.survey_faults.new.stored c.clear-3.ensures words faults;
+      stored = stored_back (is_id_among trusted) parts c.clear-3.new.self c.survey_queue.new.stored c.survey_faults.new.stored c.clear-3.ensures words faults;
     }
