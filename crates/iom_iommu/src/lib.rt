@@ -8,7 +8,7 @@
 //! above may rely on one relation for each call: `AnswersRequest` and `CommitsOldest`
 //! in `specs/Requests.antt`, `AnswersTranslated` in `specs/Translated.antt`, `AnswersQuestion` in
 //! `specs/Questions.antt`, `FetchesCommand` in `specs/Fetches.antt`, `CompletesRequest` in
-//! `specs/Invalidations.antt`, `TimesOut` in `specs/Timeouts.antt`. [`laws`] says more of fetches: what
+//! `specs/Invalidations.antt`, `TimesFenceOut` in `specs/Timeouts.antt`. [`laws`] says more of fetches: what
 //! they do to the list of the commands that wait. Software reaches the registers by
 //! [`Mmio`](iom_registers::Mmio), which [`Iommu`] meets.
 //!

@@ -20,7 +20,7 @@ use Rattle.iom_virtio_blk.specs.Histories.{Entry, gave, IsMap, InWork, told}
 use Rattle.iom_virtio_blk.proofs.HistoryLemmas.{IsMap-kept, IsMap-begun, IsMap-more, IsMap-write, IsMap-tears}
 use Rattle.iom_virtio_blk.proofs.SectorLemmas.{rest_grows, buffer_filled}
 
--- what is to be access_of of a request that did `job` and used these bytes
+-- what is to be said of a request that did `job` and used these bytes
 pub record Goes (job : Job) (got : List ℕ) (history : List Entry) (disk : Option DiskState) (s : Serving) (buffer : List ℕ) : Type 0 where
   pub map : IsMap (told job s.job s.sector got history) disk
   pub work : InWork s.job s buffer (told job s.job s.sector got history) disk

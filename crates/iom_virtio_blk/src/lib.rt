@@ -7,8 +7,8 @@
 //! or wanted. The caller makes the access, where it may be made, and says what became of it
 //! ([`Blk::replied`], [`Blk::made`], [`Blk::refused`]).
 //!
-//! The layers above may rely on [`Blk::step`] being the relation `Steps` of `specs/Steps.antt`, whatever
-//! the driver writes into its queue; on the device taking no bytes but those of the access that it began
+//! The layers above may rely on [`Blk::step`] being the relation `BlockDeviceSteps` of
+//! `specs/Steps.antt`, whatever the driver writes into its queue; on the device taking no bytes but those of the access that it began
 //! itself since its last reset; and on its disk holding what `specs/Histories.antt` says of the requests
 //! that were served. A [`Disk`] keeps the laws of its trait.
 #![tactic(auto)]
