@@ -17,7 +17,7 @@ use Rattle.iom_stage_walk.specs.declared.walked.WalkFault.{WalkFault}
 use Rattle.iom_stage_walk.specs.Paths.{ReachesFirst, StopsFirst}
 use Rattle.iom_stage_walk.specs.Second.{ReachesSecond, StopsSecond}
 use Rattle.iom_stage_walk.specs.Both.{ReachesBoth, StopsBoth}
-use Rattle.iom_device_dir.specs.Contents.{Content as Contexts}
+use Rattle.iom_device_dir.specs.Contents.{Content}
 use Rattle.iom_tlb.specs.declared.trans_cache.Translation.{Translation}
 use Rattle.iom_tlb.specs.Content.{Key, Translations, HasNothing, TranslationsStay, Keeps, DropsWhere}
 use Rattle.iom_tlb.proofs.ContentLemmas.{found_before_look, found_by_keep, found_before_drop}
@@ -80,7 +80,7 @@ module _ (frames : ℕ) (old new : Translations) (inside : AreTranslationsIn fra
     by_mode mode.ThreeLevels found answer lt s = served_by_inside found answer lt s
 
 -- A REQUEST that is served keeps it, where its own frame is one of memory
-pub serve_inside : (frames : ℕ) (sure : Bool) (memory : List (List ℕ)) (r : Registers) (contexts : Contexts ℕ Context) (id address : ℕ) (kind : AccessKind) (old : Translations)
+pub serve_inside : (frames : ℕ) (sure : Bool) (memory : List (List ℕ)) (r : Registers) (contexts : Content ℕ Context) (id address : ℕ) (kind : AccessKind) (old : Translations)
     (answer : Result Translation WalkFault) (new : Translations) → AreTranslationsIn frames old → IfOk answer (λ translation. translation.frame < frames) → Serves sure memory r contexts id address kind old answer new
     → AreTranslationsIn frames new
 serve_inside frames sure memory r contexts id address kind old answer new inside lt s =

@@ -11,7 +11,7 @@ use Rattle.iom_coherence.specs.ToCome.{FencesRise}
 use Rattle.iom_coherence.proofs.ListLemmas.{in_none, cons_cases, contains_head, contains_tail}
 use Rattle.iom_base.specs.declared.mode.Mode.{Mode}
 use Rattle.iom_base.specs.declared.mode.Mode.TheVariants.{First, Second, Both}
-use Rattle.iom_driver.specs.Appends.{invalidation, space_invalidation, fence, dropped_range, device_invalidation, release_commands as driver_commands}
+use Rattle.iom_driver.specs.Appends.{invalidation, space_invalidation, fence, dropped_range, device_invalidation, release_commands}
 use Rattle.iom_driver.specs.declared.device.Stages.{Stages}
 use Rattle.iom_tlb.specs.declared.space.Space.{Space}
 use Rattle.iom_tlb.specs.declared.space.Space.TheVariants as space
@@ -101,7 +101,7 @@ queued_release address spaces id page stage own = by stage.ats
     by false = (queued_page address spaces stage.mode stage.number page id own, tt)
 
 -- its fence is the last
-pub released_last : (id page address ticket : ℕ) (stage : Stages) → map Command (driver_commands id stage page address ticket)
+pub released_last : (id page address ticket : ℕ) (stage : Stages) → map Command (release_commands id stage page address ticket)
     ≡ (Command (invalidation stage.mode stage.number page) ∷ map Command (device_invalidation id stage page)) ++ Command (fence address ticket) ∷ []
 released_last id page address ticket stage = by stage.ats
   where

@@ -19,7 +19,7 @@ use Rattle.iom_base.specs.declared.device_kind.DeviceKind.{DeviceKind}
 use Rattle.iom_machine.specs.declared.state.State.{State}
 use Rattle.iom_base.specs.DeviceKinds.{asks_questions, forges}
 use Rattle.iom_machine.specs.Machine.{Acts, Asks, Forges}
-use Rattle.iom_machine.specs.Messages.{Sends as MachineSends, Delivers, Drops, Repeats}
+use Rattle.iom_machine.specs.Messages.{Sends, Delivers, Drops, Repeats}
 use Rattle.iom_device.specs.declared.device.Device.{Device}
 use Rattle.iom_device.specs.Caches.{IsAble, cache_of, epoch_in, with_cache}
 use Rattle.iom_world_effects.specs.Deliveries.{TakesInto, TakesAnswered, ObeysRequest, HearsCompletion, taken_told, obeyed_told, with_completion_sent}
@@ -49,10 +49,10 @@ shows_rest old new state memory driver flights devices shows = record {
   levels = rw driver shows.levels;
 }
 
-sends_state : (state : State) (fabric : List OnLink) (told : Outcome) → told ≡ sent_told fabric → MachineSends state told state
-sends_state state fabric told is = subst (λ t. MachineSends state t state) (sym is) (by (nat_lt (length fabric) 64))
+sends_state : (state : State) (fabric : List OnLink) (told : Outcome) → told ≡ sent_told fabric → Sends state told state
+sends_state state fabric told is = subst (λ t. Sends state t state) (sym is) (by (nat_lt (length fabric) 64))
   where
-    by : (b : Bool) → MachineSends state (if b then outcome.Sent else outcome.Lost) state
+    by : (b : Bool) → Sends state (if b then outcome.Sent else outcome.Lost) state
     by true = refl
     by false = refl
 
@@ -61,24 +61,24 @@ abbrev SendsIfAble : (DeviceKind → Bool) → Parts → ℕ → Message → Out
 SendsIfAble can old id message told new = IsUnknown old id told new ⊎ IsUnable can old id told new ⊎ (IsAble can old.devices id × SendsOnLink old id message told new)
 
 abbrev SendsState : State → Outcome → Type 0
-SendsState state told = MachineSends state told state
+SendsState state told = Sends state told state
 
 sends_step : (can : DeviceKind → Bool) (old new : Parts) (id : ℕ) (message : Message) (told : Outcome) → SendsIfAble can old id message told new → (state : State) → PartsShow old state
-    → Acts can (λ device. MachineSends state told state) state id told state × PartsShow new state
+    → Acts can (λ device. Sends state told state) state id told state × PartsShow new state
 sends_step can old new id message told asks state shows = elim asks [
   | inl unknown ↦ (
-    acts_absent can (λ device. MachineSends state told state) old state id told shows.devices unknown.absent unknown.told_so,
+    acts_absent can (λ device. Sends state told state) old state id told shows.devices unknown.absent unknown.told_so,
     shows_same old new state unknown.same shows,
   )
   | inr (inl unable) ↦
       let is = present_found old.driver.devices (flights_of old.iommu).rows old.devices id (kind_present old.devices id unable.kind unable.there) in (
-        acts_unable can (λ device. MachineSends state told state) old state id told shows.devices is
+        acts_unable can (λ device. Sends state told state) old state id told shows.devices is
             (ap can (kind_found old.driver.devices (flights_of old.iommu).rows old.devices id unable.kind is unable.there) ∙ unable.cannot) unable.told_so,
         shows_same old new state unable.same shows,
       )
   | inr (inr (able, sends)) ↦
       let is = present_found old.driver.devices (flights_of old.iommu).rows old.devices id (kind_present old.devices id able.0 able.1) in (
-        acts_at can (λ device. MachineSends state told state) old state id told state shows.devices is
+        acts_at can (λ device. Sends state told state) old state id told state shows.devices is
             (ap can (kind_found old.driver.devices (flights_of old.iommu).rows old.devices id able.0 is able.1) ∙ able.2) (sends_state state old.fabric told sends.told_so),
         subst (λ parts. PartsShow parts state) (sym sends.sent) (record {
           ledger = shows.ledger;
