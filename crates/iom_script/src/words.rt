@@ -265,7 +265,9 @@ pub fn kind_of(text: &[u8]) -> Option<NewDevice>
 }
 
 /// The byte that two hexadecimal digits say.
-fn byte_of(high: u8, low: u8) -> Option<u8>
+// Written into the loops over digits of its readers.
+#[inline(always)]
+pub fn byte_of(high: u8, low: u8) -> Option<u8>
     ensures { Reads result (λ byte. (byte < 256) × (high ≡ hex_digit (byte / 16)) × (low ≡ hex_digit (byte % 16))) }
 {
     let high = hex_value(high)?;

@@ -1,10 +1,10 @@
 // Outcomes that lines tell.
-use crate::words::{byte_of, number_of, short_number_of, word_of};
+use crate::words::{short_number_of, word_of};
 use arrayvec::ArrayVec;
 use iom_base::{Cause, Refusal, Rights};
 use iom_fabric::Translation;
 use iom_machine::{BlockStep, CommandName, Event, FaultRecord, Fetched, Outcome};
-use iom_script::words::{after, cut, is_word};
+use iom_script::words::{after, byte_of, cut, is_word, number_of};
 use iom_virtqueue::ChainFault;
 
 static REFUSALS: [Refusal; 23] = [
@@ -225,6 +225,15 @@ fn if_word<'a>(text: &[u8], word: &[u8], outcome: &'a Outcome) -> Option<&'a Out
     }
 }
 
+/// A place for the tickets that are told confirmed.
+fn no_tickets() -> Outcome {
+    Outcome::Confirmed {
+        first: 0,
+        last: 0,
+        timed_out: false,
+    }
+}
+
 impl KeptOutcomes {
     ghost use Rattle.std.specs.Prelude.{◌≡◌, IfSome, true};
     ghost use Rattle.iom_machine.specs.declared.outcome.Outcome.TheVariants as outcomes;
@@ -234,11 +243,7 @@ impl KeptOutcomes {
         KeptOutcomes {
             refused: Outcome::Refused(Refusal::Memory),
             ticket: Outcome::Ticket(0),
-            confirmed: Outcome::Confirmed {
-                first: 0,
-                last: 0,
-                timed_out: false,
-            },
+            confirmed: no_tickets(),
             none_confirmed: Outcome::NoneConfirmed { timed_out: false },
             record: Outcome::Record(FaultRecord { words: [0; 4] }),
             fetched: Outcome::Fetched(Fetched::Empty),
