@@ -91,7 +91,8 @@ fn words_of_bytes(bytes: &[u8; CONTEXT_SIZE]) -> [u64; 4]
 /// The words of the bytes of a context.
 fn words_of(context: Context) -> [u64; 4]
     ensures words { result ≡ encoded_word context 0 ∷ encoded_word context 1 ∷ encoded_word context 2 ∷ encoded_word context 3 ∷ [] }
-    ensures found { loaded_context (four_context_words (Some (encoded_word context 0)) (Some (encoded_word context 1)) (Some (encoded_word context 2)) (Some (encoded_word context 3))) ≡ Ok context }
+    ensures found { loaded_context (four_context_words (Some (encoded_word context 0)) (Some (encoded_word context 1))
+        (Some (encoded_word context 2)) (Some (encoded_word context 3))) ≡ Ok context }
 {
     words_of_bytes(&context.encode())
 }

@@ -18,7 +18,8 @@ fn take_line(
     number: u64,
     line: &[u8],
 ) -> Result<bool, AllocError>
-    ensures { IfOk result (λ taken. MatchBool taken (IsTakenAs SayHardware number script.old line.now script.new) (IsRefusedAs SayHardware number script.old line.now)) }
+    ensures { IfOk result (λ taken. MatchBool taken (IsTakenAs SayHardware number script.old line.now script.new)
+        (IsRefusedAs SayHardware number script.old line.now)) }
 {
     if !is_spoken(line) {
         return Ok(true);

@@ -57,7 +57,8 @@ pub(crate) fn build<B: Bytes>(
     requires count { length frames.now ≡ missing_above (entries (B.frames_of memory.old)) root (upper_in size all.now) }
     requires fresh { AreFresh (shape_of size) (B.frames_of memory.old) root frames.now }
     ensures range { result < 2 ^ 44 }
-    ensures built { Built (shape_of size) (B.frames_of memory.old) (B.frames_of memory.new) root (upper_in size all.now) (length (upper_in size all.now)) result frames.now (length frames.now) }
+    ensures built { Built (shape_of size) (B.frames_of memory.old) (B.frames_of memory.new) root (upper_in size all.now) (length (upper_in size all.now))
+        result frames.now (length frames.now) }
     ensures writes { SameWrites (B.frames_of memory.old) (B.frames_of memory.new) root (upper_in size all.now ++ last ∷ []) frames.now result (last ∷ []) [] }
 {
     match size {

@@ -43,7 +43,8 @@ impl<D: Disk> Platform<D> {
     #[inline(never)]
     fn tell_with_trace<S: Sink>(&self, outcome: &Outcome, sink: &mut S) -> Result<(), S::Fault>
         requires { S.wants sink.old ≡ true }
-        ensures { (trace : Option counts.Trace) × (is_some trace ≡ S.wants sink.old) × ((state : State) → Shows self.now.world state → AreCounts state self.now.world trace)
+        ensures { (trace : Option counts.Trace) × (is_some trace ≡ S.wants sink.old)
+            × ((state : State) → Shows self.now.world state → AreCounts state self.now.world trace)
             × OnOk result (S.takes sink.old outcome.now trace sink.new) × OnErr result (S.fails sink.old outcome.now trace sink.new) }
     {
         let trace = self.trace();
@@ -53,7 +54,8 @@ impl<D: Disk> Platform<D> {
     /// The outcome goes to the sink, with the counts beside it where it wants them.
     #[inline(always)]
     fn tell<S: Sink>(&self, outcome: &Outcome, sink: &mut S) -> Result<(), S::Fault>
-        ensures { (trace : Option counts.Trace) × (is_some trace ≡ S.wants sink.old) × ((state : State) → Shows self.now.world state → AreCounts state self.now.world trace)
+        ensures { (trace : Option counts.Trace) × (is_some trace ≡ S.wants sink.old)
+            × ((state : State) → Shows self.now.world state → AreCounts state self.now.world trace)
             × OnOk result (S.takes sink.old outcome.now trace sink.new) × OnErr result (S.fails sink.old outcome.now trace sink.new) }
     {
         if sink.wants_trace() {
@@ -75,7 +77,8 @@ impl<D: Disk> Platform<D> {
     ) -> Result<(), S::Fault>
         requires count { self.old.world.hardware.events + 1 < 2 ^ 64 }
         ensures { (outcome : spec.Outcome) × HappensHere (platform_seen D.seen self.old) event.now outcome (platform_seen D.seen self.new)
-            × (trace : Option counts.Trace) × (is_some trace ≡ S.wants sink.old) × ((state : State) → Shows self.new.world state → AreCounts state self.new.world trace)
+            × (trace : Option counts.Trace) × (is_some trace ≡ S.wants sink.old)
+            × ((state : State) → Shows self.new.world state → AreCounts state self.new.world trace)
             × OnOk result (S.takes sink.old outcome trace sink.new) × OnErr result (S.fails sink.old outcome trace sink.new) }
     {
         let outcome = self.take(event, kept);
@@ -95,7 +98,8 @@ impl<D: Disk> Platform<D> {
         ensures ran { (state : State) → Shows self.old.world state
             → OnOk result (RunsTo S.wants S.takes state (platform_seen D.seen self.old) events.now sink.old sink.new (platform_seen D.seen self.new)) }
         ensures failed { (state : State) → Shows self.old.world state
-            → OnErr result (FailsAfter S.wants S.takes S.fails state (platform_seen D.seen self.old) events.now sink.old sink.new (platform_seen D.seen self.new)) }
+            → OnErr result (FailsAfter S.wants S.takes S.fails state (platform_seen D.seen self.old) events.now sink.old sink.new
+            (platform_seen D.seen self.new)) }
         ensures counted { OnOk result (self.new.world.hardware.events ≡ self.old.world.hardware.events + length events.now) }
         ensures counted_at_most { OnErr result (self.new.world.hardware.events ≤ self.old.world.hardware.events + length events.now) }
     {

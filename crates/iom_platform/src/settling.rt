@@ -75,7 +75,8 @@ impl<D: Disk> Platform<D> {
     /// happened, and nothing else.
     pub fn settle(&mut self) -> Result<u32, Refusal>
         requires count { self.old.world.hardware.events + 400 < 2 ^ 64 }
-        ensures settled { Settled (λ platform. parts_of platform.world) (λ old event told new. HappensHere (platform_seen D.seen old) event told (platform_seen D.seen new)) self.old result self.new }
+        ensures settled { Settled (λ platform. parts_of platform.world)
+            (λ old event told new. HappensHere (platform_seen D.seen old) event told (platform_seen D.seen new)) self.old result self.new }
         ensures counted { self.new.world.hardware.events ≤ self.old.world.hardware.events + 341 }
     {
         settle(self)

@@ -60,7 +60,8 @@ fn tell_settling<W: Write, D: Disk>(
     lines: &mut LineWriter<'_, W>,
 ) -> Result<(), WriteFault>
     requires count { platform.old.world.hardware.events + 400 < 2 ^ 64 }
-    ensures told { (answer : Answer) × (trace : Option Trace) × LineHappens (platform_seen D.seen platform.old) says.Settle answer trace (platform_seen D.seen platform.new)
+    ensures told { (answer : Answer) × (trace : Option Trace)
+        × LineHappens (platform_seen D.seen platform.old) says.Settle answer trace (platform_seen D.seen platform.new)
         × (is_some trace ≡ lines.old.counts) × OnOk result (TakesText W.contents lines.old (told_answer answer trace) lines.new)
         × OnErr result (FailsAt W.contents lines.old (told_answer answer trace) lines.new) }
     ensures counted { platform.new.world.hardware.events ≤ platform.old.world.hardware.events + 400 }
@@ -79,7 +80,8 @@ fn tell_line<W: Write, D: Disk>(
     lines: &mut LineWriter<'_, W>,
 ) -> Result<(), WriteFault>
     requires count { platform.old.world.hardware.events + 400 < 2 ^ 64 }
-    ensures told { (answer : Answer) × (trace : Option Trace) × LineHappens (platform_seen D.seen platform.old) line.now answer trace (platform_seen D.seen platform.new)
+    ensures told { (answer : Answer) × (trace : Option Trace)
+        × LineHappens (platform_seen D.seen platform.old) line.now answer trace (platform_seen D.seen platform.new)
         × (is_some trace ≡ lines.old.counts) × OnOk result (TakesText W.contents lines.old (told_answer answer trace) lines.new)
         × OnErr result (FailsAt W.contents lines.old (told_answer answer trace) lines.new) }
     ensures counted { platform.new.world.hardware.events ≤ platform.old.world.hardware.events + 400 }
@@ -120,11 +122,14 @@ fn tell_all<W: Write, D: Disk>(
     ensures same_writer { (setting : Setting) (size : WorldSize) → BeginsAt size.frames size.levels setting.disks (platform_seen D.seen platform.old)
         → KeepsWriter lines.old lines.new }
     ensures told { (setting : Setting) (size : WorldSize) → BeginsAt size.frames size.levels setting.disks (platform_seen D.seen platform.old)
-        → lines.old.counts ≡ setting.counts → OnOk result (WritesRun setting size script.now (W.contents lines.old.writer.now) (W.contents lines.new.writer.now)) }
+        → lines.old.counts ≡ setting.counts
+        → OnOk result (WritesRun setting size script.now (W.contents lines.old.writer.now) (W.contents lines.new.writer.now)) }
     ensures front { (setting : Setting) (size : WorldSize) → BeginsAt size.frames size.levels setting.disks (platform_seen D.seen platform.old)
-        → lines.old.counts ≡ setting.counts → OnErr result (BeginsRun setting size script.now (W.contents lines.old.writer.now) (W.contents lines.new.writer.now)) }
+        → lines.old.counts ≡ setting.counts
+        → OnErr result (BeginsRun setting size script.now (W.contents lines.old.writer.now) (W.contents lines.new.writer.now)) }
     ensures so_far { (setting : Setting) (size : WorldSize) → BeginsAt size.frames size.levels setting.disks (platform_seen D.seen platform.old)
-        → lines.old.counts ≡ setting.counts → OnErr result (BeginsRunSoFar setting size script.now (W.contents lines.old.writer.now) (W.contents lines.new.writer.now)) }
+        → lines.old.counts ≡ setting.counts
+        → OnErr result (BeginsRunSoFar setting size script.now (W.contents lines.old.writer.now) (W.contents lines.new.writer.now)) }
 {
     let trace = platform.trace_for(lines);
     lines.put(&Outcome::Done, trace)?;

@@ -96,7 +96,8 @@ fn survey_word(
 )
     requires below { below ≤ 3 }
     requires word { word < 64 }
-    ensures pointers { GrowsBy next.old next.new (λ f. (k : ℕ) × (k < 64) × (PointsFrom (entries memory.now) (64 * word + k) f × (row_has level.now (64 * word + k) ≡ true))) }
+    ensures pointers { GrowsBy next.old next.new (λ f. (k : ℕ) × (k < 64)
+        × (PointsFrom (entries memory.now) (64 * word + k) f × (row_has level.now (64 * word + k) ≡ true))) }
     ensures leaves { AddsReach reach.old reach.new (λ kind f. (k : ℕ) × (k < 64)
         × (MapsFrom (entries memory.now) below kind (64 * word + k) f × (row_has level.now (64 * word + k) ≡ true))) }
 {

@@ -47,7 +47,8 @@ impl World {
     ) -> Result<Reply, Refusal>
         requires count { self.old.hardware.events + 1 < 2 ^ 64 }
         requires carries { CarriesBytes kind len bytes.now }
-        ensures does { AsksAccess (untranslated_by sender) (parts_of self.old) id (access_of address len kind bytes.now) (told_unless reply_told_of result) (parts_of self.new) }
+        ensures does { AsksAccess (untranslated_by sender) (parts_of self.old) id (access_of address len kind bytes.now)
+            (told_unless reply_told_of result) (parts_of self.new) }
         ensures fits { address < 2 ^ 64 }
         ensures disks { disks_of self.new ≡ disks_of self.old }
         ensures events { self.new.hardware.events ≡ self.old.hardware.events + 1 }
@@ -75,7 +76,8 @@ impl World {
         bytes: &[u8],
     ) -> Result<Reply, Refusal>
         requires count { self.old.hardware.events + 1 < 2 ^ 64 }
-        ensures does { AsksAccess sends_untranslated (parts_of self.old) id (write_of address bytes.now) (told_unless reply_told_of result) (parts_of self.new) }
+        ensures does { AsksAccess sends_untranslated (parts_of self.old) id (write_of address bytes.now)
+            (told_unless reply_told_of result) (parts_of self.new) }
         ensures fits { address < 2 ^ 64 }
         ensures disks { disks_of self.new ≡ disks_of self.old }
         ensures events { self.new.hardware.events ≡ self.old.hardware.events + 1 }

@@ -45,7 +45,8 @@ impl World {
     ) -> Told
         requires count { self.old.hardware.events + 1 < 2 ^ 64 }
         requires carries { CarriesBytes kind len bytes.now }
-        ensures does { DeviceAsksThroughCache (cached_by sender) (parts_of self.old) id (access_of address len kind bytes.now) (outcome_of result) (parts_of self.new) }
+        ensures does { DeviceAsksThroughCache (cached_by sender) (parts_of self.old) id (access_of address len kind bytes.now)
+            (outcome_of result) (parts_of self.new) }
         ensures disks { disks_of self.new ≡ disks_of self.old }
         ensures events { self.new.hardware.events ≡ self.old.hardware.events + 1 }
     {
