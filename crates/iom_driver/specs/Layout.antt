@@ -1,4 +1,4 @@
--- The four fixed frames at the end of memory, and the ids that the device directory can name.
+-- The four fixed frames at the end of memory.
 use Rattle.std.specs.Prelude.{◌≡◌, ℕ, ◌+◌, ◌-◌, ◌*◌, ◌^◌, ◌≤◌, List, Option, Some, slice_get}
 use Rattle.iom_base.specs.Sizes.{page_size}
 use Rattle.iom_base.specs.declared.owner.Owner.{Owner}
