@@ -10,9 +10,10 @@ ghost use Rattle.iom_trace_lines.specs.TraceLines.{EventAsksFor, frames_text, is
 use crate::kept::KeptOutcomes;
 use crate::outcomes::read_outcome;
 use crate::trace::{Behind, TraceLine};
+use crate::words::short_number_of;
 use iom_base::{Access, AccessKind, DeviceId, Sequence};
 use iom_machine::{Event, Outcome};
-use iom_script::words::{after, is_word, number_of};
+use iom_script::words::{after, is_word};
 use iom_script::{LineBuffer, event_of, is_spoken, world_of};
 use memchr::{memchr, memchr_iter};
 use std::alloc::{AllocError, Global};
@@ -34,14 +35,6 @@ fn cut<'a>(text: &'a [u8], separator: &[u8], by: usize) -> (&'a [u8], Option<&'a
         }
     }
     (text, None)
-}
-
-/// The frame that the word names, as a number without leading zeros.
-fn frame_of(word: &[u8]) -> Option<u32>
-    ensures { IfSome result (IsNumber word.now) }
-{
-    let number = number_of(word)?;
-    u32::try_from(number).ok()
 }
 
 /// The first word of the text, and the text from the space behind it on.
@@ -66,7 +59,7 @@ fn read_frames(text: &[u8], frames: &mut Vec<u32>) -> Result<bool, AllocError>
             return Ok(false);
         };
         let (word, behind) = first_word(words);
-        let Some(frame) = frame_of(word) else {
+        let Some(frame) = short_number_of(word) else {
             return Ok(false);
         };
         frames.push(frame)?;
@@ -116,7 +109,7 @@ fn read_behind(
     if !is_accepted(outcome) {
         return Ok(None);
     }
-    match frame_of(word) {
+    match short_number_of(word) {
         None => Ok(None),
         Some(frame) => Ok(Some(Behind {
             has_tables: false,
@@ -251,7 +244,7 @@ fn handed_off(said: &[u8]) -> Option<u32>
     ensures { IfSome result (λ frame. (word : List ℕ) × IsNumber word frame × (said.now ≡ codes "handoff" ␣ word)) }
 {
     let word = after(said, b"handoff ")?;
-    frame_of(word)
+    short_number_of(word)
 }
 
 /// The claim that a frame is now given to somebody else: that it is free.

@@ -1,5 +1,6 @@
 // Words of a line that tells an outcome, beside those of scripts, and what they say.
-ghost use Rattle.std.specs.Prelude.{◌≡◌, ◌∷◌, [], IsTrue};
+ghost use Rattle.std.specs.Prelude.{◌≡◌, ◌∷◌, [], IfSome, IsTrue};
+ghost use Rattle.iom_script.specs.Words.{IsNumber};
 
 use iom_script::words::{address_of, number_of};
 
@@ -14,8 +15,11 @@ pub(crate) fn is_feed(bytes: &[u8]) -> bool
 }
 
 /// The number of 32 bits that the word says.
-pub(crate) fn short_number_of(word: &[u8]) -> Option<u32> {
-    u32::try_from(number_of(word)?).ok()
+pub(crate) fn short_number_of(word: &[u8]) -> Option<u32>
+    ensures { IfSome result (IsNumber word.now) }
+{
+    let number = number_of(word)?;
+    u32::try_from(number).ok()
 }
 
 /// The number that `0x` and sixteen hexadecimal digits say.
