@@ -56,6 +56,13 @@ impl Claims {
         }
     }
 
+    /// The number of the last claim that was given one, 0 before the first.
+    pub fn last(&self) -> u32
+        ensures { result ≡ self.now.last }
+    {
+        self.last
+    }
+
     /// What the device holds at the page.
     pub fn held_at(&self, device: DeviceId, page: u64) -> Option<(u32, Rights)>
         ensures { (c : Claimed) → ShowsClaimed self.now c → result ≡ held_at c.history device page }

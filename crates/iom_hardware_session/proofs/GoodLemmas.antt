@@ -1,6 +1,5 @@
 -- What follows of good claims, by the laws of hardware.
-use Rattle.std.proofs.Common.{◌≡◌, ℕ, List, sym, subst}
-use Rattle.iom_base.specs.declared.access.AccessKind.{AccessKind}
+use Rattle.std.proofs.Common.{ℕ, sym, subst}
 use Rattle.iom_claims.specs.Claimed.{after_done}
 use Rattle.iom_hardware.specs.HardwareParts.{hardware_parts}
 use Rattle.iom_hardware_session.specs.Good.{scene_in, HasClaimedWaysAlone}

@@ -4,3 +4,9 @@ pub mod SoftwareLemmas
 pub mod DoneLemmas
 pub mod WatchLemmas
 pub mod GoodLemmas
+pub mod TurnLemmas
+pub mod MayLemmas
+pub mod EventLemmas
+pub mod KeepLemmas
+pub mod ClaimLemmas
+pub mod SessionLemmas

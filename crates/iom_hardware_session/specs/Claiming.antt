@@ -1,13 +1,7 @@
 -- What is claimed after a claim, by what is found of it, and why one isn't made.
-use Rattle.std.specs.Prelude.{◌≡◌, ℕ, ◌^◌, Bool, true, false, not, nat_le, List, [], ◌∷◌, length, Option, None, Some, is_some, if◌then◌else◌}
+use Rattle.std.specs.Prelude.{Bool, true, false, if◌then◌else◌}
 use Rattle.iom_base.specs.GrantRights.{rights_of}
-use Rattle.iom_base.specs.declared.refusal.Refusal.{Refusal}
-use Rattle.iom_base.specs.declared.refusal.Refusal.TheVariants as refusal
 use Rattle.iom_claims.specs.Claimed.{Claimed, after_grant, after_release, after_done, after_mark}
-use Rattle.iom_claims.specs.declared.grant.Grant.{Grant}
-use Rattle.iom_device.specs.Caches.{kind_in}
-use Rattle.iom_hardware.specs.HardwareParts.{HardwareParts}
-use Rattle.iom_ledger.specs.History.{held_at}
 use Rattle.iom_hardware_script.specs.declared.script.Claim.{Claim as Said}
 use Rattle.iom_hardware_script.specs.declared.script.Claim.TheVariants as claim
 use Rattle.iom_hardware_session.specs.declared.answer.ClaimAnswer.{ClaimAnswer}
@@ -21,6 +15,15 @@ is_made (found.Released number) = true
 is_made found.Trusted = true
 is_made (found.Refused why) = false
 is_made found.NoSuchClaim = false
+
+-- whether it says that the claim is good, or wrong
+abbrev pub is_judgement : ClaimAnswer → Bool
+is_judgement found.Good = true
+is_judgement (found.Wrong why) = true
+is_judgement (found.Released number) = false
+is_judgement found.Trusted = false
+is_judgement (found.Refused why) = false
+is_judgement found.NoSuchClaim = false
 
 -- what is claimed after a claim that is made
 abbrev pub after_claim : Said → Claimed → Claimed

@@ -1,5 +1,5 @@
 -- What it means that a claim is good.
-use Rattle.std.specs.Prelude.{◌≡◌, ◌⊎◌, ℕ, Bool, List, Contains, nat_eq, ⊤}
+use Rattle.std.specs.Prelude.{◌≡◌, ℕ, List, Contains, ⊤}
 use Rattle.iom_base.specs.declared.access.AccessKind.{AccessKind}
 use Rattle.iom_claims.specs.Claimed.{Claimed, IsHeld, IsOpen}
 use Rattle.iom_claims.specs.declared.grant.Grant.{Grant}

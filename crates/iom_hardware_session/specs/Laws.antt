@@ -1,5 +1,5 @@
 -- What follows of a claim that is good: the reclaim theorem of somebody else's driver.
-use Rattle.std.specs.Prelude.{◌≡◌, ℕ, List, None}
+use Rattle.std.specs.Prelude.{◌≡◌, ℕ, Bool, List, None}
 use Rattle.iom_claims.specs.Claimed.{Claimed, IsOpen, after_done}
 use Rattle.iom_claims.specs.declared.grant.Grant.{Grant}
 use Rattle.iom_hardware.specs.HardwareParts.{HardwareParts, hardware_parts}
@@ -15,11 +15,14 @@ use Rattle.iom_inflight.specs.declared.made.MadeAt.{MadeAt}
 use Rattle.iom_ledger.specs.History.{May}
 use Rattle.iom_way_survey.specs.Surveys.{is_id_among}
 
--- these calls of hardware and devices alone come one after another from where the session stands, and then the device makes this access
+-- these calls of hardware and devices alone come one after another from there, and then the device makes this access
+abbrev pub ComesFrom : (ℕ → Bool) → HardwareParts → List HardwareCall → ℕ → MadeAt → Type 0
+ComesFrom trusted parts calls id made =
+    (events : ℕ) × (between : HardwareParts) × (new : HardwareParts) × DoInTurn trusted events parts calls between × MakesIn trusted between id made new
+
+-- so from where the session stands
 abbrev pub ComesToMake : Session → List HardwareCall → ℕ → MadeAt → Type 0
-ComesToMake session calls id made =
-    (events : ℕ) × (between : HardwareParts) × (new : HardwareParts)
-    × DoInTurn (is_id_among session.trusted.items) events (hardware_parts session.hardware) calls between × MakesIn (is_id_among session.trusted.items) between id made new
+ComesToMake session calls id made = ComesFrom (is_id_among session.trusted.items) (hardware_parts session.hardware) calls id made
 
 -- WHAT WAS WITHDRAWN IS OUT OF REACH. After a claim is done and good, the device makes no access to that frame but those that what is claimed allows
 abbrev pub DoneStaysDone : Type 0

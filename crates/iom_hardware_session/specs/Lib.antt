@@ -1,9 +1,13 @@
 pub mod Found
+pub mod Answered
 pub mod Events
 pub mod Claiming
+pub mod Admitted
 pub mod Timely
 pub mod Good
 pub mod Wrong
 pub mod Watching
 pub mod Lines
 pub mod Laws
+pub mod Runs
+pub mod Sessions

@@ -1,5 +1,8 @@
 -- What a line does to a session, and what stays.
-use Rattle.std.specs.Prelude.{◌≡◌, ◌-◌, ◌^◌, ◌++◌, [], ◌∷◌, ℕ, ◌==◌, ◌&&◌, ◌||◌, Bool, true, false, List, nat_lt, Option, Some, None, Result, Ok, ⊤, if◌then◌else◌}
+use Rattle.std.specs.Prelude.{◌≡◌, ◌-◌, ◌^◌, ◌++◌, [], ◌∷◌, ℕ, ◌==◌, ◌&&◌, ◌||◌, Bool, true, false, List, nat_lt, Option, Some, None, Result, Ok, Err, ⊤, if◌then◌else◌}
+use Rattle.iom_base.specs.declared.access.AccessKind.{AccessKind}
+use Rattle.iom_base.specs.declared.access.AccessKind.TheVariants.{Read, Write}
+use Rattle.iom_base.specs.declared.refusal.Refusal.{Refusal}
 use Rattle.iom_claims.specs.Claimed.{Claimed}
 use Rattle.iom_hardware.specs.HardwareParts.{hardware_parts, disks_at_hand}
 use Rattle.iom_hardware.specs.declared.hardware.Hardware.{Hardware}
@@ -7,12 +10,14 @@ use Rattle.iom_hardware_script.specs.declared.script.Claim.{Claim as Said}
 use Rattle.iom_hardware_script.specs.declared.script.Claim.TheVariants as claim
 use Rattle.iom_hardware_script.specs.declared.script.HardwareLine.{HardwareLine}
 use Rattle.iom_hardware_script.specs.declared.script.HardwareLine.TheVariants as line
-use Rattle.iom_machine.specs.declared.event.Event.TheVariants.{Plug, Poke}
+use Rattle.iom_machine.specs.declared.event.Event.TheVariants.{Plug, Poke, Commit}
 use Rattle.iom_hardware_session.specs.declared.answer.Answer.{Answer}
 use Rattle.iom_hardware_session.specs.declared.answer.Answer.TheVariants as answered
 use Rattle.iom_hardware_session.specs.declared.answer.ClaimAnswer.{ClaimAnswer}
 use Rattle.iom_hardware_session.specs.declared.answer.ClaimAnswer.TheVariants as found
 use Rattle.iom_hardware_session.specs.declared.state.Session.{Session}
+use Rattle.iom_hardware_session.specs.Admitted.{IsAdmitted}
+use Rattle.iom_hardware_session.specs.Answered.{committed, judged}
 use Rattle.iom_hardware_session.specs.Claiming.{claimed_after}
 use Rattle.iom_hardware_session.specs.Events.{EventOrNone, Stays}
 use Rattle.iom_hardware_session.specs.Good.{GoodMeans}
@@ -26,6 +31,7 @@ use Rattle.iom_ledger.specs.History.{May}
 use Rattle.iom_registers.specs.Places.{register_at, answer_of, done_of, changed_by}
 use Rattle.iom_registers.specs.Table.{value_of}
 use Rattle.iom_registers.specs.declared.register.RegFault.{RegFault}
+use Rattle.iom_way_survey.specs.Surveys.{is_id_among}
 
 -- what is claimed, who is trusted, and what is watched, stay
 abbrev pub KeepsClaims : Session → Session → Type 0
@@ -87,46 +93,90 @@ LineDoes (line.RegisterWrite offset width value) answer old new = WritesRegister
 LineDoes (line.Claim said) answer old new = Stays old new
 LineDoes (line.Help help) answer old new = (answer ≡ answered.NotOfHardware) × Stays old new
 
+-- what is claimed after a claim, where one is judged
+abbrev pub claimed_where : Said → Option ClaimAnswer → Claimed → Claimed
+claimed_where said None before = before
+claimed_where said (Some answer) before = claimed_after said answer before
+
 -- WHAT IS CLAIMED after a line, by its answer
 abbrev pub claimed_by : HardwareLine → Answer → Claimed → Claimed
-claimed_by (line.Claim said) (answered.Claim found) before = claimed_after said found before
-claimed_by said answer before = before
+claimed_by (line.Claim said) answer before = claimed_where said (judged answer) before
+claimed_by (line.Event event) answer before = before
+claimed_by (line.RegisterRead offset width) answer before = before
+claimed_by (line.RegisterWrite offset width value) answer before = before
+claimed_by (line.Help help) answer before = before
 
 -- THE ACCESS THAT A LINE MADE
+abbrev pub made_where : Option (Result (Option MadeAt) Refusal) → Option MadeAt
+made_where (Some (Ok made)) = made
+made_where (Some (Err why)) = None
+made_where None = None
+
 abbrev pub made_by : Answer → Option MadeAt
-made_by (answered.Committed (Ok made)) = made
-made_by answer = None
+made_by answer = made_where (committed answer)
 
 -- nothing that is claimed allows it
 abbrev pub IsViolation : Claimed → Option MadeAt → Type 0
 IsViolation claimed None = ⊥
 IsViolation claimed (Some made) = ¬ May claimed.history made.device made.frame made.kind
 
+-- who is trusted after a claim, where one is judged
+abbrev pub TrustsWhere : Said → Option ClaimAnswer → List ℕ → List ℕ → Type 0
+TrustsWhere said None old new = new ≡ old
+TrustsWhere said (Some answer) old new = Trusts said answer old new
+
 -- who is trusted after a line
 abbrev pub TrustsBy : HardwareLine → Answer → List ℕ → List ℕ → Type 0
-TrustsBy (line.Claim said) (answered.Claim found) old new = Trusts said found old new
+TrustsBy (line.Claim said) answer old new = TrustsWhere said (judged answer) old new
 TrustsBy said answer old new = new ≡ old
 
 -- what a claim that is answered well means
+abbrev pub IsGoodWhere : Said → Option ClaimAnswer → HardwareScene → Claimed → Type 0
+IsGoodWhere said None scene before = ⊤
+IsGoodWhere said (Some answer) scene before = answer ≡ found.Good → GoodMeans said scene before (claimed_after said answer before)
+
 abbrev pub IsGoodLine : HardwareLine → Answer → HardwareScene → Claimed → Type 0
-IsGoodLine (line.Claim said) (answered.Claim answer) scene before = answer ≡ found.Good → GoodMeans said scene before (claimed_after said answer before)
+IsGoodLine (line.Claim said) answer scene before = IsGoodWhere said (judged answer) scene before
 IsGoodLine said answer scene before = ⊤
 
 -- what a claim that is answered so means, where it isn't true
+abbrev pub IsWrongWhere : Said → Option ClaimAnswer → Hardware → List ℕ → Claimed → Type 0
+IsWrongWhere said None hardware trusted before = ⊤
+IsWrongWhere said (Some answer) hardware trusted before = IfWrong answer (λ why. WrongMeans said why hardware trusted before (claimed_after said answer before))
+
 abbrev pub IsWrongLine : HardwareLine → Answer → Hardware → List ℕ → Claimed → Type 0
-IsWrongLine (line.Claim said) (answered.Claim answer) hardware trusted before = IfWrong answer (λ why. WrongMeans said why hardware trusted before (claimed_after said answer before))
+IsWrongLine (line.Claim said) answer hardware trusted before = IsWrongWhere said (judged answer) hardware trusted before
 IsWrongLine said answer hardware trusted before = ⊤
 
--- software changes hardware by the line, or plugs a device in
-abbrev pub is_of_software : HardwareLine → Bool
-is_of_software (line.Event (Poke address bytes)) = true
-is_of_software (line.Event (Plug device what)) = true
-is_of_software (line.RegisterWrite offset width value) = true
-is_of_software said = false
+-- the line made a write
+abbrev pub is_write : AccessKind → Bool
+is_write Write = true
+is_write Read = false
+
+abbrev pub is_made_write : Option (Result (Option MadeAt) Refusal) → Bool
+is_made_write (Some (Ok (Some made))) = is_write made.kind
+is_made_write (Some (Ok None)) = false
+is_made_write (Some (Err why)) = false
+is_made_write None = false
+
+abbrev pub writes : Answer → Bool
+writes answer = is_made_write (committed answer)
+
+-- Software changes hardware by the line, or plugs a device in. What a device writes that software trusts counts as a store of software
+abbrev pub is_of_software : HardwareLine → Answer → List ℕ → Bool
+is_of_software (line.Event (Poke address bytes)) answer trusted = true
+is_of_software (line.Event (Plug device what)) answer trusted = true
+is_of_software (line.RegisterWrite offset width value) answer trusted = true
+is_of_software (line.Event (Commit device)) answer trusted = writes answer && is_id_among trusted device
+is_of_software said answer trusted = false
 
 -- what is watched after a line that isn't of software, by its answer
+abbrev pub WatchesClaimWhere : Said → Option ClaimAnswer → Claimed → List Watched → List Watched → Type 0
+WatchesClaimWhere said None before old new = new ≡ old
+WatchesClaimWhere said (Some answer) before old new = WatchesClaim said answer before old new
+
 abbrev pub WatchesStep : HardwareLine → Answer → Claimed → List Watched → List Watched → Type 0
-WatchesStep (line.Claim said) (answered.Claim found) before old new = WatchesClaim said found before old new
+WatchesStep (line.Claim said) answer before old new = WatchesClaimWhere said (judged answer) before old new
 WatchesStep said answer before old new = new ≡ old
 
 -- so of any line, by whether it is of software
@@ -136,4 +186,18 @@ WatchesWhere false said answer before old new = WatchesStep said answer before (
 
 -- WHAT IS WATCHED after a line: what was found wrong at the line before is forgotten, and where software changes hardware all the others are judged again
 abbrev pub WatchesBy : HardwareLine → Answer → Claimed → Session → Session → Type 0
-WatchesBy said answer before old new = WatchesWhere (is_of_software said) said answer before old new
+WatchesBy said answer before old new = WatchesWhere (is_of_software said answer old.trusted.items) said answer before old new
+
+-- a claim is judged, and this is so of it by its answer
+abbrev pub IsAdmittedWhere : Said → Option ClaimAnswer → Hardware → Claimed → Type 0
+IsAdmittedWhere said None hardware before = ⊥
+IsAdmittedWhere said (Some answer) hardware before = IsAdmitted said answer hardware before
+
+abbrev pub IsAdmittedLine : HardwareLine → Answer → Hardware → Claimed → Type 0
+IsAdmittedLine (line.Claim said) answer hardware before = IsAdmittedWhere said (judged answer) hardware before
+IsAdmittedLine said answer hardware before = ⊤
+
+-- what is claimed allows the access that a line made
+abbrev pub IsAllowed : Claimed → Option MadeAt → Type 0
+IsAllowed claimed None = ⊤
+IsAllowed claimed (Some made) = May claimed.history made.device made.frame made.kind

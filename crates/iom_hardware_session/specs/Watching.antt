@@ -1,5 +1,5 @@
 -- Claims that were good are judged again whenever software changes hardware.
-use Rattle.std.specs.Prelude.{◌≡◌, ℕ, ◌==◌, ◌<◌, Bool, true, false, not, ◌&&◌, List, [], ◌∷◌, ◌++◌, map, filter, slice_get, Option, None, Some, is_some, if◌then◌else◌}
+use Rattle.std.specs.Prelude.{◌≡◌, ℕ, ◌==◌, Bool, false, not, ◌&&◌, List, [], ◌∷◌, ◌++◌, map, filter, slice_get, Option, None, Some, is_some, if◌then◌else◌}
 use Rattle.iom_claims.specs.Claimed.{Claimed, IsOpen}
 use Rattle.iom_claims.specs.declared.grant.Grant.{Grant}
 use Rattle.iom_hardware.specs.declared.hardware.Hardware.{Hardware}

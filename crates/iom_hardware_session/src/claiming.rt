@@ -1,9 +1,10 @@
 // What the driver claims, and what is found of it.
-ghost use Rattle.std.specs.Prelude.{◌≡◌, ◌<◌, ◌≤◌, length, IfOk};
+ghost use Rattle.std.specs.Prelude.{◌≡◌, ◌<◌, ◌≤◌, ◌^◌, length, IfOk, IfErr, OnOk, OnErr};
 ghost use Rattle.iom_claims.specs.Claimed.{Claimed};
 ghost use Rattle.iom_claims.specs.Shown.{ShowsClaimed};
 ghost use Rattle.iom_hardware_script.specs.declared.script.Claim.{Claim as Said};
 ghost use Rattle.iom_hardware_script.specs.declared.script.Claim.TheVariants as said;
+ghost use Rattle.iom_hardware_session.specs.Admitted.{IsKnown, IsAdmitted, GrantIsRefused, FrameIsRefused};
 ghost use Rattle.iom_hardware_session.specs.Claiming.{claimed_after};
 ghost use Rattle.iom_hardware_session.specs.Good.{GoodMeans, scene_in};
 ghost use Rattle.iom_hardware_session.specs.Lines.{KeepsHardware, KeepsAll, TrustsAlso};
@@ -14,7 +15,7 @@ use crate::answer::{ClaimAnswer, Wrong};
 use crate::state::Session;
 use crate::watched::{GoodClaim, drop_hand_off, watch};
 use iom_base::{DeviceId, GrantRights, Refusal};
-use iom_claims::Grant;
+use iom_claims::{Grant, NoSuchClaim};
 use iom_phys_mem::Bytes;
 
 /// The pages of the 64-bit address space.
@@ -23,17 +24,20 @@ const PAGES: u64 = 1 << 52;
 impl Session {
     /// The number of a frame of memory.
     fn frame_of(&self, frame: u64) -> Result<u32, Refusal>
-        ensures { IfOk result (λ number. (number ≡ frame) × (number < length self.now.hardware.memory)) }
+        ensures number { IfOk result (λ number. (number ≡ frame) × (number < length self.now.hardware.memory)) }
+        ensures refused { IfErr result (λ why. FrameIsRefused why frame self.now.hardware) }
     {
-        match u32::try_from(frame) {
-            Ok(number) if number < self.hardware.memory.frames() => Ok(number),
-            _ => Err(Refusal::FrameOutOfRange),
+        if frame >= u64::from(self.hardware.memory.frames()) {
+            return Err(Refusal::FrameOutOfRange);
         }
+        Ok(frame as u32)
     }
 
     /// The number of the frame that is claimed for the device at the page, or why it can't be.
     fn grantable(&self, device: DeviceId, page: u64, frame: u64) -> Result<u32, Refusal>
-        ensures { IfOk result (λ number. (number ≡ frame) × (number < length self.now.hardware.memory)) }
+        ensures number { IfOk result (λ number. (number ≡ frame) × (number < length self.now.hardware.memory)) }
+        ensures admitted { OnOk result (IsKnown self.now.hardware device × (page < 2 ^ 52)) }
+        ensures refused { (c : Claimed) → IfErr result (λ why. GrantIsRefused why device page frame self.now.hardware c) }
     {
         if self.hardware.kind_of(device).is_none() {
             return Err(Refusal::NoSuchDevice);
@@ -43,6 +47,17 @@ impl Session {
             return Err(Refusal::IovaOutOfRange);
         }
         Ok(number)
+    }
+
+    /// The number of a claim that was given it.
+    fn number_of(&self, number: u64) -> Result<u32, NoSuchClaim>
+        ensures short { IfOk result (λ short. short ≡ number) }
+        ensures not_given { OnErr result (self.now.claims.last < number) }
+    {
+        if number > u64::from(self.claims.last()) {
+            return Err(NoSuchClaim);
+        }
+        Ok(number as u32)
     }
 
     /// From here on the device may reach the frame at the page, with the right. Wrong where hardware uses the frame.
@@ -62,6 +77,7 @@ impl Session {
             (λ why. WrongMeans (said.Grant device page frame rights) why self.new.hardware self.new.trusted.items c (claimed_after (said.Grant device page frame rights) result c)) }
         ensures watched { (c : Claimed) → ShowsClaimed self.old.claims c
             → WatchesClaim (said.Grant device page frame rights) result c self.old.watched.items self.new.watched.items }
+        ensures admitted { (c : Claimed) → ShowsClaimed self.old.claims c → IsAdmitted (said.Grant device page frame rights) result self.old.hardware c }
         ensures hardware { KeepsHardware self.old self.new }
     {
         let number = match self.grantable(device, page, frame) {
@@ -93,6 +109,7 @@ impl Session {
             → ShowsClaimed self.new.claims (claimed_after (said.Release device page) result c) }
         ensures wrong { IfWrong result (λ why. ⊥) }
         ensures watched { self.new.watched ≡ self.old.watched }
+        ensures admitted { (c : Claimed) → ShowsClaimed self.old.claims c → IsAdmitted (said.Release device page) result self.old.hardware c }
         ensures hardware { KeepsHardware self.old self.new }
     {
         if self.hardware.kind_of(device).is_none() {
@@ -115,9 +132,10 @@ impl Session {
             (λ why. WrongMeans (said.Done number) why self.new.hardware self.new.trusted.items c (claimed_after (said.Done number) result c)) }
         ensures watched { (c : Claimed) → ShowsClaimed self.old.claims c
             → WatchesClaim (said.Done number) result c self.old.watched.items self.new.watched.items }
+        ensures admitted { (c : Claimed) → ShowsClaimed self.old.claims c → IsAdmitted (said.Done number) result self.old.hardware c }
         ensures hardware { KeepsHardware self.old self.new }
     {
-        let Ok(short) = u32::try_from(number) else {
+        let Ok(short) = self.number_of(number) else {
             return ClaimAnswer::NoSuchClaim;
         };
         let Some(grant) = self.claims.open_claim(short) else {
@@ -153,6 +171,7 @@ impl Session {
             (λ why. WrongMeans (said.HandOff frame) why self.new.hardware self.new.trusted.items c (claimed_after (said.HandOff frame) result c)) }
         ensures watched { (c : Claimed) → ShowsClaimed self.old.claims c
             → WatchesClaim (said.HandOff frame) result c self.old.watched.items self.new.watched.items }
+        ensures admitted { (c : Claimed) → ShowsClaimed self.old.claims c → IsAdmitted (said.HandOff frame) result self.old.hardware c }
         ensures hardware { KeepsHardware self.old self.new }
     {
         let number = match self.frame_of(frame) {
@@ -192,6 +211,7 @@ impl Session {
             (λ why. WrongMeans (said.Take frame) why self.new.hardware self.new.trusted.items c (claimed_after (said.Take frame) result c)) }
         ensures watched { (c : Claimed) → ShowsClaimed self.old.claims c
             → WatchesClaim (said.Take frame) result c self.old.watched.items self.new.watched.items }
+        ensures admitted { (c : Claimed) → ShowsClaimed self.old.claims c → IsAdmitted (said.Take frame) result self.old.hardware c }
         ensures hardware { KeepsHardware self.old self.new }
     {
         let number = match self.frame_of(frame) {
@@ -209,6 +229,7 @@ impl Session {
 
     /// A request of the device at the page is accepted now, on what it holds there.
     pub(crate) fn claim_ready(&mut self, device: DeviceId, page: u64) -> ClaimAnswer
+        ensures admitted { (c : Claimed) → ShowsClaimed self.old.claims c → IsAdmitted (said.Ready device page) result self.old.hardware c }
         ensures rest { KeepsAll self.old self.new }
     {
         if self.hardware.kind_of(device).is_none() {
@@ -229,6 +250,7 @@ impl Session {
         ensures wrong { IfWrong result (λ why. ⊥) }
         ensures watched { self.new.watched ≡ self.old.watched }
         ensures trusted { TrustsAlso device result self.old.trusted.items self.new.trusted.items }
+        ensures admitted { (c : Claimed) → ShowsClaimed self.old.claims c → IsAdmitted (said.Trust device) result self.old.hardware c }
         ensures hardware { self.new.hardware ≡ self.old.hardware }
     {
         if self.hardware.kind_of(device).is_none() {

@@ -5,7 +5,7 @@ ghost use Rattle.iom_claims.specs.Claimed.{Claimed};
 ghost use Rattle.iom_claims.specs.Shown.{ShowsClaimed};
 ghost use Rattle.iom_fabric.specs.declared.fabric.OnLink.{OnLink};
 ghost use Rattle.iom_hardware.specs.HardwareParts.{hardware_parts};
-ghost use Rattle.iom_hardware_session.specs.Claiming.{is_made};
+ghost use Rattle.iom_hardware_session.specs.Claiming.{is_judgement};
 ghost use Rattle.iom_hardware_session.specs.Good.{scene_in, IsCertain, IsNobodys, IsUnused, HasClaimedWaysAlone};
 ghost use Rattle.iom_hardware_session.specs.Lines.{KeepsAll};
 ghost use Rattle.iom_hardware_session.specs.Timely.{IsTimelyMessage};
@@ -199,7 +199,7 @@ impl Session {
             → IsCertain (scene_in self.now) × HasClaimedWaysAlone (scene_in self.now) c device frame }
         ensures wrong { (c : Claimed) → ShowsClaimed self.now.claims c
             → IfWrong result (λ why. DoneIsWrong why self.now.hardware self.now.trusted.items c device frame) }
-        ensures made { is_made result ≡ true }
+        ensures made { is_judgement result ≡ true }
     {
         if let Some(why) = self.left_of_done(device, frame) {
             return ClaimAnswer::Wrong(why);
@@ -215,7 +215,7 @@ impl Session {
         requires looked { IsSurveyOf self.now.survey (scene_in self.now) }
         ensures good { result ≡ ClaimAnswer.Good → IsCertain (scene_in self.now) × IsOutOfReach (scene_in self.now) frame × IsUnused (scene_in self.now) frame }
         ensures wrong { (c : Claimed) → IfWrong result (λ why. HandOffIsWrong why self.now.hardware self.now.trusted.items c frame) }
-        ensures made { is_made result ≡ true }
+        ensures made { is_judgement result ≡ true }
     {
         if let Some(why) = self.left_of_hand_off(frame) {
             return ClaimAnswer::Wrong(why);

@@ -1,5 +1,6 @@
 //! What follows of a claim that is good.
 ghost use Rattle.iom_hardware_session.specs.Laws.{DoneStaysDone, HandedOffStaysFree, GoodAgainHolds};
+ghost use Rattle.iom_hardware_session.specs.Sessions.{AccessesAreClaimed, DoneStaysOutOfReach, HandedOffStaysUntouched};
 
 use iom_hardware_ways::ways_law;
 
@@ -11,4 +12,15 @@ pub fn good_law()
     ensures again { GoodAgainHolds }
 {
     ways_law();
+}
+
+/// In a session of which nothing is wrong, line after line, no access was made against the claims (`accesses`), and at no
+/// moment could hardware and devices by themselves have made one to what was claimed to be done (`done`), or to a frame that
+/// was handed off and hasn't come back (`handed_off`). It does nothing.
+pub fn session_law()
+    ensures accesses { AccessesAreClaimed }
+    ensures done { DoneStaysOutOfReach }
+    ensures handed_off { HandedOffStaysUntouched }
+{
+    good_law();
 }

@@ -1,17 +1,21 @@
-ghost use Rattle.std.specs.Prelude.{◌≡◌, ◌↔◌, ◌+◌, ◌<◌, ◌^◌, ◌≤◌, [], ◌∷◌, Some, IfOk, IfSome, IfNone, IsTrue};
+ghost use Rattle.std.specs.Prelude.{◌≡◌, ◌↔◌, ◌+◌, ◌<◌, ◌^◌, ◌≤◌, [], ◌∷◌, Some, false, IfOk, IfSome, IfNone, IsTrue};
 ghost use Rattle.iom_claims.specs.Claimed.{Claimed, nothing_claimed};
 ghost use Rattle.iom_claims.specs.Shown.{ShowsClaimed};
 ghost use Rattle.iom_hardware.specs.PowerOn.{IsHardwareAtPowerOn};
+ghost use Rattle.iom_hardware_session.specs.Admitted.{IsAdmitted};
 ghost use Rattle.iom_hardware_session.specs.Claiming.{claimed_after};
+ghost use Rattle.iom_hardware_session.specs.Answered.{judged};
+ghost use Rattle.iom_hardware_session.specs.Runs.{is_wrong_claim, has_fallen, is_wrong_by};
 ghost use Rattle.iom_hardware_session.specs.Good.{GoodMeans, scene_in};
 ghost use Rattle.iom_hardware_session.specs.Watching.{WatchesClaim};
 ghost use Rattle.iom_hardware_session.specs.Wrong.{IfWrong, WrongMeans};
-ghost use Rattle.iom_hardware_session.specs.Lines.{Trusts, LineDoes, TrustsBy, IsGoodLine, IsWrongLine, WatchesStep, WatchesBy, is_of_software, claimed_by, made_by, IsViolation};
-ghost use Rattle.iom_way_survey.specs.Surveys.{IsConflict, IsConflictFree};
+ghost use Rattle.iom_hardware_session.specs.Lines.{Trusts, LineDoes, TrustsBy, IsGoodLine, IsWrongLine, WatchesStep, WatchesBy, writes, is_of_software, claimed_by, made_by, IsViolation, IsAllowed, IsAdmittedLine};
+ghost use Rattle.iom_way_survey.specs.Surveys.{IsConflict, IsConflictFree, is_id_among};
 
 use crate::answer::{Answer, ClaimAnswer};
 use crate::state::Session;
 use crate::watched::{Watched, drop_fallen};
+use iom_base::{AccessKind, DeviceId};
 use iom_claims::Claims;
 use iom_hardware::Hardware;
 use iom_hardware_script::{Claim, HardwareLine};
@@ -83,6 +87,7 @@ impl Session {
             → IfWrong result (λ why. WrongMeans claim why self.new.hardware self.new.trusted.items c (claimed_after claim result c)) }
         ensures watched { (c : Claimed) → ShowsClaimed self.old.claims c
             → WatchesClaim claim result c self.old.watched.items self.new.watched.items }
+        ensures admitted { (c : Claimed) → ShowsClaimed self.old.claims c → IsAdmitted claim result self.old.hardware c }
         ensures trusts { Trusts claim result self.old.trusted.items self.new.trusted.items }
         ensures hardware { self.new.hardware ≡ self.old.hardware }
     {
@@ -104,14 +109,16 @@ impl Session {
 
     /// Whether nothing that is claimed allows the access.
     fn is_violation(&self, made: MadeAt) -> bool
-        ensures { (c : Claimed) → ShowsClaimed self.now.claims c → IsTrue result ↔ IsViolation c (Some made) }
+        ensures violated { (c : Claimed) → ShowsClaimed self.now.claims c → IsTrue result ↔ IsViolation c (Some made) }
+        ensures allowed { (c : Claimed) → ShowsClaimed self.now.claims c → result ≡ false → IsAllowed c (Some made) }
     {
         !self.claims.may(made.device, made.frame, made.kind)
     }
 
     /// Whether the line made an access that nothing claimed allows.
     fn is_violated(&self, answer: &Answer) -> bool
-        ensures { (c : Claimed) → ShowsClaimed self.now.claims c → IsTrue result ↔ IsViolation c (made_by answer.now) }
+        ensures violated { (c : Claimed) → ShowsClaimed self.now.claims c → IsTrue result ↔ IsViolation c (made_by answer.now) }
+        ensures allowed { (c : Claimed) → ShowsClaimed self.now.claims c → result ≡ false → IsAllowed c (made_by answer.now) }
     {
         match answer {
             Answer::Committed(Ok(Some(made))) => self.is_violation(*made),
@@ -128,6 +135,7 @@ impl Session {
         ensures good { (c : Claimed) → ShowsClaimed self.old.claims c → IsGoodLine line.now result (scene_in self.new) c }
         ensures wrong { (c : Claimed) → ShowsClaimed self.old.claims c
             → IsWrongLine line.now result self.new.hardware self.new.trusted.items c }
+        ensures admitted { (c : Claimed) → ShowsClaimed self.old.claims c → IsAdmittedLine line.now result self.old.hardware c }
         ensures watched { (c : Claimed) → ShowsClaimed self.old.claims c
             → WatchesStep line.now result c self.old.watched.items self.new.watched.items }
         ensures counted { self.new.hardware.events ≤ self.old.hardware.events + 1 }
@@ -156,17 +164,27 @@ impl Session {
         ensures good { (c : Claimed) → ShowsClaimed self.old.claims c → IsGoodLine line.now result.answer (scene_in self.new) c }
         ensures wrong { (c : Claimed) → ShowsClaimed self.old.claims c
             → IsWrongLine line.now result.answer self.new.hardware self.new.trusted.items c }
+        ensures admitted { (c : Claimed) → ShowsClaimed self.old.claims c → IsAdmittedLine line.now result.answer self.old.hardware c }
         ensures watched { (c : Claimed) → ShowsClaimed self.old.claims c → WatchesBy line.now result.answer c self.old self.new }
         ensures violated { (c : Claimed) → ShowsClaimed self.old.claims c → IsTrue result.violated ↔ IsViolation c (made_by result.answer) }
+        ensures allowed { (c : Claimed) → ShowsClaimed self.old.claims c → result.violated ≡ false → IsAllowed c (made_by result.answer) }
         ensures counted { self.new.hardware.events ≤ self.old.hardware.events + 1 }
     {
         drop_fallen(&mut self.watched);
         let answer = self.answer(line);
         let violated = self.is_violated(&answer);
-        if is_of_software(line) {
+        if is_of_software(line, &answer, &self.trusted) {
             self.judge_again();
         }
         Stepped { answer, violated }
+    }
+
+    /// Whether something is wrong by what came of the last line: its claim, the access that it made, or a claim that was good
+    /// before.
+    pub fn is_wrong(&self, stepped: &Stepped) -> bool
+        ensures { result ≡ is_wrong_by stepped.now self.now.watched.items }
+    {
+        is_wrong_claim(&stepped.answer) || stepped.violated || has_fallen(&self.watched)
     }
 
     /// The claims that were good, in their order, each about something else. Behind a line of software they were judged
@@ -178,13 +196,48 @@ impl Session {
     }
 }
 
-/// Whether software changes hardware by the line, or plugs a device in.
-fn is_of_software(line: &HardwareLine) -> bool
-    ensures { result ≡ is_of_software line.now }
+/// Whether the answer says that a claim is wrong.
+fn is_wrong_claim(answer: &Answer) -> bool
+    ensures { result ≡ is_wrong_claim (judged answer.now) }
 {
-    matches!(
-        line,
+    matches!(answer, Answer::Claim(ClaimAnswer::Wrong(_)))
+}
+
+/// Whether a claim that was good isn't any more.
+fn has_fallen(watched: &[Watched]) -> bool
+    ensures { result ≡ has_fallen watched.now }
+{
+    watched.iter().any(|own| own.why.is_some())
+}
+
+/// Whether the line made a write.
+fn writes(answer: &Answer) -> bool
+    ensures { result ≡ writes answer.now }
+{
+    match answer {
+        Answer::Committed(Ok(Some(made))) => made.kind == AccessKind::Write,
+        _ => false,
+    }
+}
+
+/// Whether the device is one of those.
+fn is_among(devices: &[DeviceId], device: DeviceId) -> bool
+    ensures { result ≡ is_id_among devices.now device }
+{
+    devices.iter().any(|own| *own == device)
+}
+
+/// Whether software changes hardware by the line, or plugs a device in. What a trusted device writes counts as a store of
+/// software.
+fn is_of_software(line: &HardwareLine, answer: &Answer, trusted: &[DeviceId]) -> bool
+    ensures { result ≡ is_of_software line.now answer.now trusted.now }
+{
+    match line {
         HardwareLine::Event(Event::Poke { .. } | Event::Plug { .. })
-            | HardwareLine::RegisterWrite { .. }
-    )
+        | HardwareLine::RegisterWrite { .. } => true,
+        HardwareLine::Event(Event::Commit { device }) => {
+            writes(answer) && is_among(trusted, *device)
+        }
+        _ => false,
+    }
 }

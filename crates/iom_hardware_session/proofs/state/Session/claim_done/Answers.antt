@@ -1,4 +1,4 @@
-use Rattle.std.proofs.Common.{rules, ◌≡◌, ◌∙◌, ℕ, Some, vec_items, sym, ap, subst}
+use Rattle.std.proofs.Common.{◌≡◌, ◌↔◌, ◌∙◌, ℕ, Some, vec_items, sym, ap, subst}
 use Rattle.iom_claims.specs.Claimed.{IsOpen, after_done}
 use Rattle.iom_claims.specs.Rows.{Rows}
 use Rattle.iom_claims.specs.Shown.{ShowsClaimed}
@@ -6,12 +6,14 @@ use Rattle.iom_hardware_session.specs.declared.watched.GoodClaim.TheVariants as 
 use Rattle.iom_hardware_session.specs.Good.{scene_in}
 use Rattle.iom_hardware_session.specs.Watching.{with_if_good}
 use Rattle.iom_hardware_session.proofs.WatchLemmas.{watches_done}
-use Rattle.iom_hardware_session.proofs.DoneLemmas.{done_good, done_wrong, went_well}
+use Rattle.iom_hardware_session.proofs.DoneLemmas.{done_good, done_wrong, went_well, judgement_admitted, not_given, not_found}
+use Rattle.iom_claims.specs.declared.grant.Grant.{Grant}
+use Rattle.iom_hardware_script.specs.declared.script.Claim.TheVariants as said
 use Rattle.iom_hardware_session.proofs.state.Session.claim_done.Goals as goal
 
 pub returns-clause-good : goal.returns-clause-good
 returns-clause-good c = λ claimed shows is.
-    let same : c.in-Ok.short ≡ c.args.number = search rules in
+    let same = c.in-Ok.ensures.short in
     let done = went_well c.done.result (sym c.is_err-2.ensures.value ∙ c.if-is_err-2.false) (c.done.ensures.done claimed shows) in
     let after : ShowsClaimed c.look.new.self.claims (after_done c.args.number claimed) =
     subst (λ (rows : Rows). ShowsClaimed rows (after_done c.args.number claimed)) (sym c.look.ensures.rest.1) (subst (λ (n : ℕ). ShowsClaimed c.done.new.self (after_done n claimed)) same done) in
@@ -21,7 +23,7 @@ returns-clause-good c = λ claimed shows is.
 
 pub returns-clause-wrong : goal.returns-clause-wrong
 returns-clause-wrong c = λ claimed shows.
-    let same : c.in-Ok.short ≡ c.args.number = search rules in
+    let same = c.in-Ok.ensures.short in
     let done = went_well c.done.result (sym c.is_err-2.ensures.value ∙ c.if-is_err-2.false) (c.done.ensures.done claimed shows) in
     let after : ShowsClaimed c.look.new.self.claims (after_done c.args.number claimed) =
     subst (λ (rows : Rows). ShowsClaimed rows (after_done c.args.number claimed)) (sym c.look.ensures.rest.1) (subst (λ (n : ℕ). ShowsClaimed c.done.new.self (after_done n claimed)) same done) in
@@ -31,7 +33,22 @@ returns-clause-wrong c = λ claimed shows.
 
 pub returns-clause-watched : goal.returns-clause-watched
 returns-clause-watched c = λ claimed shows.
-    let same : c.in-Ok.short ≡ c.args.number = search rules in
+    let same = c.in-Ok.ensures.short in
     watches_done c.args.number c.in-Ok.short c.in-Some.grant c.judge_done-found.result claimed c.args.self.now.watched.items c.watch.new.watched.items same
     ((c.open_claim.ensures claimed shows c.in-Some.grant).0 c.in-Some.is)
     (c.watch.ensures ∙ ap (with_if_good c.judge_done-found.result (good.Done c.in-Ok.short c.in-Some.grant.device c.in-Some.grant.frame)) (ap vec_items c.look.ensures.rest.2 ∙ c.reserve.ensures.items))
+
+pub returns-in_default-clause-admitted : goal.returns-in_default-clause-admitted
+returns-in_default-clause-admitted c = λ claimed shows. not_given c.args.self.now.claims claimed c.args.number shows c.in_default.ensures.not_given
+
+pub returns-in_default-open_claim-clause-admitted : goal.returns-in_default-open_claim-clause-admitted
+returns-in_default-open_claim-clause-admitted c = λ claimed shows.
+    not_found claimed c.args.number c.open_claim.result c.in_default-open_claim.is
+    (subst (λ (n : ℕ). (grant : Grant) → (c.open_claim.result ≡ Some grant) ↔ IsOpen claimed.history (record { number = n; grant = grant })) c.in-Ok.ensures.short (c.open_claim.ensures claimed shows))
+
+pub returns-clause-admitted : goal.returns-clause-admitted
+returns-clause-admitted c = λ claimed shows.
+    let same = c.in-Ok.ensures.short in
+    let opened : IsOpen claimed.history (record { number = c.args.number; grant = c.in-Some.grant }) =
+    subst (λ (n : ℕ). IsOpen claimed.history (record { number = n; grant = c.in-Some.grant })) same ((c.open_claim.ensures claimed shows c.in-Some.grant).0 c.in-Some.is) in
+    judgement_admitted (said.Done c.args.number) c.judge_done-found.result c.args.self.now.hardware claimed c.judge_done-found.ensures.made tt (c.in-Some.grant, opened)

@@ -1,0 +1,90 @@
+-- What comes of a line of devices or hardware is a call of hardware, or nothing.
+use Rattle.std.proofs.Common.{◌≡◌, ◌⊎◌, inl, inr, ℕ, ◌&&◌, true, false, List, Option, None, Some, option_map, Result, Ok, Err, refl, sym, ◌∙◌}
+use Rattle.std.proofs.lemmas.Bool.{false≢true, and_from}
+use Rattle.iom_base.specs.declared.access.AccessKind.{AccessKind}
+use Rattle.iom_base.specs.declared.access.AccessKind.TheVariants as kind
+use Rattle.iom_base.specs.declared.refusal.Refusal.{Refusal}
+use Rattle.iom_base.specs.Accesses.{read_of, write_of}
+use Rattle.iom_hardware.specs.HardwareParts.{hardware_parts}
+use Rattle.iom_hardware.specs.declared.hardware.Hardware.{Hardware}
+use Rattle.iom_hardware.specs.declared.sender.Sender.TheVariants.{Own}
+use Rattle.iom_hardware_ways.specs.Calls.{HardwareCall, CallDoes, DoesHarmlessly, IsMadeHarmlessly}
+use Rattle.iom_hardware_ways.specs.Calls as call
+use Rattle.iom_hardware_script.specs.declared.script.HardwareLine.TheVariants as line
+use Rattle.iom_hardware_session.specs.Answered.{replied, through_cache, sent, fetched, timed_out, delivered, dropped, repeated, committed, reset, loaded}
+use Rattle.iom_hardware_session.specs.Events.{CallOrNothing, Stays, LoadsBytes, EventOrNone}
+use Rattle.iom_hardware_session.specs.Lines.{is_write, is_made_write, is_of_software}
+use Rattle.iom_hardware_session.specs.declared.answer.Answer.{Answer}
+use Rattle.iom_hardware.specs.declared.answers.NoPlace.{NoPlace}
+use Rattle.iom_inflight.specs.declared.made.MadeAt.{MadeAt}
+use Rattle.iom_machine.specs.declared.event.Event.{Event}
+use Rattle.iom_machine.specs.declared.event.Event.TheVariants as event
+use Rattle.iom_way_survey.specs.Surveys.{is_id_among}
+
+-- hardware does this by a call, and what a trusted device writes isn't what hardware reads
+abbrev pub DoesByCall : List ℕ → Hardware → Hardware → Type 0
+DoesByCall trusted old new = (done : HardwareCall) × CallDoes done (hardware_parts old) (hardware_parts new) × DoesHarmlessly (is_id_among trusted) done (hardware_parts old)
+
+-- nothing is done, or something by a call
+abbrev pub StaysOrDoes : List ℕ → Hardware → Hardware → Type 0
+StaysOrDoes trusted old new = Stays old new ⊎ DoesByCall trusted old new
+
+by_call : {X : Type 0} (trusted : List ℕ) (old new : Hardware) (of : X → HardwareCall) (answer : Option X) → ((x : X) → answer ≡ Some x → DoesHarmlessly (is_id_among trusted) (of x) (hardware_parts old))
+    → CallOrNothing (option_map of answer) old new → StaysOrDoes trusted old new
+by_call trusted old new of None harmless does = absurd does
+by_call trusted old new of (Some x) harmless does = inr (of x, does.0, harmless x refl)
+
+loads_nothing : (old new : Hardware) (address len : ℕ) (answer : Option (Result (Unit {0}) NoPlace)) → LoadsBytes answer address len old new → Stays old new
+loads_nothing old new address len None does = absurd does
+loads_nothing old new address len (Some answer) does = does.1
+
+-- a commit that isn't a trusted device's write is harmless
+harmless_commit : (trusted : List ℕ) (old : Hardware) (id : ℕ) (answer : Result (Option MadeAt) Refusal) → (is_made_write (Some answer) && is_id_among trusted id) ≡ false
+    → IsMadeHarmlessly (is_id_among trusted) (hardware_parts old) id answer
+harmless_commit trusted old id (Ok (Some made)) none = λ among write read. absurd (false≢true (sym none ∙ and_from (is_write made.kind) (is_id_among trusted id) (writing made.kind write) among))
+  where
+    writing : (k : AccessKind) → k ≡ kind.Write → is_write k ≡ true
+    writing k e = rw e refl
+harmless_commit trusted old id (Ok None) none = tt
+harmless_commit trusted old id (Err why) none = tt
+
+commits : (trusted : List ℕ) (old new : Hardware) (id : ℕ) (answer : Option (Result (Option MadeAt) Refusal)) → (is_made_write answer && is_id_among trusted id) ≡ false
+    → CallOrNothing (option_map (call.Commit id) answer) old new → StaysOrDoes trusted old new
+commits trusted old new id None none does = absurd does
+commits trusted old new id (Some answer) none does = inr (call.Commit id answer, does.0, harmless_commit trusted old id answer none)
+
+-- AN EVENT that isn't of software stays, or is a call of hardware
+pub event_does : (trusted : List ℕ) (old new : Hardware) (said : Event) (answer : Answer) → is_of_software (line.Event said) answer trusted ≡ false → EventOrNone said answer old new
+    → StaysOrDoes trusted old new
+event_does trusted old new (event.Plug device what) answer soft does = absurd (false≢true (sym soft))
+event_does trusted old new (event.Poke address bytes) answer soft does = absurd (false≢true (sym soft))
+event_does trusted old new (event.Peek address len) answer soft does = inl (loads_nothing old new address len (loaded answer) (does.0 refl))
+event_does trusted old new (event.Read device address len) answer soft does = by_call trusted old new (call.Request Own device (read_of address len)) (replied answer) (λ x is. tt) (does.0 refl)
+event_does trusted old new (event.Write device address bytes) answer soft does = by_call trusted old new (call.Request Own device (write_of address bytes)) (replied answer) (λ x is. tt) (does.0 refl)
+event_does trusted old new (event.ReadTranslated device address len) answer soft does = by_call trusted old new (call.Translated device (read_of address len)) (replied answer) (λ x is. tt) (does.0 refl)
+event_does trusted old new (event.WriteTranslated device address bytes) answer soft does = by_call trusted old new (call.Translated device (write_of address bytes)) (replied answer) (λ x is. tt) (does.0 refl)
+event_does trusted old new (event.ReadThroughCache device address len) answer soft does = by_call trusted old new (call.ThroughCache Own device (read_of address len)) (through_cache answer) (λ x is. tt) (does.0 refl)
+event_does trusted old new (event.WriteThroughCache device address bytes) answer soft does = by_call trusted old new (call.ThroughCache Own device (write_of address bytes)) (through_cache answer) (λ x is. tt) (does.0 refl)
+event_does trusted old new (event.Ask device page) answer soft does = by_call trusted old new (call.Ask device page) (sent answer) (λ x is. tt) (does.0 refl)
+event_does trusted old new (event.Forge device serial) answer soft does = by_call trusted old new (call.Forge device serial) (sent answer) (λ x is. tt) (does.0 refl)
+event_does trusted old new event.Fetch answer soft does = by_call trusted old new call.Fetch (fetched answer) (λ x is. tt) (does.0 refl)
+event_does trusted old new event.Timeout answer soft does = by_call trusted old new call.Timeout (timed_out answer) (λ x is. tt) (does.0 refl)
+event_does trusted old new (event.Deliver place) answer soft does = by_call trusted old new (call.Deliver place) (delivered answer) (λ x is. tt) (does.0 refl)
+event_does trusted old new (event.Drop place) answer soft does = by_call trusted old new (call.Drop place) (dropped answer) (λ x is. tt) (does.0 refl)
+event_does trusted old new (event.Repeat place) answer soft does = by_call trusted old new (call.Repeat place) (repeated answer) (λ x is. tt) (does.0 refl)
+event_does trusted old new (event.Reset device) answer soft does = by_call trusted old new (call.Reset device) (reset answer) (λ x is. tt) (does.0 refl)
+event_does trusted old new (event.Commit device) answer soft does = commits trusted old new device (committed answer) soft (does.0 refl)
+event_does trusted old new (event.Medium device disk) answer soft does = inl (does.1 refl).1
+event_does trusted old new (event.Queue device size descriptors available used) answer soft does = inl (does.1 refl).1
+event_does trusted old new (event.Step device) answer soft does = inl (does.1 refl).1
+event_does trusted old new (event.Status device) answer soft does = inl (does.1 refl).1
+event_does trusted old new (event.Attach device mode ats) answer soft does = inl (does.1 refl).1
+event_does trusted old new (event.Detach device) answer soft does = inl (does.1 refl).1
+event_does trusted old new (event.Grant device page frame rights) answer soft does = inl (does.1 refl).1
+event_does trusted old new (event.Release device page) answer soft does = inl (does.1 refl).1
+event_does trusted old new (event.Quarantine device) answer soft does = inl (does.1 refl).1
+event_does trusted old new (event.Revive device) answer soft does = inl (does.1 refl).1
+event_does trusted old new event.Restart answer soft does = inl (does.1 refl).1
+event_does trusted old new event.Poll answer soft does = inl (does.1 refl).1
+event_does trusted old new event.Faults answer soft does = inl (does.1 refl).1
+event_does trusted old new (event.Free frame) answer soft does = inl (does.1 refl).1

@@ -1,0 +1,129 @@
+-- Which claims are made, and why others aren't.
+use Rattle.std.specs.Prelude.{◌≡◌, ℕ, ◌+◌, ◌<◌, ◌≤◌, ◌^◌, ◌-◌, length, None, IsSome, ⊤}
+use Rattle.iom_base.specs.declared.refusal.Refusal.{Refusal}
+use Rattle.iom_base.specs.declared.refusal.Refusal.TheVariants as refusal
+use Rattle.iom_claims.specs.Claimed.{Claimed, IsOpen}
+use Rattle.iom_claims.specs.declared.grant.Grant.{Grant}
+use Rattle.iom_device.specs.Caches.{kind_in}
+use Rattle.iom_hardware.specs.declared.hardware.Hardware.{Hardware}
+use Rattle.iom_hardware_script.specs.declared.script.Claim.{Claim as Said}
+use Rattle.iom_hardware_script.specs.declared.script.Claim.TheVariants as claim
+use Rattle.iom_hardware_session.specs.declared.answer.ClaimAnswer.{ClaimAnswer}
+use Rattle.iom_hardware_session.specs.declared.answer.ClaimAnswer.TheVariants as found
+use Rattle.iom_ledger.specs.History.{held_at}
+
+-- a device with this id is plugged in, or none is
+abbrev pub IsKnown : Hardware → ℕ → Type 0
+IsKnown hardware device = IsSome (kind_in hardware.devices.items device)
+
+abbrev pub IsUnknown : Hardware → ℕ → Type 0
+IsUnknown hardware device = kind_in hardware.devices.items device ≡ None
+
+-- memory has the frame
+abbrev pub IsFrameOf : Hardware → ℕ → Type 0
+IsFrameOf hardware frame = frame < length hardware.memory
+
+-- the device holds something at the page
+abbrev pub HoldsAt : Claimed → (device page : ℕ) → Type 0
+HoldsAt before device page = IsSome (held_at before.history device page)
+
+-- the claim with this number is open
+abbrev pub IsOpenClaim : Claimed → ℕ → Type 0
+IsOpenClaim before number = (grant : Grant) × IsOpen before.history (record { number = number; grant = grant })
+
+-- WHAT IS SO WHERE A CLAIM IS MADE
+abbrev pub CanBeMade : Said → Hardware → Claimed → Type 0
+CanBeMade (claim.Grant device page frame rights) hardware before =
+    IsKnown hardware device × IsFrameOf hardware frame × (page < 2 ^ 52) × (held_at before.history device page ≡ None)
+CanBeMade (claim.Ready device page) hardware before = IsKnown hardware device × HoldsAt before device page
+CanBeMade (claim.Release device page) hardware before = IsKnown hardware device × HoldsAt before device page
+CanBeMade (claim.Done number) hardware before = IsOpenClaim before number
+CanBeMade (claim.HandOff frame) hardware before = IsFrameOf hardware frame
+CanBeMade (claim.Take frame) hardware before = IsFrameOf hardware frame
+CanBeMade (claim.Trust device) hardware before = IsKnown hardware device
+
+-- WHY A GRANT ISN'T CLAIMED
+abbrev pub GrantIsRefused : Refusal → (device page frame : ℕ) → Hardware → Claimed → Type 0
+GrantIsRefused refusal.NoSuchDevice device page frame hardware before = IsUnknown hardware device
+GrantIsRefused refusal.FrameOutOfRange device page frame hardware before = length hardware.memory ≤ frame
+GrantIsRefused refusal.IovaOutOfRange device page frame hardware before = 2 ^ 52 ≤ page
+GrantIsRefused refusal.IovaBusy device page frame hardware before = HoldsAt before device page
+GrantIsRefused refusal.Memory device page frame hardware before = ⊤
+GrantIsRefused why device page frame hardware before = ⊥
+
+-- why it isn't claimed that a page is ready
+abbrev pub ReadyIsRefused : Refusal → (device page : ℕ) → Hardware → Claimed → Type 0
+ReadyIsRefused refusal.NoSuchDevice device page hardware before = IsUnknown hardware device
+ReadyIsRefused refusal.NotGranted device page hardware before = held_at before.history device page ≡ None
+ReadyIsRefused why device page hardware before = ⊥
+
+-- why nothing is withdrawn
+abbrev pub ReleaseIsRefused : Refusal → (device page : ℕ) → Hardware → Claimed → Type 0
+ReleaseIsRefused refusal.NoSuchDevice device page hardware before = IsUnknown hardware device
+ReleaseIsRefused refusal.NotGranted device page hardware before = held_at before.history device page ≡ None
+ReleaseIsRefused refusal.TooManyPending device page hardware before = before.last ≡ 2 ^ 32 - 1
+ReleaseIsRefused refusal.Memory device page hardware before = ⊤
+ReleaseIsRefused why device page hardware before = ⊥
+
+-- why nothing is claimed of a frame
+abbrev pub FrameIsRefused : Refusal → ℕ → Hardware → Type 0
+FrameIsRefused refusal.FrameOutOfRange frame hardware = length hardware.memory ≤ frame
+FrameIsRefused why frame hardware = ⊥
+
+abbrev pub HandOffIsRefused : Refusal → ℕ → Hardware → Type 0
+HandOffIsRefused refusal.Memory frame hardware = ⊤
+HandOffIsRefused why frame hardware = FrameIsRefused why frame hardware
+
+-- why a claim that something is done isn't made, though it is open
+abbrev pub IsWantOfMemory : Refusal → Type 0
+IsWantOfMemory refusal.Memory = ⊤
+IsWantOfMemory why = ⊥
+
+-- why a device isn't trusted
+abbrev pub TrustIsRefused : Refusal → ℕ → Hardware → Type 0
+TrustIsRefused refusal.NoSuchDevice device hardware = IsUnknown hardware device
+TrustIsRefused why device hardware = IsWantOfMemory why
+
+-- WHY A CLAIM ISN'T MADE: what the refusal says is so
+abbrev pub IsRefusedFor : Said → Refusal → Hardware → Claimed → Type 0
+IsRefusedFor (claim.Grant device page frame rights) why hardware before = GrantIsRefused why device page frame hardware before
+IsRefusedFor (claim.Ready device page) why hardware before = ReadyIsRefused why device page hardware before
+IsRefusedFor (claim.Release device page) why hardware before = ReleaseIsRefused why device page hardware before
+IsRefusedFor (claim.Done number) why hardware before = IsWantOfMemory why
+IsRefusedFor (claim.HandOff frame) why hardware before = HandOffIsRefused why frame hardware
+IsRefusedFor (claim.Take frame) why hardware before = FrameIsRefused why frame hardware
+IsRefusedFor (claim.Trust device) why hardware before = TrustIsRefused why device hardware
+
+-- no claim with the number is open
+abbrev pub IsUnopened : Said → Claimed → Type 0
+IsUnopened (claim.Done number) before = ¬ IsOpenClaim before number
+IsUnopened said before = ⊥
+
+-- it is one of what is held against hardware, or against the other claims: so it is good or wrong
+abbrev pub IsJudged : Said → Type 0
+IsJudged (claim.Grant device page frame rights) = ⊤
+IsJudged (claim.Ready device page) = ⊤
+IsJudged (claim.Done number) = ⊤
+IsJudged (claim.HandOff frame) = ⊤
+IsJudged (claim.Take frame) = ⊤
+IsJudged (claim.Release device page) = ⊥
+IsJudged (claim.Trust device) = ⊥
+
+-- what is withdrawn has the number after the last
+abbrev pub IsReleasedAs : Said → ℕ → Claimed → Type 0
+IsReleasedAs (claim.Release device page) number before = number ≡ before.last + 1
+IsReleasedAs said number before = ⊥
+
+-- a device is trusted
+abbrev pub IsTrust : Said → Type 0
+IsTrust (claim.Trust device) = ⊤
+IsTrust said = ⊥
+
+-- WHAT IS SO OF A CLAIM by its answer, as hardware stands and by what was claimed before
+abbrev pub IsAdmitted : Said → ClaimAnswer → Hardware → Claimed → Type 0
+IsAdmitted said found.Good hardware before = IsJudged said × CanBeMade said hardware before
+IsAdmitted said (found.Wrong why) hardware before = IsJudged said × CanBeMade said hardware before
+IsAdmitted said (found.Released number) hardware before = IsReleasedAs said number before × CanBeMade said hardware before
+IsAdmitted said found.Trusted hardware before = IsTrust said × CanBeMade said hardware before
+IsAdmitted said (found.Refused why) hardware before = IsRefusedFor said why hardware before
+IsAdmitted said found.NoSuchClaim hardware before = IsUnopened said before

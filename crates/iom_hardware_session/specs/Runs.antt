@@ -1,0 +1,75 @@
+-- Many lines one after another, and what is told of them.
+use Rattle.std.specs.Prelude.{◌≡◌, ℕ, ◌↔◌, ◌||◌, Bool, true, false, List, [], ◌∷◌, Option, None, Some, IsTrue, is_some}
+use Rattle.std.specs.List.{list_any}
+use Rattle.iom_claims.specs.Claimed.{Claimed, nothing_claimed}
+use Rattle.iom_claims.specs.Shown.{ShowsClaimed}
+use Rattle.iom_hardware.specs.PowerOn.{IsHardwareAtPowerOn}
+use Rattle.iom_hardware_script.specs.declared.script.HardwareLine.{HardwareLine}
+use Rattle.iom_hardware_session.specs.Answered.{judged}
+use Rattle.iom_hardware_session.specs.declared.answer.ClaimAnswer.{ClaimAnswer}
+use Rattle.iom_hardware_session.specs.declared.answer.ClaimAnswer.TheVariants as found
+use Rattle.iom_hardware_session.specs.declared.session.Stepped.{Stepped}
+use Rattle.iom_hardware_session.specs.declared.state.Session.{Session}
+use Rattle.iom_hardware_session.specs.declared.watched.Watched.{Watched}
+use Rattle.iom_hardware_session.specs.Good.{scene_in}
+use Rattle.iom_hardware_session.specs.Lines.{LineDoes, TrustsBy, IsAdmittedLine, IsGoodLine, IsWrongLine, WatchesBy, IsViolation, IsAllowed, claimed_by, made_by}
+
+-- a line, what came of it, and what is watched behind it
+pub record Told : Type 0 where
+  pub said : HardwareLine
+  pub stepped : Stepped
+  pub watched : List Watched
+
+-- what is claimed behind the line
+abbrev pub claimed_then : Told → Claimed → Claimed
+claimed_then told before = claimed_by told.said told.stepped.answer before
+
+-- WHAT COMES OF A LINE, by what was claimed before it: all that `Session::line` says
+pub record GoesOn (old : Session) (before : Claimed) (told : Told) (new : Session) : Type 0 where
+  pub does : LineDoes told.said told.stepped.answer old.hardware new.hardware
+  pub claimed : ShowsClaimed new.claims (claimed_then told before)
+  pub trusted : TrustsBy told.said told.stepped.answer old.trusted.items new.trusted.items
+  pub admitted : IsAdmittedLine told.said told.stepped.answer old.hardware before
+  pub good : IsGoodLine told.said told.stepped.answer (scene_in new) before
+  pub wrong : IsWrongLine told.said told.stepped.answer new.hardware new.trusted.items before
+  pub judged : WatchesBy told.said told.stepped.answer before old new
+  pub violated : IsTrue told.stepped.violated ↔ IsViolation before (made_by told.stepped.answer)
+  pub allowed : told.stepped.violated ≡ false → IsAllowed before (made_by told.stepped.answer)
+  pub watched : told.watched ≡ new.watched.items
+
+-- THESE LINES one after another, from where a session stands and from what was claimed
+abbrev pub GoThrough : Session → Claimed → List Told → Session → Claimed → Type 0
+GoThrough old before [] new after = (new ≡ old) × (after ≡ before)
+GoThrough old before (first ∷ others) new after =
+    (between : Session) × GoesOn old before first between × GoThrough between (claimed_then first before) others new after
+
+-- the claim is wrong
+abbrev pub is_wrong_claim : Option ClaimAnswer → Bool
+is_wrong_claim (Some (found.Wrong why)) = true
+is_wrong_claim (Some found.Good) = false
+is_wrong_claim (Some (found.Released number)) = false
+is_wrong_claim (Some found.Trusted) = false
+is_wrong_claim (Some (found.Refused why)) = false
+is_wrong_claim (Some found.NoSuchClaim) = false
+is_wrong_claim None = false
+
+-- a claim that was good isn't any more
+abbrev pub has_fallen : List Watched → Bool
+has_fallen watched = list_any (λ (own : Watched). is_some own.why) watched
+
+-- SOMETHING IS WRONG by what is told of the line: its claim, the access that it made, or a claim that was good before
+abbrev pub is_wrong_by : Stepped → List Watched → Bool
+is_wrong_by stepped watched = is_wrong_claim (judged stepped.answer) || (stepped.violated || has_fallen watched)
+
+abbrev pub is_wrong : Told → Bool
+is_wrong told = is_wrong_by told.stepped told.watched
+
+abbrev pub is_any_wrong : List Told → Bool
+is_any_wrong all = list_any is_wrong all
+
+-- A SESSION BEGINS: hardware at power-on with so many frames of memory and four disks at hand, nothing claimed, nobody trusted, nothing watched
+pub record IsSessionAtPowerOn (frames : ℕ) (session : Session) : Type 0 where
+  pub power_on : IsHardwareAtPowerOn frames (0 ∷ 1 ∷ 2 ∷ 3 ∷ []) session.hardware
+  pub claims : ShowsClaimed session.claims nothing_claimed
+  pub trusted : session.trusted.items ≡ []
+  pub watched : session.watched.items ≡ []
