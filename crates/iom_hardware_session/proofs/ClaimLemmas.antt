@@ -18,7 +18,7 @@ use Rattle.iom_hardware_script.specs.declared.script.Claim.{Claim as Said}
 use Rattle.iom_hardware_script.specs.declared.script.Claim.TheVariants as said
 use Rattle.iom_hardware_session.proofs.KeepLemmas.{IsWatched, AllowsStill, same_holds, holds_still}
 use Rattle.iom_hardware_session.proofs.MayLemmas.{may_after_grant, may_after_release, may_after_done}
-use Rattle.iom_hardware_session.specs.Admitted.{IsAdmitted}
+use Rattle.iom_hardware_session.specs.Admitted.{ClaimIsAdmitted}
 use Rattle.iom_hardware_session.specs.Claiming.{claimed_after}
 use Rattle.iom_hardware_session.specs.Good.{scene_in, GoodMeans}
 use Rattle.iom_hardware_session.specs.Laws.{DoneStaysDone, HandedOffStaysFree, HoldsOn}
@@ -221,7 +221,7 @@ beside_hand_off free claim frame new before watched means is was holds = by (is_
 
 -- ANY CLAIM, where it isn't wrong, leaves what was good
 pub claim_keeps : DoneStaysDone → HandedOffStaysFree → (own : Said) (answer : ClaimAnswer) (claim : GoodClaim) (hardware : Hardware) (rows : Rows) (new : Session) (before : Claimed) (watched : List Watched)
-    → ShowsClaimed rows before → IsAdmitted own answer hardware before → (answer ≡ found.Good → GoodMeans own (scene_in new) before (claimed_after own answer before))
+    → ShowsClaimed rows before → ClaimIsAdmitted own answer hardware before → (answer ≡ found.Good → GoodMeans own (scene_in new) before (claimed_after own answer before))
     → WatchesClaim own answer before watched new.watched.items → is_wrong_claim (Some answer) ≡ false → IsNotEnded claim own answer → IsWatched claim watched → HoldsOn claim new before
     → IsKept claim new (claimed_after own answer before)
 claim_keeps stays free (said.Grant device page frame rights) found.Good claim hardware rows new before watched shows admitted means is fine ends was holds = (

@@ -12,7 +12,7 @@ use Rattle.iom_claims.specs.declared.grant.OpenClaim.{OpenClaim}
 use Rattle.iom_hardware.specs.declared.hardware.Hardware.{Hardware}
 use Rattle.iom_hardware_script.specs.declared.script.Claim.{Claim as Said}
 use Rattle.iom_hardware_script.specs.declared.script.Claim.TheVariants as claim
-use Rattle.iom_hardware_session.specs.Admitted.{CanBeMade, IsOpenClaim, IsJudged, IsAdmitted}
+use Rattle.iom_hardware_session.specs.Admitted.{CanBeMade, IsOpenClaim, IsJudged, ClaimIsAdmitted}
 use Rattle.iom_hardware_session.specs.declared.answer.ClaimAnswer.{ClaimAnswer}
 use Rattle.iom_hardware_session.specs.declared.answer.ClaimAnswer.TheVariants as found
 use Rattle.iom_hardware_session.specs.Claiming.{is_judgement, claimed_after}
@@ -82,7 +82,7 @@ hand_off_wrong hardware trusted claimed number frame found.NoSuchClaim same made
 
 -- a claim that is judged can be made
 pub judgement_admitted : (said : Said) (answer : ClaimAnswer) (hardware : Hardware) (before : Claimed) → is_judgement answer ≡ true → IsJudged said → CanBeMade said hardware before
-    → IsAdmitted said answer hardware before
+    → ClaimIsAdmitted said answer hardware before
 judgement_admitted said found.Good hardware before judges judged can = (judged, can)
 judgement_admitted said (found.Wrong why) hardware before judges judged can = (judged, can)
 judgement_admitted said (found.Released number) hardware before judges judged can = absurd (false≢true judges)

@@ -11,8 +11,8 @@ use Rattle.iom_hardware.specs.declared.sender.Sender.TheVariants.{Own}
 use Rattle.iom_hardware_ways.specs.Calls.{HardwareCall, CallDoes, DoesHarmlessly, IsMadeHarmlessly}
 use Rattle.iom_hardware_ways.specs.Calls as call
 use Rattle.iom_hardware_script.specs.declared.script.HardwareLine.TheVariants as line
-use Rattle.iom_hardware_session.specs.Answered.{replied, through_cache, sent, fetched, timed_out, delivered, dropped, repeated, committed, reset, loaded}
-use Rattle.iom_hardware_session.specs.Events.{CallOrNothing, Stays, LoadsBytes, EventOrNone}
+use Rattle.iom_hardware_session.specs.Answered.{reply_in, cache_reply_in, sending_in, fetch_in, timeout_in, delivery_in, drop_in, repeat_in, commit_in, reset_in, load_in}
+use Rattle.iom_hardware_session.specs.Events.{CallOrNothing, Stays, LoadsAsAnswered, EventOrNone}
 use Rattle.iom_hardware_session.specs.Lines.{is_write, is_made_write, is_of_software}
 use Rattle.iom_hardware_session.specs.declared.answer.Answer.{Answer}
 use Rattle.iom_hardware.specs.declared.answers.NoPlace.{NoPlace}
@@ -34,7 +34,7 @@ by_call : {X : Type 0} (trusted : List ℕ) (old new : Hardware) (of : X → Har
 by_call trusted old new of None harmless does = absurd does
 by_call trusted old new of (Some x) harmless does = inr (of x, does.0, harmless x refl)
 
-loads_nothing : (old new : Hardware) (address len : ℕ) (answer : Option (Result (Unit {0}) NoPlace)) → LoadsBytes answer address len old new → Stays old new
+loads_nothing : (old new : Hardware) (address len : ℕ) (answer : Option (Result (Unit {0}) NoPlace)) → LoadsAsAnswered answer address len old new → Stays old new
 loads_nothing old new address len None does = absurd does
 loads_nothing old new address len (Some answer) does = does.1
 
@@ -58,22 +58,22 @@ pub event_does : (trusted : List ℕ) (old new : Hardware) (said : Event) (answe
     → StaysOrDoes trusted old new
 event_does trusted old new (event.Plug device what) answer soft does = absurd (false≢true (sym soft))
 event_does trusted old new (event.Poke address bytes) answer soft does = absurd (false≢true (sym soft))
-event_does trusted old new (event.Peek address len) answer soft does = inl (loads_nothing old new address len (loaded answer) (does.0 refl))
-event_does trusted old new (event.Read device address len) answer soft does = by_call trusted old new (call.Request Own device (read_of address len)) (replied answer) (λ x is. tt) (does.0 refl)
-event_does trusted old new (event.Write device address bytes) answer soft does = by_call trusted old new (call.Request Own device (write_of address bytes)) (replied answer) (λ x is. tt) (does.0 refl)
-event_does trusted old new (event.ReadTranslated device address len) answer soft does = by_call trusted old new (call.Translated device (read_of address len)) (replied answer) (λ x is. tt) (does.0 refl)
-event_does trusted old new (event.WriteTranslated device address bytes) answer soft does = by_call trusted old new (call.Translated device (write_of address bytes)) (replied answer) (λ x is. tt) (does.0 refl)
-event_does trusted old new (event.ReadThroughCache device address len) answer soft does = by_call trusted old new (call.ThroughCache Own device (read_of address len)) (through_cache answer) (λ x is. tt) (does.0 refl)
-event_does trusted old new (event.WriteThroughCache device address bytes) answer soft does = by_call trusted old new (call.ThroughCache Own device (write_of address bytes)) (through_cache answer) (λ x is. tt) (does.0 refl)
-event_does trusted old new (event.Ask device page) answer soft does = by_call trusted old new (call.Ask device page) (sent answer) (λ x is. tt) (does.0 refl)
-event_does trusted old new (event.Forge device serial) answer soft does = by_call trusted old new (call.Forge device serial) (sent answer) (λ x is. tt) (does.0 refl)
-event_does trusted old new event.Fetch answer soft does = by_call trusted old new call.Fetch (fetched answer) (λ x is. tt) (does.0 refl)
-event_does trusted old new event.Timeout answer soft does = by_call trusted old new call.Timeout (timed_out answer) (λ x is. tt) (does.0 refl)
-event_does trusted old new (event.Deliver place) answer soft does = by_call trusted old new (call.Deliver place) (delivered answer) (λ x is. tt) (does.0 refl)
-event_does trusted old new (event.Drop place) answer soft does = by_call trusted old new (call.Drop place) (dropped answer) (λ x is. tt) (does.0 refl)
-event_does trusted old new (event.Repeat place) answer soft does = by_call trusted old new (call.Repeat place) (repeated answer) (λ x is. tt) (does.0 refl)
-event_does trusted old new (event.Reset device) answer soft does = by_call trusted old new (call.Reset device) (reset answer) (λ x is. tt) (does.0 refl)
-event_does trusted old new (event.Commit device) answer soft does = commits trusted old new device (committed answer) soft (does.0 refl)
+event_does trusted old new (event.Peek address len) answer soft does = inl (loads_nothing old new address len (load_in answer) (does.0 refl))
+event_does trusted old new (event.Read device address len) answer soft does = by_call trusted old new (call.Request Own device (read_of address len)) (reply_in answer) (λ x is. tt) (does.0 refl)
+event_does trusted old new (event.Write device address bytes) answer soft does = by_call trusted old new (call.Request Own device (write_of address bytes)) (reply_in answer) (λ x is. tt) (does.0 refl)
+event_does trusted old new (event.ReadTranslated device address len) answer soft does = by_call trusted old new (call.Translated device (read_of address len)) (reply_in answer) (λ x is. tt) (does.0 refl)
+event_does trusted old new (event.WriteTranslated device address bytes) answer soft does = by_call trusted old new (call.Translated device (write_of address bytes)) (reply_in answer) (λ x is. tt) (does.0 refl)
+event_does trusted old new (event.ReadThroughCache device address len) answer soft does = by_call trusted old new (call.ThroughCache Own device (read_of address len)) (cache_reply_in answer) (λ x is. tt) (does.0 refl)
+event_does trusted old new (event.WriteThroughCache device address bytes) answer soft does = by_call trusted old new (call.ThroughCache Own device (write_of address bytes)) (cache_reply_in answer) (λ x is. tt) (does.0 refl)
+event_does trusted old new (event.Ask device page) answer soft does = by_call trusted old new (call.Ask device page) (sending_in answer) (λ x is. tt) (does.0 refl)
+event_does trusted old new (event.Forge device serial) answer soft does = by_call trusted old new (call.Forge device serial) (sending_in answer) (λ x is. tt) (does.0 refl)
+event_does trusted old new event.Fetch answer soft does = by_call trusted old new call.Fetch (fetch_in answer) (λ x is. tt) (does.0 refl)
+event_does trusted old new event.Timeout answer soft does = by_call trusted old new call.Timeout (timeout_in answer) (λ x is. tt) (does.0 refl)
+event_does trusted old new (event.Deliver place) answer soft does = by_call trusted old new (call.Deliver place) (delivery_in answer) (λ x is. tt) (does.0 refl)
+event_does trusted old new (event.Drop place) answer soft does = by_call trusted old new (call.Drop place) (drop_in answer) (λ x is. tt) (does.0 refl)
+event_does trusted old new (event.Repeat place) answer soft does = by_call trusted old new (call.Repeat place) (repeat_in answer) (λ x is. tt) (does.0 refl)
+event_does trusted old new (event.Reset device) answer soft does = by_call trusted old new (call.Reset device) (reset_in answer) (λ x is. tt) (does.0 refl)
+event_does trusted old new (event.Commit device) answer soft does = commits trusted old new device (commit_in answer) soft (does.0 refl)
 event_does trusted old new (event.Medium device disk) answer soft does = inl (does.1 refl).1
 event_does trusted old new (event.Queue device size descriptors available used) answer soft does = inl (does.1 refl).1
 event_does trusted old new (event.Step device) answer soft does = inl (does.1 refl).1

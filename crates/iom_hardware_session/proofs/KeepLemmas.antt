@@ -10,7 +10,7 @@ use Rattle.iom_claims.specs.Claimed.{Claimed}
 use Rattle.iom_hardware.specs.HardwareParts.{HardwareParts, hardware_parts}
 use Rattle.iom_hardware_session.proofs.EventLemmas.{DoesByCall}
 use Rattle.iom_hardware_session.proofs.TurnLemmas.{AreFewer, comes_before, comes_fewer}
-use Rattle.iom_hardware_session.specs.Laws.{ComesFrom, ComesToMake, HoldsOn, GoodAgainHolds}
+use Rattle.iom_hardware_session.specs.Laws.{ComesFromParts, ComesToMake, HoldsOn, GoodAgainHolds}
 use Rattle.iom_hardware_session.specs.Runs.{has_fallen}
 use Rattle.iom_hardware_session.specs.Watching.{is_about_same, still_good, claims_of, IsToldOf, AreJudgedAgain}
 use Rattle.iom_hardware_session.specs.declared.answer.Wrong.{Wrong}
@@ -96,14 +96,14 @@ pub stays_sooner : (old new : Session) → hardware_parts new.hardware ≡ hardw
 stays_sooner old new same fewer = λ calls id made comes. (
   calls,
   comes_fewer (is_id_among old.trusted.items) (is_id_among new.trusted.items) (hardware_parts old.hardware) calls id made fewer
-      (subst (λ (parts : HardwareParts). ComesFrom (is_id_among new.trusted.items) parts calls id made) same comes),
+      (subst (λ (parts : HardwareParts). ComesFromParts (is_id_among new.trusted.items) parts calls id made) same comes),
 )
 
 pub call_sooner : (old new : Session) → new.trusted.items ≡ old.trusted.items → DoesByCall old.trusted.items old.hardware new.hardware → ComesSooner old new
 call_sooner old new same (done, does, harmless) = λ calls id made comes. (
   done ∷ calls,
   comes_before (is_id_among old.trusted.items) done calls old.hardware.events id made (hardware_parts old.hardware) (hardware_parts new.hardware) old.sound harmless does
-      (subst (λ (trusted : List ℕ). ComesFrom (is_id_among trusted) (hardware_parts new.hardware) calls id made) same comes),
+      (subst (λ (trusted : List ℕ). ComesFromParts (is_id_among trusted) (hardware_parts new.hardware) calls id made) same comes),
 )
 
 -- who was trusted is

@@ -14,11 +14,11 @@ use Rattle.iom_hardware_script.specs.declared.script.HardwareLine.TheVariants as
 use Rattle.iom_hardware_session.proofs.ClaimLemmas.{IsNotEndedWhere, IsKept, not_ended_where, same_open, claim_keeps, done_is_kept, hand_off_is_kept}
 use Rattle.iom_hardware_session.proofs.EventLemmas.{event_does}
 use Rattle.iom_hardware_session.proofs.KeepLemmas.{IsWatched, judged_holds, still_watched, stays_sooner, call_sooner, none_fewer, one_more, holds_sooner}
-use Rattle.iom_hardware_session.specs.Answered.{judged}
+use Rattle.iom_hardware_session.specs.Answered.{judgement_in}
 use Rattle.iom_hardware_session.specs.Good.{scene_in, GoodMeans}
 use Rattle.iom_hardware_session.specs.Laws.{DoneStaysDone, HandedOffStaysFree, GoodAgainHolds}
 use Rattle.iom_hardware_session.specs.Lines.{LineDoes, Trusts, TrustsWhere, TrustsBy, IsAdmittedWhere, IsAdmittedLine, IsGoodWhere, IsGoodLine, WatchesClaimWhere, WatchesStep, WatchesWhere, WatchesBy, claimed_where, claimed_by, is_of_software}
-use Rattle.iom_hardware_session.specs.Runs.{Told, claimed_then, GoesOn, GoThrough, is_wrong_claim, has_fallen, is_wrong, is_any_wrong}
+use Rattle.iom_hardware_session.specs.Runs.{Told, claimed_then, LineGoesOn, GoThrough, is_wrong_claim, has_fallen, is_wrong, is_any_told_wrong}
 use Rattle.iom_hardware_session.specs.Sessions.{comes_back_by, comes_back, AccessesAreClaimed, DoneStaysOutOfReach, HandedOffStaysUntouched}
 use Rattle.iom_hardware_session.specs.Watching.{still_good, WatchesDone}
 use Rattle.iom_hardware_session.specs.declared.answer.Answer.{Answer}
@@ -72,7 +72,7 @@ software_claims_nothing (line.RegisterWrite offset width value) answer trusted b
 software_claims_nothing (line.Claim own) answer trusted before is = absurd (false≢true is)
 software_claims_nothing (line.Help help) answer trusted before is = refl
 
--- a claim, where it is judged
+-- a claim, where it is judgement_in
 claim_line : DoneStaysDone → HandedOffStaysFree → (own : Said) (answer : Option ClaimAnswer) (claim : GoodClaim) (old new : Session) (before : Claimed) → ShowsClaimed old.claims before
     → hardware_parts new.hardware ≡ hardware_parts old.hardware → TrustsWhere own answer old.trusted.items new.trusted.items → IsAdmittedWhere own answer old.hardware before
     → IsGoodWhere own answer (scene_in new) before → WatchesClaimWhere own answer before (still_good old.watched.items) new.watched.items → is_wrong_claim answer ≡ false
@@ -82,7 +82,7 @@ claim_line stays free own (Some answer) claim old new before shows same trusts a
     claim_keeps stays free own answer claim old.hardware old.claims new before (still_good old.watched.items) shows admitted means watches fine (not_ended_where claim own answer ends) (still_watched claim old.watched.items was)
     (holds_sooner claim old new before (stays_sooner old new same (trusts_more own answer old.trusted.items new.trusted.items trusts)) holds)
 
-not_ended_claim : (claim : GoodClaim) (own : Said) (answer : Answer) → IsNotEndedBy claim (line.Claim own) answer → IsNotEndedWhere claim own (judged answer)
+not_ended_claim : (claim : GoodClaim) (own : Said) (answer : Answer) → IsNotEndedBy claim (line.Claim own) answer → IsNotEndedWhere claim own (judgement_in answer)
 not_ended_claim (good.Done number device frame) own answer ends = tt
 not_ended_claim (good.HandedOff frame) own answer ends = ends
 
@@ -97,7 +97,7 @@ stays_line claim old new before same trusts watches (was, holds) = (
 -- a line that isn't of software
 hard_line : DoneStaysDone → HandedOffStaysFree → (own : HardwareLine) (answer : Answer) (claim : GoodClaim) (old new : Session) (before : Claimed) → ShowsClaimed old.claims before
     → LineDoes own answer old.hardware new.hardware → TrustsBy own answer old.trusted.items new.trusted.items → IsAdmittedLine own answer old.hardware before → IsGoodLine own answer (scene_in new) before
-    → WatchesStep own answer before (still_good old.watched.items) new.watched.items → is_of_software own answer old.trusted.items ≡ false → is_wrong_claim (judged answer) ≡ false
+    → WatchesStep own answer before (still_good old.watched.items) new.watched.items → is_of_software own answer old.trusted.items ≡ false → is_wrong_claim (judgement_in answer) ≡ false
     → IsNotEndedBy claim own answer → IsKept claim old before → IsKept claim new (claimed_by own answer before)
 hard_line stays free (line.Event event) answer claim old new before shows does trusts admitted means watches soft fine ends (was, holds) = (
   subst (λ (w : List Watched). IsWatched claim w) (sym watches) (still_watched claim old.watched.items was),
@@ -110,20 +110,20 @@ hard_line stays free (line.RegisterRead offset width) answer claim old new befor
     stays_line claim old new before does.1.0 trusts watches kept
 hard_line stays free (line.RegisterWrite offset width value) answer claim old new before shows does trusts admitted means watches soft fine ends kept = absurd (false≢true (sym soft))
 hard_line stays free (line.Claim own) answer claim old new before shows does trusts admitted means watches soft fine ends kept =
-    claim_line stays free own (judged answer) claim old new before shows does.0 trusts admitted means watches fine (not_ended_claim claim own answer ends) kept
+    claim_line stays free own (judgement_in answer) claim old new before shows does.0 trusts admitted means watches fine (not_ended_claim claim own answer ends) kept
 hard_line stays free (line.Help help) answer claim old new before shows does trusts admitted means watches soft fine ends kept =
     stays_line claim old new before does.1.0 trusts watches kept
 
 -- nothing has fallen, no claim is wrong, and no access a violation
-none_wrong : (told : Told) → is_wrong told ≡ false → (is_wrong_claim (judged told.stepped.answer) ≡ false) × (told.stepped.violated ≡ false) × (has_fallen told.watched ≡ false)
+none_wrong : (told : Told) → is_wrong told ≡ false → (is_wrong_claim (judgement_in told.stepped.answer) ≡ false) × (told.stepped.violated ≡ false) × (has_fallen told.watched ≡ false)
 none_wrong told fine =
-    let parts = or_parts (is_wrong_claim (judged told.stepped.answer)) (told.stepped.violated || has_fallen told.watched) fine in
+    let parts = or_parts (is_wrong_claim (judgement_in told.stepped.answer)) (told.stepped.violated || has_fallen told.watched) fine in
     let others = or_parts told.stepped.violated (has_fallen told.watched) parts.1 in
     (parts.0, others.0, others.1)
 
 line_keeps : GoodAgainHolds → DoneStaysDone → HandedOffStaysFree → (claim : GoodClaim) (told : Told) (old new : Session) (before : Claimed) → ShowsClaimed old.claims before
-    → GoesOn old before told new → is_wrong told ≡ false → IsNotEndedBy claim told.said told.stepped.answer → IsKept claim old before → IsKept claim new (claimed_then told before)
-line_keeps again stays free claim told old new before shows goes fine ends (was, holds) = by (is_of_software told.said told.stepped.answer old.trusted.items) refl goes.judged
+    → LineGoesOn old before told new → is_wrong told ≡ false → IsNotEndedBy claim told.said told.stepped.answer → IsKept claim old before → IsKept claim new (claimed_then told before)
+line_keeps again stays free claim told old new before shows goes fine ends (was, holds) = by (is_of_software told.said told.stepped.answer old.trusted.items) refl goes.again
   where
     none : has_fallen new.watched.items ≡ false
     none = subst (λ (w : List Watched). has_fallen w ≡ false) goes.watched (none_wrong told fine).2
@@ -138,11 +138,11 @@ line_keeps again stays free claim told old new before shows goes fine ends (was,
 -- MANY LINES
 
 all_keep : GoodAgainHolds → DoneStaysDone → HandedOffStaysFree → (claim : GoodClaim) (all : List Told) (old new : Session) (before after : Claimed) → ShowsClaimed old.claims before
-    → GoThrough old before all new after → is_any_wrong all ≡ false → AreNotEnded claim all → IsKept claim old before → IsKept claim new after
+    → GoThrough old before all new after → is_any_told_wrong all ≡ false → AreNotEnded claim all → IsKept claim old before → IsKept claim new after
 all_keep again stays free claim [] old new before after shows (same, is) fine ends kept =
     subst (λ (s : Session). IsKept claim s after) (sym same) (subst (λ (c : Claimed). IsKept claim old c) (sym is) kept)
 all_keep again stays free claim (first ∷ others) old new before after shows (between, goes, rest) fine ends kept =
-    let fines = or_parts (is_wrong first) (is_any_wrong others) fine in
+    let fines = or_parts (is_wrong first) (is_any_told_wrong others) fine in
     let (end, later) = not_ended claim first others ends in
     all_keep again stays free claim others between new (claimed_then first before) after goes.claimed rest fines.1 later
     (line_keeps again stays free claim first old between before shows goes fines.0 end kept)
@@ -150,7 +150,7 @@ all_keep again stays free claim (first ∷ others) old new before after shows (b
 pub accesses_are_claimed : AccessesAreClaimed
 accesses_are_claimed old new before after [] goes fine = tt
 accesses_are_claimed old new before after (first ∷ others) (between, goes, rest) fine =
-    let fines = or_parts (is_wrong first) (is_any_wrong others) fine in
+    let fines = or_parts (is_wrong first) (is_any_told_wrong others) fine in
     (goes.allowed (none_wrong first fines.0).1, accesses_are_claimed between new (claimed_then first before) after others rest fines.1)
 
 -- the line at which something is claimed to be done
@@ -174,8 +174,8 @@ begins_done stays own answer number grant old new before is fine shows opened me
 
 pub done_stays_out : GoodAgainHolds → DoneStaysDone → HandedOffStaysFree → DoneStaysOutOfReach
 done_stays_out again stays free old new before after done later number grant calls made shows (between, goes, rest) fine (is, good_answer) opened at comes =
-    let fines = or_parts (is_wrong done) (is_any_wrong later) fine in
-    let kept = begins_done stays done.said done.stepped.answer number grant old between before is good_answer shows opened goes.good goes.judged in
+    let fines = or_parts (is_wrong done) (is_any_told_wrong later) fine in
+    let kept = begins_done stays done.said done.stepped.answer number grant old between before is good_answer shows opened goes.good goes.again in
     (all_keep again stays free (good.Done number grant.device grant.frame) later between new (claimed_then done before) after goes.claimed rest fines.1 tt kept).1 calls made at comes
 
 -- the line at which a frame is handed off
@@ -189,14 +189,14 @@ begins_hand_off free own answer frame old new before is fine means watches =
 
 pub handed_off_stays_untouched : GoodAgainHolds → DoneStaysDone → HandedOffStaysFree → HandedOffStaysUntouched
 handed_off_stays_untouched again stays free old new before after handed later frame id calls made shows (between, goes, rest) fine (is, good_answer) ends at comes =
-    let fines = or_parts (is_wrong handed) (is_any_wrong later) fine in
-    let kept = begins_hand_off free handed.said handed.stepped.answer frame old between before is good_answer goes.good goes.judged in
+    let fines = or_parts (is_wrong handed) (is_any_told_wrong later) fine in
+    let kept = begins_hand_off free handed.said handed.stepped.answer frame old between before is good_answer goes.good goes.again in
     (all_keep again stays free (good.HandedOff frame) later between new (claimed_then handed before) after goes.claimed rest fines.1 ends kept).1 calls id made at comes
 
 -- one line more
-pub through_more : (all : List Told) (told : Told) (old between new : Session) (before after : Claimed) → GoThrough old before all between after → GoesOn between after told new
+pub through_more : (all : List Told) (told : Told) (old between new : Session) (before after : Claimed) → GoThrough old before all between after → LineGoesOn between after told new
     → GoThrough old before (all ++ told ∷ []) new (claimed_then told after)
 through_more [] told old between new before after (same, is) goes =
-    (new, subst (λ (s : Session). GoesOn s before told new) same (subst (λ (c : Claimed). GoesOn between c told new) is goes), (refl, ap (λ (c : Claimed). claimed_then told c) is))
+    (new, subst (λ (s : Session). LineGoesOn s before told new) same (subst (λ (c : Claimed). LineGoesOn between c told new) is goes), (refl, ap (λ (c : Claimed). claimed_then told c) is))
 through_more (first ∷ others) told old between new before after (next, goes_first, rest) goes =
     (next, goes_first, through_more others told next between new (claimed_then first before) after rest goes)

@@ -5,7 +5,7 @@ use Rattle.iom_hardware.specs.HardwareParts.{HardwareParts}
 use Rattle.iom_hardware.specs.Sound.{IsSoundHardware}
 use Rattle.iom_hardware_ways.specs.Calls.{HardwareCall, Request, Translated, ThroughCache, Ask, Forge, Fetch, Timeout, Deliver, Drop, Repeat, Commit, Reset, CallDoes, IsMadeHarmlessly, DoesHarmlessly, DoInTurn}
 use Rattle.iom_hardware_ways.specs.Scenes.{scene_of}
-use Rattle.iom_hardware_session.specs.Laws.{ComesFrom}
+use Rattle.iom_hardware_session.specs.Laws.{ComesFromParts}
 use Rattle.iom_inflight.specs.declared.made.MadeAt.{MadeAt}
 use Rattle.iom_reach.specs.Memory.{WalkStep}
 use Rattle.iom_reach.specs.Safe.{IsOfTables, IsRead}
@@ -36,7 +36,7 @@ turns_later trusted (first ∷ others) events more old new (sound, harmless, (be
 
 -- what may come after a call may come with the call before it
 pub comes_before : (trusted : ℕ → Bool) (call : HardwareCall) (calls : List HardwareCall) (events id : ℕ) (made : MadeAt) (old new : HardwareParts) → IsSoundHardware old events
-    → DoesHarmlessly trusted call old → CallDoes call old new → ComesFrom trusted new calls id made → ComesFrom trusted old (call ∷ calls) id made
+    → DoesHarmlessly trusted call old → CallDoes call old new → ComesFromParts trusted new calls id made → ComesFromParts trusted old (call ∷ calls) id made
 comes_before trusted call calls events id made old new sound harmless does (more, between, last, turns, makes) = (
   events + more,
   between,
@@ -91,7 +91,7 @@ turns_fewer fewer more [] events old new are turns = turns
 turns_fewer fewer more (first ∷ others) events old new are (sound, harmless, (between, does, rest)) =
     (sound, does_fewer fewer more first old are harmless, (between, does, turns_fewer fewer more others (events + 1) between new are rest))
 
-pub comes_fewer : (fewer more : ℕ → Bool) (parts : HardwareParts) (calls : List HardwareCall) (id : ℕ) (made : MadeAt) → AreFewer fewer more → ComesFrom more parts calls id made
-    → ComesFrom fewer parts calls id made
+pub comes_fewer : (fewer more : ℕ → Bool) (parts : HardwareParts) (calls : List HardwareCall) (id : ℕ) (made : MadeAt) → AreFewer fewer more → ComesFromParts more parts calls id made
+    → ComesFromParts fewer parts calls id made
 comes_fewer fewer more parts calls id made are (events, between, new, turns, (commits, harmless)) =
     (events, between, new, turns_fewer fewer more calls events parts between are turns, (commits, made_fewer fewer more between id (Ok (Some made)) are harmless))

@@ -13,19 +13,19 @@ use Rattle.iom_hardware_session.specs.declared.answer.ClaimAnswer.TheVariants as
 use Rattle.iom_ledger.specs.History.{held_at}
 
 -- a device with this id is plugged in, or none is
-abbrev pub IsKnown : Hardware → ℕ → Type 0
-IsKnown hardware device = IsSome (kind_in hardware.devices.items device)
+abbrev pub IsDeviceKnown : Hardware → ℕ → Type 0
+IsDeviceKnown hardware device = IsSome (kind_in hardware.devices.items device)
 
-abbrev pub IsUnknown : Hardware → ℕ → Type 0
-IsUnknown hardware device = kind_in hardware.devices.items device ≡ None
+abbrev pub IsDeviceUnknown : Hardware → ℕ → Type 0
+IsDeviceUnknown hardware device = kind_in hardware.devices.items device ≡ None
 
 -- memory has the frame
-abbrev pub IsFrameOf : Hardware → ℕ → Type 0
-IsFrameOf hardware frame = frame < length hardware.memory
+abbrev pub IsFrameOfMemory : Hardware → ℕ → Type 0
+IsFrameOfMemory hardware frame = frame < length hardware.memory
 
 -- the device holds something at the page
-abbrev pub HoldsAt : Claimed → (device page : ℕ) → Type 0
-HoldsAt before device page = IsSome (held_at before.history device page)
+abbrev pub HoldsAtPage : Claimed → (device page : ℕ) → Type 0
+HoldsAtPage before device page = IsSome (held_at before.history device page)
 
 -- the claim with this number is open
 abbrev pub IsOpenClaim : Claimed → ℕ → Type 0
@@ -34,32 +34,32 @@ IsOpenClaim before number = (grant : Grant) × IsOpen before.history (record { n
 -- WHAT IS SO WHERE A CLAIM IS MADE
 abbrev pub CanBeMade : Said → Hardware → Claimed → Type 0
 CanBeMade (claim.Grant device page frame rights) hardware before =
-    IsKnown hardware device × IsFrameOf hardware frame × (page < 2 ^ 52) × (held_at before.history device page ≡ None)
-CanBeMade (claim.Ready device page) hardware before = IsKnown hardware device × HoldsAt before device page
-CanBeMade (claim.Release device page) hardware before = IsKnown hardware device × HoldsAt before device page
+    IsDeviceKnown hardware device × IsFrameOfMemory hardware frame × (page < 2 ^ 52) × (held_at before.history device page ≡ None)
+CanBeMade (claim.Ready device page) hardware before = IsDeviceKnown hardware device × HoldsAtPage before device page
+CanBeMade (claim.Release device page) hardware before = IsDeviceKnown hardware device × HoldsAtPage before device page
 CanBeMade (claim.Done number) hardware before = IsOpenClaim before number
-CanBeMade (claim.HandOff frame) hardware before = IsFrameOf hardware frame
-CanBeMade (claim.Take frame) hardware before = IsFrameOf hardware frame
-CanBeMade (claim.Trust device) hardware before = IsKnown hardware device
+CanBeMade (claim.HandOff frame) hardware before = IsFrameOfMemory hardware frame
+CanBeMade (claim.Take frame) hardware before = IsFrameOfMemory hardware frame
+CanBeMade (claim.Trust device) hardware before = IsDeviceKnown hardware device
 
 -- WHY A GRANT ISN'T CLAIMED
 abbrev pub GrantIsRefused : Refusal → (device page frame : ℕ) → Hardware → Claimed → Type 0
-GrantIsRefused refusal.NoSuchDevice device page frame hardware before = IsUnknown hardware device
+GrantIsRefused refusal.NoSuchDevice device page frame hardware before = IsDeviceUnknown hardware device
 GrantIsRefused refusal.FrameOutOfRange device page frame hardware before = length hardware.memory ≤ frame
 GrantIsRefused refusal.IovaOutOfRange device page frame hardware before = 2 ^ 52 ≤ page
-GrantIsRefused refusal.IovaBusy device page frame hardware before = HoldsAt before device page
+GrantIsRefused refusal.IovaBusy device page frame hardware before = HoldsAtPage before device page
 GrantIsRefused refusal.Memory device page frame hardware before = ⊤
 GrantIsRefused why device page frame hardware before = ⊥
 
 -- why it isn't claimed that a page is ready
 abbrev pub ReadyIsRefused : Refusal → (device page : ℕ) → Hardware → Claimed → Type 0
-ReadyIsRefused refusal.NoSuchDevice device page hardware before = IsUnknown hardware device
+ReadyIsRefused refusal.NoSuchDevice device page hardware before = IsDeviceUnknown hardware device
 ReadyIsRefused refusal.NotGranted device page hardware before = held_at before.history device page ≡ None
 ReadyIsRefused why device page hardware before = ⊥
 
 -- why nothing is withdrawn
 abbrev pub ReleaseIsRefused : Refusal → (device page : ℕ) → Hardware → Claimed → Type 0
-ReleaseIsRefused refusal.NoSuchDevice device page hardware before = IsUnknown hardware device
+ReleaseIsRefused refusal.NoSuchDevice device page hardware before = IsDeviceUnknown hardware device
 ReleaseIsRefused refusal.NotGranted device page hardware before = held_at before.history device page ≡ None
 ReleaseIsRefused refusal.TooManyPending device page hardware before = before.last ≡ 2 ^ 32 - 1
 ReleaseIsRefused refusal.Memory device page hardware before = ⊤
@@ -81,7 +81,7 @@ IsWantOfMemory why = ⊥
 
 -- why a device isn't trusted
 abbrev pub TrustIsRefused : Refusal → ℕ → Hardware → Type 0
-TrustIsRefused refusal.NoSuchDevice device hardware = IsUnknown hardware device
+TrustIsRefused refusal.NoSuchDevice device hardware = IsDeviceUnknown hardware device
 TrustIsRefused why device hardware = IsWantOfMemory why
 
 -- WHY A CLAIM ISN'T MADE: what the refusal says is so
@@ -120,10 +120,10 @@ IsTrust (claim.Trust device) = ⊤
 IsTrust said = ⊥
 
 -- WHAT IS SO OF A CLAIM by its answer, as hardware stands and by what was claimed before
-abbrev pub IsAdmitted : Said → ClaimAnswer → Hardware → Claimed → Type 0
-IsAdmitted said found.Good hardware before = IsJudged said × CanBeMade said hardware before
-IsAdmitted said (found.Wrong why) hardware before = IsJudged said × CanBeMade said hardware before
-IsAdmitted said (found.Released number) hardware before = IsReleasedAs said number before × CanBeMade said hardware before
-IsAdmitted said found.Trusted hardware before = IsTrust said × CanBeMade said hardware before
-IsAdmitted said (found.Refused why) hardware before = IsRefusedFor said why hardware before
-IsAdmitted said found.NoSuchClaim hardware before = IsUnopened said before
+abbrev pub ClaimIsAdmitted : Said → ClaimAnswer → Hardware → Claimed → Type 0
+ClaimIsAdmitted said found.Good hardware before = IsJudged said × CanBeMade said hardware before
+ClaimIsAdmitted said (found.Wrong why) hardware before = IsJudged said × CanBeMade said hardware before
+ClaimIsAdmitted said (found.Released number) hardware before = IsReleasedAs said number before × CanBeMade said hardware before
+ClaimIsAdmitted said found.Trusted hardware before = IsTrust said × CanBeMade said hardware before
+ClaimIsAdmitted said (found.Refused why) hardware before = IsRefusedFor said why hardware before
+ClaimIsAdmitted said found.NoSuchClaim hardware before = IsUnopened said before

@@ -13,58 +13,58 @@ use Rattle.iom_hardware_session.specs.declared.answer.Answer.TheVariants as answ
 use Rattle.iom_hardware_session.specs.declared.answer.ClaimAnswer.{ClaimAnswer}
 
 -- each is the answer, where it is of that kind
-abbrev pub replied : Answer → Option (Result Reply Refusal)
-replied (answered.Replied answer) = Some answer
-replied answer = None
+abbrev pub reply_in : Answer → Option (Result Reply Refusal)
+reply_in (answered.Replied answer) = Some answer
+reply_in answer = None
 
-abbrev pub through_cache : Answer → Option (Result CacheReply Refusal)
-through_cache (answered.ThroughCache answer) = Some answer
-through_cache answer = None
+abbrev pub cache_reply_in : Answer → Option (Result CacheReply Refusal)
+cache_reply_in (answered.ThroughCache answer) = Some answer
+cache_reply_in answer = None
 
-abbrev pub sent : Answer → Option (Result Bool Refusal)
-sent (answered.Sent answer) = Some answer
-sent answer = None
+abbrev pub sending_in : Answer → Option (Result Bool Refusal)
+sending_in (answered.Sent answer) = Some answer
+sending_in answer = None
 
-abbrev pub fetched : Answer → Option (Fetched)
-fetched (answered.Fetched answer) = Some answer
-fetched answer = None
+abbrev pub fetch_in : Answer → Option (Fetched)
+fetch_in (answered.Fetched answer) = Some answer
+fetch_in answer = None
 
-abbrev pub timed_out : Answer → Option (Bool)
-timed_out (answered.TimedOut answer) = Some answer
-timed_out answer = None
+abbrev pub timeout_in : Answer → Option (Bool)
+timeout_in (answered.TimedOut answer) = Some answer
+timeout_in answer = None
 
-abbrev pub delivered : Answer → Option (Delivered)
-delivered (answered.Delivered answer) = Some answer
-delivered answer = None
+abbrev pub delivery_in : Answer → Option (Delivered)
+delivery_in (answered.Delivered answer) = Some answer
+delivery_in answer = None
 
-abbrev pub dropped : Answer → Option (Bool)
-dropped (answered.Dropped answer) = Some answer
-dropped answer = None
+abbrev pub drop_in : Answer → Option (Bool)
+drop_in (answered.Dropped answer) = Some answer
+drop_in answer = None
 
-abbrev pub repeated : Answer → Option (Repeated)
-repeated (answered.Repeated answer) = Some answer
-repeated answer = None
+abbrev pub repeat_in : Answer → Option (Repeated)
+repeat_in (answered.Repeated answer) = Some answer
+repeat_in answer = None
 
-abbrev pub committed : Answer → Option (Result (Option MadeAt) Refusal)
-committed (answered.Committed answer) = Some answer
-committed answer = None
+abbrev pub commit_in : Answer → Option (Result (Option MadeAt) Refusal)
+commit_in (answered.Committed answer) = Some answer
+commit_in answer = None
 
-abbrev pub reset : Answer → Option (Result (Unit {0}) Refusal)
-reset (answered.Reset answer) = Some answer
-reset answer = None
+abbrev pub reset_in : Answer → Option (Result (Unit {0}) Refusal)
+reset_in (answered.Reset answer) = Some answer
+reset_in answer = None
 
-abbrev pub plugged : Answer → Option (Result (Unit {0}) Refusal)
-plugged (answered.Plugged answer) = Some answer
-plugged answer = None
+abbrev pub plug_in : Answer → Option (Result (Unit {0}) Refusal)
+plug_in (answered.Plugged answer) = Some answer
+plug_in answer = None
 
-abbrev pub stored : Answer → Option (Result (Unit {0}) NoPlace)
-stored (answered.Stored answer) = Some answer
-stored answer = None
+abbrev pub store_in : Answer → Option (Result (Unit {0}) NoPlace)
+store_in (answered.Stored answer) = Some answer
+store_in answer = None
 
-abbrev pub loaded : Answer → Option (Result (Unit {0}) NoPlace)
-loaded (answered.Loaded answer) = Some answer
-loaded answer = None
+abbrev pub load_in : Answer → Option (Result (Unit {0}) NoPlace)
+load_in (answered.Loaded answer) = Some answer
+load_in answer = None
 
-abbrev pub judged : Answer → Option (ClaimAnswer)
-judged (answered.Claim answer) = Some answer
-judged answer = None
+abbrev pub judgement_in : Answer → Option (ClaimAnswer)
+judgement_in (answered.Claim answer) = Some answer
+judgement_in answer = None

@@ -14,27 +14,27 @@ use Rattle.iom_hardware_script.specs.Grammar.{is_of_hardware, IsOfHardware}
 use Rattle.iom_machine.specs.declared.event.Event.{Event}
 use Rattle.iom_machine.specs.declared.event.Event.TheVariants.{Plug, Reset, Read, Write, ReadTranslated, WriteTranslated, ReadThroughCache, WriteThroughCache, Ask, Forge, Commit, Fetch, Timeout, Deliver, Drop, Repeat, Poke, Peek}
 use Rattle.iom_base.specs.declared.device_kind.NewDevice.{NewDevice}
-use Rattle.iom_hardware_session.specs.Answered.{replied, through_cache, sent, fetched, timed_out, delivered, dropped, repeated, committed, reset, plugged, stored, loaded}
+use Rattle.iom_hardware_session.specs.Answered.{reply_in, cache_reply_in, sending_in, fetch_in, timeout_in, delivery_in, drop_in, repeat_in, commit_in, reset_in, plug_in, store_in, load_in}
 use Rattle.iom_hardware_session.specs.declared.answer.Answer.{Answer}
 use Rattle.iom_hardware_session.specs.declared.answer.Answer.TheVariants as answered
 
 -- the call of hardware that an event is, with what it answers; none for what software does, or where the answer is of another kind
 abbrev pub call_of : Event → Answer → Option HardwareCall
-call_of (Read device address len) answer = option_map (call.Request Own device (read_of address len)) (replied answer)
-call_of (Write device address bytes) answer = option_map (call.Request Own device (write_of address bytes)) (replied answer)
-call_of (ReadTranslated device address len) answer = option_map (call.Translated device (read_of address len)) (replied answer)
-call_of (WriteTranslated device address bytes) answer = option_map (call.Translated device (write_of address bytes)) (replied answer)
-call_of (ReadThroughCache device address len) answer = option_map (call.ThroughCache Own device (read_of address len)) (through_cache answer)
-call_of (WriteThroughCache device address bytes) answer = option_map (call.ThroughCache Own device (write_of address bytes)) (through_cache answer)
-call_of (Ask device page) answer = option_map (call.Ask device page) (sent answer)
-call_of (Forge device serial) answer = option_map (call.Forge device serial) (sent answer)
-call_of Fetch answer = option_map call.Fetch (fetched answer)
-call_of Timeout answer = option_map call.Timeout (timed_out answer)
-call_of (Deliver place) answer = option_map (call.Deliver place) (delivered answer)
-call_of (Drop place) answer = option_map (call.Drop place) (dropped answer)
-call_of (Repeat place) answer = option_map (call.Repeat place) (repeated answer)
-call_of (Commit device) answer = option_map (call.Commit device) (committed answer)
-call_of (Reset device) answer = option_map (call.Reset device) (reset answer)
+call_of (Read device address len) answer = option_map (call.Request Own device (read_of address len)) (reply_in answer)
+call_of (Write device address bytes) answer = option_map (call.Request Own device (write_of address bytes)) (reply_in answer)
+call_of (ReadTranslated device address len) answer = option_map (call.Translated device (read_of address len)) (reply_in answer)
+call_of (WriteTranslated device address bytes) answer = option_map (call.Translated device (write_of address bytes)) (reply_in answer)
+call_of (ReadThroughCache device address len) answer = option_map (call.ThroughCache Own device (read_of address len)) (cache_reply_in answer)
+call_of (WriteThroughCache device address bytes) answer = option_map (call.ThroughCache Own device (write_of address bytes)) (cache_reply_in answer)
+call_of (Ask device page) answer = option_map (call.Ask device page) (sending_in answer)
+call_of (Forge device serial) answer = option_map (call.Forge device serial) (sending_in answer)
+call_of Fetch answer = option_map call.Fetch (fetch_in answer)
+call_of Timeout answer = option_map call.Timeout (timeout_in answer)
+call_of (Deliver place) answer = option_map (call.Deliver place) (delivery_in answer)
+call_of (Drop place) answer = option_map (call.Drop place) (drop_in answer)
+call_of (Repeat place) answer = option_map (call.Repeat place) (repeat_in answer)
+call_of (Commit device) answer = option_map (call.Commit device) (commit_in answer)
+call_of (Reset device) answer = option_map (call.Reset device) (reset_in answer)
 call_of event answer = None
 
 -- the call does this, and leaves the disks at hand
@@ -56,24 +56,24 @@ Loads memory address len (Ok done) = (bytes : List ℕ) × BytesStandAt memory a
 Loads memory address len (Err why) = HaveNoPlace memory address len why
 
 -- the processor stores; it loads
-abbrev pub StoresBytes : Option (Result (Unit {0}) NoPlace) → ℕ → List ℕ → Hardware → Hardware → Type 0
-StoresBytes None address bytes old new = ⊥
-StoresBytes (Some answer) address bytes old new = ProcessorWrites old.memory address bytes answer new.memory × MemoryChanges old new
+abbrev pub StoresAsAnswered : Option (Result (Unit {0}) NoPlace) → ℕ → List ℕ → Hardware → Hardware → Type 0
+StoresAsAnswered None address bytes old new = ⊥
+StoresAsAnswered (Some answer) address bytes old new = ProcessorWrites old.memory address bytes answer new.memory × MemoryChanges old new
 
-abbrev pub LoadsBytes : Option (Result (Unit {0}) NoPlace) → ℕ → ℕ → Hardware → Hardware → Type 0
-LoadsBytes None address len old new = ⊥
-LoadsBytes (Some answer) address len old new = Loads old.memory address len answer × Stays old new
+abbrev pub LoadsAsAnswered : Option (Result (Unit {0}) NoPlace) → ℕ → ℕ → Hardware → Hardware → Type 0
+LoadsAsAnswered None address len old new = ⊥
+LoadsAsAnswered (Some answer) address len old new = Loads old.memory address len answer × Stays old new
 
--- a device is plugged in
-abbrev pub PlugsDevice : Option (Result (Unit {0}) Refusal) → ℕ → NewDevice → Hardware → Hardware → Type 0
-PlugsDevice None device what old new = ⊥
-PlugsDevice (Some answer) device what old new = PlugsNewDevice (disks_at_hand old) (hardware_parts old) device what answer (hardware_parts new) (disks_at_hand new)
+-- a device is plug_in in
+abbrev pub PlugsAsAnswered : Option (Result (Unit {0}) Refusal) → ℕ → NewDevice → Hardware → Hardware → Type 0
+PlugsAsAnswered None device what old new = ⊥
+PlugsAsAnswered (Some answer) device what old new = PlugsNewDevice (disks_at_hand old) (hardware_parts old) device what answer (hardware_parts new) (disks_at_hand new)
 
 -- WHAT AN EVENT DOES TO HARDWARE, by its answer. Events of the model's own driver aren't of hardware, nor are those of block devices
 abbrev pub EventDoes : Event → Answer → Hardware → Hardware → Type 0
-EventDoes (Plug device what) answer old new = PlugsDevice (plugged answer) device what old new
-EventDoes (Poke address bytes) answer old new = StoresBytes (stored answer) address bytes old new
-EventDoes (Peek address len) answer old new = LoadsBytes (loaded answer) address len old new
+EventDoes (Plug device what) answer old new = PlugsAsAnswered (plug_in answer) device what old new
+EventDoes (Poke address bytes) answer old new = StoresAsAnswered (store_in answer) address bytes old new
+EventDoes (Peek address len) answer old new = LoadsAsAnswered (load_in answer) address len old new
 EventDoes event answer old new = CallOrNothing (call_of event answer) old new
 
 -- the same of any event: one that is none of hardware is answered so, and does nothing

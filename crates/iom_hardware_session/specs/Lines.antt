@@ -16,8 +16,8 @@ use Rattle.iom_hardware_session.specs.declared.answer.Answer.TheVariants as answ
 use Rattle.iom_hardware_session.specs.declared.answer.ClaimAnswer.{ClaimAnswer}
 use Rattle.iom_hardware_session.specs.declared.answer.ClaimAnswer.TheVariants as found
 use Rattle.iom_hardware_session.specs.declared.state.Session.{Session}
-use Rattle.iom_hardware_session.specs.Admitted.{IsAdmitted}
-use Rattle.iom_hardware_session.specs.Answered.{committed, judged}
+use Rattle.iom_hardware_session.specs.Admitted.{ClaimIsAdmitted}
+use Rattle.iom_hardware_session.specs.Answered.{commit_in, judgement_in}
 use Rattle.iom_hardware_session.specs.Claiming.{claimed_after}
 use Rattle.iom_hardware_session.specs.Events.{EventOrNone, Stays}
 use Rattle.iom_hardware_session.specs.Good.{GoodMeans}
@@ -93,14 +93,14 @@ LineDoes (line.RegisterWrite offset width value) answer old new = WritesRegister
 LineDoes (line.Claim said) answer old new = Stays old new
 LineDoes (line.Help help) answer old new = (answer ≡ answered.NotOfHardware) × Stays old new
 
--- what is claimed after a claim, where one is judged
+-- what is claimed after a claim, where one is judgement_in
 abbrev pub claimed_where : Said → Option ClaimAnswer → Claimed → Claimed
 claimed_where said None before = before
 claimed_where said (Some answer) before = claimed_after said answer before
 
 -- WHAT IS CLAIMED after a line, by its answer
 abbrev pub claimed_by : HardwareLine → Answer → Claimed → Claimed
-claimed_by (line.Claim said) answer before = claimed_where said (judged answer) before
+claimed_by (line.Claim said) answer before = claimed_where said (judgement_in answer) before
 claimed_by (line.Event event) answer before = before
 claimed_by (line.RegisterRead offset width) answer before = before
 claimed_by (line.RegisterWrite offset width value) answer before = before
@@ -113,21 +113,21 @@ made_where (Some (Err why)) = None
 made_where None = None
 
 abbrev pub made_by : Answer → Option MadeAt
-made_by answer = made_where (committed answer)
+made_by answer = made_where (commit_in answer)
 
 -- nothing that is claimed allows it
 abbrev pub IsViolation : Claimed → Option MadeAt → Type 0
 IsViolation claimed None = ⊥
 IsViolation claimed (Some made) = ¬ May claimed.history made.device made.frame made.kind
 
--- who is trusted after a claim, where one is judged
+-- who is trusted after a claim, where one is judgement_in
 abbrev pub TrustsWhere : Said → Option ClaimAnswer → List ℕ → List ℕ → Type 0
 TrustsWhere said None old new = new ≡ old
 TrustsWhere said (Some answer) old new = Trusts said answer old new
 
 -- who is trusted after a line
 abbrev pub TrustsBy : HardwareLine → Answer → List ℕ → List ℕ → Type 0
-TrustsBy (line.Claim said) answer old new = TrustsWhere said (judged answer) old new
+TrustsBy (line.Claim said) answer old new = TrustsWhere said (judgement_in answer) old new
 TrustsBy said answer old new = new ≡ old
 
 -- what a claim that is answered well means
@@ -136,7 +136,7 @@ IsGoodWhere said None scene before = ⊤
 IsGoodWhere said (Some answer) scene before = answer ≡ found.Good → GoodMeans said scene before (claimed_after said answer before)
 
 abbrev pub IsGoodLine : HardwareLine → Answer → HardwareScene → Claimed → Type 0
-IsGoodLine (line.Claim said) answer scene before = IsGoodWhere said (judged answer) scene before
+IsGoodLine (line.Claim said) answer scene before = IsGoodWhere said (judgement_in answer) scene before
 IsGoodLine said answer scene before = ⊤
 
 -- what a claim that is answered so means, where it isn't true
@@ -145,7 +145,7 @@ IsWrongWhere said None hardware trusted before = ⊤
 IsWrongWhere said (Some answer) hardware trusted before = IfWrong answer (λ why. WrongMeans said why hardware trusted before (claimed_after said answer before))
 
 abbrev pub IsWrongLine : HardwareLine → Answer → Hardware → List ℕ → Claimed → Type 0
-IsWrongLine (line.Claim said) answer hardware trusted before = IsWrongWhere said (judged answer) hardware trusted before
+IsWrongLine (line.Claim said) answer hardware trusted before = IsWrongWhere said (judgement_in answer) hardware trusted before
 IsWrongLine said answer hardware trusted before = ⊤
 
 -- the line made a write
@@ -160,7 +160,7 @@ is_made_write (Some (Err why)) = false
 is_made_write None = false
 
 abbrev pub writes : Answer → Bool
-writes answer = is_made_write (committed answer)
+writes answer = is_made_write (commit_in answer)
 
 -- Software changes hardware by the line, or plugs a device in. What a device writes that software trusts counts as a store of software
 abbrev pub is_of_software : HardwareLine → Answer → List ℕ → Bool
@@ -176,7 +176,7 @@ WatchesClaimWhere said None before old new = new ≡ old
 WatchesClaimWhere said (Some answer) before old new = WatchesClaim said answer before old new
 
 abbrev pub WatchesStep : HardwareLine → Answer → Claimed → List Watched → List Watched → Type 0
-WatchesStep (line.Claim said) answer before old new = WatchesClaimWhere said (judged answer) before old new
+WatchesStep (line.Claim said) answer before old new = WatchesClaimWhere said (judgement_in answer) before old new
 WatchesStep said answer before old new = new ≡ old
 
 -- so of any line, by whether it is of software
@@ -184,17 +184,17 @@ abbrev pub WatchesWhere : Bool → HardwareLine → Answer → Claimed → Sessi
 WatchesWhere true said answer before old new = AreJudgedAgain (still_good old.watched.items) new.watched.items new.hardware new.trusted.items before
 WatchesWhere false said answer before old new = WatchesStep said answer before (still_good old.watched.items) new.watched.items
 
--- WHAT IS WATCHED after a line: what was found wrong at the line before is forgotten, and where software changes hardware all the others are judged again
+-- WHAT IS WATCHED after a line: what was found wrong at the line before is forgotten, and where software changes hardware all the others are judgement_in again
 abbrev pub WatchesBy : HardwareLine → Answer → Claimed → Session → Session → Type 0
 WatchesBy said answer before old new = WatchesWhere (is_of_software said answer old.trusted.items) said answer before old new
 
--- a claim is judged, and this is so of it by its answer
+-- a claim is judgement_in, and this is so of it by its answer
 abbrev pub IsAdmittedWhere : Said → Option ClaimAnswer → Hardware → Claimed → Type 0
 IsAdmittedWhere said None hardware before = ⊥
-IsAdmittedWhere said (Some answer) hardware before = IsAdmitted said answer hardware before
+IsAdmittedWhere said (Some answer) hardware before = ClaimIsAdmitted said answer hardware before
 
 abbrev pub IsAdmittedLine : HardwareLine → Answer → Hardware → Claimed → Type 0
-IsAdmittedLine (line.Claim said) answer hardware before = IsAdmittedWhere said (judged answer) hardware before
+IsAdmittedLine (line.Claim said) answer hardware before = IsAdmittedWhere said (judgement_in answer) hardware before
 IsAdmittedLine said answer hardware before = ⊤
 
 -- what is claimed allows the access that a line made

@@ -5,7 +5,7 @@ use Rattle.iom_claims.specs.Claimed.{Claimed, nothing_claimed}
 use Rattle.iom_claims.specs.Shown.{ShowsClaimed}
 use Rattle.iom_hardware.specs.PowerOn.{IsHardwareAtPowerOn}
 use Rattle.iom_hardware_script.specs.declared.script.HardwareLine.{HardwareLine}
-use Rattle.iom_hardware_session.specs.Answered.{judged}
+use Rattle.iom_hardware_session.specs.Answered.{judgement_in}
 use Rattle.iom_hardware_session.specs.declared.answer.ClaimAnswer.{ClaimAnswer}
 use Rattle.iom_hardware_session.specs.declared.answer.ClaimAnswer.TheVariants as found
 use Rattle.iom_hardware_session.specs.declared.session.Stepped.{Stepped}
@@ -25,14 +25,14 @@ abbrev pub claimed_then : Told → Claimed → Claimed
 claimed_then told before = claimed_by told.said told.stepped.answer before
 
 -- WHAT COMES OF A LINE, by what was claimed before it: all that `Session::line` says
-pub record GoesOn (old : Session) (before : Claimed) (told : Told) (new : Session) : Type 0 where
+pub record LineGoesOn (old : Session) (before : Claimed) (told : Told) (new : Session) : Type 0 where
   pub does : LineDoes told.said told.stepped.answer old.hardware new.hardware
   pub claimed : ShowsClaimed new.claims (claimed_then told before)
   pub trusted : TrustsBy told.said told.stepped.answer old.trusted.items new.trusted.items
   pub admitted : IsAdmittedLine told.said told.stepped.answer old.hardware before
   pub good : IsGoodLine told.said told.stepped.answer (scene_in new) before
   pub wrong : IsWrongLine told.said told.stepped.answer new.hardware new.trusted.items before
-  pub judged : WatchesBy told.said told.stepped.answer before old new
+  pub again : WatchesBy told.said told.stepped.answer before old new
   pub violated : IsTrue told.stepped.violated ↔ IsViolation before (made_by told.stepped.answer)
   pub allowed : told.stepped.violated ≡ false → IsAllowed before (made_by told.stepped.answer)
   pub watched : told.watched ≡ new.watched.items
@@ -41,7 +41,7 @@ pub record GoesOn (old : Session) (before : Claimed) (told : Told) (new : Sessio
 abbrev pub GoThrough : Session → Claimed → List Told → Session → Claimed → Type 0
 GoThrough old before [] new after = (new ≡ old) × (after ≡ before)
 GoThrough old before (first ∷ others) new after =
-    (between : Session) × GoesOn old before first between × GoThrough between (claimed_then first before) others new after
+    (between : Session) × LineGoesOn old before first between × GoThrough between (claimed_then first before) others new after
 
 -- the claim is wrong
 abbrev pub is_wrong_claim : Option ClaimAnswer → Bool
@@ -59,13 +59,13 @@ has_fallen watched = list_any (λ (own : Watched). is_some own.why) watched
 
 -- SOMETHING IS WRONG by what is told of the line: its claim, the access that it made, or a claim that was good before
 abbrev pub is_wrong_by : Stepped → List Watched → Bool
-is_wrong_by stepped watched = is_wrong_claim (judged stepped.answer) || (stepped.violated || has_fallen watched)
+is_wrong_by stepped watched = is_wrong_claim (judgement_in stepped.answer) || (stepped.violated || has_fallen watched)
 
 abbrev pub is_wrong : Told → Bool
 is_wrong told = is_wrong_by told.stepped told.watched
 
-abbrev pub is_any_wrong : List Told → Bool
-is_any_wrong all = list_any is_wrong all
+abbrev pub is_any_told_wrong : List Told → Bool
+is_any_told_wrong all = list_any is_wrong all
 
 -- A SESSION BEGINS: hardware at power-on with so many frames of memory and four disks at hand, nothing claimed, nobody trusted, nothing watched
 pub record IsSessionAtPowerOn (frames : ℕ) (session : Session) : Type 0 where

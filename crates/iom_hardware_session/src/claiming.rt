@@ -4,7 +4,7 @@ ghost use Rattle.iom_claims.specs.Claimed.{Claimed};
 ghost use Rattle.iom_claims.specs.Shown.{ShowsClaimed};
 ghost use Rattle.iom_hardware_script.specs.declared.script.Claim.{Claim as Said};
 ghost use Rattle.iom_hardware_script.specs.declared.script.Claim.TheVariants as said;
-ghost use Rattle.iom_hardware_session.specs.Admitted.{IsKnown, IsAdmitted, GrantIsRefused, FrameIsRefused};
+ghost use Rattle.iom_hardware_session.specs.Admitted.{IsDeviceKnown, ClaimIsAdmitted, GrantIsRefused, FrameIsRefused};
 ghost use Rattle.iom_hardware_session.specs.Claiming.{claimed_after};
 ghost use Rattle.iom_hardware_session.specs.Good.{GoodMeans, scene_in};
 ghost use Rattle.iom_hardware_session.specs.Lines.{KeepsHardware, KeepsAll, TrustsAlso};
@@ -36,7 +36,7 @@ impl Session {
     /// The number of the frame that is claimed for the device at the page, or why it can't be.
     fn grantable(&self, device: DeviceId, page: u64, frame: u64) -> Result<u32, Refusal>
         ensures number { IfOk result (λ number. (number ≡ frame) × (number < length self.now.hardware.memory)) }
-        ensures admitted { OnOk result (IsKnown self.now.hardware device × (page < 2 ^ 52)) }
+        ensures admitted { OnOk result (IsDeviceKnown self.now.hardware device × (page < 2 ^ 52)) }
         ensures refused { (c : Claimed) → IfErr result (λ why. GrantIsRefused why device page frame self.now.hardware c) }
     {
         if self.hardware.kind_of(device).is_none() {
@@ -77,7 +77,7 @@ impl Session {
             (λ why. WrongMeans (said.Grant device page frame rights) why self.new.hardware self.new.trusted.items c (claimed_after (said.Grant device page frame rights) result c)) }
         ensures watched { (c : Claimed) → ShowsClaimed self.old.claims c
             → WatchesClaim (said.Grant device page frame rights) result c self.old.watched.items self.new.watched.items }
-        ensures admitted { (c : Claimed) → ShowsClaimed self.old.claims c → IsAdmitted (said.Grant device page frame rights) result self.old.hardware c }
+        ensures admitted { (c : Claimed) → ShowsClaimed self.old.claims c → ClaimIsAdmitted (said.Grant device page frame rights) result self.old.hardware c }
         ensures hardware { KeepsHardware self.old self.new }
     {
         let number = match self.grantable(device, page, frame) {
@@ -109,7 +109,7 @@ impl Session {
             → ShowsClaimed self.new.claims (claimed_after (said.Release device page) result c) }
         ensures wrong { IfWrong result (λ why. ⊥) }
         ensures watched { self.new.watched ≡ self.old.watched }
-        ensures admitted { (c : Claimed) → ShowsClaimed self.old.claims c → IsAdmitted (said.Release device page) result self.old.hardware c }
+        ensures admitted { (c : Claimed) → ShowsClaimed self.old.claims c → ClaimIsAdmitted (said.Release device page) result self.old.hardware c }
         ensures hardware { KeepsHardware self.old self.new }
     {
         if self.hardware.kind_of(device).is_none() {
@@ -132,7 +132,7 @@ impl Session {
             (λ why. WrongMeans (said.Done number) why self.new.hardware self.new.trusted.items c (claimed_after (said.Done number) result c)) }
         ensures watched { (c : Claimed) → ShowsClaimed self.old.claims c
             → WatchesClaim (said.Done number) result c self.old.watched.items self.new.watched.items }
-        ensures admitted { (c : Claimed) → ShowsClaimed self.old.claims c → IsAdmitted (said.Done number) result self.old.hardware c }
+        ensures admitted { (c : Claimed) → ShowsClaimed self.old.claims c → ClaimIsAdmitted (said.Done number) result self.old.hardware c }
         ensures hardware { KeepsHardware self.old self.new }
     {
         let Ok(short) = self.number_of(number) else {
@@ -171,7 +171,7 @@ impl Session {
             (λ why. WrongMeans (said.HandOff frame) why self.new.hardware self.new.trusted.items c (claimed_after (said.HandOff frame) result c)) }
         ensures watched { (c : Claimed) → ShowsClaimed self.old.claims c
             → WatchesClaim (said.HandOff frame) result c self.old.watched.items self.new.watched.items }
-        ensures admitted { (c : Claimed) → ShowsClaimed self.old.claims c → IsAdmitted (said.HandOff frame) result self.old.hardware c }
+        ensures admitted { (c : Claimed) → ShowsClaimed self.old.claims c → ClaimIsAdmitted (said.HandOff frame) result self.old.hardware c }
         ensures hardware { KeepsHardware self.old self.new }
     {
         let number = match self.frame_of(frame) {
@@ -211,7 +211,7 @@ impl Session {
             (λ why. WrongMeans (said.Take frame) why self.new.hardware self.new.trusted.items c (claimed_after (said.Take frame) result c)) }
         ensures watched { (c : Claimed) → ShowsClaimed self.old.claims c
             → WatchesClaim (said.Take frame) result c self.old.watched.items self.new.watched.items }
-        ensures admitted { (c : Claimed) → ShowsClaimed self.old.claims c → IsAdmitted (said.Take frame) result self.old.hardware c }
+        ensures admitted { (c : Claimed) → ShowsClaimed self.old.claims c → ClaimIsAdmitted (said.Take frame) result self.old.hardware c }
         ensures hardware { KeepsHardware self.old self.new }
     {
         let number = match self.frame_of(frame) {
@@ -229,7 +229,7 @@ impl Session {
 
     /// A request of the device at the page is accepted now, on what it holds there.
     pub(crate) fn claim_ready(&mut self, device: DeviceId, page: u64) -> ClaimAnswer
-        ensures admitted { (c : Claimed) → ShowsClaimed self.old.claims c → IsAdmitted (said.Ready device page) result self.old.hardware c }
+        ensures admitted { (c : Claimed) → ShowsClaimed self.old.claims c → ClaimIsAdmitted (said.Ready device page) result self.old.hardware c }
         ensures rest { KeepsAll self.old self.new }
     {
         if self.hardware.kind_of(device).is_none() {
@@ -250,7 +250,7 @@ impl Session {
         ensures wrong { IfWrong result (λ why. ⊥) }
         ensures watched { self.new.watched ≡ self.old.watched }
         ensures trusted { TrustsAlso device result self.old.trusted.items self.new.trusted.items }
-        ensures admitted { (c : Claimed) → ShowsClaimed self.old.claims c → IsAdmitted (said.Trust device) result self.old.hardware c }
+        ensures admitted { (c : Claimed) → ShowsClaimed self.old.claims c → ClaimIsAdmitted (said.Trust device) result self.old.hardware c }
         ensures hardware { self.new.hardware ≡ self.old.hardware }
     {
         if self.hardware.kind_of(device).is_none() {

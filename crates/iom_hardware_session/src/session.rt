@@ -2,9 +2,9 @@ ghost use Rattle.std.specs.Prelude.{◌≡◌, ◌↔◌, ◌+◌, ◌<◌, ◌^
 ghost use Rattle.iom_claims.specs.Claimed.{Claimed, nothing_claimed};
 ghost use Rattle.iom_claims.specs.Shown.{ShowsClaimed};
 ghost use Rattle.iom_hardware.specs.PowerOn.{IsHardwareAtPowerOn};
-ghost use Rattle.iom_hardware_session.specs.Admitted.{IsAdmitted};
+ghost use Rattle.iom_hardware_session.specs.Admitted.{ClaimIsAdmitted};
 ghost use Rattle.iom_hardware_session.specs.Claiming.{claimed_after};
-ghost use Rattle.iom_hardware_session.specs.Answered.{judged};
+ghost use Rattle.iom_hardware_session.specs.Answered.{judgement_in};
 ghost use Rattle.iom_hardware_session.specs.Runs.{is_wrong_claim, has_fallen, is_wrong_by};
 ghost use Rattle.iom_hardware_session.specs.Good.{GoodMeans, scene_in};
 ghost use Rattle.iom_hardware_session.specs.Watching.{WatchesClaim};
@@ -25,7 +25,7 @@ use iom_phys_mem::MemError;
 use iom_way_survey::{Conflict, Survey};
 use std::alloc::Global;
 
-/// The numbers of the disks that block devices may be plugged in with. What they serve is no matter here.
+/// The numbers of the disks that block devices may be plug_in in with. What they serve is no matter here.
 const DISKS: [u64; 4] = [0, 1, 2, 3];
 
 /// What comes of a line, and whether the access that it made is one that nothing claimed allows.
@@ -87,7 +87,7 @@ impl Session {
             → IfWrong result (λ why. WrongMeans claim why self.new.hardware self.new.trusted.items c (claimed_after claim result c)) }
         ensures watched { (c : Claimed) → ShowsClaimed self.old.claims c
             → WatchesClaim claim result c self.old.watched.items self.new.watched.items }
-        ensures admitted { (c : Claimed) → ShowsClaimed self.old.claims c → IsAdmitted claim result self.old.hardware c }
+        ensures admitted { (c : Claimed) → ShowsClaimed self.old.claims c → ClaimIsAdmitted claim result self.old.hardware c }
         ensures trusts { Trusts claim result self.old.trusted.items self.new.trusted.items }
         ensures hardware { self.new.hardware ≡ self.old.hardware }
     {
@@ -153,7 +153,7 @@ impl Session {
         }
     }
 
-    /// What comes of a line, and whether it made an access that nothing claimed allows. Claims that were good are judged
+    /// What comes of a line, and whether it made an access that nothing claimed allows. Claims that were good are judgement_in
     /// again where software changes hardware: [`Session::watched`] tells what is found of them.
     pub fn line(&mut self, line: &HardwareLine) -> Stepped
         requires count { self.old.hardware.events + 1 < 2 ^ 64 }
@@ -187,7 +187,7 @@ impl Session {
         is_wrong_claim(&stepped.answer) || stepped.violated || has_fallen(&self.watched)
     }
 
-    /// The claims that were good, in their order, each about something else. Behind a line of software they were judged
+    /// The claims that were good, in their order, each about something else. Behind a line of software they were judgement_in
     /// again, and one that isn't good any more says why; it is forgotten at the next line.
     pub fn watched(&self) -> &[Watched]
         ensures { result.now ≡ self.now.watched.items }
@@ -198,7 +198,7 @@ impl Session {
 
 /// Whether the answer says that a claim is wrong.
 fn is_wrong_claim(answer: &Answer) -> bool
-    ensures { result ≡ is_wrong_claim (judged answer.now) }
+    ensures { result ≡ is_wrong_claim (judgement_in answer.now) }
 {
     matches!(answer, Answer::Claim(ClaimAnswer::Wrong(_)))
 }

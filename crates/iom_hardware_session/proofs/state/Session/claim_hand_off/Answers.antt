@@ -3,7 +3,7 @@ use Rattle.iom_hardware_session.specs.Good.{scene_in, IsNobodys, IsUnused}
 use Rattle.iom_reach.specs.Laws.{IsOutOfReach}
 use Rattle.iom_hardware_session.proofs.DoneLemmas.{hand_off_wrong, judgement_admitted}
 use Rattle.iom_hardware_script.specs.declared.script.Claim.TheVariants as said
-use Rattle.iom_hardware_session.specs.Admitted.{IsFrameOf}
+use Rattle.iom_hardware_session.specs.Admitted.{IsFrameOfMemory}
 use Rattle.iom_hardware_session.proofs.state.Session.claim_hand_off.Goals as goal
 
 pub returns-clause-good : goal.returns-clause-good
@@ -23,4 +23,4 @@ returns-clause-wrong c = λ claimed shows.
 pub returns-clause-admitted : goal.returns-clause-admitted
 returns-clause-admitted c = λ claimed shows.
     judgement_admitted (said.HandOff c.args.frame) c.judge_hand_off-found.result c.args.self.now.hardware claimed c.judge_hand_off-found.ensures.made tt
-    (subst (λ (f : ℕ). IsFrameOf c.args.self.now.hardware f) c.in-Ok.ensures.number.0 c.in-Ok.ensures.number.1)
+    (subst (λ (f : ℕ). IsFrameOfMemory c.args.self.now.hardware f) c.in-Ok.ensures.number.0 c.in-Ok.ensures.number.1)
