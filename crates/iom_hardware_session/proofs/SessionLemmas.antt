@@ -72,7 +72,7 @@ software_claims_nothing (line.RegisterWrite offset width value) answer trusted b
 software_claims_nothing (line.Claim own) answer trusted before is = absurd (false≢true is)
 software_claims_nothing (line.Help help) answer trusted before is = refl
 
--- a claim, where it is judgement_in
+-- a claim, where it is judged
 claim_line : DoneStaysDone → HandedOffStaysFree → (own : Said) (answer : Option ClaimAnswer) (claim : GoodClaim) (old new : Session) (before : Claimed) → ShowsClaimed old.claims before
     → hardware_parts new.hardware ≡ hardware_parts old.hardware → TrustsWhere own answer old.trusted.items new.trusted.items → IsAdmittedWhere own answer old.hardware before
     → IsGoodWhere own answer (scene_in new) before → WatchesClaimWhere own answer before (still_good old.watched.items) new.watched.items → is_wrong_claim answer ≡ false

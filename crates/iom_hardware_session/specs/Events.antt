@@ -64,7 +64,7 @@ abbrev pub LoadsAsAnswered : Option (Result (Unit {0}) NoPlace) → ℕ → ℕ 
 LoadsAsAnswered None address len old new = ⊥
 LoadsAsAnswered (Some answer) address len old new = Loads old.memory address len answer × Stays old new
 
--- a device is plug_in in
+-- a device is plugged in
 abbrev pub PlugsAsAnswered : Option (Result (Unit {0}) Refusal) → ℕ → NewDevice → Hardware → Hardware → Type 0
 PlugsAsAnswered None device what old new = ⊥
 PlugsAsAnswered (Some answer) device what old new = PlugsNewDevice (disks_at_hand old) (hardware_parts old) device what answer (hardware_parts new) (disks_at_hand new)

@@ -93,7 +93,7 @@ LineDoes (line.RegisterWrite offset width value) answer old new = WritesRegister
 LineDoes (line.Claim said) answer old new = Stays old new
 LineDoes (line.Help help) answer old new = (answer ≡ answered.NotOfHardware) × Stays old new
 
--- what is claimed after a claim, where one is judgement_in
+-- what is claimed after a claim, where one is judged
 abbrev pub claimed_where : Said → Option ClaimAnswer → Claimed → Claimed
 claimed_where said None before = before
 claimed_where said (Some answer) before = claimed_after said answer before
@@ -120,7 +120,7 @@ abbrev pub IsViolation : Claimed → Option MadeAt → Type 0
 IsViolation claimed None = ⊥
 IsViolation claimed (Some made) = ¬ May claimed.history made.device made.frame made.kind
 
--- who is trusted after a claim, where one is judgement_in
+-- who is trusted after a claim, where one is judged
 abbrev pub TrustsWhere : Said → Option ClaimAnswer → List ℕ → List ℕ → Type 0
 TrustsWhere said None old new = new ≡ old
 TrustsWhere said (Some answer) old new = Trusts said answer old new
@@ -184,11 +184,11 @@ abbrev pub WatchesWhere : Bool → HardwareLine → Answer → Claimed → Sessi
 WatchesWhere true said answer before old new = AreJudgedAgain (still_good old.watched.items) new.watched.items new.hardware new.trusted.items before
 WatchesWhere false said answer before old new = WatchesStep said answer before (still_good old.watched.items) new.watched.items
 
--- WHAT IS WATCHED after a line: what was found wrong at the line before is forgotten, and where software changes hardware all the others are judgement_in again
+-- WHAT IS WATCHED after a line: what was found wrong at the line before is forgotten, and where software changes hardware all the others are judged again
 abbrev pub WatchesBy : HardwareLine → Answer → Claimed → Session → Session → Type 0
 WatchesBy said answer before old new = WatchesWhere (is_of_software said answer old.trusted.items) said answer before old new
 
--- a claim is judgement_in, and this is so of it by its answer
+-- a claim is judged, and this is so of it by its answer
 abbrev pub IsAdmittedWhere : Said → Option ClaimAnswer → Hardware → Claimed → Type 0
 IsAdmittedWhere said None hardware before = ⊥
 IsAdmittedWhere said (Some answer) hardware before = ClaimIsAdmitted said answer hardware before

@@ -25,7 +25,7 @@ use iom_phys_mem::MemError;
 use iom_way_survey::{Conflict, Survey};
 use std::alloc::Global;
 
-/// The numbers of the disks that block devices may be plug_in in with. What they serve is no matter here.
+/// The numbers of the disks that block devices may be plugged in with. What they serve is no matter here.
 const DISKS: [u64; 4] = [0, 1, 2, 3];
 
 /// What comes of a line, and whether the access that it made is one that nothing claimed allows.
@@ -153,7 +153,7 @@ impl Session {
         }
     }
 
-    /// What comes of a line, and whether it made an access that nothing claimed allows. Claims that were good are judgement_in
+    /// What comes of a line, and whether it made an access that nothing claimed allows. Claims that were good are judged
     /// again where software changes hardware: [`Session::watched`] tells what is found of them.
     pub fn line(&mut self, line: &HardwareLine) -> Stepped
         requires count { self.old.hardware.events + 1 < 2 ^ 64 }
@@ -187,7 +187,7 @@ impl Session {
         is_wrong_claim(&stepped.answer) || stepped.violated || has_fallen(&self.watched)
     }
 
-    /// The claims that were good, in their order, each about something else. Behind a line of software they were judgement_in
+    /// The claims that were good, in their order, each about something else. Behind a line of software they were judged
     /// again, and one that isn't good any more says why; it is forgotten at the next line.
     pub fn watched(&self) -> &[Watched]
         ensures { result.now ≡ self.now.watched.items }
