@@ -1,1 +1,3 @@
 pub mod Draws
+pub mod Runs
+pub mod Parts

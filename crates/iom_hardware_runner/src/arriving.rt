@@ -1,6 +1,12 @@
 // Lines that come in pieces.
+ghost use Rattle.std.specs.Prelude.{◌≡◌, ◌++◌, ◌∷◌, [], ℕ, List, IfOk, OnOk};
+ghost use Rattle.iom_hardware_runner.specs.Parts.{HasArrived};
+ghost use Rattle.iom_hardware_runner.specs.Runs.{ScriptRuns};
+ghost use Rattle.iom_script.specs.Words.{IsWithout};
+
 use crate::conversation::Conversation;
 use crate::faults::RunFault;
+use iom_script::words::cut;
 use std::alloc::Global;
 use std::io::Write;
 
@@ -16,7 +22,9 @@ pub(crate) struct Arriving {
 }
 
 impl Arriving {
-    pub(crate) fn new(alloc: Global) -> Arriving {
+    pub(crate) fn new(alloc: Global) -> Arriving
+        ensures { HasArrived [] result }
+    {
         Arriving {
             conversation: Conversation::new(alloc),
             piece: Vec::new(alloc),
@@ -32,7 +40,10 @@ impl Arriving {
     }
 
     /// More of a line came.
-    fn keep(&mut self, part: &[u8]) -> Result<(), RunFault> {
+    fn keep(&mut self, part: &[u8]) -> Result<(), RunFault>
+        ensures kept { OnOk result (self.new.piece.items ≡ self.old.piece.items ++ part.now) }
+        ensures rest { self.new.conversation ≡ self.old.conversation }
+    {
         if part.len() > LINE_LIMIT || self.piece.len() > LINE_LIMIT - part.len() {
             return Err(self.bad_line());
         }
@@ -42,14 +53,16 @@ impl Arriving {
     }
 
     /// The rest of a line came, up to its line feed.
-    fn end_line(&mut self, part: &[u8]) -> Result<(), RunFault> {
+    fn end_line(&mut self, part: &[u8]) -> Result<(), RunFault>
+        ensures { (bytes : List ℕ) → IsWithout 10 part.now → HasArrived bytes self.old → OnOk result (HasArrived (bytes ++ part.now ++ 10 ∷ []) self.new) }
+    {
         if self.piece.is_empty() {
             return self.conversation.take_line(part);
         }
         self.keep(part)?;
-        let taken = self.conversation.take_line(&self.piece);
+        self.conversation.take_line(&self.piece)?;
         self.piece.clear();
-        taken
+        Ok(())
     }
 
     /// Some bytes came: ends of lines, and a piece of one. Each line happens, and what waits is written out where it is
@@ -59,15 +72,16 @@ impl Arriving {
         bytes: &[u8],
         writer: &mut W,
         log: &mut L,
-    ) -> Result<(), RunFault> {
-        for part in bytes.split_inclusive(|byte| *byte == b'\n') {
-            match part.strip_suffix(b"\n") {
-                Some(end) => self.end_line(end)?,
-                None => self.keep(part)?,
-            }
+    ) -> Result<(), RunFault>
+        ensures { (before : List ℕ) → HasArrived before self.old → OnOk result (HasArrived (before ++ bytes.now) self.new) }
+    {
+        let mut rest = bytes;
+        while let Some((line, after)) = cut(rest, b'\n') {
+            self.end_line(line)?;
             self.conversation.output.write_much(writer, log)?;
+            rest = after;
         }
-        Ok(())
+        self.keep(rest)
     }
 
     /// Some bytes came. The lines that end in them happen, and their answers are written, also where a later line isn't in
@@ -77,14 +91,18 @@ impl Arriving {
         bytes: &[u8],
         writer: &mut W,
         log: &mut L,
-    ) -> Result<(), RunFault> {
+    ) -> Result<(), RunFault>
+        ensures { (before : List ℕ) → HasArrived before self.old → OnOk result (HasArrived (before ++ bytes.now) self.new) }
+    {
         let taken = self.take_lines(bytes, writer, log);
         self.conversation.output.write(writer, log)?;
         taken
     }
 
     /// No more comes. Whether anything was wrong.
-    pub(crate) fn end(&self) -> Result<bool, RunFault> {
+    pub(crate) fn end(&self) -> Result<bool, RunFault>
+        ensures { (bytes : List ℕ) → HasArrived bytes self.now → IfOk result (ScriptRuns bytes) }
+    {
         if self.piece.is_empty() {
             Ok(self.conversation.is_wrong())
         } else {

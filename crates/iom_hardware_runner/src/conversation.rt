@@ -1,4 +1,8 @@
 // Lines of a driver under test one after another.
+ghost use Rattle.std.specs.Prelude.{◌≡◌, ◌++◌, ◌∷◌, [], ℕ, List, None, true, MatchOption, false, IfOk, OnOk};
+ghost use Rattle.iom_hardware_runner.specs.Parts.{TookTexts};
+ghost use Rattle.iom_script.specs.Grammar.{spoken};
+
 use crate::faults::RunFault;
 use crate::machine::Machine;
 use crate::output::Output;
@@ -18,7 +22,9 @@ pub(crate) struct Conversation {
 }
 
 impl Conversation {
-    pub(crate) fn new(alloc: Global) -> Conversation {
+    pub(crate) fn new(alloc: Global) -> Conversation
+        ensures { result.machine ≡ None }
+    {
         Conversation {
             alloc,
             machine: None,
@@ -27,29 +33,48 @@ impl Conversation {
         }
     }
 
+    /// The first line that says something: that of the hardware. False where it isn't in the grammar in its place.
+    fn begin(&mut self, text: &[u8]) -> Result<bool, RunFault>
+        ensures { IfOk result (λ taken. taken ≡ true → TookTexts (text.now ∷ []) self.new.machine) }
+    {
+        let Some(machine) = Machine::new(self.alloc, text)? else {
+            return Ok(false);
+        };
+        self.machine = Some(machine);
+        self.output.answer(b"ok\n")?;
+        self.output.log(b"", text)?;
+        Ok(true)
+    }
+
     /// A line that says something happens. False where it isn't in the grammar in its place.
-    fn answer(&mut self, text: &[u8]) -> Result<bool, RunFault> {
+    fn answer(&mut self, text: &[u8]) -> Result<bool, RunFault>
+        ensures { (texts : List (List ℕ)) → TookTexts texts self.old.machine → IfOk result (λ taken. taken ≡ true → TookTexts (texts ++ text.now ∷ []) self.new.machine) }
+    {
         match &mut self.machine {
             Some(machine) => machine.take_line(text, &mut self.output),
-            None => {
-                let Some(machine) = Machine::new(self.alloc, text)? else {
-                    return Ok(false);
-                };
-                self.machine = Some(machine);
-                self.output.answer(b"ok\n")?;
-                self.output.log(b"", text)?;
-                Ok(true)
-            }
+            None => self.begin(text),
         }
+    }
+
+    /// A line happens, where it says something. False where it isn't in the grammar in its place.
+    fn happen(&mut self, text: &[u8]) -> Result<bool, RunFault>
+        ensures { (texts : List (List ℕ)) → TookTexts (spoken texts) self.old.machine
+            → IfOk result (λ taken. taken ≡ true → TookTexts (spoken (texts ++ text.now ∷ [])) self.new.machine) }
+    {
+        if !is_spoken(text) {
+            self.output.log(b"", text)?;
+            return Ok(true);
+        }
+        self.answer(text)
     }
 
     /// The next line, without its line feed: it happens, and its answer and the line itself wait to be written. Of a line
     /// that isn't in the grammar nothing happens, and nothing waits.
-    pub(crate) fn take_line(&mut self, text: &[u8]) -> Result<(), RunFault> {
+    pub(crate) fn take_line(&mut self, text: &[u8]) -> Result<(), RunFault>
+        ensures { (texts : List (List ℕ)) → TookTexts (spoken texts) self.old.machine → OnOk result (TookTexts (spoken (texts ++ text.now ∷ [])) self.new.machine) }
+    {
         let number = self.next_number()?;
-        if !is_spoken(text) {
-            self.output.log(b"", text)?;
-        } else if !self.answer(text)? {
+        if !self.happen(text)? {
             return Err(RunFault::BadScript(number));
         }
         self.lines = number;
@@ -64,8 +89,10 @@ impl Conversation {
         }
     }
 
-    /// Whether a claim was wrong, or an access a violation.
-    pub(crate) fn is_wrong(&self) -> bool {
+    /// Whether anything was wrong.
+    pub(crate) fn is_wrong(&self) -> bool
+        ensures { MatchOption self.now.machine (result ≡ false) (λ machine. result ≡ machine.teller.is_wrong) }
+    {
         match &self.machine {
             Some(machine) => machine.is_wrong(),
             None => false,

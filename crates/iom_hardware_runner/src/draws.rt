@@ -1,5 +1,5 @@
 // Numbers that are drawn, the same in every build.
-ghost use Rattle.std.specs.Prelude.{◌≡◌, ◌<◌, ◌%◌, length, slice_get};
+ghost use Rattle.std.specs.Prelude.{◌≡◌, ◌==◌, ◌<◌, ◌%◌, length, slice_get};
 ghost use Rattle.iom_hardware_runner.specs.Draws.{drawn_after};
 
 /// Numbers drawn from a seed, each by shifts of the last one (xorshift).
@@ -16,7 +16,9 @@ impl Draws {
     }
 
     /// Whether no numbers are drawn: the seed was 0.
-    pub(crate) fn are_off(&self) -> bool {
+    pub(crate) fn are_off(&self) -> bool
+        ensures { result ≡ (self.now.last == 0) }
+    {
         self.last == 0
     }
 

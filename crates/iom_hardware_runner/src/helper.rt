@@ -1,4 +1,7 @@
 // Hardware that acts by itself: which steps it takes.
+ghost use Rattle.std.specs.Prelude.{◌≡◌, true};
+ghost use Rattle.iom_hardware_runner.specs.Parts.{is_off};
+
 use crate::draws::Draws;
 use crate::step::Step;
 use iom_base::{DeviceId, Refusal};
@@ -38,7 +41,9 @@ pub(crate) struct Helper {
 
 impl Helper {
     /// Hardware that does nothing by itself.
-    pub(crate) fn new(alloc: Global) -> Helper {
+    pub(crate) fn new(alloc: Global) -> Helper
+        ensures { is_off result ≡ true }
+    {
         Helper {
             draws: Draws::new(0),
             most: 0,
@@ -61,7 +66,9 @@ impl Helper {
         device: DeviceId,
         first: u64,
         last: u64,
-    ) -> Result<Result<(), Refusal>, AllocError> {
+    ) -> Result<Result<(), Refusal>, AllocError>
+        ensures { self.new.draws ≡ self.old.draws }
+    {
         let Some(kind) = hardware.kind_of(device) else {
             return Ok(Err(Refusal::NoSuchDevice));
         };
@@ -86,9 +93,16 @@ impl Helper {
         Ok(Ok(()))
     }
 
+    /// Whether hardware does nothing by itself.
+    pub(crate) fn is_off(&self) -> bool
+        ensures { result ≡ is_off self.now }
+    {
+        self.draws.are_off()
+    }
+
     /// How many steps hardware takes before the next line of software.
     pub(crate) fn count(&mut self) -> u64 {
-        if self.draws.are_off() {
+        if self.is_off() {
             return 0;
         }
         if self.mood_lines == 0 {

@@ -1,4 +1,12 @@
 // Hardware under a driver: each line happens and is answered, and between two lines hardware may act by itself.
+ghost use Rattle.std.specs.Prelude.{◌≡◌, ◌++◌, ◌∷◌, [], ℕ, List, true, false, IfOk, OnOk, IfSome};
+ghost use Rattle.iom_hardware_runner.specs.Parts.{TellsLine, CameBy, RunsOn, ActsOn, TakesLine};
+ghost use Rattle.iom_hardware_runner.specs.Runs.{is_own};
+ghost use Rattle.iom_hardware_script.specs.declared.script.HardwareLine.{HardwareLine as Line};
+ghost use Rattle.iom_hardware_script.specs.declared.script.HardwareLine.TheVariants as says;
+ghost use Rattle.iom_hardware_script.specs.Grammar.{IsSetupLine, IsHardwareLine};
+ghost use Rattle.iom_script.specs.Reading.{Reads};
+
 use crate::faults::RunFault;
 use crate::helper::{Helper, settling_step};
 use crate::output::Output;
@@ -39,18 +47,45 @@ fn is_of_software(line: &HardwareLine) -> bool {
 }
 
 /// What the text of a line says, if it is in the grammar.
-fn read(alloc: Global, text: &[u8]) -> Result<Option<HardwareLine>, RunFault> {
+fn read(alloc: Global, text: &[u8]) -> Result<Option<HardwareLine>, RunFault>
+    ensures { IfOk result (λ said. Reads said (IsHardwareLine text.now)) }
+{
     line_of(alloc, text).map_err(|_| RunFault::Memory)
+}
+
+/// Whether hardware or a device does this by itself.
+fn is_own(line: &HardwareLine) -> bool
+    ensures { result ≡ is_own line.now }
+{
+    match line {
+        HardwareLine::Event(event) => matches!(
+            event,
+            Event::Fetch
+                | Event::Commit { .. }
+                | Event::Deliver { .. }
+                | Event::Read { .. }
+                | Event::Write { .. }
+                | Event::Ask { .. }
+                | Event::WriteThroughCache { .. }
+        ),
+        _ => false,
+    }
 }
 
 impl Machine {
     /// The hardware that the first line of a script asks for, at power-on. None where the line asks for none.
-    pub(crate) fn new(alloc: Global, text: &[u8]) -> Result<Option<Machine>, RunFault> {
+    pub(crate) fn new(alloc: Global, text: &[u8]) -> Result<Option<Machine>, RunFault>
+        ensures { IfOk result (λ found. IfSome found (λ machine. (frames : ℕ) × IsSetupLine text.now frames × CameBy frames [] machine)) }
+    {
         let Some(frames) = setup_of(text) else {
             return Ok(None);
         };
-        let session = Session::new(alloc, frames).map_err(|_| RunFault::Memory)?;
-        let teller = Teller::new(alloc, session, frames).map_err(|_| RunFault::Memory)?;
+        let Ok(session) = Session::new(alloc, frames) else {
+            return Err(RunFault::Memory);
+        };
+        let Ok(teller) = Teller::new(alloc, session, frames) else {
+            return Err(RunFault::Memory);
+        };
         Ok(Some(Machine {
             alloc,
             teller,
@@ -58,14 +93,18 @@ impl Machine {
         }))
     }
 
-    /// Whether a claim was wrong, or an access a violation.
-    pub(crate) fn is_wrong(&self) -> bool {
+    /// Whether anything was wrong.
+    pub(crate) fn is_wrong(&self) -> bool
+        ensures { result ≡ self.now.teller.is_wrong }
+    {
         self.teller.is_wrong
     }
 
     /// A line of a script happens, behind steps that hardware takes by itself. False where it isn't in the grammar; then
     /// nothing happens.
-    pub(crate) fn take_line(&mut self, text: &[u8], output: &mut Output) -> Result<bool, RunFault> {
+    pub(crate) fn take_line(&mut self, text: &[u8], output: &mut Output) -> Result<bool, RunFault>
+        ensures { IfOk result (λ taken. taken ≡ true → (line : Line) × IsHardwareLine text.now line × TakesLine self.old line self.new) }
+    {
         let Some(said) = read(self.alloc, text)? else {
             return Ok(false);
         };
@@ -73,9 +112,7 @@ impl Machine {
             self.help(help, text, output)?;
             return Ok(true);
         }
-        if is_of_software(&said) {
-            self.act(output)?;
-        }
+        self.act_before(&said, output)?;
         let words = self.tell(said, output)?;
         self.answer(&words, output)?;
         output.log(b"", text)?;
@@ -83,7 +120,10 @@ impl Machine {
     }
 
     /// A line happens, as the next of the log. The words behind its answer.
-    fn tell(&mut self, said: HardwareLine, output: &Output) -> Result<String, RunFault> {
+    fn tell(&mut self, said: HardwareLine, output: &Output) -> Result<String, RunFault>
+        ensures told { OnOk result (TellsLine self.old.teller said self.new.teller) }
+        ensures helper { self.new.helper ≡ self.old.helper }
+    {
         if self.teller.events() >= u64::MAX - 1 {
             return Err(RunFault::TooManyEvents);
         }
@@ -101,30 +141,70 @@ impl Machine {
         output.answer(b"\n")
     }
 
-    /// Hardware takes as many steps by itself as are drawn.
-    fn act(&mut self, output: &mut Output) -> Result<(), RunFault> {
-        for _ in 0..self.helper.count() {
-            let step = self
-                .helper
-                .step(self.teller.session.hardware())
-                .map_err(|_| RunFault::Memory)?;
-            if let Some(step) = step {
-                self.take_step(step, output)?;
-            }
+    /// Hardware takes the step that is drawn next, if it can take one.
+    fn act_once(&mut self, output: &mut Output) -> Result<(), RunFault>
+        ensures { OnOk result (ActsOn self.old self.new) }
+    {
+        let step = self
+            .helper
+            .step(self.teller.session.hardware())
+            .map_err(|_| RunFault::Memory)?;
+        match step {
+            Some(step) => self.take_step(step, output),
+            None => Ok(()),
+        }
+    }
+
+    /// Hardware takes so many steps by itself.
+    fn act_often(&mut self, count: u64, output: &mut Output) -> Result<(), RunFault>
+        ensures { OnOk result (ActsOn self.old self.new) }
+    {
+        for _ in 0..count {
+            self.act_once(output)?;
         }
         Ok(())
     }
 
-    /// What the text says happens. The words behind its answer; None where it is no line of the language.
-    fn tell_step(&mut self, text: &str, output: &Output) -> Result<Option<String>, RunFault> {
-        match read(self.alloc, text.as_bytes())? {
-            Some(said) => Ok(Some(self.tell(said, output)?)),
-            None => Ok(None),
+    /// Hardware takes as many steps by itself as are drawn.
+    fn act(&mut self, output: &mut Output) -> Result<(), RunFault>
+        ensures { OnOk result (RunsOn self.old self.new) }
+    {
+        if self.helper.is_off() {
+            return Ok(());
+        }
+        let count = self.helper.count();
+        self.act_often(count, output)
+    }
+
+    /// Before what software does hardware may act by itself.
+    fn act_before(&mut self, said: &HardwareLine, output: &mut Output) -> Result<(), RunFault>
+        ensures { OnOk result (RunsOn self.old self.new) }
+    {
+        if is_of_software(said) {
+            self.act(output)
+        } else {
+            Ok(())
         }
     }
 
+    /// What the text says happens. The words behind its answer; None where hardware does no such thing by itself.
+    fn tell_step(&mut self, text: &str, output: &Output) -> Result<Option<String>, RunFault>
+        ensures { OnOk result (ActsOn self.old self.new) }
+    {
+        let Some(said) = read(self.alloc, text.as_bytes())? else {
+            return Ok(None);
+        };
+        if !is_own(&said) {
+            return Ok(None);
+        }
+        let words = self.tell(said, output)?;
+        Ok(Some(words))
+    }
+
     /// A step happens, and is told as a comment.
-    fn take_step(&mut self, step: Step, output: &mut Output) -> Result<(), RunFault> {
+    fn take_step(&mut self, step: Step, output: &mut Output) -> Result<(), RunFault>
+        ensures { OnOk result (ActsOn self.old self.new) }
+    {
         let text = format!(in self.alloc; "{step}").map_err(|_| RunFault::Memory)?;
         let Some(words) = self.tell_step(&text, output)? else {
             return Ok(());
@@ -137,7 +217,9 @@ impl Machine {
     }
 
     /// Hardware is asked to act by itself. A line after which it draws is a comment of the log, which has what was drawn.
-    fn help(&mut self, help: Help, text: &[u8], output: &mut Output) -> Result<(), RunFault> {
+    fn help(&mut self, help: Help, text: &[u8], output: &mut Output) -> Result<(), RunFault>
+        ensures { OnOk result (TakesLine self.old (says.Help help) self.new) }
+    {
         match help {
             Help::Auto { seed } => {
                 self.helper.seed(seed);
@@ -166,7 +248,9 @@ impl Machine {
         first: u64,
         last: u64,
         output: &mut Output,
-    ) -> Result<(), RunFault> {
+    ) -> Result<(), RunFault>
+        ensures { self.new.teller ≡ self.old.teller }
+    {
         let hardware = self.teller.session.hardware();
         let directed = self.helper.direct(hardware, device, first, last);
         match directed.map_err(|_| RunFault::Memory)? {
@@ -180,7 +264,9 @@ impl Machine {
 
     /// Takes the next step of those that bring hardware to rest. Whether it did something, and whether that was a
     /// violation.
-    fn settle_once(&mut self, output: &Output) -> Result<Settling, RunFault> {
+    fn settle_once(&mut self, output: &Output) -> Result<Settling, RunFault>
+        ensures { OnOk result (ActsOn self.old self.new) }
+    {
         let hardware = self.teller.session.hardware();
         let head = hardware.iommu.registers().command_head();
         let Some(step) = settling_step(hardware) else {
@@ -202,8 +288,10 @@ impl Machine {
         }
     }
 
-    /// Hardware comes to rest: what is in flight is made, what is under way delivered, and commands are taken.
-    fn quiesce(&mut self, output: &mut Output) -> Result<(), RunFault> {
+    /// Hardware goes on until it rests. How many things it did, and how many of them were violations.
+    fn settle(&mut self, output: &Output) -> Result<(u64, u64), RunFault>
+        ensures { OnOk result (ActsOn self.old self.new) }
+    {
         let mut steps = 0u64;
         let mut violations = 0u64;
         for _ in 0..u64::MAX {
@@ -214,6 +302,14 @@ impl Machine {
             }
             steps = steps.saturating_add(1);
         }
+        Ok((steps, violations))
+    }
+
+    /// Hardware comes to rest: what is in flight is made, what is under way delivered, and commands are taken.
+    fn quiesce(&mut self, output: &mut Output) -> Result<(), RunFault>
+        ensures { OnOk result (ActsOn self.old self.new) }
+    {
+        let (steps, violations) = self.settle(output)?;
         let quiet = format!(in self.alloc; "quiet {steps}").map_err(|_| RunFault::Memory)?;
         output.answer(quiet.as_bytes())?;
         if violations > 0 {

@@ -1,4 +1,7 @@
 // A script, from its bytes to the bytes of its answers.
+ghost use Rattle.std.specs.Prelude.{IfOk};
+ghost use Rattle.iom_hardware_runner.specs.Runs.{ScriptRuns};
+
 use crate::arriving::Arriving;
 use crate::faults::RunFault;
 use crate::reading::{CHUNK_SIZE, read_once, read_script};
@@ -6,11 +9,27 @@ use iom_hardware_script::parse;
 use std::alloc::Global;
 use std::io::{Read, Write};
 
-/// Reads a script whole, runs it on hardware at power-on, and writes an answer for each of its lines; and the script as
-/// it was run to the log. Whether anything was wrong.
+/// Runs the bytes of a script on hardware at power-on, and writes an answer for each of its lines; and the script as it was
+/// run to the log. Whether anything was wrong.
 ///
 /// Of bytes that aren't a script it writes nothing, and names their first bad line. Where something else fails, what was
 /// answered before is written.
+pub fn run_bytes<W: Write, L: Write>(
+    alloc: Global,
+    bytes: &[u8],
+    writer: &mut W,
+    log: &mut L,
+) -> Result<bool, RunFault>
+    ensures { IfOk result (ScriptRuns bytes.now) }
+{
+    // What it says is asked again line by line, as in a live session: so both answer alike.
+    parse(alloc, bytes)?;
+    let mut arriving = Arriving::new(alloc);
+    arriving.take(bytes, writer, log)?;
+    arriving.end()
+}
+
+/// Reads a script whole, and runs it as [`run_bytes`] does.
 pub fn run<R: Read, W: Write, L: Write>(
     alloc: Global,
     reader: &mut R,
@@ -18,11 +37,7 @@ pub fn run<R: Read, W: Write, L: Write>(
     log: &mut L,
 ) -> Result<bool, RunFault> {
     let bytes = read_script(alloc, reader)?;
-    // What it says is asked again line by line, as in a live session: so both answer alike.
-    parse(alloc, &bytes)?;
-    let mut arriving = Arriving::new(alloc);
-    arriving.take(&bytes, writer, log)?;
-    arriving.end()
+    run_bytes(alloc, &bytes, writer, log)
 }
 
 /// Answers each line as soon as it is there, and writes it to the log. Whether anything was wrong, once no more lines come.

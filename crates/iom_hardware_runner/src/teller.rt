@@ -1,5 +1,6 @@
 // One line after another, each with its answer.
-ghost use Rattle.std.specs.Prelude.{◌≡◌, ◌+◌, ◌<◌, ◌^◌, ◌≤◌};
+ghost use Rattle.std.specs.Prelude.{◌≡◌, ◌+◌, ◌<◌, ◌^◌, false, IfOk};
+ghost use Rattle.iom_hardware_runner.specs.Parts.{KeepsSession, TellsLine};
 
 use crate::fallen::fallen;
 use crate::telling::put_answer;
@@ -23,7 +24,7 @@ pub(crate) struct Teller {
     pub(crate) session: Session,
     chronicle: Chronicle,
     buffer: LineBuffer,
-    /// Whether a claim was wrong, or an access a violation.
+    /// Whether anything was wrong: a claim, an access, or a claim that was good before.
     pub(crate) is_wrong: bool,
 }
 
@@ -73,7 +74,9 @@ fn entrance_of(event: &Event) -> Option<(DeviceId, u64, Entrance)> {
 }
 
 impl Teller {
-    pub(crate) fn new(alloc: Global, session: Session, frames: u32) -> Result<Teller, AllocError> {
+    pub(crate) fn new(alloc: Global, session: Session, frames: u32) -> Result<Teller, AllocError>
+        ensures { IfOk result (λ teller. (teller.session ≡ session) × (teller.is_wrong ≡ false)) }
+    {
         Ok(Teller {
             alloc,
             session,
@@ -129,7 +132,7 @@ impl Teller {
         found: ClaimAnswer,
         about: Subject,
     ) -> Result<(), AllocError>
-        ensures { self.new.session.hardware.events ≡ self.old.session.hardware.events }
+        ensures { KeepsSession self.old self.new }
     {
         if let ClaimAnswer::Released(number) = found {
             return self
@@ -161,7 +164,7 @@ impl Teller {
 
     /// An access was accepted: what let it through.
     fn remember_access(&mut self, event: &Event)
-        ensures { self.new.session.hardware.events ≡ self.old.session.hardware.events }
+        ensures { KeepsSession self.old self.new }
     {
         if let Some((device, address, entrance)) = entrance_of(event) {
             self.chronicle
@@ -171,7 +174,7 @@ impl Teller {
 
     /// An access was made: where a write stored its bytes, and what let it through.
     fn remember_made(&mut self, made: MadeAt) -> Option<Origin>
-        ensures { self.new.session.hardware.events ≡ self.old.session.hardware.events }
+        ensures { KeepsSession self.old self.new }
     {
         if made.kind == AccessKind::Write {
             let address = u64::from(made.frame) * PAGE_SIZE + u64::from(made.offset);
@@ -182,7 +185,7 @@ impl Teller {
 
     /// What is remembered of a line of hardware, devices or the processor. What let the access through, where one was made.
     fn remember_event(&mut self, event: &Event, answer: &Answer) -> Option<Origin>
-        ensures { self.new.session.hardware.events ≡ self.old.session.hardware.events }
+        ensures { KeepsSession self.old self.new }
     {
         let mut origin = None;
         match answer {
@@ -207,7 +210,7 @@ impl Teller {
     }
 
     fn remember_store(&mut self, event: &Event)
-        ensures { self.new.session.hardware.events ≡ self.old.session.hardware.events }
+        ensures { KeepsSession self.old self.new }
     {
         if let Event::Poke { address, bytes } = event {
             self.chronicle
@@ -218,7 +221,7 @@ impl Teller {
     /// The answer of the line, without a line feed, but for the words of what is wrong, which come second.
     pub(crate) fn tell(&mut self, line: &NumberedLine) -> Result<String, AllocError>
         requires { self.old.session.hardware.events + 1 < 2 ^ 64 }
-        ensures { self.new.session.hardware.events ≤ self.old.session.hardware.events + 1 }
+        ensures { TellsLine self.old line.now.line self.new }
     {
         self.chronicle.begin(line.number);
         match &line.line {
@@ -236,9 +239,10 @@ impl Teller {
     /// The line happens, and its answer stands in the buffer.
     fn step(&mut self, line: &HardwareLine) -> Stepped
         requires { self.old.session.hardware.events + 1 < 2 ^ 64 }
-        ensures { self.new.session.hardware.events ≤ self.old.session.hardware.events + 1 }
+        ensures { TellsLine self.old line.now self.new }
     {
         let stepped = self.session.line(line);
+        self.is_wrong |= self.session.is_wrong(&stepped);
         put_answer(
             &mut self.buffer,
             line,
@@ -250,7 +254,7 @@ impl Teller {
 
     fn tell_claim(&mut self, line: &HardwareLine, claim: Claim) -> Result<String, AllocError>
         requires { self.old.session.hardware.events + 1 < 2 ^ 64 }
-        ensures { self.new.session.hardware.events ≤ self.old.session.hardware.events + 1 }
+        ensures { TellsLine self.old line.now self.new }
     {
         let about = self.subject_of(claim);
         let stepped = self.step(line);
@@ -258,17 +262,14 @@ impl Teller {
             return Ok(String::new(self.alloc));
         };
         let words = match found {
-            ClaimAnswer::Wrong(wrong) => {
-                self.is_wrong = true;
-                why(
-                    self.alloc,
-                    &self.session,
-                    &self.chronicle,
-                    about.frame,
-                    about.page,
-                    wrong,
-                )?
-            }
+            ClaimAnswer::Wrong(wrong) => why(
+                self.alloc,
+                &self.session,
+                &self.chronicle,
+                about.frame,
+                about.page,
+                wrong,
+            )?,
             _ => String::new(self.alloc),
         };
         self.remember_claim(claim, found, about)?;
@@ -277,29 +278,37 @@ impl Teller {
 
     fn tell_event(&mut self, line: &HardwareLine, event: &Event) -> Result<String, AllocError>
         requires { self.old.session.hardware.events + 1 < 2 ^ 64 }
-        ensures { self.new.session.hardware.events ≤ self.old.session.hardware.events + 1 }
+        ensures { TellsLine self.old line.now self.new }
     {
         let stepped = self.step(line);
         let origin = self.remember_event(event, &stepped.answer);
         match stepped.answer {
-            Answer::Committed(Ok(Some(made))) if stepped.violated => {
-                self.is_wrong = true;
-                violation(self.alloc, &self.chronicle, made, origin)
-            }
+            Answer::Committed(Ok(Some(made))) => self.tell_made(made, stepped.violated, origin),
             Answer::Stored(_) | Answer::Plugged(_) => self.tell_fallen(),
             _ => Ok(String::new(self.alloc)),
         }
     }
 
-    /// Which claims that were good aren't any more, behind a line of software.
-    fn tell_fallen(&mut self) -> Result<String, AllocError>
-        ensures { self.new.session.hardware.events ≡ self.old.session.hardware.events }
-    {
-        let words = fallen(self.alloc, &self.session, &self.chronicle)?;
-        if !words.is_empty() {
-            self.is_wrong = true;
+    /// What is told of an access that was made: that nothing claimed allows it; and which claims aren't good any more, where
+    /// a device that software trusts wrote.
+    fn tell_made(
+        &self,
+        made: MadeAt,
+        violated: bool,
+        origin: Option<Origin>,
+    ) -> Result<String, AllocError> {
+        let fallen = self.tell_fallen()?;
+        if !violated {
+            return Ok(fallen);
         }
+        let mut words = violation(self.alloc, &self.chronicle, made, origin)?;
+        words.push_str(&fallen)?;
         Ok(words)
+    }
+
+    /// Which claims that were good aren't any more, behind a line of software.
+    fn tell_fallen(&self) -> Result<String, AllocError> {
+        fallen(self.alloc, &self.session, &self.chronicle)
     }
 
     /// How many events hardware has counted.

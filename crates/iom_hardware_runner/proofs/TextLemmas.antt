@@ -1,0 +1,152 @@
+-- Texts that were taken, and bytes that arrived.
+use Rattle.std.proofs.Common.{◌≡◌, ◌∙◌, ℕ, Result, Ok, Err, IfOk, OnOk, Bool, true, false, List, [], ◌∷◌, ◌++◌, filter, length, arith, Option, None, Some, MatchOption, refl, sym, ap, subst}
+use Rattle.std.proofs.lemmas.List.{append_assoc, append-nil}
+use Rattle.std.proofs.lemmas.List.Concat.{flat_map-append}
+use Rattle.std.proofs.lemmas.List.Elements.{All-push, filter-append}
+use Rattle.iom_hardware_runner.specs.Parts.{CameBy, TakesLine, TookTexts, HasTaken}
+use Rattle.iom_hardware_runner.specs.Runs.{HasRun, LinesRun, ScriptRuns}
+use Rattle.iom_hardware_runner.specs.declared.faults.RunFault.{RunFault}
+use Rattle.iom_hardware_runner.specs.declared.machine.Machine.{Machine}
+use Rattle.iom_hardware_script.specs.declared.script.HardwareLine.{HardwareLine}
+use Rattle.iom_hardware_script.specs.Grammar.{IsSetupLine, IsHardwareLine}
+use Rattle.iom_script.specs.Grammar.{SayEach, is_spoken, spoken, bytes_of_lines}
+use Rattle.iom_script.specs.Cuts.{IsCut}
+use Rattle.iom_script.specs.Reading.{Reads}
+use Rattle.iom_script.specs.Words.{IsWithout}
+
+-- one says something more
+say_more : (texts : List (List ℕ)) (said : List HardwareLine) (text : List ℕ) (line : HardwareLine) → SayEach IsHardwareLine texts said → IsHardwareLine text line
+    → SayEach IsHardwareLine (texts ++ text ∷ []) (said ++ line ∷ [])
+say_more [] [] text line each is = (is, each)
+say_more [] (one ∷ said) text line each is = absurd each
+say_more (one ∷ texts) [] text line each is = absurd each
+say_more (one ∷ texts) (other ∷ said) text line each is = (each.0, say_more texts said text line each.1 is)
+
+-- the first line that says something
+pub first_text : (text : List ℕ) (machine : Machine) (frames : ℕ) → IsSetupLine text frames → CameBy frames [] machine → TookTexts (text ∷ []) (Some machine)
+first_text text machine frames is came = (machine, frames, [], refl, is, tt, came)
+
+-- one more
+pub next_text : (texts : List (List ℕ)) (text : List ℕ) (line : HardwareLine) (old new : Machine) → IsHardwareLine text line → TakesLine old line new → TookTexts texts (Some old)
+    → TookTexts (texts ++ text ∷ []) (Some new)
+next_text [] text line old new is takes took = absurd (cc)
+next_text (setup ∷ texts) text line old new is takes (own, frames, said, same, setup_is, each, came) = (
+  new,
+  frames,
+  said ++ line ∷ [],
+  refl,
+  setup_is,
+  say_more texts said text line each is,
+  takes frames said (subst (λ (m : Machine). CameBy frames said m) (sym (inside same)) came),
+)
+  where
+    inside : Some old ≡ Some own → old ≡ own
+    inside e = cc
+
+-- nothing was taken where there is no machine
+pub none_taken : (texts : List (List ℕ)) → TookTexts texts None → texts ≡ []
+none_taken [] took = refl
+none_taken (setup ∷ texts) (own, frames, said, same, is, each, came) = absurd (cc)
+
+-- lines that say something, and one more
+pub spoken_more : (texts : List (List ℕ)) (text : List ℕ) → is_spoken text ≡ true → spoken (texts ++ text ∷ []) ≡ spoken texts ++ text ∷ []
+spoken_more texts text is = filter-append is_spoken texts (text ∷ []) ∙ ap (λ (l : List (List ℕ)). spoken texts ++ l) (alone text is)
+  where
+    alone : (t : List ℕ) → is_spoken t ≡ true → filter is_spoken (t ∷ []) ≡ t ∷ []
+    alone t e = rw e refl
+
+pub spoken_same : (texts : List (List ℕ)) (text : List ℕ) → is_spoken text ≡ false → spoken (texts ++ text ∷ []) ≡ spoken texts
+spoken_same texts text is = filter-append is_spoken texts (text ∷ []) ∙ ap (λ (l : List (List ℕ)). spoken texts ++ l) (alone text is) ∙ append-nil (spoken texts)
+  where
+    alone : (t : List ℕ) → is_spoken t ≡ false → filter is_spoken (t ∷ []) ≡ []
+    alone t e = rw e refl
+
+-- BYTES
+
+pub without_both : (front rest : List ℕ) → IsWithout 10 front → IsWithout 10 rest → IsWithout 10 (front ++ rest)
+without_both [] rest none others = others
+without_both (first ∷ front) rest (none, later) others = (none, without_both front rest later others)
+
+-- a piece grows
+pub piece_grows : (bytes piece part : List ℕ) (machine : Option Machine) → IsWithout 10 part → HasTaken bytes piece machine → HasTaken (bytes ++ part) (piece ++ part) machine
+piece_grows bytes piece part machine none (texts, whole, free, is, took) =
+    (texts, whole, without_both piece part free none, ap (λ (l : List ℕ). l ++ part) is ∙ append_assoc (bytes_of_lines texts) piece part, took)
+
+-- a line ends
+pub line_ends : (bytes piece part : List ℕ) (old new : Option Machine) → IsWithout 10 part → HasTaken bytes piece old
+    → ((texts : List (List ℕ)) → TookTexts (spoken texts) old → TookTexts (spoken (texts ++ (piece ++ part) ∷ [])) new)
+    → HasTaken (bytes ++ part ++ 10 ∷ []) [] new
+line_ends bytes piece part old new none (texts, whole, free, is, took) takes = (
+  texts ++ (piece ++ part) ∷ [],
+  All-push (IsWithout 10) texts (piece ++ part) whole (without_both piece part free none),
+  tt,
+  long,
+  takes texts took,
+)
+  where
+    long : bytes ++ part ++ 10 ∷ [] ≡ bytes_of_lines (texts ++ (piece ++ part) ∷ []) ++ []
+    long =
+        ap (λ (l : List ℕ). l ++ part ++ 10 ∷ []) is
+        ∙ ap (λ (l : List ℕ). l ++ 10 ∷ []) (append_assoc (bytes_of_lines texts) piece part)
+        ∙ append_assoc (bytes_of_lines texts) (piece ++ part) (10 ∷ [])
+        ∙ ap (λ (l : List ℕ). bytes_of_lines texts ++ l) (sym (append-nil ((piece ++ part) ++ 10 ∷ [])))
+        ∙ sym (flat_map-append (λ (line : List ℕ). line ++ 10 ∷ []) texts ((piece ++ part) ∷ []))
+        ∙ sym (append-nil (bytes_of_lines (texts ++ (piece ++ part) ∷ [])))
+
+pub line_ends_ok : (bytes piece part : List ℕ) (old new : Option Machine) (result : Result (Unit {0}) RunFault) → IsWithout 10 part → HasTaken bytes piece old
+    → ((texts : List (List ℕ)) → TookTexts (spoken texts) old → OnOk result (TookTexts (spoken (texts ++ (piece ++ part) ∷ [])) new))
+    → OnOk result (HasTaken (bytes ++ part ++ 10 ∷ []) [] new)
+line_ends_ok bytes piece part old new (Ok done) none taken takes = line_ends bytes piece part old new none taken takes
+line_ends_ok bytes piece part old new (Err why) none taken takes = tt
+
+-- all that arrived was run
+pub whole_runs : (bytes : List ℕ) (machine : Option Machine) (wrong : Bool) → MatchOption machine (wrong ≡ false) (λ own. wrong ≡ own.teller.is_wrong) → HasTaken bytes [] machine
+    → ScriptRuns bytes wrong
+whole_runs bytes machine wrong is (texts, whole, free, same, took) = (texts, whole, same ∙ append-nil (bytes_of_lines texts), by (spoken texts) machine is took)
+  where
+    by : (said : List (List ℕ)) (m : Option Machine) → MatchOption m (wrong ≡ false) (λ own. wrong ≡ own.teller.is_wrong) → TookTexts said m → LinesRun said wrong
+    by [] m e none = subst (λ (o : Option Machine). MatchOption o (wrong ≡ false) (λ own. wrong ≡ own.teller.is_wrong)) none e
+    by (setup ∷ rest) m e (own, frames, lines, there, setup_is, each, came) =
+        let same_wrong = subst (λ (o : Option Machine). MatchOption o (wrong ≡ false) (λ own. wrong ≡ own.teller.is_wrong)) there e in (
+          frames,
+          lines,
+          came.ran,
+          own.teller.session,
+          setup_is,
+          each,
+          came.spells,
+          subst (λ (b : Bool). HasRun frames came.ran own.teller.session b) (sym same_wrong) came.has_run,
+        )
+
+-- the machine answered: it took the line, where it is in the grammar
+pub answered_text : (texts : List (List ℕ)) (text : List ℕ) (old new : Machine) (result : Result Bool RunFault)
+    → IfOk result (λ taken. taken ≡ true → (next : HardwareLine) × IsHardwareLine text next × TakesLine old next new)
+    → TookTexts texts (Some old) → IfOk result (λ taken. taken ≡ true → TookTexts (texts ++ text ∷ []) (Some new))
+answered_text texts text old new (Ok taken) takes took = λ is. let (next, says, then) = takes is in next_text texts text next old new says then took
+answered_text texts text old new (Err why) takes took = takes
+
+pub spoken_answer : (texts : List (List ℕ)) (text : List ℕ) (new : Option Machine) (result : Result Bool RunFault) → is_spoken text ≡ true
+    → IfOk result (λ taken. taken ≡ true → TookTexts (spoken texts ++ text ∷ []) new) → IfOk result (λ taken. taken ≡ true → TookTexts (spoken (texts ++ text ∷ [])) new)
+spoken_answer texts text new result is took =
+    subst (λ (l : List (List ℕ)). IfOk result (λ taken. taken ≡ true → TookTexts l new)) (sym (spoken_more texts text is)) took
+
+-- a line of a script, up to its line feed, and what follows
+pub cut_parts : (rest line after : List ℕ) → Reads {X = List ℕ × List ℕ} (Some (line, after)) (λ parts. IsCut rest 10 parts.0 parts.1) → IsCut rest 10 line after
+cut_parts rest line after reads = (reads (line, after)).0 refl
+
+pub goes_further : (bytes front rest line after : List ℕ) → bytes ≡ front ++ rest → IsCut rest 10 line after → bytes ≡ (front ++ line ++ 10 ∷ []) ++ after
+goes_further bytes front rest line after is (none, cut) =
+    is ∙ ap (λ (l : List ℕ). front ++ l) cut ∙ sym (append_assoc front line (10 ∷ after)) ∙ sym (append_assoc (front ++ line) (10 ∷ []) after)
+
+pub nothing_in : (list : List ℕ) → length list ≡ 0 → list ≡ []
+nothing_in [] none = refl
+nothing_in (first ∷ rest) none = absurd (omega (arith, none))
+
+pub grouped : (a b c d : List ℕ) → ((a ++ b) ++ c) ++ d ≡ a ++ ((b ++ c) ++ d)
+grouped a b c d = ap (λ (l : List ℕ). l ++ d) (append_assoc a b c) ∙ append_assoc a (b ++ c) d
+
+-- the rest is a piece of a line
+pub kept_ok : (bytes piece part new_piece : List ℕ) (machine : Option Machine) (result : Result (Unit {0}) RunFault) → IsWithout 10 part → HasTaken bytes piece machine
+    → OnOk result (new_piece ≡ piece ++ part) → OnOk result (HasTaken (bytes ++ part) new_piece machine)
+kept_ok bytes piece part new_piece machine (Ok done) none taken is = subst (λ (p : List ℕ). HasTaken (bytes ++ part) p machine) (sym is) (piece_grows bytes piece part machine none taken)
+kept_ok bytes piece part new_piece machine (Err why) none taken is = tt
