@@ -191,7 +191,7 @@ fn digit_of(number: u8) -> u8 {
     b"0123456789abcdef"[usize::from(number % 16)]
 }
 
-/// Appends two hexadecimal digits for each byte.
+/// Appends two hexadecimal digits for each byte. There is room for those of a page, and it is looked for all the same.
 fn append_hex(out: &mut LineBuffer, bytes: &[u8]) {
     for byte in bytes {
         if out.as_slice().len() + 2 <= BUFFER_SIZE {
