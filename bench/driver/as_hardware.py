@@ -22,6 +22,7 @@ from our_driver import CQB, CQCSR, CQH, CQT, FQB, FQCSR, FQH, FQT, CMD_TO, MISTA
 
 DRIVERS = {"attach", "detach", "grant", "release", "quarantine", "revive", "restart", "poll", "faults", "free"}
 BLOCK_LINES = {"queue", "step", "status", "medium"}
+WRONG = re.compile("violated|again: |wrong: ")
 # causes with which an answer to a question has a fault record
 RECORDED = ("answer fault 258", "answer fault 260")
 
@@ -224,7 +225,7 @@ class Live:
         self.hw.stdin.flush()
         for line, wanted in self.waiting:
             answer = self.hear(line)
-            if wanted and answer != wanted:
+            if wanted and answer != wanted and not WRONG.search(answer):
                 self.wrong.append(f"{line} => {answer}")
         self.said += len(self.waiting)
         self.waiting, self.size = [], 0
@@ -235,7 +236,7 @@ class Live:
             answer = self.hw.stdout.readline().decode().rstrip("\n")
             if not answer:
                 raise Differs(f"iommu-hw ended at {line}")
-            if re.search("violated|again: |wrong: ", answer):
+            if WRONG.search(answer):
                 self.wrong.append(answer if answer.startswith("#") else f"{line} => {answer}")
             if not answer.startswith("#"):
                 return answer
@@ -269,7 +270,7 @@ class Live:
         self.read(CQCSR)
         self.hw.stdin.close()
         status = self.hw.wait()
-        if bool(status) != any(re.search("violated|again: |wrong: ", told) for told in self.wrong):
+        if bool(status) != any(WRONG.search(told) for told in self.wrong):
             self.wrong.append(f"status {status}")
         return self.wrong
 
@@ -433,7 +434,8 @@ def check_all(run, hw, paths, seeds, traffic, mistake):
     for why in sorted({found.left_out for found in all_found if found.left_out}):
         print(f", {sum(found.left_out == why for found in all_found)} {why}", end="")
     print(f", {len(taken)} taken")
-    print(f"as written: {sum(f.lines for f in taken)} lines, {sum(f.claims for f in taken)} claims; wrong in {sum(bool(f.wrong) for f in taken)} scripts")
+    lines = "" if mistake else f" {sum(f.lines for f in taken)} lines, {sum(f.claims for f in taken)} claims;"
+    print(f"as written:{lines} wrong in {sum(bool(f.wrong) for f in taken)} scripts")
     print(f"by itself: {seeds} seeds each, {sum(f.said for f in taken)} lines, {sum(f.steps for f in taken)} steps of hardware; wrong in "
           f"{sum(bool(f.seeds) for f in taken)} scripts, {sum(len(f.seeds) for f in taken)} of {seeds * len(taken)} sessions")
     return any(found.wrong or found.seeds for found in taken)

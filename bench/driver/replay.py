@@ -1,10 +1,13 @@
 #!/usr/bin/env python3
 """A record of a real driver's register accesses and commands, as lines of iommu-hw: replay.py IOMMU_HW LOG [SCRIPT]
 
-LOG is what QEMU 11.1.3 or 10.0.2 writes with `-trace memory_region_ops_\\* -trace riscv_iommu_cmd`, or that packed with xz. Each access
+LOG is what QEMU 11.1.3 or 10.0.2 writes with `-trace memory_region_ops_\\* -trace riscv_iommu_\\*`, or that packed with xz. Each access
 to the IOMMU's registers becomes one of iommu-hw, each command a store into the queue before the doorbell behind it, and a
-`fetch` where the emulator tells it. What is read, and which command is taken, is compared with the record. With SCRIPT the
-lines are written there.
+`fetch` where the emulator tells it. A fault becomes a request of a raw device. What is read, and which command is taken, is
+compared with the record. With SCRIPT the lines are written there.
+
+The record doesn't tell the driver's stores. So the directory is empty here, and each fault is 258: what is compared of faults
+are the registers.
 
 The emulator's memory is larger than 4,096 frames. So each base that ddtp, cqb or fqb is told gets frames of its own here,
 from 1 on in the order of the record, as many as the queue fills; what is read of these registers is told back."""
@@ -18,12 +21,14 @@ import tempfile
 
 ACCESS = re.compile(r"memory_region_ops_(read|write) cpu -?\d+ mr \S+ addr (0x[0-9a-f]+) value (0x[0-9a-f]+) size (\d+) name 'riscv-iommu-regs'")
 COMMAND = re.compile(r"riscv_iommu_cmd .*command (0x[0-9a-f]+) (0x[0-9a-f]+)")
+FAULT = re.compile(r"riscv_iommu_flt .*fault [0-9a-f]{4}:([0-9a-f]+)\.(\d+) reason: (0x[0-9a-f]+) iova: (0x[0-9a-f]+)")
 NAMES = {0: "capabilities", 8: "fctl", 16: "ddtp", 24: "cqb", 32: "cqh", 36: "cqt", 40: "fqb", 48: "fqh", 52: "fqt", 72: "cqcsr", 76: "fqcsr",
          80: "pqcsr", 84: "ipsr", 760: "icvec"}
 DDTP, CQB, CQT, FQB = 16, 24, 36, 40
 COMMANDS = {(1, 0): "iotinval.vma", (1, 1): "iotinval.gvma", (2, 0): "iofence.c", (3, 0): "iodir.inval_ddt", (4, 0): "ats.inval"}
 # what the model has otherwise, since the profile has no more: capabilities, interrupts by wire alone, no interrupt vectors
 OTHERWISE = {0, 8, 760}
+READS = {13, 21}
 FRAMES = 4096
 
 
@@ -35,7 +40,9 @@ def events(path):
                 way, address, value, size = found.groups()
                 yield way, int(address, 16) % 4096, int(value, 16), int(size)
             elif found := COMMAND.match(line):
-                yield "command", int(found[1], 16), int(found[2], 16), 0
+                yield "command", int(found[1], 16), int(found[2], 16)
+            elif found := FAULT.match(line):
+                yield "fault", 8 * int(found[1], 16) + int(found[2]), int(found[3], 16) % 4096, int(found[4], 16)
 
 
 class Replay:
@@ -46,6 +53,7 @@ class Replay:
         self.next_frame = 1
         self.base = self.entries = self.tail = self.stored = 0
         self.lines, self.wanted, self.about = [], [], []
+        self.devices = set()
         self.say(f"hardware {FRAMES}", "ok", "hardware")
         for way, *said in self.events:
             getattr(self, way)(*said)
@@ -84,7 +92,14 @@ class Replay:
     def read(self, offset, value, size):
         self.say(f"mmio-read {offset} {size}", f"value 0x{self.here(offset, value):x}", f"read {NAMES.get(offset, offset)}")
 
-    def command(self, first, second, _):
+    def fault(self, device, cause, address):
+        if device not in self.devices:
+            self.devices.add(device)
+            self.say(f"device {device:06x} raw", "ok", "plug a device in")
+        asked = f"read {device:06x} 0x{address:x} 1" if cause in READS else f"write {device:06x} 0x{address:x} 00"
+        self.say(asked, "fault 258", "fault")
+
+    def command(self, first, second):
         name = COMMANDS.get((first & 127, first >> 7 & 7), "unknown")
         self.say("fetch", f"did {name}", f"command {name}")
 
