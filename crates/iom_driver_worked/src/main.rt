@@ -2,8 +2,8 @@
 //! simulator that shares no code with this repository; the gate compares these lines.
 //!
 //! `data/drivers` has each script with its answers: correct drivers, drivers with one mistake each, scripts in which
-//! something is certain only as long as nobody but the driver writes what hardware reads, and some in which hardware acts by
-//! itself. A script's own text is run as
+//! something is certain only as long as nobody but the driver writes what hardware reads, some in which hardware acts by
+//! itself, and the model's own driver as lines of hardware. A script's own text is run as
 //! `iommu-hw` runs it.
 #![tactic(auto)]
 
@@ -11,7 +11,7 @@ use iom_hardware_runner::run;
 use std::{fs, io};
 
 /// The scripts of `data/drivers`. A new one is its two files and a line here.
-static DRIVERS: [&str; 43] = [
+static DRIVERS: [&str; 50] = [
     "correct-first",
     "correct-second",
     "correct-ats",
@@ -55,6 +55,13 @@ static DRIVERS: [&str; 43] = [
     "auto-fence-first",
     "auto-no-ats-inval",
     "quiesce",
+    "ours-draining",
+    "ours-second-stage",
+    "ours-guest-rewrites",
+    "ours-late-answer",
+    "ours-no-answer",
+    "ours-revival",
+    "ours-detach-lingering",
 ];
 
 /// The number of the first line that differs, counted from 1.

@@ -1,148 +1,243 @@
-// What hardware and devices answer, as an outcome of a world: the same lines tell it.
-use arrayvec::ArrayVec;
+// What hardware and devices answer, in the words that a world has for it: the texts are those of `iom_script`'s outcomes.
+// An outcome itself has room for a page, which a line would pay for. So the words are written one by one, and bytes from
+// where they stand.
+ghost use Rattle.std.specs.Prelude.{◌≡◌, ◌≤◌, ◌++◌, length};
+ghost use Rattle.std.specs.Fmt.{decimal};
+ghost use Rattle.iom_base.specs.Refusals as refusals;
+ghost use Rattle.iom_base.specs.Rights.{letters};
+ghost use Rattle.iom_script.specs.Lines.{answer_text};
+
 use iom_ats_cache::Taken;
-use iom_base::{AccessKind, Refusal};
+use iom_base::{AccessKind, Refusal, Rights};
 use iom_command_queue::Command;
-use iom_fabric::Repeat;
+use iom_fabric::{Repeat, Translation};
 use iom_hardware::{CacheReply, Delivered, Hardware, NoPlace};
 use iom_inflight::MadeAt;
-use iom_iommu::{Fetched as Took, Reply};
-use iom_machine::{CommandName, Fetched, Outcome};
+use iom_iommu::{Fetched, Reply};
+use iom_script::{BUFFER_SIZE, LineBuffer};
 
-/// What a call is that is done, or refused.
-pub(crate) fn of_done(answer: Result<(), Refusal>) -> Outcome {
+/// Writes the words, in place of what stood there.
+pub(crate) fn put_words(out: &mut LineBuffer, words: &[u8])
+    requires { length words.now ≤ 40 }
+    ensures { out.new ≡ words.now }
+{
+    out.clear();
+    out.append(words);
+}
+
+/// Writes words and a number.
+fn put_numbered(out: &mut LineBuffer, words: &[u8], number: u64)
+    requires { length words.now ≤ 40 }
+    ensures text { out.new ≡ words.now ++ decimal number }
+    ensures short { length out.new ≤ 60 }
+{
+    put_words(out, words);
+    out.append_decimal(number);
+}
+
+/// The refusal's name.
+fn refusal_name(why: Refusal) -> &'static [u8]
+    ensures text { result.now ≡ refusals.name_of why }
+    ensures short { length result.now ≤ 15 }
+{
+    why.name().as_bytes()
+}
+
+/// Writes why something was refused.
+pub(crate) fn put_refusal(out: &mut LineBuffer, why: Refusal)
+    ensures { out.new ≡ refusals.text_of why }
+{
+    put_numbered(out, b"refused ", u64::from(why.number()));
+    out.append(b" ");
+    out.append(refusal_name(why));
+}
+
+/// Writes that a call is done, or refused.
+pub(crate) fn put_done(out: &mut LineBuffer, answer: Result<(), Refusal>) {
     match answer {
-        Ok(()) => Outcome::Done,
-        Err(why) => Outcome::Refused(why),
+        Ok(()) => put_words(out, b"ok"),
+        Err(why) => put_refusal(out, why),
     }
 }
 
-fn of_reply(reply: Reply) -> Outcome {
+fn put_reply(out: &mut LineBuffer, reply: Reply) {
     match reply {
-        Reply::Accepted(number) => Outcome::Accepted(number),
-        Reply::Busy => Outcome::Busy,
-        Reply::BadSpan => Outcome::BadSpan,
-        Reply::Fault(cause) => Outcome::Fault(cause),
+        Reply::Accepted(number) => put_numbered(out, b"accepted ", number),
+        Reply::Busy => put_words(out, b"busy"),
+        Reply::BadSpan => put_words(out, b"badspan"),
+        Reply::Fault(cause) => put_numbered(out, b"fault ", u64::from(cause.code())),
     }
 }
 
-/// What the IOMMU answers a request.
-pub(crate) fn of_replied(answer: Result<Reply, Refusal>) -> Outcome {
+/// Writes what the IOMMU answers a request.
+pub(crate) fn put_replied(out: &mut LineBuffer, answer: Result<Reply, Refusal>) {
     match answer {
-        Ok(reply) => of_reply(reply),
-        Err(why) => Outcome::Refused(why),
+        Ok(reply) => put_reply(out, reply),
+        Err(why) => put_refusal(out, why),
     }
 }
 
-/// What comes of an access through a device's own cache.
-pub(crate) fn of_cache(answer: Result<CacheReply, Refusal>) -> Outcome {
+/// Writes what comes of an access through a device's own cache.
+pub(crate) fn put_cache(out: &mut LineBuffer, answer: Result<CacheReply, Refusal>) {
     match answer {
-        Ok(CacheReply::Miss) => Outcome::Miss,
-        Ok(CacheReply::Replied(reply)) => of_reply(reply),
-        Err(why) => Outcome::Refused(why),
+        Ok(CacheReply::Miss) => put_words(out, b"miss"),
+        Ok(CacheReply::Replied(reply)) => put_reply(out, reply),
+        Err(why) => put_refusal(out, why),
     }
 }
 
-/// What becomes of a message that a device sends.
-pub(crate) fn of_sent(answer: Result<bool, Refusal>) -> Outcome {
+/// Writes what becomes of a message that a device sends.
+pub(crate) fn put_sent(out: &mut LineBuffer, answer: Result<bool, Refusal>) {
     match answer {
-        Ok(true) => Outcome::Sent,
-        Ok(false) => Outcome::Lost,
-        Err(why) => Outcome::Refused(why),
+        Ok(true) => put_words(out, b"sent"),
+        Ok(false) => put_words(out, b"lost"),
+        Err(why) => put_refusal(out, why),
     }
 }
 
-fn name_of(command: Command) -> CommandName {
+fn put_did(out: &mut LineBuffer, command: Command) {
     match command {
-        Command::IotinvalVma { .. } => CommandName::IotinvalVma,
-        Command::IotinvalGvma { .. } => CommandName::IotinvalGvma,
-        Command::IofenceC { .. } => CommandName::IofenceC,
-        Command::IodirInvalDdt { .. } => CommandName::IodirInvalDdt,
-        Command::AtsInval { .. } => CommandName::AtsInval,
+        Command::IotinvalVma { .. } => put_words(out, b"did iotinval.vma"),
+        Command::IotinvalGvma { .. } => put_words(out, b"did iotinval.gvma"),
+        Command::IofenceC { .. } => put_words(out, b"did iofence.c"),
+        Command::IodirInvalDdt { .. } => put_words(out, b"did iodir.inval_ddt"),
+        Command::AtsInval { .. } => put_words(out, b"did ats.inval"),
     }
 }
 
-/// What a fetch did.
-pub(crate) fn of_fetched(fetched: Took) -> Outcome {
-    Outcome::Fetched(match fetched {
-        Took::Did(command) => Fetched::Did(name_of(command)),
-        Took::Waiting => Fetched::Waiting,
-        Took::Empty => Fetched::Empty,
-        Took::Stopped => Fetched::Stopped,
-    })
+/// Writes what a fetch did.
+pub(crate) fn put_fetched(out: &mut LineBuffer, fetched: Fetched) {
+    match fetched {
+        Fetched::Did(command) => put_did(out, command),
+        Fetched::Waiting => put_words(out, b"waiting"),
+        Fetched::Empty => put_words(out, b"empty"),
+        Fetched::Stopped => put_words(out, b"stopped"),
+    }
 }
 
-fn of_taken(taken: Taken) -> Outcome {
+/// The letters of a right.
+fn letters_of(rights: Rights) -> &'static [u8]
+    ensures text { result.now ≡ letters rights }
+    ensures short { length result.now ≤ 2 }
+{
+    if rights.allows(AccessKind::Write) {
+        b"rw"
+    } else {
+        b"r"
+    }
+}
+
+fn put_translation(out: &mut LineBuffer, told: Translation)
+    ensures { out.new ≡ answer_text told }
+{
+    match told {
+        Translation::Page { frame, rights } => {
+            put_numbered(out, b"answer ", u64::from(frame));
+            out.append(b" ");
+            out.append(letters_of(rights));
+        }
+        Translation::Refused(cause) => put_numbered(out, b"answer fault ", u64::from(cause.code())),
+    }
+}
+
+fn put_taken(out: &mut LineBuffer, taken: Taken) {
     match taken {
-        Taken::Kept => Outcome::Kept,
-        Taken::Stale => Outcome::Stale,
-        Taken::Refused => Outcome::AnswerRefused,
+        Taken::Kept => put_words(out, b"kept"),
+        Taken::Stale => put_words(out, b"stale"),
+        Taken::Refused => put_words(out, b"refusal"),
     }
 }
 
-/// What comes of a message that arrives.
-pub(crate) fn of_delivered(delivered: Delivered) -> Outcome {
+/// Writes what comes of a message that arrives.
+pub(crate) fn put_delivered(out: &mut LineBuffer, delivered: Delivered) {
     match delivered {
-        Delivered::NoMessage => Outcome::NoMessage,
-        Delivered::Answered(answer) => Outcome::Answered(answer),
-        Delivered::Taken(taken) => of_taken(taken),
-        Delivered::Ignored => Outcome::Ignored,
-        Delivered::Invalidated(serial) => Outcome::Invalidated(serial),
-        Delivered::Closed(serial) => Outcome::Closed(serial),
-        Delivered::NotClosed(serial) => Outcome::NotClosed(serial),
+        Delivered::NoMessage => put_words(out, b"none"),
+        Delivered::Answered(told) => put_translation(out, told),
+        Delivered::Taken(taken) => put_taken(out, taken),
+        Delivered::Ignored => put_words(out, b"ignored"),
+        Delivered::Invalidated(serial) => put_numbered(out, b"invalidated ", serial),
+        Delivered::Closed(serial) => put_numbered(out, b"closed ", serial),
+        Delivered::NotClosed(serial) => put_numbered(out, b"ignored ", serial),
     }
 }
 
-/// What becomes of a message that is repeated.
-pub(crate) fn of_repeated(repeated: Repeat) -> Outcome {
+/// Writes what becomes of a message that is repeated.
+pub(crate) fn put_repeated(out: &mut LineBuffer, repeated: Repeat) {
     match repeated {
-        Repeat::Repeated => Outcome::Repeated,
-        Repeat::Lost => Outcome::Lost,
-        Repeat::Nothing => Outcome::NoMessage,
+        Repeat::Repeated => put_words(out, b"repeated"),
+        Repeat::Lost => put_words(out, b"lost"),
+        Repeat::Nothing => put_words(out, b"none"),
     }
 }
 
-/// Why bytes have no place.
-fn of_no_place(why: NoPlace) -> Outcome {
+/// Writes why bytes have no place.
+fn put_no_place(out: &mut LineBuffer, why: NoPlace) {
     match why {
-        NoPlace::BadSpan => Outcome::BadSpan,
-        NoPlace::OutsideMemory => Outcome::Refused(Refusal::FrameOutOfRange),
+        NoPlace::BadSpan => put_words(out, b"badspan"),
+        NoPlace::OutsideMemory => put_refusal(out, Refusal::FrameOutOfRange),
     }
 }
 
-/// What comes of a store of the processor.
-pub(crate) fn of_stored(answer: Result<(), NoPlace>) -> Outcome {
+/// Writes what comes of a store of the processor.
+pub(crate) fn put_stored(out: &mut LineBuffer, answer: Result<(), NoPlace>) {
     match answer {
-        Ok(()) => Outcome::Done,
-        Err(why) => of_no_place(why),
+        Ok(()) => put_words(out, b"ok"),
+        Err(why) => put_no_place(out, why),
     }
 }
 
-/// The bytes, of which there are at most 4,096.
-fn held(bytes: &[u8]) -> ArrayVec<u8, 4096> {
-    let mut kept = ArrayVec::new();
-    let _ = kept.try_extend_from_slice(bytes);
-    kept
+/// A hexadecimal digit.
+fn digit_of(number: u8) -> u8 {
+    b"0123456789abcdef"[usize::from(number % 16)]
 }
 
-/// What the processor loads.
-pub(crate) fn of_loaded(hardware: &Hardware, address: u64, len: u64) -> Outcome {
+/// Appends two hexadecimal digits for each byte. There is room for those of a page, and it is looked for all the same.
+fn append_hex(out: &mut LineBuffer, bytes: &[u8]) {
+    for byte in bytes {
+        if out.as_slice().len() + 2 <= BUFFER_SIZE {
+            out.append(&[digit_of(*byte / 16), digit_of(*byte)]);
+        }
+    }
+}
+
+/// Writes a word, and the bytes that stand at the address; or why none do.
+fn put_standing(out: &mut LineBuffer, word: &[u8], hardware: &Hardware, address: u64, len: u64)
+    requires { length word.now ≤ 40 }
+{
     match hardware.load(address, len) {
-        Ok(bytes) => Outcome::Bytes(held(bytes)),
-        Err(why) => of_no_place(why),
+        Ok(bytes) => {
+            put_words(out, word);
+            append_hex(out, bytes);
+        }
+        Err(why) => put_no_place(out, why),
     }
 }
 
-/// The access that was made, with the bytes of a read, which stand where it was made.
-pub(crate) fn of_made(hardware: &Hardware, made: MadeAt) -> Outcome {
+/// Writes what the processor loads.
+pub(crate) fn put_loaded(out: &mut LineBuffer, hardware: &Hardware, address: u64, len: u64) {
+    put_standing(out, b"bytes ", hardware, address, len);
+}
+
+/// Writes the access that was made, with the bytes of a read, which stand where it was made.
+fn put_made(out: &mut LineBuffer, hardware: &Hardware, made: MadeAt) {
     match made.kind {
-        AccessKind::Write => Outcome::Wrote(u64::from(made.len)),
+        AccessKind::Write => put_numbered(out, b"wrote ", u64::from(made.len)),
         AccessKind::Read => {
             let address = u64::from(made.frame) * 4096 + u64::from(made.offset);
-            match hardware.load(address, u64::from(made.len)) {
-                Ok(bytes) => Outcome::Read(held(bytes)),
-                Err(why) => of_no_place(why),
-            }
+            put_standing(out, b"read ", hardware, address, u64::from(made.len));
         }
+    }
+}
+
+/// Writes what came of a commit.
+pub(crate) fn put_committed(
+    out: &mut LineBuffer,
+    hardware: &Hardware,
+    answer: Result<Option<MadeAt>, Refusal>,
+) {
+    match answer {
+        Ok(Some(made)) => put_made(out, hardware, made),
+        Ok(None) => put_words(out, b"none"),
+        Err(why) => put_refusal(out, why),
     }
 }
