@@ -83,6 +83,8 @@ impl Judge {
     }
 
     /// What is found where this came of the event, if that ends the trace.
+    // Written into its one caller, which else moves what is found once more for each line.
+    #[inline(always)]
     fn go_on(
         &mut self,
         event: &Event,
