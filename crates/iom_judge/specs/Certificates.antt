@@ -17,7 +17,7 @@ use Rattle.iom_judge.specs.declared.verdict.Verdict.TheVariants.{Lawful, Uncerti
 -- whether it finds the trace lawful
 abbrev pub is_lawful : Verdict → Bool
 is_lawful Lawful = true
-is_lawful (Uncertified line) = false
+is_lawful (Uncertified line cause) = false
 is_lawful (Unlawful line reason) = false
 is_lawful (Undecided line reason) = false
 is_lawful (Bad line) = false
@@ -25,7 +25,7 @@ is_lawful (Bad line) = false
 -- the line from which on it doesn't certify the trace, if there is one
 abbrev pub uncertified_line : Verdict → Option ℕ
 uncertified_line Lawful = None
-uncertified_line (Uncertified line) = Some line
+uncertified_line (Uncertified line cause) = Some line
 uncertified_line (Unlawful line reason) = None
 uncertified_line (Undecided line reason) = None
 uncertified_line (Bad line) = None

@@ -13,6 +13,7 @@ ghost use Rattle.iom_judge.specs.Certified.{BeliefFollows};
 
 use crate::asking::write_by;
 use crate::in_doubt::act_in_doubt;
+use crate::unfollowed::{Unfollowed, Why, cause_of_act, cause_of_poll};
 use iom_base::{Access, DeviceId, PAGE_SIZE};
 use iom_doubts::doubts::{Doubts, Flight, flight_of};
 use iom_doubts::outcomes::leaves_flights;
@@ -52,6 +53,8 @@ pub(crate) struct Belief {
     /// Whether each line so far was followed: each state that was allowed after it, whatever frames the accesses in doubt
     /// are on, is one to which the machine came by it.
     pub(crate) is_followed: bool,
+    /// Why the first that wasn't couldn't be.
+    pub(crate) cause: Unfollowed,
 }
 
 /// The numbers of the disks that a world has at power-on.
@@ -110,6 +113,7 @@ impl Belief {
             notes: Notes::new(alloc),
             untaken: Untaken::new(alloc),
             is_followed: true,
+            cause: Unfollowed::plain(Why::Unknown),
         })
     }
 
@@ -143,7 +147,12 @@ impl Belief {
     }
 
     /// Why this may not come of what the line is about.
-    pub(crate) fn reason(&self, alloc: Global, subject: Subject) -> Result<String, AllocError> {
+    pub(crate) fn reason(
+        &self,
+        alloc: Global,
+        subject: Subject,
+        on: Option<u32>,
+    ) -> Result<String, AllocError> {
         let is_hidden = match subject {
             Subject::Commit(id) => self.hides_oldest(id),
             _ => false,
@@ -153,6 +162,7 @@ impl Belief {
             notes: &self.notes,
             causes: &CAUSES,
             is_hidden,
+            on,
         };
         facts.reason(alloc, subject)
     }
@@ -183,6 +193,24 @@ impl Belief {
             return false;
         }
         self.doubts.are_reached(&self.known)
+    }
+
+    /// Notes why a poll isn't followed, where each line so far was.
+    fn note_cause_of_poll(&mut self)
+        ensures { (self.new.known ≡ self.old.known) × (self.new.doubts ≡ self.old.doubts) × (self.new.is_followed ≡ self.old.is_followed) }
+    {
+        if self.is_followed {
+            self.cause = cause_of_poll(&self.known, &self.doubts, &self.notes);
+        }
+    }
+
+    /// Notes why another event isn't.
+    fn note_cause(&mut self, event: &Event)
+        ensures { (self.new.known ≡ self.old.known) × (self.new.doubts ≡ self.old.doubts) × (self.new.is_followed ≡ self.old.is_followed) }
+    {
+        if self.is_followed {
+            self.cause = cause_of_act(&self.known, &self.doubts, &self.notes, event);
+        }
     }
 
     /// A request. Where it is accepted, that is on the frame that is shown, or else on the first of those that are possible,
@@ -236,6 +264,7 @@ impl Belief {
         if self.follows_reached() {
             return Ok(end_poll(alloc, &mut self.known));
         }
+        self.note_cause_of_poll();
         self.memory.versions.forget_reserved(&self.known);
         self.doubts.narrow(alloc, &mut self.known)?;
         self.is_followed = false;
@@ -267,6 +296,42 @@ impl Belief {
             Some(asked) => self.ask_for(alloc, asked, outcome, shown.on),
             None => self.step_other(alloc, event, outcome, shown.tables),
         }
+    }
+
+    /// The same of the line with this number, which is noted.
+    pub(crate) fn step_in(
+        &mut self,
+        alloc: Global,
+        line: u64,
+        event: &Event,
+        outcome: &Outcome,
+        shown: Shown<'_>,
+    ) -> Result<bool, AllocError>
+        ensures { IfOk result (λ may. IsTrue may → IsTrue self.new.is_followed → Follows self.old self.new event.now outcome.now) }
+    {
+        self.begin_line(line);
+        let may_come = self.step(alloc, event, outcome, shown)?;
+        if may_come {
+            self.note_access(event, outcome)?;
+        }
+        Ok(may_come)
+    }
+
+    /// What is noted next is of the line with this number.
+    fn begin_line(&mut self, line: u64)
+        ensures known { self.new.known ≡ self.old.known }
+        ensures doubts { self.new.doubts ≡ self.old.doubts }
+    {
+        self.notes.begin_line(line);
+    }
+
+    /// Notes an access that was accepted.
+    fn note_access(&mut self, event: &Event, outcome: &Outcome) -> Result<(), AllocError>
+        ensures known { self.new.known ≡ self.old.known }
+        ensures followed { self.new.is_followed ≡ self.old.is_followed }
+        ensures doubts { self.new.doubts ≡ self.old.doubts }
+    {
+        self.notes.note_access(event, outcome)
     }
 
     /// A step of a block device.
@@ -334,6 +399,7 @@ impl Belief {
                 question,
             );
         }
+        self.note_cause(event);
         let may_come = act_in_doubt(
             alloc,
             &mut self.known,

@@ -135,6 +135,7 @@ impl Judges {
         let said = read_line(self.alloc, printed, kept, tables, has_world, line)?;
         let found = self.ahead.take(&said, tables.as_slice())?;
         if let Some(verdict) = unless_lawful(found) {
+            let verdict = verdict.with_line(self.alloc, line)?;
             return Ok(Some(verdict));
         }
         let is_doubtful = self.ahead.doubts_step(&said);

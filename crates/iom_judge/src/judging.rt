@@ -9,6 +9,7 @@ ghost use Rattle.iom_judge.specs.Certified.{CertifyIf, GoesOn, HasJudged, IsRead
 
 use crate::belief::{Belief, Shown};
 use crate::hindsight::Judges;
+use crate::unfollowed::{Unfollowed, Why};
 use crate::verdict::Verdict;
 use iom_doubts::unseen::SeenWrite;
 use iom_machine::{Event, Outcome};
@@ -82,6 +83,8 @@ impl Judge {
     }
 
     /// What is found where this came of the event, if that ends the trace.
+    // Written into its one caller, which else moves what is found once more for each line.
+    #[inline(always)]
     fn go_on(
         &mut self,
         event: &Event,
@@ -97,13 +100,13 @@ impl Judge {
         let Some(belief) = &mut self.belief else {
             return Ok(Some(Verdict::Bad { line }));
         };
-        if belief.step(alloc, event, outcome, shown)? {
+        if belief.step_in(alloc, line, event, outcome, shown)? {
             let is_followed = belief.is_followed;
             self.is_certified = self.is_certified && is_followed;
             return Ok(None);
         }
         let subject = Subject::of(event);
-        let reason = belief.reason(alloc, subject)?;
+        let reason = belief.reason(alloc, subject, shown.on)?;
         Ok(Some(if belief.decides(subject) {
             Verdict::Unlawful { line, reason }
         } else {
@@ -221,6 +224,14 @@ impl Judge {
         }
     }
 
+    /// Why the first line that wasn't followed couldn't be, if one wasn't.
+    fn cause(&self) -> Unfollowed {
+        match &self.belief {
+            None => Unfollowed::plain(Why::Unknown),
+            Some(belief) => belief.cause,
+        }
+    }
+
     /// What is found of the lines, where there are no others. Where they aren't certified, the line that it names is the
     /// one behind the last up to which each was followed.
     pub(crate) fn end(&self) -> Verdict
@@ -235,6 +246,7 @@ impl Judge {
         }
         Verdict::Uncertified {
             line: self.last_followed.saturating_add(1),
+            cause: self.cause(),
         }
     }
 }

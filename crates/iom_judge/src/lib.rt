@@ -13,9 +13,11 @@ mod hindsight;
 mod in_doubt;
 mod judging;
 mod steps;
+mod unfollowed;
 mod verdict;
 
 pub use iom_known::{Known, explained_lines_are_a_run};
 pub use iom_trace_lines::trace_of;
 pub use judging::judge_trace;
+pub use unfollowed::{Unfollowed, Why};
 pub use verdict::Verdict;

@@ -1,6 +1,7 @@
 // Why a line isn't lawful, in words: what the machine knows of the place, and which answers could have come.
 use crate::messages::Sent;
 use crate::notes::Notes;
+use crate::releases::Release;
 use crate::subject::Subject;
 use crate::words::Words;
 use iom_base::{
@@ -28,6 +29,8 @@ pub struct Facts<'a> {
     pub causes: &'a [Cause],
     /// The line is a commit, and the access that it makes is one that a step began, and isn't shown.
     pub is_hidden: bool,
+    /// The frame on which the line shows an access.
+    pub on: Option<u32>,
 }
 
 /// Says this of the device.
@@ -50,6 +53,14 @@ fn say_attachment(words: &mut Words, device: &Device) -> Result<(), AllocError> 
     }
 }
 
+/// Says which line that was, behind other words, if it is known.
+fn in_line(alloc: Global, what: &str, line: Option<u64>) -> Result<String, AllocError> {
+    match line {
+        None => Ok(String::new(alloc)),
+        Some(line) => format!(in alloc; ", {what} in line {line}"),
+    }
+}
+
 /// Says that the device holds the frame at the page.
 fn say_held(
     words: &mut Words,
@@ -57,8 +68,23 @@ fn say_held(
     page: u64,
     frame: u32,
     rights: Rights,
+    line: Option<u64>,
 ) -> Result<(), AllocError> {
-    words.say(&format!(in words.alloc; "{id:06x} holds frame {frame} {rights} at page {page}")?)
+    let granted = in_line(words.alloc, "granted", line)?;
+    words.say(&format!(in words.alloc;
+        "{id:06x} holds frame {frame} {rights} at page {page}{granted}"
+    )?)
+}
+
+/// Says under which ticket something was released that isn't confirmed.
+fn say_under_pending(alloc: Global, release: Option<Release>) -> Result<String, AllocError> {
+    match release {
+        None => format!(in alloc; "under a ticket that isn't confirmed"),
+        Some(release) => {
+            let (ticket, line) = (release.ticket, release.line);
+            format!(in alloc; "under ticket {ticket} of line {line}, which isn't confirmed")
+        }
+    }
 }
 
 /// Says that the frame lingers for the device at the page.
@@ -68,10 +94,30 @@ fn say_lingering(
     page: u64,
     frame: u32,
     rights: Rights,
-    ticket: u32,
+    release: Option<Release>,
 ) -> Result<(), AllocError> {
+    let under = say_under_pending(words.alloc, release)?;
     words.say(&format!(in words.alloc;
-        "frame {frame} {rights} lingers for {id:06x} at page {page} under ticket {ticket}, which isn't confirmed"
+        "frame {frame} {rights} lingers for {id:06x} at page {page} {under}"
+    )?)
+}
+
+/// Says that what the device had at a page is stale: the frame, where it and the line of its grant are known.
+fn say_stale(
+    words: &mut Words,
+    frame: Option<(usize, u64)>,
+    release: Release,
+    confirmed: u64,
+) -> Result<(), AllocError> {
+    let what = match frame {
+        None => format!(in words.alloc; "what it had there is stale:")?,
+        Some((frame, line)) => {
+            format!(in words.alloc; "frame {frame} is stale there: granted in line {line},")?
+        }
+    };
+    let (ticket, line) = (release.ticket, release.line);
+    words.say(&format!(in words.alloc;
+        "{what} released in line {line} under ticket {ticket}, confirmed in line {confirmed}"
     )?)
 }
 
@@ -127,14 +173,25 @@ fn could_write(words: &mut Words, len: u64) -> Result<(), AllocError> {
     words.could(&format!(in words.alloc; "wrote {len}")?)
 }
 
-/// Says that the device has an access in flight on the frame.
-fn say_in_flight(words: &mut Words, id: DeviceId, frame: u32) -> Result<(), AllocError> {
-    words.say(&format!(in words.alloc; "an access of {id:06x} is in flight on frame {frame}")?)
+/// Says that the device has an access in flight on the frame, which this line accepted.
+fn say_in_flight(
+    words: &mut Words,
+    id: DeviceId,
+    frame: u32,
+    line: Option<u64>,
+) -> Result<(), AllocError> {
+    let accepted = in_line(words.alloc, "accepted", line)?;
+    words.say(&format!(in words.alloc;
+        "an access of {id:06x} is in flight on frame {frame}{accepted}"
+    )?)
 }
 
 /// Says under which ticket its page was released.
-fn say_released(words: &mut Words, page: u64, ticket: u32) -> Result<(), AllocError> {
-    words.say(&format!(in words.alloc; "its page {page} was released under ticket {ticket}")?)
+fn say_released(words: &mut Words, page: u64, release: Release) -> Result<(), AllocError> {
+    let (ticket, line) = (release.ticket, release.line);
+    words.say(&format!(in words.alloc;
+        "its page {page} was released in line {line} under ticket {ticket}"
+    )?)
 }
 
 /// Says that there is no question at the place.
@@ -196,15 +253,44 @@ impl Facts<'_> {
     /// Says what the device holds at the page, or what lingers there.
     fn say_page(&self, words: &mut Words, id: DeviceId, page: u64) -> Result<(), AllocError> {
         if let Some((frame, rights)) = self.known.ledger.holds(id, page) {
-            return say_held(words, id, page, frame, rights);
+            let line = self.notes.grants.line_of(id, page, frame);
+            return say_held(words, id, page, frame, rights, line);
         }
         match self.known.ledger.lingers(id, page) {
             None => say_nothing_at(words, id, page),
             Some((frame, rights)) => {
-                let ticket = self.notes.releases.ticket_of(id, page).unwrap_or(0);
-                say_lingering(words, id, page, frame, rights, ticket)
+                let release = self.notes.releases.pending_of(id, page);
+                say_lingering(words, id, page, frame, rights, release)
             }
         }
+    }
+
+    /// The frame that the device had at the page before it was released in this line, and the line that granted it: the
+    /// one that is shown, or else the last.
+    fn frame_before(&self, id: DeviceId, page: u64, release: Release) -> Option<(usize, u64)> {
+        let found = match self.on {
+            None => self.notes.grants.at(id, page)?,
+            Some(frame) => (frame as usize, self.notes.grants.line_of(id, page, frame)?),
+        };
+        if found.1 > release.line {
+            return None;
+        }
+        Some(found)
+    }
+
+    /// Says what the device had at the page, where it holds nothing there, or not the frame that is shown.
+    fn say_before(&self, words: &mut Words, id: DeviceId, page: u64) -> Result<(), AllocError> {
+        let Some(release) = self.notes.releases.of(id, page) else {
+            return Ok(());
+        };
+        let Some(confirmed) = release.confirmed else {
+            return Ok(());
+        };
+        let frame = self.frame_before(id, page, release);
+        if frame.is_none() && self.known.ledger.holds(id, page).is_some() {
+            return Ok(());
+        }
+        say_stale(words, frame, release, confirmed)
     }
 
     /// Whether the device holds the frame at the page, or it lingers there.
@@ -322,7 +408,9 @@ impl Facts<'_> {
         access: &Access,
     ) -> Result<(), AllocError> {
         say_attachment(words, device)?;
-        self.say_page(words, device.id, access.address / PAGE_SIZE)?;
+        let page = access.address / PAGE_SIZE;
+        self.say_page(words, device.id, page)?;
+        self.say_before(words, device.id, page)?;
         self.could_accept(alloc, words, way, device, access)?;
         self.could_fault(words, way, device, access)
     }
@@ -473,11 +561,15 @@ impl Facts<'_> {
 
     /// Says what the device has in flight, and which of that was released.
     fn say_flights(&self, words: &mut Words, device: &Device) -> Result<(), AllocError> {
-        for flight in device.in_flight.as_slice() {
-            say_in_flight(words, device.id, flight.frame)?;
+        let flights = device.in_flight.as_slice();
+        let mut number = device.accepted.saturating_sub(flights.len() as u64);
+        for flight in flights {
+            number = number.saturating_add(1);
+            let line = self.notes.line_of_access(device.id, number);
+            say_in_flight(words, device.id, flight.frame, line)?;
             let page = flight.access.address / PAGE_SIZE;
-            if let Some(ticket) = self.notes.releases.ticket_of(device.id, page) {
-                say_released(words, page, ticket)?;
+            if let Some(release) = self.notes.releases.pending_of(device.id, page) {
+                say_released(words, page, release)?;
             }
         }
         Ok(())

@@ -5,11 +5,14 @@
 //! The exit status is 0 where the trace is lawful, which is proved then, 1 where it isn't or where that can't be decided,
 //! 2 where a line isn't in the grammar, 3 where the command line isn't lawful, 4 where reading, writing or memory failed,
 //! and 5 where no line was found unlawful, and the trace isn't certified. What goes wrong is told on standard error, as
-//! `iommu-judge: NAME: TEXT`.
+//! `iommu-judge: NAME: TEXT`. Where that is a terminal, it also tells every ten million lines how far it is.
 #![tactic(auto)]
 
+mod progress;
+
 use iom_judge::{Verdict, judge_trace};
-use std::io::{self, ErrorKind};
+use progress::Watched;
+use std::io::{self, ErrorKind, Read};
 use std::process::ExitCode;
 use std::{env, fs};
 
@@ -95,13 +98,19 @@ fn is_file(word: &str) -> bool {
     }
 }
 
+/// What is found of what the reader has.
+fn judge<R: Read + Drop>(rt: &HostRuntime, name: &str, reader: R) -> io::Result<Verdict> {
+    let mut watched = Watched::new(rt, name, reader);
+    judge_trace(rt.alloc(), &mut watched)
+}
+
 /// Judges what the words name, and gives the exit status.
 fn run(rt: &HostRuntime, words: &[String]) -> u8 {
     match words {
-        [] => end(rt, INPUT, judge_trace(rt.alloc(), &mut rt.stdin())),
+        [] => end(rt, INPUT, judge(rt, INPUT, rt.stdin())),
         [file] if is_file(file) => {
             let found = match fs::open(rt, file) {
-                Ok(mut opened) => judge_trace(rt.alloc(), &mut opened),
+                Ok(opened) => judge(rt, file, opened),
                 Err(error) => Err(error),
             };
             end(rt, file, found)
