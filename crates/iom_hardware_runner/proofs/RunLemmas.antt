@@ -7,13 +7,13 @@ use Rattle.std.proofs.lemmas.List.Folds.{list_any-append}
 use Rattle.iom_claims.specs.Claimed.{Claimed, nothing_claimed}
 use Rattle.iom_claims.specs.Shown.{ShowsClaimed}
 use Rattle.iom_hardware_runner.specs.Runs.{Nothing, Line, Asked, ByItself, is_help, is_own, is_asked, HasRun}
-use Rattle.iom_hardware_runner.specs.Parts.{TellsLine, is_off, CameBy, RunsOn, ActsOn, TakesLine}
+use Rattle.iom_hardware_runner.specs.Parts.{TellsLine, is_off, CameBy, RunsOn, ActsOn, MachineTakesLine}
 use Rattle.iom_hardware_runner.specs.declared.machine.Machine.{Machine}
 use Rattle.iom_hardware_script.specs.declared.script.HardwareLine.{HardwareLine}
 use Rattle.iom_hardware_script.specs.declared.script.HardwareLine.TheVariants as line
 use Rattle.iom_hardware_script.specs.declared.script.Help.{Help}
 use Rattle.iom_hardware_session.proofs.SessionLemmas.{through_more}
-use Rattle.iom_hardware_session.specs.Runs.{Told, claimed_then, GoesOn, GoThrough, is_wrong_by, is_wrong, IsSessionAtPowerOn}
+use Rattle.iom_hardware_session.specs.Runs.{Told, claimed_then, LineGoesOn, GoThrough, is_wrong_by, is_wrong, IsSessionAtPowerOn}
 use Rattle.iom_hardware_session.specs.declared.session.Stepped.{Stepped}
 use Rattle.iom_hardware_session.specs.declared.state.Session.{Session}
 
@@ -31,7 +31,7 @@ told_of said stepped new = record { said = said; stepped = stepped; watched = ne
 
 -- A LINE MORE
 pub has_run_more : (frames : ℕ) (ran : List HardwareLine) (old new : Session) (wrong : Bool) (said : HardwareLine) (stepped : Stepped)
-    → ((c : Claimed) → ShowsClaimed old.claims c → GoesOn old c (record { said = said; stepped = stepped; watched = new.watched.items }) new)
+    → ((c : Claimed) → ShowsClaimed old.claims c → LineGoesOn old c (record { said = said; stepped = stepped; watched = new.watched.items }) new)
     → HasRun frames ran old wrong → HasRun frames (ran ++ said ∷ []) new (wrong || is_wrong_by stepped new.watched.items)
 has_run_more frames ran old new wrong said stepped goes has =
     let told = told_of said stepped new in
@@ -55,7 +55,7 @@ asked_still : (said : List HardwareLine) (next : HardwareLine) → is_asked said
 asked_still said next is = list_any-append is_help said (next ∷ []) ∙ ap (λ (b : Bool). b || (is_help next || false)) is
 
 -- hardware was asked to act by itself: the session hasn't changed
-pub takes_help : (old new : Machine) (help : Help) → new.teller.session ≡ old.teller.session → new.teller.is_wrong ≡ old.teller.is_wrong → TakesLine old (line.Help help) new
+pub takes_help : (old new : Machine) (help : Help) → new.teller.session ≡ old.teller.session → new.teller.is_wrong ≡ old.teller.is_wrong → MachineTakesLine old (line.Help help) new
 takes_help old new help sessions wrongs frames said came = record {
   ran = came.ran;
   spells = Asked said came.ran help came.spells;
@@ -64,7 +64,7 @@ takes_help old new help sessions wrongs frames said came = record {
 }
 
 -- a line ran that was said
-pub takes_line : (old new : Machine) (next : HardwareLine) → TellsLine old.teller next new.teller → is_off new.helper ≡ is_off old.helper → TakesLine old next new
+pub takes_line : (old new : Machine) (next : HardwareLine) → TellsLine old.teller next new.teller → is_off new.helper ≡ is_off old.helper → MachineTakesLine old next new
 takes_line old new next tells helpers frames said came = record {
   ran = came.ran ++ next ∷ [];
   spells = Line said came.ran next came.spells;
@@ -100,10 +100,10 @@ runs_on old between new on first then frames said came =
     let asked = came.asked on in
     then frames said asked (first frames said asked came)
 
-pub takes_then : (old between new : Machine) (next : HardwareLine) → RunsOn old between → TakesLine between next new → TakesLine old next new
+pub takes_then : (old between new : Machine) (next : HardwareLine) → RunsOn old between → MachineTakesLine between next new → MachineTakesLine old next new
 takes_then old between new next first then frames said came = then frames said (first frames said came)
 
-pub takes_asked : (old between new : Machine) (help : Help) → TakesLine old (line.Help help) between → ActsOn between new → TakesLine old (line.Help help) new
+pub takes_asked : (old between new : Machine) (help : Help) → MachineTakesLine old (line.Help help) between → ActsOn between new → MachineTakesLine old (line.Help help) new
 takes_asked old between new help first then frames said came = then frames (said ++ line.Help help ∷ []) (asked_by said help) (first frames said came)
 
 -- nothing was said yet

@@ -3,8 +3,8 @@ use Rattle.std.proofs.Common.{◌≡◌, ◌∙◌, ℕ, Result, Ok, Err, IfOk, 
 use Rattle.std.proofs.lemmas.List.{append_assoc, append-nil}
 use Rattle.std.proofs.lemmas.List.Concat.{flat_map-append}
 use Rattle.std.proofs.lemmas.List.Elements.{All-push, filter-append}
-use Rattle.iom_hardware_runner.specs.Parts.{CameBy, TakesLine, TookTexts, HasTaken}
-use Rattle.iom_hardware_runner.specs.Runs.{HasRun, LinesRun, ScriptRuns}
+use Rattle.iom_hardware_runner.specs.Parts.{CameBy, MachineTakesLine, TookTexts, HasTakenBytes}
+use Rattle.iom_hardware_runner.specs.Runs.{HasRun, TextsRun, ScriptRuns}
 use Rattle.iom_hardware_runner.specs.declared.faults.RunFault.{RunFault}
 use Rattle.iom_hardware_runner.specs.declared.machine.Machine.{Machine}
 use Rattle.iom_hardware_script.specs.declared.script.HardwareLine.{HardwareLine}
@@ -27,7 +27,7 @@ pub first_text : (text : List ℕ) (machine : Machine) (frames : ℕ) → IsSetu
 first_text text machine frames is came = (machine, frames, [], refl, is, tt, came)
 
 -- one more
-pub next_text : (texts : List (List ℕ)) (text : List ℕ) (line : HardwareLine) (old new : Machine) → IsHardwareLine text line → TakesLine old line new → TookTexts texts (Some old)
+pub next_text : (texts : List (List ℕ)) (text : List ℕ) (line : HardwareLine) (old new : Machine) → IsHardwareLine text line → MachineTakesLine old line new → TookTexts texts (Some old)
     → TookTexts (texts ++ text ∷ []) (Some new)
 next_text [] text line old new is takes took = absurd (cc)
 next_text (setup ∷ texts) text line old new is takes (own, frames, said, same, setup_is, each, came) = (
@@ -68,14 +68,14 @@ without_both [] rest none others = others
 without_both (first ∷ front) rest (none, later) others = (none, without_both front rest later others)
 
 -- a piece grows
-pub piece_grows : (bytes piece part : List ℕ) (machine : Option Machine) → IsWithout 10 part → HasTaken bytes piece machine → HasTaken (bytes ++ part) (piece ++ part) machine
+pub piece_grows : (bytes piece part : List ℕ) (machine : Option Machine) → IsWithout 10 part → HasTakenBytes bytes piece machine → HasTakenBytes (bytes ++ part) (piece ++ part) machine
 piece_grows bytes piece part machine none (texts, whole, free, is, took) =
     (texts, whole, without_both piece part free none, ap (λ (l : List ℕ). l ++ part) is ∙ append_assoc (bytes_of_lines texts) piece part, took)
 
 -- a line ends
-pub line_ends : (bytes piece part : List ℕ) (old new : Option Machine) → IsWithout 10 part → HasTaken bytes piece old
+pub line_ends : (bytes piece part : List ℕ) (old new : Option Machine) → IsWithout 10 part → HasTakenBytes bytes piece old
     → ((texts : List (List ℕ)) → TookTexts (spoken texts) old → TookTexts (spoken (texts ++ (piece ++ part) ∷ [])) new)
-    → HasTaken (bytes ++ part ++ 10 ∷ []) [] new
+    → HasTakenBytes (bytes ++ part ++ 10 ∷ []) [] new
 line_ends bytes piece part old new none (texts, whole, free, is, took) takes = (
   texts ++ (piece ++ part) ∷ [],
   All-push (IsWithout 10) texts (piece ++ part) whole (without_both piece part free none),
@@ -93,18 +93,18 @@ line_ends bytes piece part old new none (texts, whole, free, is, took) takes = (
         ∙ sym (flat_map-append (λ (line : List ℕ). line ++ 10 ∷ []) texts ((piece ++ part) ∷ []))
         ∙ sym (append-nil (bytes_of_lines (texts ++ (piece ++ part) ∷ [])))
 
-pub line_ends_ok : (bytes piece part : List ℕ) (old new : Option Machine) (result : Result (Unit {0}) RunFault) → IsWithout 10 part → HasTaken bytes piece old
+pub line_ends_ok : (bytes piece part : List ℕ) (old new : Option Machine) (result : Result (Unit {0}) RunFault) → IsWithout 10 part → HasTakenBytes bytes piece old
     → ((texts : List (List ℕ)) → TookTexts (spoken texts) old → OnOk result (TookTexts (spoken (texts ++ (piece ++ part) ∷ [])) new))
-    → OnOk result (HasTaken (bytes ++ part ++ 10 ∷ []) [] new)
+    → OnOk result (HasTakenBytes (bytes ++ part ++ 10 ∷ []) [] new)
 line_ends_ok bytes piece part old new (Ok done) none taken takes = line_ends bytes piece part old new none taken takes
 line_ends_ok bytes piece part old new (Err why) none taken takes = tt
 
 -- all that arrived was run
-pub whole_runs : (bytes : List ℕ) (machine : Option Machine) (wrong : Bool) → MatchOption machine (wrong ≡ false) (λ own. wrong ≡ own.teller.is_wrong) → HasTaken bytes [] machine
+pub whole_runs : (bytes : List ℕ) (machine : Option Machine) (wrong : Bool) → MatchOption machine (wrong ≡ false) (λ own. wrong ≡ own.teller.is_wrong) → HasTakenBytes bytes [] machine
     → ScriptRuns bytes wrong
 whole_runs bytes machine wrong is (texts, whole, free, same, took) = (texts, whole, same ∙ append-nil (bytes_of_lines texts), by (spoken texts) machine is took)
   where
-    by : (said : List (List ℕ)) (m : Option Machine) → MatchOption m (wrong ≡ false) (λ own. wrong ≡ own.teller.is_wrong) → TookTexts said m → LinesRun said wrong
+    by : (said : List (List ℕ)) (m : Option Machine) → MatchOption m (wrong ≡ false) (λ own. wrong ≡ own.teller.is_wrong) → TookTexts said m → TextsRun said wrong
     by [] m e none = subst (λ (o : Option Machine). MatchOption o (wrong ≡ false) (λ own. wrong ≡ own.teller.is_wrong)) none e
     by (setup ∷ rest) m e (own, frames, lines, there, setup_is, each, came) =
         let same_wrong = subst (λ (o : Option Machine). MatchOption o (wrong ≡ false) (λ own. wrong ≡ own.teller.is_wrong)) there e in (
@@ -120,7 +120,7 @@ whole_runs bytes machine wrong is (texts, whole, free, same, took) = (texts, who
 
 -- the machine answered: it took the line, where it is in the grammar
 pub answered_text : (texts : List (List ℕ)) (text : List ℕ) (old new : Machine) (result : Result Bool RunFault)
-    → IfOk result (λ taken. taken ≡ true → (next : HardwareLine) × IsHardwareLine text next × TakesLine old next new)
+    → IfOk result (λ taken. taken ≡ true → (next : HardwareLine) × IsHardwareLine text next × MachineTakesLine old next new)
     → TookTexts texts (Some old) → IfOk result (λ taken. taken ≡ true → TookTexts (texts ++ text ∷ []) (Some new))
 answered_text texts text old new (Ok taken) takes took = λ is. let (next, says, then) = takes is in next_text texts text next old new says then took
 answered_text texts text old new (Err why) takes took = takes
@@ -146,7 +146,7 @@ pub grouped : (a b c d : List ℕ) → ((a ++ b) ++ c) ++ d ≡ a ++ ((b ++ c) +
 grouped a b c d = ap (λ (l : List ℕ). l ++ d) (append_assoc a b c) ∙ append_assoc a (b ++ c) d
 
 -- the rest is a piece of a line
-pub kept_ok : (bytes piece part new_piece : List ℕ) (machine : Option Machine) (result : Result (Unit {0}) RunFault) → IsWithout 10 part → HasTaken bytes piece machine
-    → OnOk result (new_piece ≡ piece ++ part) → OnOk result (HasTaken (bytes ++ part) new_piece machine)
-kept_ok bytes piece part new_piece machine (Ok done) none taken is = subst (λ (p : List ℕ). HasTaken (bytes ++ part) p machine) (sym is) (piece_grows bytes piece part machine none taken)
+pub kept_ok : (bytes piece part new_piece : List ℕ) (machine : Option Machine) (result : Result (Unit {0}) RunFault) → IsWithout 10 part → HasTakenBytes bytes piece machine
+    → OnOk result (new_piece ≡ piece ++ part) → OnOk result (HasTakenBytes (bytes ++ part) new_piece machine)
+kept_ok bytes piece part new_piece machine (Ok done) none taken is = subst (λ (p : List ℕ). HasTakenBytes (bytes ++ part) p machine) (sym is) (piece_grows bytes piece part machine none taken)
 kept_ok bytes piece part new_piece machine (Err why) none taken is = tt

@@ -39,8 +39,8 @@ abbrev pub ActsOn : Machine → Machine → Type 0
 ActsOn old new = (frames : ℕ) (said : List HardwareLine) → is_asked said ≡ true → CameBy frames said old → CameBy frames said new
 
 -- the line was said too
-abbrev pub TakesLine : Machine → HardwareLine → Machine → Type 0
-TakesLine old next new = (frames : ℕ) (said : List HardwareLine) → CameBy frames said old → CameBy frames (said ++ next ∷ []) new
+abbrev pub MachineTakesLine : Machine → HardwareLine → Machine → Type 0
+MachineTakesLine old next new = (frames : ℕ) (said : List HardwareLine) → CameBy frames said old → CameBy frames (said ++ next ∷ []) new
 
 -- the texts that say something were taken: none, and there is no machine; or that of the hardware, and then others
 abbrev pub TookTexts : List (List ℕ) → Option Machine → Type 0
@@ -49,9 +49,9 @@ TookTexts (setup ∷ texts) machine =
     (own : Machine) × (frames : ℕ) × (said : List HardwareLine) × (machine ≡ Some own) × IsSetupLine setup frames × SayEach IsHardwareLine texts said × CameBy frames said own
 
 -- these bytes arrived: lines that were taken, and a piece of one
-abbrev pub HasTaken : List ℕ → List ℕ → Option Machine → Type 0
-HasTaken bytes piece machine =
+abbrev pub HasTakenBytes : List ℕ → List ℕ → Option Machine → Type 0
+HasTakenBytes bytes piece machine =
     (texts : List (List ℕ)) × All (IsWithout 10) texts × IsWithout 10 piece × (bytes ≡ bytes_of_lines texts ++ piece) × TookTexts (spoken texts) machine
 
 abbrev pub HasArrived : List ℕ → Arriving → Type 0
-HasArrived bytes arriving = HasTaken bytes arriving.piece.items arriving.conversation.machine
+HasArrived bytes arriving = HasTakenBytes bytes arriving.piece.items arriving.conversation.machine

@@ -6,7 +6,7 @@ use Rattle.iom_hardware_script.specs.declared.script.HardwareLine.{HardwareLine}
 use Rattle.iom_hardware_script.specs.declared.script.HardwareLine.TheVariants as line
 use Rattle.iom_hardware_script.specs.declared.script.Help.{Help}
 use Rattle.iom_hardware_script.specs.Grammar.{IsSetupLine, IsHardwareLine}
-use Rattle.iom_hardware_session.specs.Runs.{Told, GoThrough, is_any_wrong, IsSessionAtPowerOn}
+use Rattle.iom_hardware_session.specs.Runs.{Told, GoThrough, is_any_told_wrong, IsSessionAtPowerOn}
 use Rattle.iom_hardware_session.specs.declared.state.Session.{Session}
 use Rattle.iom_machine.specs.declared.event.Event.TheVariants.{Read, Write, WriteThroughCache, Ask, Commit, Fetch, Deliver}
 use Rattle.iom_script.specs.Words.{IsWithout}
@@ -51,15 +51,15 @@ pub record HasRun (frames : ℕ) (ran : List HardwareLine) (session : Session) (
   pub begins : IsSessionAtPowerOn frames first
   pub same : lines_of all ≡ ran
   pub through : GoThrough first nothing_claimed all session claimed
-  pub tells : is_any_wrong all ≡ wrong
+  pub tells : is_any_told_wrong all ≡ wrong
 
 -- lines that all say something: none of them, or one that says how much memory there is, and then what happens
-abbrev pub LinesRun : List (List ℕ) → Bool → Type 0
-LinesRun [] wrong = wrong ≡ false
-LinesRun (setup ∷ texts) wrong =
+abbrev pub TextsRun : List (List ℕ) → Bool → Type 0
+TextsRun [] wrong = wrong ≡ false
+TextsRun (setup ∷ texts) wrong =
     (frames : ℕ) × (said : List HardwareLine) × (ran : List HardwareLine) × (session : Session)
     × IsSetupLine setup frames × SayEach IsHardwareLine texts said × SpellsOut said ran × HasRun frames ran session wrong
 
 -- THE BYTES ARE A SCRIPT that was run so, and this is whether anything was wrong
 abbrev pub ScriptRuns : List ℕ → Bool → Type 0
-ScriptRuns bytes wrong = (texts : List (List ℕ)) × All (IsWithout 10) texts × (bytes ≡ bytes_of_lines texts) × LinesRun (spoken texts) wrong
+ScriptRuns bytes wrong = (texts : List (List ℕ)) × All (IsWithout 10) texts × (bytes ≡ bytes_of_lines texts) × TextsRun (spoken texts) wrong

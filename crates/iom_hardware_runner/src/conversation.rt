@@ -48,7 +48,8 @@ impl Conversation {
 
     /// A line that says something happens. False where it isn't in the grammar in its place.
     fn answer(&mut self, text: &[u8]) -> Result<bool, RunFault>
-        ensures { (texts : List (List ℕ)) → TookTexts texts self.old.machine → IfOk result (λ taken. taken ≡ true → TookTexts (texts ++ text.now ∷ []) self.new.machine) }
+        ensures { (texts : List (List ℕ)) → TookTexts texts self.old.machine
+            → IfOk result (λ taken. taken ≡ true → TookTexts (texts ++ text.now ∷ []) self.new.machine) }
     {
         match &mut self.machine {
             Some(machine) => machine.take_line(text, &mut self.output),
@@ -71,7 +72,8 @@ impl Conversation {
     /// The next line, without its line feed: it happens, and its answer and the line itself wait to be written. Of a line
     /// that isn't in the grammar nothing happens, and nothing waits.
     pub(crate) fn take_line(&mut self, text: &[u8]) -> Result<(), RunFault>
-        ensures { (texts : List (List ℕ)) → TookTexts (spoken texts) self.old.machine → OnOk result (TookTexts (spoken (texts ++ text.now ∷ [])) self.new.machine) }
+        ensures { (texts : List (List ℕ)) → TookTexts (spoken texts) self.old.machine
+            → OnOk result (TookTexts (spoken (texts ++ text.now ∷ [])) self.new.machine) }
     {
         let number = self.next_number()?;
         if !self.happen(text)? {

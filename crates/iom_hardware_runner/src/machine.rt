@@ -1,6 +1,6 @@
 // Hardware under a driver: each line happens and is answered, and between two lines hardware may act by itself.
 ghost use Rattle.std.specs.Prelude.{◌≡◌, ◌++◌, ◌∷◌, [], ℕ, List, true, false, IfOk, OnOk, IfSome};
-ghost use Rattle.iom_hardware_runner.specs.Parts.{TellsLine, CameBy, RunsOn, ActsOn, TakesLine};
+ghost use Rattle.iom_hardware_runner.specs.Parts.{TellsLine, CameBy, RunsOn, ActsOn, MachineTakesLine};
 ghost use Rattle.iom_hardware_runner.specs.Runs.{is_own};
 ghost use Rattle.iom_hardware_script.specs.declared.script.HardwareLine.{HardwareLine as Line};
 ghost use Rattle.iom_hardware_script.specs.declared.script.HardwareLine.TheVariants as says;
@@ -103,7 +103,7 @@ impl Machine {
     /// A line of a script happens, behind steps that hardware takes by itself. False where it isn't in the grammar; then
     /// nothing happens.
     pub(crate) fn take_line(&mut self, text: &[u8], output: &mut Output) -> Result<bool, RunFault>
-        ensures { IfOk result (λ taken. taken ≡ true → (line : Line) × IsHardwareLine text.now line × TakesLine self.old line self.new) }
+        ensures { IfOk result (λ taken. taken ≡ true → (line : Line) × IsHardwareLine text.now line × MachineTakesLine self.old line self.new) }
     {
         let Some(said) = read(self.alloc, text)? else {
             return Ok(false);
@@ -218,7 +218,7 @@ impl Machine {
 
     /// Hardware is asked to act by itself. A line after which it draws is a comment of the log, which has what was drawn.
     fn help(&mut self, help: Help, text: &[u8], output: &mut Output) -> Result<(), RunFault>
-        ensures { OnOk result (TakesLine self.old (says.Help help) self.new) }
+        ensures { OnOk result (MachineTakesLine self.old (says.Help help) self.new) }
     {
         match help {
             Help::Auto { seed } => {

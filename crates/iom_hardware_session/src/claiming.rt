@@ -74,7 +74,8 @@ impl Session {
             → GoodMeans (said.Grant device page frame rights) (scene_in self.new) c (claimed_after (said.Grant device page frame rights) result c) }
         ensures wrong { (c : Claimed) → ShowsClaimed self.old.claims c
             → IfWrong result
-            (λ why. WrongMeans (said.Grant device page frame rights) why self.new.hardware self.new.trusted.items c (claimed_after (said.Grant device page frame rights) result c)) }
+            (λ why. WrongMeans (said.Grant device page frame rights) why self.new.hardware self.new.trusted.items c
+            (claimed_after (said.Grant device page frame rights) result c)) }
         ensures watched { (c : Claimed) → ShowsClaimed self.old.claims c
             → WatchesClaim (said.Grant device page frame rights) result c self.old.watched.items self.new.watched.items }
         ensures admitted { (c : Claimed) → ShowsClaimed self.old.claims c → ClaimIsAdmitted (said.Grant device page frame rights) result self.old.hardware c }
