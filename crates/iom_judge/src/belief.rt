@@ -307,7 +307,7 @@ impl Belief {
         outcome: &Outcome,
         shown: Shown<'_>,
     ) -> Result<bool, AllocError>
-        ensures { IfOk result (λ may. IsTrue may → IsTrue self.new.is_followed → Follows self.old self.new event.now outcome.now) }
+        ensures { IfOk result (λ may. IsTrue may → IsTrue self.new.is_followed → BeliefFollows self.old self.new event.now outcome.now) }
     {
         self.begin_line(line);
         let may_come = self.step(alloc, event, outcome, shown)?;
