@@ -208,6 +208,7 @@ class Live:
     def __init__(self, program, frames, seed):
         self.hw = subprocess.Popen([program, "--live"], stdin=subprocess.PIPE, stdout=subprocess.PIPE)
         self.waiting, self.size, self.wrong, self.said, self.steps = [], 0, [], 0, 0
+        self.last = ""
         self.say(f"hardware {frames}", "ok")
         self.say(f"auto {seed}", "ok")
 
@@ -220,7 +221,7 @@ class Live:
     def flush(self):
         """Says what waits. The last answer."""
         if not self.waiting:
-            return ""
+            return self.last
         self.hw.stdin.write("".join(f"{line}\n" for line, _ in self.waiting).encode())
         self.hw.stdin.flush()
         for line, wanted in self.waiting:
@@ -229,6 +230,7 @@ class Live:
                 self.wrong.append(f"{line} => {answer}")
         self.said += len(self.waiting)
         self.waiting, self.size = [], 0
+        self.last = answer
         return answer
 
     def hear(self, line):

@@ -11,7 +11,7 @@ use iom_hardware_runner::run;
 use std::{fs, io};
 
 /// The scripts of `data/drivers`. A new one is its two files and a line here.
-static DRIVERS: [&str; 50] = [
+static DRIVERS: [&str; 51] = [
     "correct-first",
     "correct-second",
     "correct-ats",
@@ -47,6 +47,7 @@ static DRIVERS: [&str; 50] = [
     "plug-later",
     "frame-used-later",
     "certain-no-more",
+    "trusted-writes",
     "hardwired-registers",
     "block-forges",
     "large-leaf",
