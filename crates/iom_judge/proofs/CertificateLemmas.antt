@@ -1,22 +1,25 @@
 -- A run grows with each line, and what is certified with it.
-use Rattle.std.proofs.Common.{◌≡◌, ◌≢◌, ◌∙◌, ℕ, Bool, true, false, List, [], ◌∷◌, ◌++◌, Option, None, Some, Result, Ok, Err, IfOk, IfSome, IsSomeAnd, IsTrue, MatchOption, refl, sym, ap, subst, append-nil, append_assoc, slice_get, drop}
+use Rattle.std.proofs.Common.{◌≡◌, ◌≢◌, ◌∙◌, All, ℕ, ◌+◌, ◌-◌, ◌<◌, ◌≤◌, ◌^◌, Bool, true, false, List, [], ◌∷◌, ◌++◌, Option, None, Some, Result, Ok, Err, IfOk, IfSome, IsSomeAnd, IsTrue, MatchOption, arith, refl, sym, ap, subst, append-nil, append_assoc, length, min, slice_get, take, drop, ◌&&◌, nat_lt, if◌then◌else◌}
+use Rattle.std.proofs.lemmas.List.{length-append, take-append-le, take_all}
 use Rattle.std.proofs.lemmas.Bool.{false≢true}
-use Rattle.std.proofs.lemmas.List.Elements.{All-nil, filter-append}
+use Rattle.std.proofs.lemmas.Bool.Decides.{nat_tests}
+use Rattle.std.proofs.lemmas.List.Elements.{All-nil, All-take, filter-append}
 use Rattle.std.proofs.KnownBytes.{Consumes-nil}
 use Rattle.iom_base.specs.declared.access.Access.{Access}
 use Rattle.iom_machine.specs.declared.event.Event.{Event}
 use Rattle.iom_machine.specs.declared.outcome.Outcome.{Outcome}
 use Rattle.iom_machine.proofs.ReclaimLemmas.{reclaims}
 use Rattle.iom_script.specs.declared.script.WorldSize.{WorldSize}
-use Rattle.iom_script.specs.Grammar.{is_spoken, spoken}
+use Rattle.iom_script.specs.Grammar.{is_spoken, spoken, bytes_of_lines}
 use Rattle.iom_script.specs.Words.{IsWithout}
 use Rattle.iom_known.specs.Allowed.{Past, IsTrueOf, known_state}
 use Rattle.iom_known.specs.Starts.{IsPowerOn, SomeAreAllowed}
 use Rattle.iom_trace_lines.specs.Taken.{AreLines, BufferHolds, HasTaken}
 use Rattle.iom_trace_lines.specs.TraceLines.{Said, SaysLine, Nothing, World, Step}
-use Rattle.iom_judge.specs.Certificates.{is_lawful, four_disks, opening_of, SaysStep, SaySteps, AreOfRun, AreLawfulLines, IsLawfulTrace}
-use Rattle.iom_judge.specs.Certified.{IsCertifiedBy, Certify, CertifyBehind, CertifyIf, BeliefFollows, GoesOn, HasJudged}
+use Rattle.iom_judge.specs.Certificates.{four_disks, opening_of, SaysStep, SaySteps, AreOfRun, AreLawfulLines, IsLawfulBefore, IsLawfulTrace, IsRefusal, IsSoOf}
+use Rattle.iom_judge.specs.Certified.{IsCertifiedBy, Certify, CertifyIf, BeliefFollows, GoesOn, HasJudged, HasTakenAll, HasTakenBut}
 use Rattle.iom_judge.specs.declared.belief.Belief.{Belief}
+use Rattle.iom_judge.specs.declared.judging.Judge.{Judge}
 use Rattle.iom_judge.specs.declared.verdict.Verdict.{Verdict}
 use Rattle.iom_doubts.proofs.FollowSteps.{none_of_none}
 use Rattle.iom_judge.proofs.CertifiedSteps.{certified_on, certified_anyway, certified_settled}
@@ -114,75 +117,191 @@ of_run belief size lines by possible =
       reclaims = reclaims (opening_of size) by.events by.outcomes (known_state known certified.past.history some.0) ([], [], (size.frames, size.levels, four_disks, refl)) run;
     }
 
--- after the last line
-pub all_said : (belief : Option Belief) (lines : List (List ℕ)) (text : List ℕ) → Certify belief (spoken lines)
-    → IfSome belief (λ b. (past : Past) → IsTrueOf b.known past → SomeAreAllowed b.known past) → AreLines lines text → IsLawfulTrace text
-all_said belief lines text certified possible are =
-    record { lines = lines; whole = are.0; is_text = are.1; lawful = by belief (spoken lines) certified possible }
-  where
-    by : (b : Option Belief) (ls : List (List ℕ)) → Certify b ls → IfSome b (λ it. (past : Past) → IsTrueOf it.known past → SomeAreAllowed it.known past) → AreLawfulLines ls
-    by None [] told so = tt
-    by None (l ∷ ls) never so = absurd never
-    by (Some b) [] never so = absurd never
-    by (Some b) (l ∷ ls) (size, says, it) so = (size, says, of_run b size ls it so)
+-- what is certified after a step was so before it
+pub goes_on_was : (was is : Bool) (old new : Option Belief) (event : Event) (outcome : Outcome) → GoesOn was old event outcome is new → IsTrue is → IsTrue was
+goes_on_was was is None None event outcome goes told = absurd goes
+goes_on_was was is None (Some new) event outcome goes told = absurd goes
+goes_on_was was is (Some old) None event outcome goes told = absurd goes
+goes_on_was was is (Some old) (Some new) event outcome goes told = (goes told).0
 
--- Nothing ends the trace, where it goes on so; and what ends it is no certificate.
-pub if_it_goes_on : {E : Type 0} (result : Result (Option Verdict) E) (P Q : Type 0) → (P → Q) → IfOk result (λ found. MatchOption found P (λ verdict. is_lawful verdict ≡ false))
-    → IfOk result (λ found. MatchOption found Q (λ verdict. is_lawful verdict ≡ false))
+-- what is certified, where some state is allowed, are lawful lines
+pub lawful_lines : (belief : Option Belief) (lines : List (List ℕ)) → Certify belief lines
+    → IfSome belief (λ b. (past : Past) → IsTrueOf b.known past → SomeAreAllowed b.known past) → AreLawfulLines lines
+lawful_lines None [] told so = tt
+lawful_lines None (l ∷ ls) never so = absurd never
+lawful_lines (Some b) [] never so = absurd never
+lawful_lines (Some b) (l ∷ ls) (size, says, it) so = (size, says, of_run b size ls it so)
+
+-- one line more is counted
+counted_more : (old most : ℕ) (lines : List (List ℕ)) (line : List ℕ) → old ≡ min (length lines) most → min (old + 1) most ≡ min (length (lines ++ line ∷ [])) most
+counted_more old most lines line counted = rw (counted, length-append lines (line ∷ [])) (by (length lines) most)
+  where
+    by : (l m : ℕ) → min (min l m + 1) m ≡ min (l + 1) m
+    by l m = omega arith
+
+-- so many of the lines are the same where one more comes
+same_first : (last : ℕ) (lines : List (List ℕ)) (line : List ℕ) → last ≤ length lines → spoken (take last (lines ++ line ∷ [])) ≡ spoken (take last lines)
+same_first last lines line few = ap spoken (take-append-le last lines (line ∷ []) few)
+
+-- The judge has taken one line more, and noted nothing.
+pub taken_more : (old new : Judge) (lines : List (List ℕ)) (line : List ℕ) → HasTakenAll old lines → new.line ≡ min (old.line + 1) (2 ^ 64 - 1) → new.last_followed ≡ old.last_followed
+    → (IsTrue new.is_certified → IsTrue old.is_certified) → CertifyIf new.is_certified new.belief (lines ++ line ∷ []) → HasTakenAll new (lines ++ line ∷ [])
+taken_more old new lines line before counts same was certified = record {
+  certified = certified;
+  counted = λ told. counts ∙ counted_more old.line (2 ^ 64 - 1) lines line (before.counted (was told));
+  few = rw (same, length-append lines (line ∷ [])) (longer old.last_followed (length lines) before.few);
+  low = rw same before.low;
+  followed = subst AreLawfulLines (sym (ap (λ (n : ℕ). spoken (take n (lines ++ line ∷ []))) same ∙ same_first old.last_followed lines line before.few)) before.followed;
+}
+  where
+    longer : (n m : ℕ) → n ≤ m → n ≤ m + 1
+    longer n m less = omega (less, arith)
+
+-- It has taken one line more, and certifies nothing.
+pub taken_unfollowed : (old new : Judge) (lines : List (List ℕ)) (line : List ℕ) → HasTakenAll old lines → new.last_followed ≡ old.last_followed
+    → new.is_certified ≡ false → HasTakenAll new (lines ++ line ∷ [])
+taken_unfollowed old new lines line before same not_certified = record {
+  certified = λ told. absurd (false≢true (sym not_certified ∙ told));
+  counted = λ told. absurd (false≢true (sym not_certified ∙ told));
+  few = rw (same, length-append lines (line ∷ [])) (longer old.last_followed (length lines) before.few);
+  low = rw same before.low;
+  followed = subst AreLawfulLines (sym (ap (λ (n : ℕ). spoken (take n (lines ++ line ∷ []))) same ∙ same_first old.last_followed lines line before.few)) before.followed;
+}
+  where
+    longer : (n m : ℕ) → n ≤ m → n ≤ m + 1
+    longer n m less = omega (less, arith)
+
+-- It may have noted that each line so far was followed, where some state is allowed.
+pub noted : (old new : Judge) (lines : List (List ℕ)) (asked : Bool) → HasTakenAll old lines → IsTrue old.is_certified
+    → (IsTrue asked → IfSome old.belief (λ belief. (past : Past) → IsTrueOf belief.known past → SomeAreAllowed belief.known past))
+    → (new.is_certified ≡ old.is_certified) × (new.belief ≡ old.belief) × (new.line ≡ old.line)
+    → new.last_followed ≡ (if asked && nat_lt old.line (2 ^ 64 - 1) then old.line else old.last_followed) → HasTakenAll new lines
+noted old new lines asked before certain possible same is = by asked (nat_lt old.line (2 ^ 64 - 1)) refl possible is
+  where
+    unchanged : new.last_followed ≡ old.last_followed → HasTakenAll new lines
+    unchanged kept = record {
+      certified = rw (same.0, same.1) before.certified;
+      counted = rw (same.0, same.2) before.counted;
+      few = rw kept before.few;
+      low = rw kept before.low;
+      followed = rw kept before.followed;
+    }
+
+    least : (n : ℕ) → n ≤ n
+    least n = omega arith
+
+    is_all : (l n m : ℕ) → l ≡ min n m → l < m → l ≡ n
+    is_all l n m counted less = omega (counted, less, arith)
+
+    changed : old.line < 2 ^ 64 - 1 → IfSome old.belief (λ belief. (past : Past) → IsTrueOf belief.known past → SomeAreAllowed belief.known past) → new.last_followed ≡ old.line → HasTakenAll new lines
+    changed low some now =
+        let all : old.line ≡ length lines = is_all old.line (length lines) (2 ^ 64 - 1) (before.counted certain) low in record {
+          certified = rw (same.0, same.1) before.certified;
+          counted = rw (same.0, same.2) before.counted;
+          few = subst (λ (n : ℕ). n ≤ length lines) (sym (now ∙ all)) (least (length lines));
+          low = subst (λ (n : ℕ). n < 2 ^ 64 - 1) (sym now) low;
+          followed = subst (λ (n : ℕ). AreLawfulLines (spoken (take n lines))) (sym (now ∙ all))
+              (subst (λ (l : List (List ℕ)). AreLawfulLines (spoken l)) (sym (take_all (length lines) lines (least (length lines))))
+              (lawful_lines old.belief (spoken lines) (before.certified certain) some));
+        }
+
+    less_by : nat_lt old.line (2 ^ 64 - 1) ≡ true → old.line < 2 ^ 64 - 1
+    less_by e = grind (arith, nat_tests, e)
+
+    by : (a b : Bool) → nat_lt old.line (2 ^ 64 - 1) ≡ b → (IsTrue a → IfSome old.belief (λ belief. (past : Past) → IsTrueOf belief.known past → SomeAreAllowed belief.known past))
+        → new.last_followed ≡ (if a && b then old.line else old.last_followed) → HasTakenAll new lines
+    by true true low some now = changed (less_by low) (some refl) now
+    by true false low some now = unchanged now
+    by false b low some now = unchanged now
+
+-- a text of lawful lines
+text_of : (lines : List (List ℕ)) → All (IsWithout 10) lines → AreLawfulLines (spoken lines) → IsLawfulTrace (bytes_of_lines lines)
+text_of lines whole lawful = record { lines = lines; whole = whole; is_text = refl; lawful = lawful }
+
+-- after the last line, where all of them are certified
+pub all_lawful : (judge : Judge) (lines : List (List ℕ)) (text : List ℕ) → HasTakenAll judge lines → IsTrue judge.is_certified
+    → IfSome judge.belief (λ b. (past : Past) → IsTrueOf b.known past → SomeAreAllowed b.known past) → AreLines lines text → IsLawfulTrace text
+all_lawful judge lines text taken certain possible are =
+    record { lines = lines; whole = are.0; is_text = are.1; lawful = lawful_lines judge.belief (spoken lines) (taken.certified certain) possible }
+
+-- and where those before this line are
+pub lawful_before : (judge : Judge) (lines : List (List ℕ)) (text : List ℕ) (line : ℕ) → HasTakenAll judge lines → line ≡ min (judge.last_followed + 1) (2 ^ 64 - 1)
+    → AreLines lines text → IsLawfulBefore line text
+lawful_before judge lines text line taken named are = record {
+  lines = lines;
+  are = are;
+  before = subst (λ (n : ℕ). IsLawfulTrace (bytes_of_lines (take n lines))) (sym (is_last judge.last_followed line (2 ^ 64 - 1) taken.low named))
+      (text_of (take judge.last_followed lines) (All-take (IsWithout 10) judge.last_followed lines are.0) taken.followed);
+}
+  where
+    is_last : (last l m : ℕ) → last < m → l ≡ min (last + 1) m → l - 1 ≡ last
+    is_last last l m low is = omega (low, is, arith)
+
+-- Nothing ends the trace, where it goes on so; and what ends it refuses a line.
+pub if_it_goes_on : {E : Type 0} (result : Result (Option Verdict) E) (P Q : Type 0) → (P → Q) → IfOk result (λ found. MatchOption found P IsRefusal)
+    → IfOk result (λ found. MatchOption found Q IsRefusal)
 if_it_goes_on (Ok None) P Q so found = so found
 if_it_goes_on (Ok (Some verdict)) P Q so found = found
 if_it_goes_on (Err error) P Q so found = tt
+
+-- what refuses a line says nothing of the text
+pub refusal_is_so : (verdict : Verdict) (text : List ℕ) → IsRefusal verdict → IsSoOf verdict text
+refusal_is_so verdict text (not_lawful, named) = (λ told. absurd (false≢true (sym not_lawful ∙ told)), rw named tt)
+
+refusal_of_reader : (verdict : Verdict) (first : Option (List ℕ)) → IsRefusal verdict → IfSome first (IsSoOf verdict)
+refusal_of_reader verdict None refused = tt
+refusal_of_reader verdict (Some text) refused = refusal_is_so verdict text refused
 
 -- a line that says something is spoken
 pub not_nothing : (line : List ℕ) (read : Said) → (read ≢ Nothing → is_spoken line ≡ true) → (other : Said) → read ≡ other → other ≢ Nothing → is_spoken line ≡ true
 not_nothing line read spoken_line other same something = spoken_line (λ e. something (sym same ∙ e))
 
--- A line is judged: the judges have taken it too, or what they find is no certificate.
-pub line_judged : {E : Type 0} (result : Result (Option Verdict) E) (certain : Bool) (belief : Option Belief) (window lines : List (List ℕ)) (line read buffer : List ℕ) (start end : ℕ)
-    (first now : Option (List ℕ)) (Certified : Type 0) → read ≡ line → HasTaken (lines ++ line ∷ []) buffer start end first now
-    → IfOk result (λ found. MatchOption found (CertifyBehind certain belief window (lines ++ read ∷ [])) (λ verdict. is_lawful verdict ≡ false))
-    → IfOk result (λ found. MatchOption found (HasJudged certain belief window buffer start end first now) (λ verdict. IsTrue (is_lawful verdict) → Certified))
-line_judged (Ok None) certain belief window lines line read buffer start end first now Certified is taken found =
-    (lines ++ line ∷ [], taken, subst (λ (l : List ℕ). CertifyBehind certain belief window (lines ++ l ∷ [])) is found)
-line_judged (Ok (Some verdict)) certain belief window lines line read buffer start end first now Certified is taken found = λ told. absurd (false≢true (sym found ∙ told))
-line_judged (Err error) certain belief window lines line read buffer start end first now Certified is taken found = tt
+-- A line is judged: the judges have taken it too, or what they find refuses it.
+pub line_judged : {E : Type 0} (result : Result (Option Verdict) E) (judge : Judge) (window lines : List (List ℕ)) (line read buffer : List ℕ) (start end : ℕ)
+    (first now : Option (List ℕ)) → read ≡ line → HasTaken (lines ++ line ∷ []) buffer start end first now
+    → IfOk result (λ found. MatchOption found (HasTakenBut judge window (lines ++ read ∷ [])) IsRefusal)
+    → IfOk result (λ found. MatchOption found (HasJudged judge window buffer start end first now) (λ verdict. IfSome first (IsSoOf verdict)))
+line_judged (Ok None) judge window lines line read buffer start end first now is taken found =
+    (lines ++ line ∷ [], taken, subst (λ (l : List ℕ). HasTakenBut judge window (lines ++ l ∷ [])) is found)
+line_judged (Ok (Some verdict)) judge window lines line read buffer start end first now is taken found = refusal_of_reader verdict first found
+line_judged (Err error) judge window lines line read buffer start end first now is taken found = tt
 
 -- one line more is kept
-pub one_kept : (certain : Bool) (belief : Option Belief) (window lines : List (List ℕ)) (line : List ℕ) → CertifyBehind certain belief window lines
-    → CertifyBehind certain belief (window ++ line ∷ []) (lines ++ line ∷ [])
-one_kept certain belief window lines line (judged, are, certified) =
-    (judged, ap (λ (l : List (List ℕ)). l ++ line ∷ []) are ∙ append_assoc judged window (line ∷ []), certified)
+pub one_kept : (judge : Judge) (window lines : List (List ℕ)) (line : List ℕ) → HasTakenBut judge window lines
+    → HasTakenBut judge (window ++ line ∷ []) (lines ++ line ∷ [])
+one_kept judge window lines line (judged, are, taken) =
+    (judged, ap (λ (l : List (List ℕ)). l ++ line ∷ []) are ∙ append_assoc judged window (line ∷ []), taken)
 
 -- where none is kept
-pub none_kept : (certain : Bool) (belief : Option Belief) (window lines : List (List ℕ)) → window ≡ [] → CertifyBehind certain belief window lines → CertifyIf certain belief lines
-none_kept certain belief window lines none (judged, are, certified) =
-    subst (λ (l : List (List ℕ)). CertifyIf certain belief l) (sym (are ∙ ap (λ (w : List (List ℕ)). judged ++ w) none ∙ append-nil judged)) certified
+pub none_kept : (judge : Judge) (window lines : List (List ℕ)) → window ≡ [] → HasTakenBut judge window lines → HasTakenAll judge lines
+none_kept judge window lines none (judged, are, taken) =
+    subst (λ (l : List (List ℕ)). HasTakenAll judge l) (sym (are ∙ ap (λ (w : List (List ℕ)). judged ++ w) none ∙ append-nil judged)) taken
 
 -- where none is kept, one line more is taken at once
-pub one_taken : (was is : Bool) (old new : Option Belief) (window lines : List (List ℕ)) (line : List ℕ) → window ≡ [] → CertifyBehind was old window lines
-    → ((judged : List (List ℕ)) → CertifyIf was old judged → CertifyIf is new (judged ++ line ∷ [])) → CertifyBehind is new window (lines ++ line ∷ [])
-one_taken was is old new window lines line none before goes = (
+pub one_taken : (old new : Judge) (window lines : List (List ℕ)) (line : List ℕ) → window ≡ [] → HasTakenBut old window lines
+    → ((judged : List (List ℕ)) → HasTakenAll old judged → HasTakenAll new (judged ++ line ∷ [])) → HasTakenBut new window (lines ++ line ∷ [])
+one_taken old new window lines line none before goes = (
   lines ++ line ∷ [],
   sym (append-nil (lines ++ line ∷ [])) ∙ ap (λ (w : List (List ℕ)). (lines ++ line ∷ []) ++ w) (sym none),
-  goes lines (none_kept was old window lines none before),
+  goes lines (none_kept old window lines none before),
 )
 
 -- the first of those that were kept is taken
-pub one_followed : (was is : Bool) (old new : Option Belief) (line : List ℕ) (window lines : List (List ℕ)) → CertifyBehind was old (line ∷ window) lines
-    → ((judged : List (List ℕ)) → CertifyIf was old judged → CertifyIf is new (judged ++ line ∷ [])) → CertifyBehind is new window lines
-one_followed was is old new line window lines (judged, are, certified) goes =
-    (judged ++ line ∷ [], are ∙ sym (append_assoc judged (line ∷ []) window), goes judged certified)
+pub one_followed : (old new : Judge) (line : List ℕ) (window lines : List (List ℕ)) → HasTakenBut old (line ∷ window) lines
+    → ((judged : List (List ℕ)) → HasTakenAll old judged → HasTakenAll new (judged ++ line ∷ [])) → HasTakenBut new window lines
+one_followed old new line window lines (judged, are, taken) goes =
+    (judged ++ line ∷ [], are ∙ sym (append_assoc judged (line ∷ []) window), goes judged taken)
 
 -- what holds of the text that the lines make holds of what the reader had
-pub of_reader : (first : Option (List ℕ)) (lines : List (List ℕ)) → IfSome first (AreLines lines) → ((text : List ℕ) → AreLines lines text → IsLawfulTrace text) → IfSome first IsLawfulTrace
-of_reader None lines are lawful = tt
-of_reader (Some text) lines are lawful = lawful text are
+pub of_reader : (first : Option (List ℕ)) (lines : List (List ℕ)) (P : List ℕ → Type 0) → IfSome first (AreLines lines) → ((text : List ℕ) → AreLines lines text → P text) → IfSome first P
+of_reader None lines P are holds = tt
+of_reader (Some text) lines P are holds = holds text are
 
 -- before the first line
-pub nothing_taken : (certain : Bool) (belief : Option Belief) (window : List (List ℕ)) (buffer : List ℕ) (start end : ℕ) (first : Option (List ℕ)) → BufferHolds buffer start end []
-    → CertifyBehind certain belief window [] → HasJudged certain belief window buffer start end first first
-nothing_taken certain belief window buffer start end first holds certified =
-    ([], record { whole = All-nil (IsWithout 10); read = []; consumed = Consumes-nil first; waiting = []; holds = holds; is_read = refl }, certified)
+pub nothing_taken : (judge : Judge) (window : List (List ℕ)) (buffer : List ℕ) (start end : ℕ) (first : Option (List ℕ)) → BufferHolds buffer start end []
+    → HasTakenBut judge window [] → HasJudged judge window buffer start end first first
+nothing_taken judge window buffer start end first holds taken =
+    ([], record { whole = All-nil (IsWithout 10); read = []; consumed = Consumes-nil first; waiting = []; holds = holds; is_read = refl }, taken)
 
 -- the first of a list is taken, if there is one
 pub popped : {X : Type 0} (items new : List X) (result : Option X) → result ≡ slice_get items 0 → new ≡ drop 1 items

@@ -1,5 +1,5 @@
 -- What a certificate says: that the text of a trace is the lines of a run of the ledger machine from power-on.
-use Rattle.std.specs.Prelude.{◌≡◌, ℕ, Bool, true, false, List, [], ◌∷◌, All, Option, None, Some, ⊤}
+use Rattle.std.specs.Prelude.{◌≡◌, ℕ, ◌-◌, Bool, true, false, List, [], ◌∷◌, All, Option, None, Some, IfSome, IsTrue, take, ⊤}
 use Rattle.iom_base.specs.declared.access.Access.{Access}
 use Rattle.iom_machine.specs.declared.event.Event.{Event}
 use Rattle.iom_machine.specs.declared.outcome.Outcome.{Outcome}
@@ -10,6 +10,7 @@ use Rattle.iom_machine.specs.Reclaim.{Reclaims}
 use Rattle.iom_script.specs.declared.script.WorldSize.{WorldSize}
 use Rattle.iom_script.specs.Grammar.{spoken, bytes_of_lines}
 use Rattle.iom_script.specs.Words.{IsWithout}
+use Rattle.iom_trace_lines.specs.Taken.{AreLines}
 use Rattle.iom_trace_lines.specs.TraceLines.{SaysLine, World, Step}
 use Rattle.iom_judge.specs.declared.verdict.Verdict.{Verdict}
 use Rattle.iom_judge.specs.declared.verdict.Verdict.TheVariants.{Lawful, Uncertified, Unlawful, Undecided, Bad}
@@ -29,6 +30,10 @@ uncertified_line (Uncertified line cause) = Some line
 uncertified_line (Unlawful line reason) = None
 uncertified_line (Undecided line reason) = None
 uncertified_line (Bad line) = None
+
+-- It refuses a line: it finds the trace neither lawful nor not certified.
+abbrev pub IsRefusal : Verdict → Type 0
+IsRefusal verdict = (is_lawful verdict ≡ false) × (uncertified_line verdict ≡ None)
 
 -- the numbers of the disks that a world has at power-on
 abbrev pub four_disks : List ℕ
@@ -69,3 +74,14 @@ pub record IsLawfulTrace (text : List ℕ) : Type 0 where
   pub whole : All (IsWithout 10) lines
   pub is_text : text ≡ bytes_of_lines lines
   pub lawful : AreLawfulLines (spoken lines)
+
+-- The text is lines, and those before the one with this number, counted from 1, are a lawful trace of their own.
+pub record IsLawfulBefore (line : ℕ) (text : List ℕ) : Type 0 where
+  pub lines : List (List ℕ)
+  pub are : AreLines lines text
+  pub before : IsLawfulTrace (bytes_of_lines (take (line - 1) lines))
+
+-- What the verdict says of the text is so: that it is a lawful trace, or up to which line it is one.
+abbrev pub IsSoOf : Verdict → List ℕ → Type 0
+IsSoOf verdict text =
+    (IsTrue (is_lawful verdict) → IsLawfulTrace text) × IfSome (uncertified_line verdict) (λ line. IsLawfulBefore line text)

@@ -1,6 +1,6 @@
 -- What is certified of a trace before its end, line after line.
 -- For the judge's own functions alone; no public contract cites these.
-use Rattle.std.specs.Prelude.{◌≡◌, ◌≢◌, ℕ, Bool, true, List, [], ◌∷◌, ◌++◌, Option, None, Some, IsTrue, ⊤}
+use Rattle.std.specs.Prelude.{◌≡◌, ◌≢◌, ℕ, ◌<◌, ◌≤◌, ◌-◌, ◌^◌, Bool, true, List, [], ◌∷◌, ◌++◌, Option, None, Some, IsTrue, length, min, take, ⊤}
 use Rattle.iom_base.specs.declared.access.AcceptedAccess.{AcceptedAccess}
 use Rattle.iom_machine.specs.declared.event.Event.{Event}
 use Rattle.iom_machine.specs.declared.outcome.Outcome.{Outcome}
@@ -12,11 +12,12 @@ use Rattle.iom_known.specs.Allowed.{Past, IsTrueOf, AreAllowed, known_state}
 use Rattle.iom_known.specs.declared.known.Known.{Known}
 use Rattle.iom_trace_lines.specs.Taken.{HasTaken}
 use Rattle.iom_trace_lines.specs.TraceLines.{Said, SaysLine, Nothing, World}
-use Rattle.iom_judge.specs.Certificates.{opening_of, SaySteps}
+use Rattle.iom_judge.specs.Certificates.{opening_of, SaySteps, AreLawfulLines}
 use Rattle.iom_doubts.specs.Doubted.{MayFly, flown}
 use Rattle.iom_doubts.specs.Followed.{IsFollowed, StepsBy}
 use Rattle.iom_doubts.specs.declared.doubts.Doubt.{Doubt}
 use Rattle.iom_judge.specs.declared.belief.Belief.{Belief}
+use Rattle.iom_judge.specs.declared.judging.Judge.{Judge}
 
 -- There is a past that is true of what is known, and with that each state that is allowed, with all in flight as it is known, is one to which the machine runs from power-on by these events with
 -- these outcomes.
@@ -51,9 +52,17 @@ Certify _ _ = ⊥
 abbrev pub CertifyIf : Bool → Option Belief → List (List ℕ) → Type 0
 CertifyIf is_certified belief lines = IsTrue is_certified → Certify belief (spoken lines)
 
--- What is certified is so by the lines but for those of the window, which are taken later.
-abbrev pub CertifyBehind : Bool → Option Belief → List (List ℕ) → List (List ℕ) → Type 0
-CertifyBehind is_certified belief window lines = (judged : List (List ℕ)) × (lines ≡ judged ++ window) × CertifyIf is_certified belief judged
+-- The judge has taken the lines. What it certifies is so by them, and then it has counted them; and so many of them from the first on as it noted are lawful.
+pub record HasTakenAll (judge : Judge) (lines : List (List ℕ)) : Type 0 where
+  pub certified : CertifyIf judge.is_certified judge.belief lines
+  pub counted : IsTrue judge.is_certified → judge.line ≡ min (length lines) (2 ^ 64 - 1)
+  pub few : judge.last_followed ≤ length lines
+  pub low : judge.last_followed < 2 ^ 64 - 1
+  pub followed : AreLawfulLines (spoken (take judge.last_followed lines))
+
+-- It has taken the lines but for those of the window, which it takes later.
+abbrev pub HasTakenBut : Judge → List (List ℕ) → List (List ℕ) → Type 0
+HasTakenBut judge window lines = (judged : List (List ℕ)) × (lines ≡ judged ++ window) × HasTakenAll judge judged
 
 -- What is believed after the event with this outcome is followed from what was believed before, with each past that was true of that.
 abbrev pub BeliefFollows : Belief → Belief → Event → Outcome → Type 0
@@ -66,10 +75,10 @@ GoesOn was (Some old) event outcome is (Some new) =
     IsTrue is → IsTrue was × BeliefFollows old new event outcome
 GoesOn was _ event outcome is _ = ⊥
 
--- The judges have taken these lines, but for the window the one that certifies, and what it certifies is so by them.
-abbrev pub HasJudged : Bool → Option Belief → List (List ℕ) → List ℕ → ℕ → ℕ → Option (List ℕ) → Option (List ℕ) → Type 0
-HasJudged is_certified belief window buffer start end first now =
-    (lines : List (List ℕ)) × HasTaken lines buffer start end first now × CertifyBehind is_certified belief window lines
+-- The judges have taken these lines, but for the window the one that certifies.
+abbrev pub HasJudged : Judge → List (List ℕ) → List ℕ → ℕ → ℕ → Option (List ℕ) → Option (List ℕ) → Type 0
+HasJudged judge window buffer start end first now =
+    (lines : List (List ℕ)) × HasTaken lines buffer start end first now × HasTakenBut judge window lines
 
 -- This is what the line says, with the frames of its tables beside; and where it says something, it is one of those that do.
 abbrev pub IsReadOf : List ℕ → Said → List ℕ → Type 0

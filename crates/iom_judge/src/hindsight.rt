@@ -4,7 +4,7 @@
 // says whether a line is lawful, and tells the one behind what later lines show of such writes; the one behind takes them to
 // be so, and certifies. No certificate rests on what it is told.
 ghost use Rattle.std.specs.Prelude.{◌≡◌, ◌∷◌, IfOk, IfSome, IsTrue, MatchOption, false};
-ghost use Rattle.iom_judge.specs.Certificates.{is_lawful};
+ghost use Rattle.iom_judge.specs.Certificates.{IsRefusal};
 
 use crate::judging::{Judge, Reading, follow_line};
 use crate::verdict::Verdict;
@@ -35,13 +35,13 @@ pub(crate) struct Judges {
     is_apart: bool,
 }
 
-/// What is found, if that isn't that the lines are lawful.
-fn unless_lawful(found: Option<Verdict>) -> Option<Verdict>
-    ensures { IfSome result (λ verdict. is_lawful verdict ≡ false) }
+/// What is found, if that refuses the line.
+fn refusal(found: Option<Verdict>) -> Option<Verdict>
+    ensures { IfSome result IsRefusal }
 {
     match found {
         None => None,
-        Some(Verdict::Lawful) => None,
+        Some(Verdict::Lawful | Verdict::Uncertified { .. }) => None,
         Some(verdict) => Some(verdict),
     }
 }
@@ -73,11 +73,11 @@ fn copy_of(alloc: Global, line: &[u8]) -> io::Result<Sequence<u8>>
 impl Judges {
     ghost use Rattle.std.specs.Prelude.{◌≡◌, ◌↔◌, ◌++◌, ◌∷◌, [], ℕ, List, IfOk, IsTrue, MatchOption, OnOk, false};
     ghost use Rattle.iom_trace_lines.specs.Taken.{AreLines};
-    ghost use Rattle.iom_judge.specs.Certificates.{is_lawful, IsLawfulTrace};
-    ghost use Rattle.iom_judge.specs.Certified.{CertifyBehind};
+    ghost use Rattle.iom_judge.specs.Certificates.{IsRefusal, IsSoOf};
+    ghost use Rattle.iom_judge.specs.Certified.{HasTakenBut};
 
     pub(crate) fn new(alloc: Global) -> io::Result<Judges>
-        ensures { IfOk result (λ judges. CertifyBehind judges.behind.is_certified judges.behind.belief judges.window.items []) }
+        ensures { IfOk result (λ judges. HasTakenBut judges.behind judges.window.items []) }
     {
         let window = HeapCircularBuffer::with_capacity(alloc, MOST_LINES + 1)?;
         Ok(Judges {
@@ -97,10 +97,10 @@ impl Judges {
 
     /// What the next line is found, if it ends the trace.
     pub(crate) fn take(&mut self, reading: &mut Reading, line: &[u8]) -> io::Result<Option<Verdict>>
-        ensures { (lines : List (List ℕ)) → CertifyBehind self.old.behind.is_certified self.old.behind.belief self.old.window.items lines
+        ensures { (lines : List (List ℕ)) → HasTakenBut self.old.behind self.old.window.items lines
             → IfOk result (λ found. MatchOption found
-            (CertifyBehind self.new.behind.is_certified self.new.behind.belief self.new.window.items (lines ++ line.now ∷ []))
-            (λ verdict. is_lawful verdict ≡ false)) }
+            (HasTakenBut self.new.behind self.new.window.items (lines ++ line.now ∷ []))
+            IsRefusal) }
     {
         let found = self.take_line(
             &mut reading.printed,
@@ -125,16 +125,16 @@ impl Judges {
         tables: &mut Vec<u32>,
         line: &[u8],
     ) -> io::Result<Option<Verdict>>
-        ensures { (lines : List (List ℕ)) → CertifyBehind self.old.behind.is_certified self.old.behind.belief self.old.window.items lines
+        ensures { (lines : List (List ℕ)) → HasTakenBut self.old.behind self.old.window.items lines
             → IfOk result (λ found. MatchOption found
-            (CertifyBehind self.new.behind.is_certified self.new.behind.belief self.new.window.items (lines ++ line.now ∷ []))
-            (λ verdict. is_lawful verdict ≡ false)) }
+            (HasTakenBut self.new.behind self.new.window.items (lines ++ line.now ∷ []))
+            IsRefusal) }
     {
         let is_empty = self.is_drained();
         let has_world = self.ahead.belief.is_some();
         let said = read_line(self.alloc, printed, kept, tables, has_world, line)?;
         let found = self.ahead.take(&said, tables.as_slice())?;
-        if let Some(verdict) = unless_lawful(found) {
+        if let Some(verdict) = refusal(found) {
             let verdict = verdict.with_line(self.alloc, line)?;
             return Ok(Some(verdict));
         }
@@ -150,8 +150,8 @@ impl Judges {
 
     /// The judge behind takes a line, where more are kept than may be.
     fn catch_up(&mut self, reading: &mut Reading) -> io::Result<()>
-        ensures { (lines : List (List ℕ)) → CertifyBehind self.old.behind.is_certified self.old.behind.belief self.old.window.items lines
-            → OnOk result (CertifyBehind self.new.behind.is_certified self.new.behind.belief self.new.window.items lines) }
+        ensures { (lines : List (List ℕ)) → HasTakenBut self.old.behind self.old.window.items lines
+            → OnOk result (HasTakenBut self.new.behind self.new.window.items lines) }
     {
         if !self.is_full() {
             return Ok(());
@@ -185,8 +185,8 @@ impl Judges {
 
     /// The judge behind is told what was seen ahead, once the world has a size.
     fn tell(&mut self) -> io::Result<()>
-        ensures { (lines : List (List ℕ)) → CertifyBehind self.old.behind.is_certified self.old.behind.belief self.old.window.items lines
-            → OnOk result (CertifyBehind self.new.behind.is_certified self.new.behind.belief self.new.window.items lines) }
+        ensures { (lines : List (List ℕ)) → HasTakenBut self.old.behind self.old.window.items lines
+            → OnOk result (HasTakenBut self.new.behind self.new.window.items lines) }
     {
         if self.behind.belief.is_none() {
             return Ok(());
@@ -201,8 +201,8 @@ impl Judges {
 
     /// The judge behind takes a line, if one is left.
     fn follow(&mut self, reading: &mut Reading) -> io::Result<()>
-        ensures { (lines : List (List ℕ)) → CertifyBehind self.old.behind.is_certified self.old.behind.belief self.old.window.items lines
-            → OnOk result (CertifyBehind self.new.behind.is_certified self.new.behind.belief self.new.window.items lines) }
+        ensures { (lines : List (List ℕ)) → HasTakenBut self.old.behind self.old.window.items lines
+            → OnOk result (HasTakenBut self.new.behind self.new.window.items lines) }
     {
         self.tell()?;
         let Some(line) = first_of(&mut self.window) else {
@@ -223,8 +223,8 @@ impl Judges {
     /// What is found of the lines, where there are no others.
     pub(crate) fn end(&mut self, reading: &mut Reading) -> io::Result<Verdict>
         ensures { (text : List ℕ) (lines : List (List ℕ))
-            → CertifyBehind self.old.behind.is_certified self.old.behind.belief self.old.window.items lines
-            → AreLines lines text → IfOk result (λ verdict. IsTrue (is_lawful verdict) → IsLawfulTrace text) }
+            → HasTakenBut self.old.behind self.old.window.items lines
+            → AreLines lines text → IfOk result (λ verdict. IsSoOf verdict text) }
     {
         for _turn in 0..u64::MAX {
             if self.is_drained() {

@@ -1,11 +1,11 @@
 // A trace, judged line by line.
-ghost use Rattle.std.specs.Prelude.{◌≡◌, ◌+◌, ◌-◌, ◌^◌, ◌++◌, ◌∷◌, [], ℕ, List, Option, None, IfOk, IfSome, IsSomeAnd, IsTrue, MatchOption, OnOk, false, true, min, if◌then◌else◌};
+ghost use Rattle.std.specs.Prelude.{◌≡◌, ◌↔◌, ◌+◌, ◌-◌, ◌^◌, ◌++◌, ◌∷◌, ◌&&◌, [], ℕ, List, Option, None, IfOk, IfSome, IsSomeAnd, IsTrue, MatchOption, OnOk, min, nat_lt, if◌then◌else◌};
 ghost use Rattle.iom_trace_lines.specs.TraceLines.{said_of};
 ghost use Rattle.iom_known.specs.Allowed.{Past, IsTrueOf};
 ghost use Rattle.iom_known.specs.Starts.{IsPowerOn, SomeAreAllowed};
 ghost use Rattle.iom_trace_lines.specs.Taken.{AreLines};
-ghost use Rattle.iom_judge.specs.Certificates.{four_disks, is_lawful, IsLawfulTrace, SaysStep, uncertified_line};
-ghost use Rattle.iom_judge.specs.Certified.{CertifyIf, GoesOn, HasJudged, IsReadOf};
+ghost use Rattle.iom_judge.specs.Certificates.{four_disks, IsRefusal, IsSoOf, SaysStep, uncertified_line};
+ghost use Rattle.iom_judge.specs.Certified.{GoesOn, HasJudged, HasTakenAll, IsReadOf};
 
 use crate::belief::{Belief, Shown};
 use crate::hindsight::Judges;
@@ -50,13 +50,13 @@ pub(crate) struct Judge {
     pub(crate) line: u64,
     /// Whether each line so far was followed.
     pub(crate) is_certified: bool,
-    /// The last line up to which each was.
+    /// The last line up to which each was, where that was asked: before each line that may be the first that isn't.
     last_followed: u64,
 }
 
 impl Judge {
     pub(crate) fn new(alloc: Global) -> Judge
-        ensures { CertifyIf result.is_certified result.belief [] }
+        ensures { HasTakenAll result [] }
     {
         Judge {
             alloc,
@@ -69,10 +69,11 @@ impl Judge {
 
     /// The world has this size.
     fn begin(&mut self, size: WorldSize) -> io::Result<Option<Verdict>>
-        ensures { IfOk result (λ found. MatchOption found
+        ensures counts { (self.new.line ≡ self.old.line) × (self.new.last_followed ≡ self.old.last_followed) }
+        ensures begun { IfOk result (λ found. MatchOption found
             ((self.old.belief ≡ None) × (self.new.is_certified ≡ self.old.is_certified)
             × IsSomeAnd self.new.belief (λ belief. IsPowerOn belief.known size.frames size.levels four_disks × (belief.doubts.all.items ≡ [])))
-            (λ verdict. is_lawful verdict ≡ false)) }
+            IsRefusal) }
     {
         if self.belief.is_some() || size.frames < 4 || size.frames > 4096 || size.levels > 3 {
             return Ok(Some(Verdict::Bad { line: self.line }));
@@ -91,9 +92,10 @@ impl Judge {
         outcome: &Outcome,
         shown: Shown<'_>,
     ) -> io::Result<Option<Verdict>>
-        ensures { IfOk result (λ found. MatchOption found
+        ensures counts { (self.new.line ≡ self.old.line) × (self.new.last_followed ≡ self.old.last_followed) }
+        ensures went { IfOk result (λ found. MatchOption found
             (GoesOn self.old.is_certified self.old.belief event.now outcome.now self.new.is_certified self.new.belief)
-            (λ verdict. is_lawful verdict ≡ false)) }
+            IsRefusal) }
     {
         let alloc = self.alloc;
         let line = self.line;
@@ -120,11 +122,12 @@ impl Judge {
         said: &TraceLine<'_>,
         tables: &[u32],
     ) -> io::Result<Option<Verdict>>
-        ensures { (line : List ℕ) (lines : List (List ℕ)) → IsReadOf line (said_of said.now) tables.now
-            → CertifyIf self.old.is_certified self.old.belief lines
+        ensures kept { self.new.last_followed ≡ self.old.last_followed }
+        ensures taken { (line : List ℕ) (lines : List (List ℕ)) → IsReadOf line (said_of said.now) tables.now
+            → HasTakenAll self.old lines
             → IfOk result (λ found. MatchOption found
-            (CertifyIf self.new.is_certified self.new.belief (lines ++ line ∷ []))
-            (λ verdict. is_lawful verdict ≡ false)) }
+            (HasTakenAll self.new (lines ++ line ∷ []))
+            IsRefusal) }
     {
         self.line = self.line.saturating_add(1);
         match said {
@@ -173,12 +176,34 @@ impl Judge {
         }
     }
 
-    /// Notes up to which line each was followed.
-    fn note_line(&mut self)
-        ensures same { (self.new.is_certified ≡ self.old.is_certified) × (self.new.belief ≡ self.old.belief) }
-        ensures noted { self.new.last_followed ≡ (if self.old.is_certified then self.old.line else self.old.last_followed) }
+    /// Whether something is in doubt: else the next line is followed, whatever it is.
+    fn is_in_doubt(&self) -> bool
+        ensures { IsTrue result ↔ IsSomeAnd self.now.belief (λ belief.
+            ¬ ((belief.doubts.all.items ≡ []) × (belief.memory.unseen.all.items ≡ []) × (belief.memory.versions.all.items ≡ []))) }
     {
-        if self.is_certified {
+        match &self.belief {
+            None => false,
+            Some(belief) => !belief.is_settled(),
+        }
+    }
+
+    /// Whether it is to be noted that each line so far was followed: the next one may not be, and some state is allowed.
+    fn is_to_note(&self) -> bool
+        ensures { IsTrue result → IfSome self.now.belief (λ belief. (past : Past) → IsTrueOf belief.known past
+            → SomeAreAllowed belief.known past) }
+    {
+        if !self.is_in_doubt() {
+            return false;
+        }
+        self.is_possible()
+    }
+
+    /// Notes that each line so far was followed, where that is asked for.
+    fn note_line(&mut self, is_to_note: bool)
+        ensures same { (self.new.is_certified ≡ self.old.is_certified) × (self.new.belief ≡ self.old.belief) × (self.new.line ≡ self.old.line) }
+        ensures noted { self.new.last_followed ≡ (if is_to_note && nat_lt self.old.line (2 ^ 64 - 1) then self.old.line else self.old.last_followed) }
+    {
+        if is_to_note && self.line < u64::MAX {
             self.last_followed = self.line;
         }
     }
@@ -193,8 +218,7 @@ impl Judge {
 
     /// What a judge ahead saw of such writes.
     pub(crate) fn hear(&mut self, seen: Vec<SeenWrite>) -> io::Result<()>
-        ensures { (lines : List (List ℕ)) → CertifyIf self.old.is_certified self.old.belief lines
-            → OnOk result (CertifyIf self.new.is_certified self.new.belief lines) }
+        ensures { (lines : List (List ℕ)) → HasTakenAll self.old lines → OnOk result (HasTakenAll self.new lines) }
     {
         let Some(belief) = &mut self.belief else {
             return Ok(());
@@ -206,17 +230,15 @@ impl Judge {
     /// Takes the line, where each before was followed. It isn't, where it isn't found lawful.
     pub(crate) fn follow(&mut self, said: &TraceLine<'_>, tables: &[u32]) -> io::Result<()>
         ensures { (line : List ℕ) (lines : List (List ℕ)) → IsReadOf line (said_of said.now) tables.now
-            → CertifyIf self.old.is_certified self.old.belief lines
-            → OnOk result (CertifyIf self.new.is_certified self.new.belief (lines ++ line ∷ [])) }
+            → HasTakenAll self.old lines → OnOk result (HasTakenAll self.new (lines ++ line ∷ [])) }
     {
         if !self.is_certified {
             return Ok(());
         }
+        let is_to_note = self.is_to_note();
+        self.note_line(is_to_note);
         match self.take(said, tables)? {
-            None => {
-                self.note_line();
-                Ok(())
-            }
+            None => Ok(()),
             Some(_) => {
                 self.is_certified = false;
                 Ok(())
@@ -236,8 +258,7 @@ impl Judge {
     /// one behind the last up to which each was followed.
     pub(crate) fn end(&self) -> Verdict
         ensures named { IfSome (uncertified_line result) (λ line. line ≡ min (self.now.last_followed + 1) (2 ^ 64 - 1)) }
-        ensures lawful { (text : List ℕ) (lines : List (List ℕ)) → CertifyIf self.now.is_certified self.now.belief lines
-            → AreLines lines text → IsTrue (is_lawful result) → IsLawfulTrace text }
+        ensures so { (text : List ℕ) (lines : List (List ℕ)) → HasTakenAll self.now lines → AreLines lines text → IsSoOf result text }
     {
         if self.is_certified {
             if self.is_possible() {
@@ -260,8 +281,7 @@ pub(crate) fn follow_line(
     tables: &mut Vec<u32>,
     line: &[u8],
 ) -> io::Result<()>
-    ensures { (lines : List (List ℕ)) → CertifyIf behind.old.is_certified behind.old.belief lines
-        → OnOk result (CertifyIf behind.new.is_certified behind.new.belief (lines ++ line.now ∷ [])) }
+    ensures { (lines : List (List ℕ)) → HasTakenAll behind.old lines → OnOk result (HasTakenAll behind.new (lines ++ line.now ∷ [])) }
 {
     let has_world = behind.belief.is_some();
     let said = read_line(alloc, printed, kept, tables, has_world, line)?;
@@ -276,12 +296,10 @@ fn judge_next<R: Read>(
     reader: &mut R,
 ) -> io::Result<Option<Verdict>>
     ensures { (first : Option (List ℕ))
-        → HasJudged judges.old.behind.is_certified judges.old.behind.belief judges.old.window.items
-        lines.old.buffer.items lines.old.start lines.old.end first (R.remaining reader.old)
+        → HasJudged judges.old.behind judges.old.window.items lines.old.buffer.items lines.old.start lines.old.end first (R.remaining reader.old)
         → IfOk result (λ found. MatchOption found
-        (HasJudged judges.new.behind.is_certified judges.new.behind.belief judges.new.window.items
-        lines.new.buffer.items lines.new.start lines.new.end first (R.remaining reader.new))
-        (λ verdict. IsTrue (is_lawful verdict) → IfSome first IsLawfulTrace)) }
+        (HasJudged judges.new.behind judges.new.window.items lines.new.buffer.items lines.new.start lines.new.end first (R.remaining reader.new))
+        (λ verdict. IfSome first (IsSoOf verdict))) }
 {
     match lines.next_line(reader)? {
         NextLine::End => {
@@ -303,9 +321,8 @@ fn judge_lines<R: Read>(
     reader: &mut R,
 ) -> io::Result<Verdict>
     ensures { (first : Option (List ℕ))
-        → HasJudged judges.old.behind.is_certified judges.old.behind.belief judges.old.window.items
-        lines.old.buffer.items lines.old.start lines.old.end first (R.remaining reader.old)
-        → IfOk result (λ verdict. IsTrue (is_lawful verdict) → IfSome first IsLawfulTrace) }
+        → HasJudged judges.old.behind judges.old.window.items lines.old.buffer.items lines.old.start lines.old.end first (R.remaining reader.old)
+        → IfOk result (λ verdict. IfSome first (IsSoOf verdict)) }
 {
     for _ in 0..u64::MAX {
         if let Some(verdict) = judge_next(judges, reading, lines, reader)? {
@@ -319,9 +336,10 @@ fn judge_lines<R: Read>(
 /// doesn't grow with it.
 ///
 /// A trace that is found lawful is lines of a run of the ledger machine from power-on, with some choice of what they don't
-/// show, and the sentences of the headline hold of that run.
+/// show, and the sentences of the headline hold of that run. Of one that isn't certified from some line on, the lines before
+/// that one are such a trace.
 pub fn judge_trace<R: Read>(alloc: Global, reader: &mut R) -> io::Result<Verdict>
-    ensures { IfOk result (λ verdict. IsTrue (is_lawful verdict) → IfSome (R.remaining reader.old) IsLawfulTrace) }
+    ensures { IfOk result (λ verdict. IfSome (R.remaining reader.old) (IsSoOf verdict)) }
 {
     let mut lines = Lines::new(alloc)?;
     let mut judges = Judges::new(alloc)?;

@@ -11,8 +11,8 @@ const MOST_QUOTED: usize = 100;
 pub enum Verdict {
     /// The lines are those of a run of the ledger machine: so it is proved.
     Lawful,
-    /// None of the lines was found unlawful. This one couldn't be followed by the definition of the machine, so that those
-    /// before it alone are certified.
+    /// None of the lines was found unlawful. This one couldn't be followed by the definition of the machine; those before it
+    /// are those of a run: so it is proved.
     Uncertified { line: u64, cause: Unfollowed },
     /// Those before this line are, after which it may not come, and why.
     Unlawful { line: u64, reason: String },
@@ -41,7 +41,7 @@ fn quoting(alloc: Global, line: &[u8], reason: &str) -> Result<String, AllocErro
 
 impl Verdict {
     ghost use Rattle.std.specs.Prelude.{◌≡◌, IfOk};
-    ghost use Rattle.iom_judge.specs.Certificates.{is_lawful};
+    ghost use Rattle.iom_judge.specs.Certificates.{is_lawful, uncertified_line};
 
     /// The line that was refused, if one was.
     pub fn line(&self) -> Option<u64> {
@@ -55,7 +55,7 @@ impl Verdict {
 
     /// The same, with the line before the reason, if there is one.
     pub(crate) fn with_line(self, alloc: Global, line: &[u8]) -> Result<Verdict, AllocError>
-        ensures { IfOk result (λ verdict. is_lawful verdict ≡ is_lawful self) }
+        ensures { IfOk result (λ verdict. (is_lawful verdict ≡ is_lawful self) × (uncertified_line verdict ≡ uncertified_line self)) }
     {
         match self {
             Verdict::Unlawful { line: at, reason } => Ok(Verdict::Unlawful {

@@ -1,5 +1,5 @@
-use Rattle.std.proofs.Common.{IfSome, IsTrue, MatchOption, Option, subst}
-use Rattle.iom_judge.specs.Certificates.{is_lawful, IsLawfulTrace}
+use Rattle.std.proofs.Common.{IfSome, MatchOption, Option, subst}
+use Rattle.iom_judge.specs.Certificates.{IsSoOf}
 use Rattle.iom_judge.specs.Certified.{HasJudged}
 use Rattle.iom_judge.specs.declared.verdict.Verdict.{Verdict}
 use Rattle.iom_judge.proofs.judging.judge_lines.Goals as goal
@@ -9,13 +9,13 @@ returns-in-Some g c first judged =
     let judges = c.judge_next.new.judges in
     let lines = c.judge_next.new.lines in
     subst (λ (found : Option Verdict). MatchOption found
-    (HasJudged judges.behind.is_certified judges.behind.belief judges.window.items lines.buffer.items lines.start lines.end first (g.R.Read.remaining c.judge_next.new.reader))
-    (λ verdict. IsTrue (is_lawful verdict) → IfSome first IsLawfulTrace)) c.in-Some.is (c.in_ok-verdict.ensures first (c.loop.invariant first judged))
+    (HasJudged judges.behind judges.window.items lines.buffer.items lines.start lines.end first (g.R.Read.remaining c.judge_next.new.reader))
+    (λ verdict. IfSome first (IsSoOf verdict))) c.in-Some.is (c.in_ok-verdict.ensures first (c.loop.invariant first judged))
 
 pub loop-preserved : goal.loop-preserved
 loop-preserved g c first judged =
     let judges = c.judge_next.new.judges in
     let lines = c.judge_next.new.lines in
     subst (λ (found : Option Verdict). MatchOption found
-    (HasJudged judges.behind.is_certified judges.behind.belief judges.window.items lines.buffer.items lines.start lines.end first (g.R.Read.remaining c.judge_next.new.reader))
-    (λ verdict. IsTrue (is_lawful verdict) → IfSome first IsLawfulTrace)) c.in_default.is (c.in_ok-verdict.ensures first (c.loop.invariant first judged))
+    (HasJudged judges.behind judges.window.items lines.buffer.items lines.start lines.end first (g.R.Read.remaining c.judge_next.new.reader))
+    (λ verdict. IfSome first (IsSoOf verdict))) c.in_default.is (c.in_ok-verdict.ensures first (c.loop.invariant first judged))

@@ -6,5 +6,5 @@ returns g c =
     let judges = c.in_ok-judges.judges in
     let lines = c.in_ok-lines.lines in
     c.judge_lines.ensures (g.R.Read.remaining c.args.reader.now)
-    (nothing_taken judges.behind.is_certified judges.behind.belief judges.window.items lines.buffer.items lines.start lines.end (g.R.Read.remaining c.args.reader.now) c.in_ok-lines.ensures
+    (nothing_taken judges.behind judges.window.items lines.buffer.items lines.start lines.end (g.R.Read.remaining c.args.reader.now) c.in_ok-lines.ensures
     c.in_ok-judges.ensures)

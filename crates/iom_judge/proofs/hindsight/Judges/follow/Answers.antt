@@ -1,5 +1,5 @@
 use Rattle.std.proofs.Common.{List, ℕ, subst}
-use Rattle.iom_judge.specs.Certified.{CertifyBehind}
+use Rattle.iom_judge.specs.Certified.{HasTakenBut}
 use Rattle.iom_judge.proofs.CertificateLemmas.{one_followed}
 use Rattle.iom_judge.proofs.hindsight.Judges.follow.Goals as goal
 
@@ -10,6 +10,6 @@ pub returns : goal.returns
 returns c lines before =
     let was = c.tell.new.self.behind in
     let line = c.in-Some.line in
-    one_followed was.is_certified c.follow_line.new.behind.is_certified was.belief c.follow_line.new.behind.belief line c.first_of.new.window.items lines
-    (subst (λ (w : List (List ℕ)). CertifyBehind was.is_certified was.belief w lines) c.in-Some.ensures (c.in_ok-tell.ensures lines before))
-    (λ judged certified. rw c.as_slice-2.ensures at (c.in_ok-follow_line.ensures judged certified))
+    one_followed was c.follow_line.new.behind line c.first_of.new.window.items lines
+    (subst (λ (w : List (List ℕ)). HasTakenBut was w lines) c.in-Some.ensures (c.in_ok-tell.ensures lines before))
+    (λ judged taken. rw c.as_slice-2.ensures at (c.in_ok-follow_line.ensures judged taken))
