@@ -1,3 +1,4 @@
 pub mod Draws
 pub mod Runs
 pub mod Parts
+pub mod Statuses

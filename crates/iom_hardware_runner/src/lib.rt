@@ -5,8 +5,9 @@
 //! since when, is told in words by `iom_chronicle`. Where a line asks hardware to act by itself, its steps are drawn here, and
 //! each is a line too.
 //!
-//! The layer above may rely on [`run`] and [`run_live`] telling whether anything was wrong, and on nothing being written by
-//! [`run`] of a script that isn't in the grammar. What both write to the log is a script that is answered alike.
+//! The layer above may rely on [`run`] and [`run_live`] telling whether anything was wrong: in the session that hardware went
+//! through by the lines that the reader had (`specs/Runs.antt`). And on nothing being written by [`run`] of a script that
+//! isn't in the grammar. What both write to the log is a script that is answered alike.
 #![tactic(auto)]
 
 mod arriving;
@@ -18,12 +19,11 @@ mod helper;
 mod machine;
 mod outcomes;
 mod output;
-mod reading;
 mod running;
 mod step;
 mod teller;
 mod telling;
 mod words;
 
-pub use faults::RunFault;
+pub use faults::{RunFault, exit_status};
 pub use running::{run, run_live};

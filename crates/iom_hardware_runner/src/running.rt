@@ -1,11 +1,14 @@
 // A script, from its bytes to the bytes of its answers.
-ghost use Rattle.std.specs.Prelude.{IfOk};
+ghost use Rattle.std.specs.Prelude.{◌≡◌, ◌<◌, ◌≤◌, length, take, IfOk, IfSome, OnOk};
+ghost use Rattle.std.specs.Io.{ReadsAtMost};
+ghost use Rattle.std.specs.Io.KnownBytes.{Consumes, IsAtEnd};
+ghost use Rattle.iom_script_reading.specs.Reading.{ConsumesAtMost};
 ghost use Rattle.iom_hardware_runner.specs.Runs.{ScriptRuns};
 
 use crate::arriving::Arriving;
 use crate::faults::RunFault;
-use crate::reading::{CHUNK_SIZE, read_once, read_script};
 use iom_hardware_script::parse;
+use iom_script_reading::{READ_SIZE, read_once, read_script};
 use std::alloc::Global;
 use std::io::{Read, Write};
 
@@ -20,7 +23,8 @@ pub fn run_bytes<W: Write, L: Write>(
     writer: &mut W,
     log: &mut L,
 ) -> Result<bool, RunFault>
-    ensures { IfOk result (ScriptRuns bytes.now) }
+    ensures ran { IfOk result (ScriptRuns bytes.now) }
+    ensures short { OnOk result (length bytes.now ≤ 1048576) }
 {
     // What it says is asked again line by line, as in a live session: so both answer alike.
     parse(alloc, bytes)?;
@@ -35,9 +39,23 @@ pub fn run<R: Read, W: Write, L: Write>(
     reader: &mut R,
     writer: &mut W,
     log: &mut L,
-) -> Result<bool, RunFault> {
+) -> Result<bool, RunFault>
+    ensures ran { IfOk result (λ wrong. IfSome (R.remaining reader.old) (λ input. ScriptRuns input wrong)) }
+    ensures consumed { ConsumesAtMost 1048577 (R.remaining reader.old) (R.remaining reader.new) }
+{
     let bytes = read_script(alloc, reader)?;
     run_bytes(alloc, &bytes, writer, log)
+}
+
+/// One read: how many bytes came, which stand at the front of the chunk then; none at the end alone.
+fn read_piece<R: Read>(reader: &mut R, chunk: &mut [u8]) -> Result<usize, RunFault>
+    requires { 0 < length chunk.old }
+    ensures bound { ReadsAtMost result chunk.new }
+    ensures taken { IfOk result (λ count. Consumes (R.remaining reader.old) (R.remaining reader.new) (take count chunk.new)
+        × (count ≡ 0 → IsAtEnd (R.remaining reader.new))) }
+{
+    let count = read_once(reader, chunk)?;
+    Ok(count)
 }
 
 /// Answers each line as soon as it is there, and writes it to the log. Whether anything was wrong, once no more lines come.
@@ -49,18 +67,17 @@ pub fn run_live<R: Read, W: Write, L: Write>(
     reader: &mut R,
     writer: &mut W,
     log: &mut L,
-) -> Result<bool, RunFault> {
-    let mut chunk = [0u8; CHUNK_SIZE];
+) -> Result<bool, RunFault>
+    ensures ran { IfOk result (λ wrong. IfSome (R.remaining reader.old) (λ input. ScriptRuns input wrong)) }
+{
+    let mut chunk = [0u8; READ_SIZE];
     let mut arriving = Arriving::new(alloc);
     for _ in 0..u64::MAX {
-        let count = read_once(reader, &mut chunk)?;
+        let count = read_piece(reader, &mut chunk)?;
         if count == 0 {
             return arriving.end();
         }
-        let Some(bytes) = chunk.get(..count) else {
-            return Err(RunFault::Reading);
-        };
-        arriving.take(bytes, writer, log)?;
+        arriving.take(&chunk[..count], writer, log)?;
     }
     Err(RunFault::TooManyEvents)
 }

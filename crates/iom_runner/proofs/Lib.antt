@@ -1,4 +1,3 @@
-pub mod ReadingLemmas
 pub mod CountedLemmas
 pub mod AnswerLemmas
 pub mod ToldLemmas

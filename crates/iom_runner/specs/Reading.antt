@@ -1,27 +1,20 @@
--- What is taken from a reader. `IsReadFault` and `ReadsMore` serve private contracts alone.
-use Rattle.std.specs.Prelude.{◌≡◌, ℕ, ◌+◌, ◌≤◌, ◌⊎◌, ◌++◌, List, length, Option, Result, IfErr, IfOk, OnOk}
-use Rattle.std.specs.Io.KnownBytes.{Consumes, IsAtEnd}
+-- How a script that can't be read is told. `IsReadFault` serves private contracts alone.
+use Rattle.std.specs.Prelude.{◌≡◌, ℕ, ◌⊎◌, List, Option, Result, IfErr}
+use Rattle.iom_script_reading.specs.Reading.{ConsumesAtMost}
+use Rattle.iom_script_reading.specs.declared.reading.ReadFault.{ReadFault}
+use Rattle.iom_script_reading.specs.declared.reading.ReadFault.TheVariants as read_faults
 use Rattle.iom_runner.specs.declared.faults.RunFault.{RunFault}
 use Rattle.iom_runner.specs.declared.faults.RunFault.TheVariants.{Reading, Memory}
-
--- known bytes lose so many at most, from the first on
-abbrev pub ConsumesAtMost : ℕ → Option (List ℕ) → Option (List ℕ) → Type 0
-ConsumesAtMost most old new = (bytes : List ℕ) × Consumes old new bytes × (length bytes ≤ most)
 
 -- the reader failed, or memory
 abbrev pub IsReadFault : RunFault → Type 0
 IsReadFault fault = (fault ≡ Reading) ⊎ (fault ≡ Memory)
 
+-- the fault of a run that is the fault of the reading
+abbrev pub read_fault_of : ReadFault → RunFault
+read_fault_of read_faults.Reading = Reading
+read_fault_of read_faults.Memory = Memory
+
 -- where reading failed, the reader had lost this many bytes at most
 abbrev pub FailsWithin : {T : Type 0} → ℕ → Option (List ℕ) → Option (List ℕ) → Result T RunFault → Type 0
 FailsWithin most old new result = IfErr result (λ fault. fault ≡ Reading → ConsumesAtMost most old new)
-
--- One read: the bytes that the reader loses are appended, so many in all at most, and none come at the end alone. Without memory they are lost; a read
--- that fails loses none.
-pub record ReadsMore (old new : Option (List ℕ)) (before after : List ℕ) (result : Result ℕ RunFault) (most : ℕ) : Type 0 where
-  pub bytes : List ℕ
-  pub taken : Consumes old new bytes
-  pub few : length before + length bytes ≤ most
-  pub appended : OnOk result (after ≡ before ++ bytes)
-  pub counted : IfOk result (λ count. (length bytes ≡ count) × (count ≡ 0 → IsAtEnd new))
-  pub failed : IfErr result (λ fault. fault ≡ Reading → length bytes ≡ 0)

@@ -4,11 +4,12 @@ ghost use Rattle.iom_platform.specs.Seen.{states_of};
 ghost use Rattle.iom_script.specs.Grammar.{IsWorldSize};
 ghost use Rattle.iom_virtio_blk.specs.MemoryDisks.{disk_state};
 ghost use Rattle.iom_runner.specs.Disks.{program_disks, program_setting};
-ghost use Rattle.iom_runner.specs.Reading.{ConsumesAtMost, FailsWithin};
+ghost use Rattle.iom_script_reading.specs.Reading.{ConsumesAtMost};
+ghost use Rattle.iom_runner.specs.Reading.{FailsWithin};
 ghost use Rattle.iom_runner.specs.Runs.{TellsScript, RunsBytes, AreLeft};
 
 use crate::faults::RunFault;
-use crate::reading::read_script;
+use crate::reading::read_bytes;
 use crate::runner::{script_of, tell};
 use iom_script::Script;
 use iom_virtio_blk::MemoryDisk;
@@ -63,7 +64,7 @@ pub(crate) fn run_with_disks<R: Read, W: Write>(
     ensures consumed { ConsumesAtMost 1048577 (R.remaining reader.old) (R.remaining reader.new) }
     ensures within { FailsWithin 1048576 (R.remaining reader.old) (R.remaining reader.new) result }
 {
-    let bytes = read_script(alloc, reader)?;
+    let bytes = read_bytes(alloc, reader)?;
     let script = script_of(alloc, &bytes)?;
     let told = tell_with_disks(alloc, &script, counts, writer);
     // It is the program's only run: the events go when the process ends, and not one by one.

@@ -1,10 +1,12 @@
 // What keeps a script from being run, and the status that the program then ends with.
 ghost use Rattle.std.specs.Prelude.{◌≡◌};
 ghost use Rattle.iom_runner.specs.Bytes.{run_fault_of};
+ghost use Rattle.iom_runner.specs.Reading.{read_fault_of};
 ghost use Rattle.iom_runner.specs.Statuses.{status_of};
 
 use iom_command_line::ArgsFault;
 use iom_script::ScriptFault;
+use iom_script_reading::ReadFault;
 use thiserror::Error;
 
 /// Why a script isn't run to its end.
@@ -30,6 +32,17 @@ impl From<ScriptFault> for RunFault {
         match fault {
             ScriptFault::Line(number) => RunFault::Script(number),
             ScriptFault::Memory => RunFault::Memory,
+        }
+    }
+}
+
+impl From<ReadFault> for RunFault {
+    ghost from_gives = { λ fault run. run ≡ read_fault_of fault };
+
+    fn from(fault: ReadFault) -> RunFault {
+        match fault {
+            ReadFault::Reading => RunFault::Reading,
+            ReadFault::Memory => RunFault::Memory,
         }
     }
 }

@@ -4,7 +4,7 @@ ghost use Rattle.std.specs.Io.KnownBytes.{Keeps};
 ghost use Rattle.std.specs.Process.{exit_status};
 ghost use Rattle.iom_command_line.specs.CommandLine.{is_command_line, wants_trace, named_file};
 ghost use Rattle.iom_runner.specs.Disks.{program_setting};
-ghost use Rattle.iom_runner.specs.Reading.{ConsumesAtMost};
+ghost use Rattle.iom_script_reading.specs.Reading.{ConsumesAtMost};
 ghost use Rattle.iom_runner.specs.Runs.{RunsProgram, AreLeft};
 ghost use Rattle.iom_runner.specs.Statuses.{status_at_end};
 

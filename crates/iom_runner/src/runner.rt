@@ -11,7 +11,8 @@ ghost use Rattle.iom_runner.specs.Bytes.{ExplainsUnparsed};
 ghost use Rattle.iom_runner.specs.Disks.{setting_of};
 ghost use Rattle.iom_runner.specs.Going.{LineHappens, RunsAlong, FailsAlong};
 ghost use Rattle.iom_runner.specs.LineRuns.{Answer};
-ghost use Rattle.iom_runner.specs.Reading.{ConsumesAtMost, FailsWithin};
+ghost use Rattle.iom_script_reading.specs.Reading.{ConsumesAtMost};
+ghost use Rattle.iom_runner.specs.Reading.{FailsWithin};
 ghost use Rattle.iom_runner.specs.Runs.{TellsScript, RunsBytes, AreLeft};
 ghost use Rattle.iom_runner.specs.Text.{Setting, told_answer};
 ghost use Rattle.iom_runner.specs.PlatformText.{WritesRun, BeginsRun, BeginsRunSoFar};
@@ -19,7 +20,7 @@ ghost use Rattle.iom_line_writer.specs.Writing.{KeepsWriter, TakesText, FailsAt}
 ghost use Rattle.iom_world.specs.Shows.{Shows};
 
 use crate::faults::RunFault;
-use crate::reading::read_script;
+use crate::reading::read_bytes;
 use iom_line_writer::{LineWriter, WriteFault};
 use iom_machine::{Outcome, Sink};
 use iom_platform::Platform;
@@ -223,7 +224,7 @@ pub fn run<R: Read, W: Write, D: Disk>(
     ensures consumed { ConsumesAtMost 1048577 (R.remaining reader.old) (R.remaining reader.new) }
     ensures within { FailsWithin 1048576 (R.remaining reader.old) (R.remaining reader.new) result }
 {
-    let bytes = read_script(alloc, reader)?;
+    let bytes = read_bytes(alloc, reader)?;
     let script = script_of(alloc, &bytes)?;
     tell(alloc, &script, disks, trace, writer)
 }

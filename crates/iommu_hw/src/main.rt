@@ -11,17 +11,16 @@
 //! standard error, as `iommu-hw: TEXT`.
 #![tactic(auto)]
 
+ghost use Rattle.std.specs.Prelude.{◌≡◌};
+ghost use Rattle.iom_hardware_runner.specs.Statuses.{status_of};
+
 mod arguments;
 
 use crate::arguments::{Arguments, read_words};
-use iom_hardware_runner::{RunFault, run, run_live};
+use iom_hardware_runner::{RunFault, exit_status, run, run_live};
 use std::io::{self, ErrorKind, Read, Write};
 use std::process::ExitCode;
 use std::{env, fs};
-
-const WRONG: u8 = 1;
-
-const BAD_SCRIPT: u8 = 2;
 
 const BAD_COMMAND_LINE: u8 = 3;
 
@@ -42,22 +41,14 @@ fn complain(rt: &HostRuntime, text: &str, status: u8) -> u8 {
     status
 }
 
-/// The exit status of a run that ended so.
-fn end(rt: &HostRuntime, ended: Result<bool, RunFault>) -> u8 {
-    match ended {
-        Ok(false) => 0,
-        Ok(true) => WRONG,
-        Err(fault) => {
-            let _ = eprintln!(rt; "iommu-hw: {fault}");
-            match fault {
-                RunFault::BadScript(_) => BAD_SCRIPT,
-                RunFault::Reading
-                | RunFault::Writing
-                | RunFault::Memory
-                | RunFault::TooManyEvents => FAILED,
-            }
-        }
+/// The exit status of a run that ended so. What went wrong is told on standard error.
+fn end(rt: &HostRuntime, ended: Result<bool, RunFault>) -> u8
+    ensures { result ≡ status_of ended }
+{
+    if let Err(fault) = &ended {
+        let _ = eprintln!(rt; "iommu-hw: {fault}");
     }
+    exit_status(&ended)
 }
 
 /// Runs the lines of the reader, live or as a whole script.

@@ -1,6 +1,6 @@
 use Rattle.std.proofs.Common.{arith}
-use Rattle.iom_runner.proofs.ReadingLemmas.{read_to_limit, read_to_end, consumes_more}
-use Rattle.iom_runner.proofs.reading.read_script.Goals as goal
+use Rattle.iom_script_reading.proofs.ReadingLemmas.{read_to_limit, read_to_end, consumes_more}
+use Rattle.iom_script_reading.proofs.reading.read_script.Goals as goal
 
 pub returns-in_err-count-clause-consumed : goal.returns-in_err-count-clause-consumed
 returns-in_err-count-clause-consumed g c =

@@ -1,5 +1,5 @@
 use Rattle.std.specs.Io.KnownBytes.{Keeps}
-use Rattle.iom_runner.proofs.reading.read_once.Given as goal
+use Rattle.iom_script_reading.proofs.reading.read_once.Given as goal
 
 -- nothing is read yet
 abbrev pub invariant-loop : goal.invariant-loop

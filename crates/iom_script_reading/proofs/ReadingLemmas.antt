@@ -4,7 +4,7 @@ use Rattle.std.proofs.lemmas.List.{take_all}
 use Rattle.std.proofs.Math.Seq.{take-append_seam}
 use Rattle.std.proofs.KnownBytes.{Consumes-trans}
 use Rattle.std.specs.Io.KnownBytes.{Consumes, IsAtEnd}
-use Rattle.iom_runner.specs.Reading.{ConsumesAtMost}
+use Rattle.iom_script_reading.specs.Reading.{ConsumesAtMost}
 
 -- what was read up to the limit is the first that the reader had
 pub read_to_limit : (old new : Option (List ℕ)) (bytes : List ℕ) (limit : ℕ) → Consumes old new bytes → length bytes ≡ limit → IfSome old (λ input. bytes ≡ take limit input)

@@ -1,6 +1,6 @@
 use Rattle.std.proofs.Common.{◌≤◌, ◌-◌, length}
 use Rattle.std.specs.Io.KnownBytes.{Consumes}
-use Rattle.iom_runner.proofs.reading.read_script.Given as goal
+use Rattle.iom_script_reading.proofs.reading.read_script.Given as goal
 
 -- the bytes so far are those that were taken
 abbrev pub invariant-loop-chunk : goal.invariant-loop-chunk
