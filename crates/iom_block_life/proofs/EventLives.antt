@@ -30,7 +30,7 @@ use Rattle.iom_platform.specs.Blocks.{block_with, Changes, Stay, StepsOnce, Ends
 use Rattle.iom_platform.specs.Seen.{BlockSeen, Seen}
 use Rattle.iom_block_life.specs.Lives.{Turn, Turns, Taken, Lives, entry_in, finished_at, TakesStep, HearsMade, HearsReply, HearsRefusal, ChangesDisk, taken_at}
 use Rattle.iom_block_life.specs.Runs.{ends_life, finished_in, head_in, went_on, entry_by, taken_in}
-use Rattle.iom_block_life.proofs.BlockChanges.{as_device, there_before, IsChanged, one_changes}
+use Rattle.iom_platform.proofs.BlockChanges.{as_device, there_before, IsChanged, one_changes}
 
 -- the device with the id goes on with its life, takes these entries, and finishes the requests with these heads
 pub record GoesOn (id : ℕ) (old : Device) (new : List BlockSeen) (taken : List Taken) (heads : List ℕ) : Type 0 where

@@ -24,7 +24,7 @@ use Rattle.iom_world_effects.specs.BlockDevices.{SetsBlockQueue}
 use Rattle.iom_platform.specs.Seen.{BlockSeen, Seen}
 use Rattle.iom_block_life.specs.Lives.{Turn, Taken, Lives, taken_at, finished_at, HasFreshQueue, UsesEachOnce}
 use Rattle.iom_block_life.specs.Runs.{LivesThrough, heads_in, entries_taken}
-use Rattle.iom_block_life.proofs.BlockChanges.{as_device, IsChanged, one_changes}
+use Rattle.iom_platform.proofs.BlockChanges.{as_device, IsChanged, one_changes}
 use Rattle.iom_block_life.proofs.EventLives.{GoesOn, same_on, event_on}
 use Rattle.iom_block_life.proofs.LifeLemmas.{uses_each_once}
 

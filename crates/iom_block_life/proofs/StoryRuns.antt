@@ -24,7 +24,7 @@ use Rattle.iom_platform.specs.Runs.{GoesThrough}
 use Rattle.iom_platform.specs.Seen.{BlockSeen, Seen}
 use Rattle.iom_platform.specs.Numbered.{DiskSeen}
 use Rattle.iom_block_life.specs.Stories.{Story, Tells, begins, ended, goes_on, put_in, story_after, story_in}
-use Rattle.iom_block_life.proofs.BlockChanges.{as_device, there_before, IsChanged, one_changes}
+use Rattle.iom_platform.proofs.BlockChanges.{as_device, there_before, IsChanged, one_changes}
 use Rattle.iom_block_life.proofs.StoryLemmas.{hears_made, hears_refusal, is_left, is_new, is_reset, put, sets_up, steps_once, tells_still}
 
 -- the device with the id is there, and this is the story of its disk

@@ -31,7 +31,7 @@ use Rattle.iom_platform.specs.Seen.{BlockSeen, Seen}
 use Rattle.iom_block_life.specs.Lives.{HasFreshQueue}
 use Rattle.iom_block_life.specs.Runs.{LivesThrough, ends_life, went_on}
 use Rattle.iom_block_life.specs.UsedRings.{bytes_by, bytes_in, done_by_device, done_in, requests_in, wrote_when}
-use Rattle.iom_block_life.proofs.BlockChanges.{as_device, there_before, IsChanged, one_changes}
+use Rattle.iom_platform.proofs.BlockChanges.{as_device, there_before, IsChanged, one_changes}
 use Rattle.iom_block_life.proofs.EventLives.{to_memory}
 use Rattle.iom_block_life.proofs.StoryLemmas.{ends, hears_made, hears_refusal}
 

@@ -14,6 +14,7 @@ ghost use Rattle.iom_block_life.specs.Lives.{LivesUseEachOnce};
 ghost use Rattle.iom_block_life.specs.Runs.{QueuesBeginLives, RunsUseEachOnce};
 ghost use Rattle.iom_block_life.specs.Stories.{PlugsBeginStories, RunsTellDisks};
 ghost use Rattle.iom_block_life.specs.UsedRings.{RunsWriteElements};
+ghost use Rattle.iom_block_life.specs.Waits.{PowerOnWaitsInFlight, RunsWaitInFlight, CommitsLeaveStages};
 
 /// Whatever happens to a device since its queue was set: it takes the entries of its ring in their order, from the
 /// first one on, each once. The requests that it finishes are those that it took, in the same order and each once, but
@@ -43,4 +44,13 @@ pub fn runs_tell_disks()
 /// line tells, and nothing else but the beginning of the next one.
 pub fn runs_write_elements()
     ensures { RunsWriteElements }
+{}
+
+/// A block device waits only while its own access is in flight, at every moment of a run of the model: the access that it
+/// waits for was accepted and isn't made, and it is the one that the device wants, of as many bytes. So the bytes that a
+/// commit hands it are as many as it wants, and no commit leaves a device that is to be reset.
+pub fn runs_wait_in_flight()
+    ensures begin { PowerOnWaitsInFlight }
+    ensures runs { RunsWaitInFlight }
+    ensures commits { CommitsLeaveStages }
 {}

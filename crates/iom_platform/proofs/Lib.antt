@@ -8,6 +8,11 @@ pub mod DiskStays
 pub mod PassLemmas
 pub mod PlugLemmas
 pub mod StartLemmas
+pub mod NumberLemmas
+pub mod FlightEvents
+pub mod BlockChanges
+pub mod BegunLemmas
+pub mod WaitLemmas
 pub mod RunLemmas
 pub mod NeverRefused
 pub mod BlockLemmas

@@ -8,9 +8,11 @@ use Rattle.iom_machine.specs.declared.state.State.{State}
 use Rattle.iom_machine.specs.Machine.{Step, Run}
 use Rattle.iom_machine.proofs.ReclaimLemmas.{reclaims}
 use Rattle.iom_world.specs.Shows.{Shows}
+use Rattle.iom_platform.specs.EachWaits.{EachWaitsInFlight}
 use Rattle.iom_platform.specs.Happens.{HappensHere}
-use Rattle.iom_platform.specs.Runs.{AreCounts, TakesAll, GoesThrough, AreOutcomes, RunsTo, FailsAfter}
+use Rattle.iom_platform.specs.Runs.{AreCounts, TakesAll, GoesThrough, WaitsThroughout, AreOutcomes, RunsTo, FailsAfter}
 use Rattle.iom_platform.specs.Seen.{Seen}
+use Rattle.iom_platform.proofs.WaitLemmas.{each_after}
 
 -- a run has an outcome for each event
 pub run_length : (old new : State) (events : List Event) (outcomes : List Outcome) → Run old events outcomes new → length outcomes ≡ length events
@@ -29,11 +31,22 @@ through_shows state last old new (other ∷ events) [] traces run through = absu
 through_shows state last old new (first ∷ events) (told ∷ outcomes) [] run through = absurd through
 through_shows state last old new (first ∷ events) (told ∷ outcomes) (trace ∷ traces) run through = through_shows run.0 last through.1 new events outcomes traces run.2 through.4
 
+-- each block device waits only while its own access is in flight, throughout
+pub waits_throughout : (state last : State) (old new : Seen) (events : List Event) (outcomes : List Outcome) (traces : List (Option Trace)) (run : Run state events outcomes last)
+    → (through : GoesThrough state old events outcomes traces last run new) → EachWaitsInFlight old → WaitsThroughout state old events outcomes traces last run new through
+waits_throughout state last old new [] [] [] run through each = subst (λ (seen : Seen). EachWaitsInFlight seen) (sym through.1) each
+waits_throughout state last old new [] [] (trace ∷ traces) run through each = absurd through
+waits_throughout state last old new [] (told ∷ outcomes) traces run through each = absurd run
+waits_throughout state last old new (event ∷ events) [] traces run through each = absurd run
+waits_throughout state last old new (event ∷ events) (told ∷ outcomes) [] run through each = absurd through
+waits_throughout state last old new (event ∷ events) (told ∷ outcomes) (trace ∷ traces) (next, step, rest) (shows, mid, happens, counts, later) each =
+    (each, waits_throughout next last mid new events outcomes traces rest later (each_after old mid event told happens each))
+
 -- a run that the platform goes through gives outcomes
 pub are_outcomes : (state last : State) (old new : Seen) (events : List Event) (outcomes : List Outcome) (traces : List (Option Trace)) (run : Run state events outcomes last)
     → GoesThrough state old events outcomes traces last run new → AreOutcomes state old events outcomes traces last new
 are_outcomes state last old new events outcomes traces run through =
-    record { run = run; through = through; reclaim = λ reached. reclaims state events outcomes last reached run }
+    record { run = run; through = through; reclaim = λ reached. reclaims state events outcomes last reached run; waits = waits_throughout state last old new events outcomes traces run through }
 
 -- events have one outcome more by an event at the end
 pub outcomes_more : (state next last : State) (old mid new : Seen) (events : List Event) (outcomes : List Outcome) (traces : List (Option Trace)) (event : Event) (outcome : Outcome) (trace : Option Trace)

@@ -1,7 +1,7 @@
 -- What an event does to the block devices themselves, and to the disks that were never in one (virtio 1.2, sections 2.1, 2.7, 3.1 and 5.2).
 use Rattle.std.specs.Prelude.{◌≡◌, ◌≢◌, ◌⊎◌, ⊤, ℕ, ◌==◌, Bool, true, false, not, List, [], ◌∷◌, ◌++◌, find, filter, slice_get, Option, None, Some, if◌then◌else◌}
 use Rattle.iom_base.specs.declared.access.Access.{Access}
-use Rattle.iom_base.specs.Accesses.{page_of, read_of, write_of}
+use Rattle.iom_base.specs.Accesses.{page_of}
 use Rattle.iom_fabric.specs.declared.fabric.OnLink.{OnLink}
 use Rattle.iom_fabric.specs.declared.message.Message.{Message}
 use Rattle.iom_fabric.specs.declared.message.Message.TheVariants as sent
@@ -28,7 +28,6 @@ use Rattle.iom_virtio_blk.specs.Histories.{KeepsTelling}
 use Rattle.iom_virtio_blk.specs.Stages.{device_status}
 use Rattle.iom_virtio_blk.specs.Steps.{Device, device, BlockDeviceSteps}
 use Rattle.iom_virtqueue.specs.declared.layout.Layout.{Layout}
-use Rattle.iom_virtqueue.specs.Accesses.{Access as Wanted, nothing, reads, writes}
 use Rattle.iom_virtqueue.specs.Layouts.{layout_of}
 use Rattle.iom_world_effects.specs.BlockDevices.{BeginsAccess}
 use Rattle.iom_world.specs.Counts.{oldest_number}
@@ -37,6 +36,7 @@ use Rattle.iom_world.specs.Seen.{parts_of}
 use Rattle.iom_world_effects.specs.Unable.{IsUnknown, IsUnable}
 use Rattle.iom_platform.specs.Seen.{BlockSeen, Seen}
 use Rattle.iom_platform.specs.Numbered.{DiskSeen}
+use Rattle.iom_platform.specs.Waiting.{wanted_access}
 
 -- the block device with this id
 abbrev pub block_with : List BlockSeen → ℕ → Option BlockSeen
@@ -189,12 +189,6 @@ BringsRefusal (Some on) old new = HearsAnswer (refused_page on.message) old on.d
 abbrev pub DeliversTo : Seen → ℕ → Outcome → Seen → Type 0
 DeliversTo old place outcome.AnswerRefused new = BringsRefusal (slice_get (parts_of old.world).fabric place) old new
 DeliversTo old place told new = Stay old new
-
--- the access that a block device wants, if there is one
-abbrev pub wanted_access : Wanted → Option Access
-wanted_access nothing = None
-wanted_access (reads address len) = Some (read_of address len)
-wanted_access (writes address bytes) = Some (write_of address bytes)
 
 -- what the device is told of that, by what came of it: a begun access comes to no more than these four
 abbrev pub reply_of : Access → Outcome → Reply

@@ -3,9 +3,12 @@ pub mod Agreement
 pub mod AgreementIsFact
 pub mod Seen
 pub mod Blocks
+pub mod Waiting
+pub mod EachWaits
 pub mod Happens
 pub mod Places
 pub mod Steps
 pub mod Passing
 pub mod PowerOn
 pub mod Runs
+pub mod Looks

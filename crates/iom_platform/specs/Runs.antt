@@ -10,6 +10,7 @@ use Rattle.iom_machine.specs.Reclaim.{Reclaims}
 use Rattle.iom_world.specs.declared.world.World.{World}
 use Rattle.iom_world.specs.Counts.{IsTraceOf}
 use Rattle.iom_world.specs.Shows.{Shows}
+use Rattle.iom_platform.specs.EachWaits.{EachWaitsInFlight}
 use Rattle.iom_platform.specs.Happens.{HappensHere}
 use Rattle.iom_platform.specs.Seen.{Seen}
 
@@ -35,17 +36,28 @@ GoesThrough state old (event ∷ events) (outcome ∷ outcomes) (trace ∷ trace
     × GoesThrough next mid events outcomes traces last rest new
 GoesThrough state old _ _ _ last run new = ⊥
 
+-- before each event and after the last, each block device waits only while its own access is in flight
+abbrev pub WaitsThroughout : (state : State) (old : Seen) (events : List Event) (outcomes : List Outcome) (traces : List (Option Trace)) (last : State)
+    (run : Run state events outcomes last) (new : Seen) → GoesThrough state old events outcomes traces last run new → Type 0
+WaitsThroughout state old [] outcomes traces last run new through = EachWaitsInFlight new
+WaitsThroughout state old (event ∷ events) [] traces last run new through = ⊥
+WaitsThroughout state old (event ∷ events) (outcome ∷ outcomes) [] last run new through = ⊥
+WaitsThroughout state old (event ∷ events) (outcome ∷ outcomes) (trace ∷ traces) last (next, step, rest) new (shows, mid, happens, counts, later) =
+    EachWaitsInFlight old × WaitsThroughout next mid events outcomes traces last rest new later
+
 -- no counts beside any of these
 abbrev pub uncounted : List Event → List (Option Trace)
 uncounted [] = []
 uncounted (event ∷ events) = None ∷ uncounted events
 
--- the events have these outcomes, with these counts: those of a run of the ledger machine to this state, which the platform goes through; and of that run,
--- where it is from a state that events from power-on lead to, the sentences of the headline hold
+-- the events have these outcomes, with these counts: those of a run of the ledger machine to this state, which the platform goes through; of that run,
+-- where it is from a state that events from power-on lead to, the sentences of the headline hold; and throughout, each block device waits only while its
+-- own access is in flight, where it is so at first
 pub record AreOutcomes (state : State) (old : Seen) (events : List Event) (outcomes : List Outcome) (traces : List (Option Trace)) (last : State) (new : Seen) : Type 0 where
   pub run : Run state events outcomes last
   pub through : GoesThrough state old events outcomes traces last run new
   pub reclaim : IsReached state → Reclaims state events outcomes last run
+  pub waits : EachWaitsInFlight old → WaitsThroughout state old events outcomes traces last run new through
 
 -- all the events have some outcomes, and the sink took each
 abbrev pub RunsTo : {S : Type 0} → (S → Bool) → (S → Outcome → Option Trace → S → Type 0) → State → Seen → List Event → S → S → Seen → Type 0

@@ -6,7 +6,7 @@ use Rattle.iom_machine.specs.declared.outcome.Outcome.{Outcome}
 use Rattle.iom_virtqueue.specs.Accesses.{Access as Wanted}
 use Rattle.iom_world_effects.specs.BlockDevices.{BeginsAccess}
 use Rattle.iom_world_effects.specs.Parts.{Parts}
-use Rattle.iom_platform.specs.Blocks.{wanted_access}
+use Rattle.iom_platform.specs.Waiting.{wanted_access}
 
 -- the access that is wanted is begun
 pub record BeginsWanted (wanted : Wanted) (old : Parts) (id : ℕ) (told : Outcome) (new : Parts) : Type 0 where

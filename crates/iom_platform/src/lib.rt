@@ -12,6 +12,7 @@ mod at_hand;
 mod block;
 mod blocks;
 mod for_blocks;
+mod looks;
 mod one_step;
 mod platform;
 mod run;

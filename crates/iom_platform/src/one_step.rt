@@ -11,7 +11,8 @@ ghost use Rattle.iom_virtqueue.specs.Accesses.{LiesInPage};
 ghost use Rattle.iom_device.specs.Caches.{IsAble};
 ghost use Rattle.iom_world.specs.Happens.{Happens};
 ghost use Rattle.iom_world.specs.Seen.{parts_of};
-ghost use Rattle.iom_platform.specs.Blocks.{StepsOnce, wanted_access, reply_of};
+ghost use Rattle.iom_platform.specs.Blocks.{StepsOnce, reply_of};
+ghost use Rattle.iom_platform.specs.Waiting.{wanted_access};
 ghost use Rattle.iom_platform.specs.Steps.{BeginsWanted};
 
 use iom_base::{AccessKind, DeviceId, PAGE_SIZE};

@@ -1,5 +1,5 @@
 -- A world and its hardware: what stays true of the one is true of the other, and each event is counted.
-use Rattle.std.proofs.Common.{◌≡◌, ◌+◌, ◌<◌, inr, ℕ, Bool, List, remove, slice_get, Option, None, Some, Result, Ok, Err, refl, subst}
+use Rattle.std.proofs.Common.{◌≡◌, ◌+◌, ◌<◌, ◌∙◌, inr, ℕ, Bool, List, length, remove, slice_get, Option, None, Some, Result, Ok, Err, refl, sym, ap, subst}
 use Rattle.iom_base.specs.declared.access.AccessKind.TheVariants.{Read}
 use Rattle.iom_base.specs.declared.refusal.Refusal.{Refusal}
 use Rattle.iom_device.specs.Caches.{epoch_in}
@@ -101,4 +101,4 @@ pub read_in_parts : (old new : Parts) (id : ℕ) (made : MadeAt) (bytes : List �
 read_in_parts old new id made bytes told driver commits reads stand tells =
     let makes = (committed old new driver id (Some made) commits).1 in
     read_told old.memory new.memory (flights_of old.iommu) id made (flights_of new.iommu) told makes.call.makes reads
-    record { bytes = stand.frame; there = stand.there; told_so = subst (TellsBytes told) stand.part tells }
+    record { bytes = stand.frame; there = stand.there; told_so = subst (TellsBytes told) stand.part tells; long = sym (ap (λ (l : List ℕ). length l) stand.part) ∙ stand.long }

@@ -1,5 +1,5 @@
 -- What becomes of an access in flight: it is made, on the frame that it was translated to.
-use Rattle.std.specs.Prelude.{◌≡◌, ℕ, ◌+◌, ◌⊎◌, false, List, Option, None, Some, IfSome, slice_get, slice_range}
+use Rattle.std.specs.Prelude.{◌≡◌, ℕ, ◌+◌, ◌⊎◌, false, List, length, Option, None, Some, IfSome, slice_get, slice_range}
 use Rattle.iom_base.specs.declared.access.AccessKind.{AccessKind}
 use Rattle.iom_base.specs.declared.access.AccessKind.TheVariants.{Read, Write}
 use Rattle.iom_inflight.specs.declared.made.MadeAt.{MadeAt}
@@ -12,11 +12,12 @@ use Rattle.iom_world_effects.specs.Places.{IsPresent}
 use Rattle.iom_world_effects.specs.Unable.{IsUnknown}
 use Rattle.iom_world_effects.specs.Answers.{TellsBytes}
 
--- the bytes that stand in the frame where the access was made are told
+-- the bytes that stand in the frame where the access was made are told, as many as it is long
 pub record TellsRead (memory : List (List ℕ)) (made : MadeAt) (told : Outcome) : Type 0 where
   pub bytes : List ℕ
   pub there : slice_get memory made.frame ≡ Some bytes
   pub told_so : TellsBytes told (slice_range bytes made.offset (made.offset + made.len))
+  pub long : length (slice_range bytes made.offset (made.offset + made.len)) ≡ made.len
 
 -- a read tells its bytes, a write how many were stored
 abbrev pub TellsKind : List (List ℕ) → MadeAt → AccessKind → Outcome → Type 0

@@ -12,7 +12,7 @@ abbrev as_if : Device → Option BlockSeen → Option BlockSeen
 as_if after None = None
 as_if after (Some block) = Some (as_device block after)
 
-there_still : (blocks : List BlockSeen) (id : ℕ) (after : Device) (block : BlockSeen)
+pub there_still : (blocks : List BlockSeen) (id : ℕ) (after : Device) (block : BlockSeen)
     → block_with blocks id ≡ Some block → block_with (with_block blocks id after) id ≡ Some (as_device block after)
 there_still [] id after block there = ap (as_if after) there
 there_still (one ∷ others) id after block there = by (one.id == id) refl (there_still others id after block)
@@ -28,7 +28,7 @@ there_still (one ∷ others) id after block there = by (one.id == id) refl (ther
         ∙ ap (λ c. if c then Some one else block_with (with_block others id after) id) e
         ∙ more (sym (ap (λ c. if c then Some one else block_with others id) e) ∙ there)
 
-other_stays : (blocks : List BlockSeen) (id other : ℕ) (after : Device) → other ≢ id → block_with (with_block blocks other after) id ≡ block_with blocks id
+pub other_stays : (blocks : List BlockSeen) (id other : ℕ) (after : Device) → other ≢ id → block_with (with_block blocks other after) id ≡ block_with blocks id
 other_stays [] id other after differ = refl
 other_stays (one ∷ others) id other after differ = by (one.id == other) refl (other_stays others id other after differ)
   where

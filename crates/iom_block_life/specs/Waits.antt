@@ -1,0 +1,37 @@
+-- What a block device waits for over a run of the model, and what a commit hands it.
+use Rattle.std.specs.Prelude.{◌≡◌, ℕ, List, Option, Some}
+use Rattle.iom_machine.specs.declared.event.Event.{Event}
+use Rattle.iom_machine.specs.declared.event.Event.TheVariants as events
+use Rattle.iom_machine.specs.declared.outcome.Outcome.{Outcome}
+use Rattle.iom_machine.specs.declared.outcome.Trace.{Trace}
+use Rattle.iom_machine.specs.declared.state.State.{State}
+use Rattle.iom_machine.specs.Machine.{Run}
+use Rattle.iom_virtio_blk.specs.DiskStates.{DiskState}
+use Rattle.iom_platform.specs.Blocks.{block_with}
+use Rattle.iom_platform.specs.EachWaits.{EachWaitsInFlight}
+use Rattle.iom_platform.specs.Happens.{HappensHere}
+use Rattle.iom_platform.specs.PowerOn.{BeginsFrom}
+use Rattle.iom_platform.specs.Runs.{GoesThrough, WaitsThroughout}
+use Rattle.iom_platform.specs.Seen.{BlockSeen, Seen}
+
+-- at power-on no block device waits for anything else than its own access in flight: there is none
+abbrev pub PowerOnWaitsInFlight : Type 0
+PowerOnWaitsInFlight = (first_fence frames levels : ℕ) (disks : List DiskState) (new : Seen) → BeginsFrom first_fence frames levels disks new → EachWaitsInFlight new
+
+-- THE LAW: over any events, whatever the driver writes into its rings, and through resets, quarantines and detaches, each block device waits only while its
+-- own access is in flight, in each state that the platform goes through
+abbrev pub RunsWaitInFlight : Type 0
+RunsWaitInFlight =
+    (state last : State) (old new : Seen) (events : List Event) (outcomes : List Outcome) (traces : List (Option Trace)) (run : Run state events outcomes last)
+    (through : GoesThrough state old events outcomes traces last run new) → EachWaitsInFlight old → WaitsThroughout state old events outcomes traces last run new through
+
+-- the block device is there, in the stage in which it was
+abbrev pub IsInStageOf : BlockSeen → Option BlockSeen → Type 0
+IsInStageOf block new = (after : BlockSeen) × (new ≡ Some after) × (after.device.front.stage ≡ block.device.front.stage)
+
+-- WHERE EACH WAITS SO, a commit, of whichever device, changes the stage of no block device: the bytes that it hands one are as many as that one wants, so
+-- none is to be reset for want of them
+abbrev pub CommitsLeaveStages : Type 0
+CommitsLeaveStages =
+    (old new : Seen) (id other : ℕ) (told : Outcome) (block : BlockSeen) → EachWaitsInFlight old → HappensHere old (events.Commit other) told new
+    → block_with old.blocks id ≡ Some block → IsInStageOf block (block_with new.blocks id)
