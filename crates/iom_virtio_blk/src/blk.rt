@@ -10,12 +10,14 @@ ghost use Rattle.iom_virtio_blk.specs.Blocks.{IsBetweenCalls, IsAsking, IsTaking
 ghost use Rattle.iom_virtio_blk.specs.Steps.{device, BlockDeviceSteps, ServesWithDisk, Calls};
 ghost use Rattle.iom_virtio_blk.specs.Histories.{Entry, inserted, TellsDisk, KeepsTelling};
 ghost use Rattle.iom_virtio_blk.specs.ReadyProps.{IsReady-prop};
+ghost use Rattle.iom_virtio_blk.specs.Wants.{access_wanted};
 
 use crate::disk::Disk;
 use crate::drive::Drive;
 use crate::front::Front;
 use crate::stage::Stage;
 use crate::step::{Call, Reply, Step};
+use crate::want::WantedAccess;
 use iom_virtqueue::Layout;
 
 /// A block device: its front and its disk, which apart from one another know nothing of each other.
@@ -104,6 +106,13 @@ impl<D: Disk> Blk<D> {
         ensures disk { self.new.drive ≡ self.old.drive }
     {
         self.front.made(number, bytes);
+    }
+
+    /// The access that it wants, or waits for where it began that.
+    pub fn wants(&self) -> WantedAccess
+        ensures { access_wanted self.now.front.buffer result ≡ wanted_by self.now.front }
+    {
+        self.front.wants()
     }
 
     /// These bytes of the sector at hand, as far as it has them: what a wanted write of them writes.

@@ -19,6 +19,7 @@ mod disks;
 mod driving;
 mod fetching;
 mod kept_outcomes;
+mod looks;
 mod messages;
 mod plugging;
 mod processor;

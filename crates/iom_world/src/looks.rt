@@ -1,0 +1,36 @@
+// What a world tells of what an answer doesn't show: where the newest access is, and which frames are reserved.
+ghost use Rattle.std.specs.Prelude.{◌≡◌, ◌-◌, length};
+ghost use Rattle.iom_driver.specs.Seen.{state_of};
+ghost use Rattle.iom_inflight.specs.Flights.{count_in, row_of, waiting_at};
+ghost use Rattle.iom_iommu.specs.Parts.{flights_of};
+ghost use Rattle.iom_table_frames.specs.Marks.{is_marked};
+
+use crate::world::World;
+use iom_base::DeviceId;
+use iom_inflight::MadeAt;
+
+impl World {
+    /// The access of the device that was accepted last, of those in flight. None where nothing of it is in flight, or no
+    /// device has the id.
+    pub fn newest(&self, id: DeviceId) -> Option<MadeAt>
+        ensures { result ≡ waiting_at (row_of (flights_of self.now.hardware.iommu).rows id)
+            (count_in (row_of (flights_of self.now.hardware.iommu).rows id) - 1) }
+    {
+        let place = self.hardware.iommu.in_flight(id).saturating_sub(1);
+        self.hardware.iommu.waiting_at(id, place)
+    }
+
+    /// How many frames memory has.
+    pub fn frames(&self) -> u32
+        ensures { result ≡ length self.now.hardware.memory }
+    {
+        self.hardware.iommu.frames()
+    }
+
+    /// Whether the frame is reserved, for tables or for the system; false outside memory.
+    pub fn is_reserved(&self, frame: u32) -> bool
+        ensures { result ≡ is_marked (state_of self.now.driver).marks frame }
+    {
+        self.driver.is_reserved(frame)
+    }
+}
