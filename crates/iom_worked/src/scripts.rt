@@ -107,7 +107,7 @@ static EXAMPLES: [&str; 20] = [
 ];
 
 /// The number of the first line that differs, counted from 1.
-fn first_difference(printed: &str, wanted: &str) -> usize {
+pub(crate) fn first_difference(printed: &str, wanted: &str) -> usize {
     let lines = printed.lines().zip(wanted.lines());
     let same = lines.take_while(|(line, other)| line == other).count();
     same.saturating_add(1)

@@ -1,0 +1,7 @@
+use Rattle.std.proofs.Common.{◌≡◌, ◌++◌, take}
+use Rattle.iom_picture.specs.Escapes.{escaped}
+use Rattle.iom_picture.proofs.escapes.append_escaped.Given as goal
+
+-- what stands for the bytes so far was appended
+abbrev pub invariant-loop-byte : goal.invariant-loop-byte
+invariant-loop-byte l = l.bytes.items ≡ l.initial.bytes.items ++ escaped (take l.byte-index l.text)

@@ -1,0 +1,171 @@
+// The signs of what happened at single lines.
+use crate::bars::append_place;
+use crate::layout::Layout;
+use crate::svg::Svg;
+use crate::symbol::Symbol;
+use iom_base::AccessKind;
+use iom_timeline::{Mark, MarkKind, Timeline};
+use std::alloc::AllocError;
+
+/// A circle in the middle.
+fn append_circle(svg: &mut Svg, x: u64, y: u64, look: &str) -> Result<(), AllocError> {
+    svg.markup("<circle")?;
+    svg.attribute("cx", x)?;
+    svg.attribute("cy", y)?;
+    svg.markup(look)?;
+    svg.markup("/>")
+}
+
+/// A path that begins so far left of the middle and above it, and goes on as the text says.
+fn append_path(svg: &mut Svg, x: u64, y: u64, rest: &str) -> Result<(), AllocError> {
+    svg.markup("<path d=\"M")?;
+    svg.number(x)?;
+    svg.markup(" ")?;
+    svg.number(y)?;
+    svg.markup(rest)?;
+    svg.markup("/>")
+}
+
+/// The white ground of a sign.
+fn append_ground(svg: &mut Svg, x: u64, y: u64) -> Result<(), AllocError> {
+    append_circle(svg, x, y, " r=\"5\" fill=\"#ffffff\" stroke=\"#222222\"")
+}
+
+/// The sign of a symbol that is no bar, around the point.
+pub(crate) fn append_sign(svg: &mut Svg, symbol: Symbol, x: u64, y: u64) -> Result<(), AllocError> {
+    match symbol {
+        Symbol::Accepted => append_circle(
+            svg,
+            x,
+            y,
+            " r=\"4\" fill=\"#ffffff\" stroke=\"#000000\" stroke-width=\"2\"",
+        ),
+        Symbol::Made => append_circle(svg, x, y, " r=\"4\" fill=\"#000000\" stroke=\"#ffffff\""),
+        Symbol::Fault => {
+            append_circle(svg, x, y, " r=\"6\" fill=\"#ffffff\"")?;
+            append_path(
+                svg,
+                x,
+                y,
+                "m-4 -4l8 8m0-8l-8 8\" stroke=\"#d55e00\" stroke-width=\"2\" fill=\"none\"",
+            )
+        }
+        Symbol::FenceDone => append_path(
+            svg,
+            x,
+            y,
+            "m0-6l6 6l-6 6l-6-6z\" fill=\"#f0e442\" stroke=\"#222222\"",
+        ),
+        Symbol::Confirmed => append_path(
+            svg,
+            x,
+            y,
+            "m-6-5h12l-6 11z\" fill=\"#0072b2\" stroke=\"#222222\"",
+        ),
+        Symbol::TimedOut => append_path(
+            svg,
+            x,
+            y,
+            "m-5-6h10l-10 12h10z\" fill=\"#d55e00\" stroke=\"#222222\"",
+        ),
+        Symbol::Restarted => append_path(
+            svg,
+            x,
+            y,
+            "m-5-5h10v10h-10z\" fill=\"#ffffff\" stroke=\"#222222\" stroke-width=\"2\"",
+        ),
+        _ => append_frame_sign(svg, symbol, x, y),
+    }
+}
+
+/// The sign of what is asked or said of a frame.
+fn append_frame_sign(svg: &mut Svg, symbol: Symbol, x: u64, y: u64) -> Result<(), AllocError> {
+    match symbol {
+        Symbol::Free => {
+            append_ground(svg, x, y)?;
+            append_path(
+                svg,
+                x,
+                y,
+                "m-3 0l3 3l5-8\" stroke=\"#009e73\" stroke-width=\"2\" fill=\"none\"",
+            )
+        }
+        Symbol::NotFree => {
+            append_ground(svg, x, y)?;
+            append_path(
+                svg,
+                x,
+                y,
+                "m-3 0h6\" stroke=\"#d55e00\" stroke-width=\"3\" fill=\"none\"",
+            )
+        }
+        Symbol::HandedOff => append_path(
+            svg,
+            x,
+            y,
+            "m-6-2h5v-4l7 6l-7 6v-4h-5z\" fill=\"#cc79a7\" stroke=\"#222222\"",
+        ),
+        _ => Ok(()),
+    }
+}
+
+/// What happened, in words.
+fn append_words(svg: &mut Svg, kind: MarkKind) -> Result<(), AllocError> {
+    match kind {
+        MarkKind::Accepted(AccessKind::Read) => svg.markup("read accepted"),
+        MarkKind::Accepted(AccessKind::Write) => svg.markup("write accepted"),
+        MarkKind::AcceptedStep => svg.markup("access accepted"),
+        MarkKind::Made => svg.markup("access made"),
+        MarkKind::Fault(cause) => {
+            svg.markup("refused, cause ")?;
+            svg.number(u64::from(cause.code()))
+        }
+        MarkKind::Confirmed { first, last } => {
+            svg.markup("tickets ")?;
+            svg.number(u64::from(first))?;
+            svg.markup(" to ")?;
+            svg.number(u64::from(last))?;
+            svg.markup(" confirmed")
+        }
+        _ => svg.markup(Symbol::of_mark(kind).words()),
+    }
+}
+
+fn append_mark(
+    svg: &mut Svg,
+    layout: &Layout,
+    timeline: &Timeline,
+    mark: &Mark,
+) -> Result<(), AllocError> {
+    let Some(row) = layout.row(mark.place) else {
+        return Ok(());
+    };
+    svg.markup("<g><title>line ")?;
+    svg.number(mark.line)?;
+    svg.markup(", ")?;
+    append_place(svg, timeline, mark.place)?;
+    svg.markup(": ")?;
+    append_words(svg, mark.kind)?;
+    svg.markup("</title>")?;
+    append_sign(
+        svg,
+        Symbol::of_mark(mark.kind),
+        layout.scale.middle(mark.line),
+        row.middle(),
+    )?;
+    svg.markup("</g>\n")
+}
+
+/// The signs of all marks that are chosen.
+pub(crate) fn append_marks(
+    svg: &mut Svg,
+    layout: &Layout,
+    timeline: &Timeline,
+) -> Result<(), AllocError> {
+    for mark in &timeline.marks {
+        if layout.choice.has_line(mark.line) && layout.choice.has_place(timeline, mark.place) {
+            append_mark(svg, layout, timeline, mark)?;
+        }
+    }
+    Ok(())
+}

@@ -1,0 +1,129 @@
+//! `iommu-picture [--from N] [--to N] [--frame F] [--device ID] [FILE]` draws the trace in the file, or on standard input, and
+//! writes one SVG to standard output. The repository's `docs/JUDGE.md` says how a trace is written, and `docs/GALLERY.md`
+//! how a picture is read.
+//!
+//! The exit status is 0 where it was drawn, 1 where reading, writing or memory failed, 2 where a line isn't in the grammar, and
+//! 3 where the command line isn't lawful. What goes wrong is told on standard error, as `iommu-picture: NAME: TEXT`, and then
+//! nothing is drawn.
+#![tactic(auto)]
+
+mod arguments;
+
+use crate::arguments::{ArgumentsFault, Request, read_words};
+use iom_picture::{Choice, Reading, draw, read_trace};
+use std::io::{self, ErrorKind, Write};
+use std::process::ExitCode;
+use std::{env, fs};
+
+const FAILED: u8 = 1;
+
+const NOT_IN_GRAMMAR: u8 = 2;
+
+const BAD_COMMAND_LINE: u8 = 3;
+
+/// The name of standard input, where it is what can't be read.
+const INPUT: &str = "standard input";
+
+const HELP: &str = "\
+iommu-picture [--from N] [--to N] [--frame F] [--device ID] [FILE]
+
+Draws the trace in the file, or on standard input, and writes one SVG to standard output.
+
+  --from N     from this line on
+  --to N       up to this line
+  --frame F    of this frame alone
+  --device ID  of this device alone: six hexadecimal digits
+  --help       prints this
+  --version    prints the version
+";
+
+const VERSION: &str = "iommu-picture 1.0\n";
+
+/// The words of the command line, after the program's name.
+fn words_of(rt: &HostRuntime) -> io::Result<Vec<String>> {
+    let mut words = Vec::new(rt.alloc());
+    for word in env::args(rt)?.skip(1) {
+        words.push(word)?;
+    }
+    Ok(words)
+}
+
+/// Tells on standard error what goes wrong with what has this name.
+fn complain(rt: &HostRuntime, name: &str, text: &str, status: u8) -> u8 {
+    let _ = eprintln!(rt; "iommu-picture: {name}: {text}");
+    status
+}
+
+/// Why what has this name can't be read.
+fn cause_of(error: &io::Error) -> &'static str {
+    match error.kind() {
+        ErrorKind::NotFound => "no such file",
+        ErrorKind::PermissionDenied => "permission denied",
+        ErrorKind::IsADirectory => "it is a directory",
+        ErrorKind::OutOfMemory => "out of memory",
+        _ => "reading failed",
+    }
+}
+
+/// Writes the bytes, and gives the exit status.
+fn tell(rt: &HostRuntime, bytes: &[u8]) -> u8 {
+    match rt.stdout().write_all(bytes) {
+        Ok(()) => 0,
+        Err(_) => complain(rt, "standard output", "writing failed", FAILED),
+    }
+}
+
+/// Draws what was read of what has this name, and gives the exit status.
+fn end(rt: &HostRuntime, name: &str, choice: Choice, read: io::Result<Reading>) -> u8 {
+    match read {
+        Err(error) => complain(rt, name, cause_of(&error), FAILED),
+        Ok(Reading::BadLine(line)) => {
+            let _ = eprintln!(rt; "iommu-picture: {name}: line {line} isn't in the grammar");
+            NOT_IN_GRAMMAR
+        }
+        Ok(Reading::Trace(timeline)) => match draw(rt.alloc(), choice, &timeline) {
+            Ok(picture) => tell(rt, &picture),
+            Err(_) => complain(rt, name, "out of memory", FAILED),
+        },
+    }
+}
+
+/// Draws what the file, or else standard input, has.
+fn draw_from(rt: &HostRuntime, choice: Choice, file: Option<&str>) -> u8 {
+    let Some(file) = file else {
+        let read = read_trace(rt.alloc(), &mut rt.stdin());
+        return end(rt, INPUT, choice, read);
+    };
+    let read = match fs::open(rt, file) {
+        Ok(mut opened) => read_trace(rt.alloc(), &mut opened),
+        Err(error) => Err(error),
+    };
+    end(rt, file, choice, read)
+}
+
+/// Does what the words ask for, and gives the exit status.
+fn run(rt: &HostRuntime, words: &[String]) -> u8 {
+    match read_words(rt.alloc(), words) {
+        Ok(Request::Help) => tell(rt, HELP.as_bytes()),
+        Ok(Request::Version) => tell(rt, VERSION.as_bytes()),
+        Ok(Request::Draw { choice, file }) => draw_from(rt, choice, file),
+        Err(ArgumentsFault::Memory) => complain(rt, "command line", "out of memory", FAILED),
+        Err(ArgumentsFault::Bad) => complain(
+            rt,
+            "command line",
+            "it isn't [--from N] [--to N] [--frame F] [--device ID] [FILE]",
+            BAD_COMMAND_LINE,
+        ),
+    }
+}
+
+fn main(rt: HostRuntime) -> ExitCode {
+    let status = match words_of(&rt) {
+        Ok(words) => run(&rt, &words),
+        Err(error) if error.kind() == ErrorKind::OutOfMemory => {
+            complain(&rt, "command line", "out of memory", FAILED)
+        }
+        Err(_) => complain(&rt, "command line", "it isn't text", BAD_COMMAND_LINE),
+    };
+    ExitCode::from(status)
+}
