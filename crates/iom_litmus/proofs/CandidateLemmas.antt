@@ -1,5 +1,6 @@
 -- That all steps which can be taken are among the candidates.
-use Rattle.std.proofs.Common.{◌≡◌, ◌⊎◌, inl, inr, ℕ, ◌+◌, ◌<◌, ◌≤◌, List, [], ◌∷◌, ◌++◌, Option, Some, None, MatchOption, length, take, get_or, refl, sym, ap, ◌∙◌, subst, arith, below_more}
+use Rattle.std.proofs.Common.{◌≡◌, ◌⊎◌, inl, inr, ℕ, ◌+◌, ◌<◌, ◌≤◌, List, [], ◌∷◌, ◌++◌, Option, Some, None, is_some, IsTrue, length, take, get_or, refl, sym, ap, ◌∙◌, subst, arith, below_more}
+use Rattle.std.proofs.lemmas.Bool.{false≢true}
 use Rattle.std.proofs.lemmas.Option.{slice_get_cases}
 use Rattle.std.specs.List.{slice_get}
 use Rattle.iom_litmus_test.specs.declared.test.Test.{Test}
@@ -8,13 +9,11 @@ use Rattle.iom_litmus.specs.declared.step.HardwareStep.{HardwareStep}
 use Rattle.iom_litmus.specs.declared.step.HardwareStep.TheVariants as Acts
 use Rattle.iom_litmus.specs.declared.step.Step.{Step}
 use Rattle.iom_litmus.specs.declared.step.Step.TheVariants as Steps
-use Rattle.iom_litmus.specs.Behaviours.{Behaviour}
-use Rattle.iom_litmus.specs.Candidates.{ListsColumns, ListsDeviceSteps, ListsMessageSteps, ListsCandidates}
+use Rattle.iom_litmus.specs.Readings.{Readings}
+use Rattle.iom_litmus.specs.Candidates.{ListsColumns, ListsDeviceSteps, ListsMessageSteps, ListsCandidates, ListsOnce, PutsOnce, CanTry}
 use Rattle.iom_litmus.specs.Happenings.{next_cell, first_from, cells_of, cells_in}
-use Rattle.iom_litmus.specs.Listed.{IsListed, KeepsListed}
-use Rattle.iom_litmus.specs.Steps.{CanStep, IsAnsweredLike}
-use Rattle.iom_litmus.specs.Replies.{reply_to_cell}
-use Rattle.iom_litmus.proofs.ListedLemmas.{IsListed-push, pushed_is_listed, KeepsListed-push, more_taken_cases}
+use Rattle.iom_litmus.specs.Listed.{IsListed, AreListedOnce, KeepsListed}
+use Rattle.iom_litmus.proofs.ListedLemmas.{IsListed-push, pushed_is_listed, KeepsListed-push, more_taken_cases, AreListedOnce-push, none_is_taken, all_are_taken}
 
 pub columns_more : (old new : List Step) (k : ℕ) → ListsColumns k old → new ≡ old ++ Steps.Column k ∷ [] → ListsColumns (k + 1) new
 columns_more old new k lists is =
@@ -45,22 +44,55 @@ messages_more old one two new k lists first second third =
     (later _ (pushed_is_listed old one _ first), KeepsListed-push two two new _ (λ x there. there) third _ (pushed_is_listed one two _ second), pushed_is_listed two new _ third)
 
 -- a column that isn't there has no next cell
-pub next_is_within : {S : Type 0} (b : Behaviour S) (test : Test) (place : Place S) (column : ℕ) → CanStep b test place (Steps.Column column) → column < length test.columns
-next_is_within b test place column can = by (slice_get_cases test.columns column).1
+pub next_is_within : {S : Type 0} (r : Readings S) (test : Test) (place : Place S) (column : ℕ) → CanTry r test place (Steps.Column column) → column < length test.columns
+next_is_within r test place column can = by (slice_get_cases test.columns column).1
   where
     by : ((x : _) × (column < length test.columns) × (slice_get test.columns column ≡ Some x) × (get_or test.columns column x ≡ x)) ⊎ ((length test.columns ≤ column) × (slice_get test.columns column ≡ None))
         → column < length test.columns
     by (inl (x, within, _, _)) = within
-    by (inr (_, none)) = absurd (subst (λ o. MatchOption (first_from place.happened column 0 (cells_in o)) ⊥ (λ (_, cell). IsAnsweredLike cell.awaited (reply_to_cell b place.system cell).text)) none can)
+    by (inr (_, none)) = absurd (false≢true (subst (λ o. IsTrue (is_some (first_from place.happened column 0 (cells_in o)))) none can))
 
-pub candidates_are_enough : {S : Type 0} (b : Behaviour S) (test : Test) (place : Place S) (steps : List Step)
+pub candidates_are_enough : {S : Type 0} (r : Readings S) (test : Test) (place : Place S) (steps : List Step)
     → ListsColumns (length test.columns) steps → IsListed steps (Steps.Hardware Acts.Fetch) → IsListed steps (Steps.Hardware Acts.Timeout)
-    → ListsDeviceSteps (b.devices place.system) steps → ListsMessageSteps (b.messages place.system) steps → ListsCandidates b test place steps
-candidates_are_enough b test place steps columns fetch timeout devices messages (Steps.Column column) can = columns column (next_is_within b test place column can)
-candidates_are_enough b test place steps columns fetch timeout devices messages (Steps.Hardware Acts.Fetch) can = fetch
-candidates_are_enough b test place steps columns fetch timeout devices messages (Steps.Hardware Acts.Timeout) can = timeout
-candidates_are_enough b test place steps columns fetch timeout devices messages (Steps.Hardware (Acts.Commit device)) (_, there, _) = (devices device there).0
-candidates_are_enough b test place steps columns fetch timeout devices messages (Steps.Hardware (Acts.Load device)) (_, there, _) = (devices device there).1
-candidates_are_enough b test place steps columns fetch timeout devices messages (Steps.Hardware (Acts.Deliver message)) (_, within, _, _) = (messages message within).0
-candidates_are_enough b test place steps columns fetch timeout devices messages (Steps.Hardware (Acts.Drop message)) (within, _) = (messages message within).1
-candidates_are_enough b test place steps columns fetch timeout devices messages (Steps.Hardware (Acts.Repeat message)) (within, _) = (messages message within).2
+    → ListsDeviceSteps (r.devices place.system) steps → ListsMessageSteps (r.messages place.system) steps → ListsCandidates r test place steps
+candidates_are_enough r test place steps columns fetch timeout devices messages (Steps.Column column) can = columns column (next_is_within r test place column can)
+candidates_are_enough r test place steps columns fetch timeout devices messages (Steps.Hardware Acts.Fetch) can = fetch
+candidates_are_enough r test place steps columns fetch timeout devices messages (Steps.Hardware Acts.Timeout) can = timeout
+candidates_are_enough r test place steps columns fetch timeout devices messages (Steps.Hardware (Acts.Commit device)) (_, there, _) = (devices device there).0
+candidates_are_enough r test place steps columns fetch timeout devices messages (Steps.Hardware (Acts.Load device)) (_, there, _) = (devices device there).1
+candidates_are_enough r test place steps columns fetch timeout devices messages (Steps.Hardware (Acts.Deliver message)) (_, within, _, _) = (messages message within).0
+candidates_are_enough r test place steps columns fetch timeout devices messages (Steps.Hardware (Acts.Drop message)) (within, _) = (messages message within).1
+candidates_are_enough r test place steps columns fetch timeout devices messages (Steps.Hardware (Acts.Repeat message)) (within, _) = (messages message within).2
+
+-- each once
+pub once_none : (steps : List Step) → ListsOnce (take 0 steps) []
+once_none steps = record { once = tt; all = λ step listed. absurd (none_is_taken steps step listed) }
+
+pub once_more : (steps once new : List Step) (k : ℕ) (d : Step) → ListsOnce (take k steps) once → k < length steps → (¬ IsListed once (get_or steps k d)) → new ≡ once ++ get_or steps k d ∷ []
+    → ListsOnce (take (k + 1) steps) new
+once_more steps once new k d lists within apart is = subst (λ xs. ListsOnce (take (k + 1) steps) xs) (sym is) (record {
+  once = AreListedOnce-push once (get_or steps k d) lists.once apart;
+  all = λ step listed. elim (more_taken_cases steps k d step within listed) [
+    | inl there ↦ IsListed-push once (get_or steps k d) step (lists.all step there)
+    | inr same ↦ subst (λ x. IsListed (once ++ get_or steps k d ∷ []) x) same (pushed_is_listed once (once ++ get_or steps k d ∷ []) (get_or steps k d) refl)
+  ];
+})
+
+pub once_same : (steps once : List Step) (k : ℕ) (d : Step) → ListsOnce (take k steps) once → k < length steps → IsListed once (get_or steps k d) → ListsOnce (take (k + 1) steps) once
+once_same steps once k d lists within there = record {
+  once = lists.once;
+  all = λ step listed. elim (more_taken_cases steps k d step within listed) [
+    | inl earlier ↦ lists.all step earlier
+    | inr same ↦ subst (λ x. IsListed once x) same there
+  ];
+}
+
+pub once_all : (steps once : List Step) (n : ℕ) → n ≡ length steps → ListsOnce (take n steps) once → ListsOnce steps once
+once_all steps once n is lists = record {
+  once = lists.once;
+  all = λ step listed. lists.all step (subst (λ k. IsListed (take k steps) step) (sym is) (all_are_taken steps step listed));
+}
+
+pub once_next : (steps once new : List Step) (k : ℕ) (d : Step) → ListsOnce (take k steps) once → k < length steps → PutsOnce (get_or steps k d) once new → ListsOnce (take (k + 1) steps) new
+once_next steps once new k d lists within (inl (apart, is)) = once_more steps once new k d lists within apart is
+once_next steps once new k d lists within (inr (there, is)) = subst (λ xs. ListsOnce (take (k + 1) steps) xs) (sym is) (once_same steps once k d lists within there)

@@ -1,7 +1,9 @@
-pub mod WheelLemmas
 pub mod ListedLemmas
 pub mod CandidateLemmas
-pub mod SearchLemmas
-pub mod HistogramLemmas
-pub mod ExploreLemmas
 pub mod QuestionLemmas
+pub mod AlikeLemmas
+pub mod ExpandLemmas
+pub mod ExploreLemmas
+pub mod AroundLemmas
+pub mod TallyLemmas
+pub mod TryLemmas

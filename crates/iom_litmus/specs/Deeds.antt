@@ -28,3 +28,37 @@ is_repeat _ = false
 abbrev pub is_timeout : Deed → Bool
 is_timeout (Deeds.Hardware Acts.Timeout) = true
 is_timeout _ = false
+
+-- the same deed, by the numbers of its parts
+abbrev pub act_kind : HardwareStep → ℕ
+act_kind Acts.Fetch = 1
+act_kind (Acts.Commit _) = 2
+act_kind (Acts.Load _) = 3
+act_kind (Acts.Deliver _) = 4
+act_kind (Acts.Drop _) = 5
+act_kind (Acts.Repeat _) = 6
+act_kind Acts.Timeout = 7
+
+abbrev pub act_of_what : HardwareStep → ℕ
+act_of_what Acts.Fetch = 0
+act_of_what (Acts.Commit device) = device
+act_of_what (Acts.Load device) = device
+act_of_what (Acts.Deliver message) = message
+act_of_what (Acts.Drop message) = message
+act_of_what (Acts.Repeat message) = message
+act_of_what Acts.Timeout = 0
+
+abbrev pub deed_kind : Deed → ℕ
+deed_kind (Deeds.Cell spot) = 0
+deed_kind (Deeds.Hardware act) = act_kind act
+
+abbrev pub deed_of_what : Deed → ℕ
+deed_of_what (Deeds.Cell spot) = spot.column
+deed_of_what (Deeds.Hardware act) = act_of_what act
+
+abbrev pub deed_cell : Deed → ℕ
+deed_cell (Deeds.Cell spot) = spot.cell
+deed_cell (Deeds.Hardware act) = 0
+
+abbrev pub is_deed : Deed → Deed → Bool
+is_deed one other = (deed_kind one == deed_kind other) && ((deed_of_what one == deed_of_what other) && (deed_cell one == deed_cell other))

@@ -1,6 +1,7 @@
 pub mod Listed
 pub mod Schedules
-pub mod Wheels
+pub mod Readings
+pub mod Rules
 pub mod Behaviours
 pub mod Deeds
 pub mod Happenings
@@ -8,6 +9,9 @@ pub mod Replies
 pub mod Steps
 pub mod Candidates
 pub mod Seen
-pub mod Searches
+pub mod Alike
+pub mod Graphs
 pub mod Histograms
+pub mod Tallies
+pub mod Searches
 pub mod Questions

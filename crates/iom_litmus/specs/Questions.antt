@@ -8,19 +8,20 @@ use Rattle.iom_litmus_test.specs.Propositions.{HoldsOfOutcome}
 use Rattle.iom_litmus.specs.declared.histogram.Row.{Row}
 use Rattle.iom_litmus.specs.declared.step.Step.{Step}
 use Rattle.iom_litmus.specs.Behaviours.{Behaviour}
+use Rattle.iom_litmus.specs.Readings.{Readings}
 use Rattle.iom_litmus.specs.Listed.{IsListed}
 use Rattle.iom_litmus.specs.Seen.{outcome_after}
 use Rattle.iom_litmus.specs.Steps.{IsScheduleOf}
 
 -- it holds of some schedule, of none, of each
-abbrev pub IsSoAs : {S : Type 0} → Behaviour S → Test → S → QuestionKind → Proposition → Type 0
-IsSoAs b test system Kinds.Exists asked = (schedule : List Step) × IsScheduleOf b test system schedule × HoldsOfOutcome asked (outcome_after b test system schedule)
-IsSoAs b test system Kinds.NotExists asked = (schedule : List Step) → IsScheduleOf b test system schedule → ¬ HoldsOfOutcome asked (outcome_after b test system schedule)
-IsSoAs b test system Kinds.ForAll asked = (schedule : List Step) → IsScheduleOf b test system schedule → HoldsOfOutcome asked (outcome_after b test system schedule)
+abbrev pub IsSoAs : {S : Type 0} → Readings S → Behaviour S → Test → S → QuestionKind → Proposition → Type 0
+IsSoAs r b test system Kinds.Exists asked = (schedule : List Step) × IsScheduleOf r b test system schedule × HoldsOfOutcome asked (outcome_after r b test system schedule)
+IsSoAs r b test system Kinds.NotExists asked = (schedule : List Step) → IsScheduleOf r b test system schedule → ¬ HoldsOfOutcome asked (outcome_after r b test system schedule)
+IsSoAs r b test system Kinds.ForAll asked = (schedule : List Step) → IsScheduleOf r b test system schedule → HoldsOfOutcome asked (outcome_after r b test system schedule)
 
 -- the question is answered as the test says
-abbrev pub IsValidated : {S : Type 0} → Behaviour S → Test → S → Type 0
-IsValidated b test system = IsSoAs b test system test.question.kind test.question.proposition
+abbrev pub IsValidated : {S : Type 0} → Readings S → Behaviour S → Test → S → Type 0
+IsValidated r b test system = IsSoAs r b test system test.question.kind test.question.proposition
 
 -- of rows
 abbrev pub HoldsOfSome : List Row → Proposition → Type 0

@@ -1,5 +1,5 @@
 -- What a test sees at the end of a schedule.
-use Rattle.std.specs.Prelude.{◌≡◌, ℕ, ◌+◌, Bool, true, false, ◌==◌, ◌&&◌, List, [], ◌∷◌, Option, Some, None, map, is_some, position, drop}
+use Rattle.std.specs.Prelude.{◌≡◌, ℕ, Bool, true, false, ◌==◌, ◌&&◌, List, [], ◌∷◌, Option, Some, None, map, is_some, cond}
 use Rattle.std.specs.List.{list_any}
 use Rattle.iom_base.specs.declared.access.AccessKind.{AccessKind}
 use Rattle.iom_base.specs.declared.access.AccessKind.TheVariants as Kinds
@@ -15,17 +15,15 @@ use Rattle.iom_litmus.specs.declared.place.Happened.{Happened}
 use Rattle.iom_litmus.specs.declared.place.Place.{Place}
 use Rattle.iom_litmus.specs.declared.step.Step.{Step}
 use Rattle.iom_litmus.specs.Behaviours.{Behaviour}
+use Rattle.iom_litmus.specs.Readings.{Readings}
 use Rattle.iom_litmus.specs.Deeds.{is_run_of}
 use Rattle.iom_litmus.specs.Happenings.{answer_to, next_cell}
 use Rattle.iom_litmus.specs.Steps.{place_after}
 
 -- what happened after the cell was run: nothing where it wasn't
-abbrev pub behind : Option ℕ → List Happened → List Happened
-behind None happened = []
-behind (Some place) happened = drop (place + 1) happened
-
 abbrev pub after_run : Spot → List Happened → List Happened
-after_run spot happened = behind (position (λ event. is_run_of spot event.deed) happened) happened
+after_run spot [] = []
+after_run spot (event ∷ rest) = cond (is_run_of spot event.deed) rest (after_run spot rest)
 
 abbrev pub after_any : Option Spot → List Happened → List Happened
 after_any None happened = happened
@@ -61,18 +59,18 @@ abbrev pub is_any_violated : List Happened → Bool
 is_any_violated happened = list_any (λ event. event.reply.violated) happened
 
 -- what is seen of one thing that the test looks at
-abbrev pub seen_of : {S : Type 0} → Behaviour S → Test → Place S → Observable → Value
-seen_of b test end (Answer spot) = Text (answer_to spot end.happened)
-seen_of b test end (Touched reach) = Truth (is_touched reach end.happened)
-seen_of b test end (Before first then) = Truth (is_before first then end.happened)
-seen_of b test end (Stuck column) = Truth (is_some (next_cell test end.happened column))
-seen_of b test end Wrong = Truth (is_any_wrong end.happened)
-seen_of b test end Violated = Truth (is_any_violated end.happened)
-seen_of b test end (Memory address length) = Text (b.memory end.system address length)
+abbrev pub seen_of : {S : Type 0} → Readings S → Test → Place S → Observable → Value
+seen_of r test end (Answer spot) = Text (answer_to spot end.happened)
+seen_of r test end (Touched reach) = Truth (is_touched reach end.happened)
+seen_of r test end (Before first then) = Truth (is_before first then end.happened)
+seen_of r test end (Stuck column) = Truth (is_some (next_cell test end.happened column))
+seen_of r test end Wrong = Truth (is_any_wrong end.happened)
+seen_of r test end Violated = Truth (is_any_violated end.happened)
+seen_of r test end (Memory address length) = Text (r.memory end.system address length)
 
-abbrev pub seen_at : {S : Type 0} → Behaviour S → Test → Place S → List Value
-seen_at b test end = map (seen_of b test end) test.observables
+abbrev pub seen_at : {S : Type 0} → Readings S → Test → Place S → List Value
+seen_at r test end = map (seen_of r test end) test.observables
 
 -- the outcome of a schedule
-abbrev pub outcome_after : {S : Type 0} → Behaviour S → Test → S → List Step → List Value
-outcome_after b test system schedule = seen_at b test (place_after b test system schedule)
+abbrev pub outcome_after : {S : Type 0} → Readings S → Behaviour S → Test → S → List Step → List Value
+outcome_after r b test system schedule = seen_at r test (place_after b test system schedule)

@@ -1,8 +1,9 @@
 //! The steps among which those are that can be taken.
 ghost use Rattle.std.specs.Prelude.{◌≡◌, ℕ, ◌<◌, length, IfOk, OnOk};
 ghost use Rattle.iom_litmus.specs.Listed.{IsListed, KeepsListed};
-ghost use Rattle.iom_litmus.specs.Candidates.{ListsColumns, ListsDeviceSteps, ListsMessageSteps, ListsCandidates};
+ghost use Rattle.iom_litmus.specs.Candidates.{ListsColumns, ListsDeviceSteps, ListsMessageSteps, ListsCandidates, ListsOnce, PutsOnce};
 
+use crate::listed::is_step_among;
 use crate::place::Place;
 use crate::step::{HardwareStep, Step};
 use crate::system::System;
@@ -49,7 +50,7 @@ pub(crate) fn candidates<S: System>(
     test: &Test,
     place: &Place<S>,
 ) -> Result<Sequence<Step>, AllocError>
-    ensures { IfOk result (ListsCandidates S.behaviour test.now place.now) }
+    ensures { IfOk result (ListsCandidates S.readings test.now place.now) }
 {
     let mut steps = Sequence::new(alloc);
     add_columns(&mut steps, test.columns.as_slice().len())?;
@@ -58,4 +59,26 @@ pub(crate) fn candidates<S: System>(
     add_device_steps(&mut steps, place.system.devices())?;
     add_message_steps(&mut steps, place.system.messages())?;
     Ok(steps)
+}
+
+/// Puts the step behind the others where it isn't there.
+fn put_once(once: &mut Sequence<Step>, step: Step) -> Result<(), AllocError>
+    ensures { OnOk result (PutsOnce step once.old once.new) }
+{
+    if is_step_among(once.as_slice(), step) {
+        return Ok(());
+    }
+    once.push(step)?;
+    Ok(())
+}
+
+/// The same steps, each once: a device may be there twice.
+pub(crate) fn each_once(alloc: Global, steps: &[Step]) -> Result<Sequence<Step>, AllocError>
+    ensures { IfOk result (λ new. ListsOnce steps.now new) }
+{
+    let mut once = Sequence::new(alloc);
+    for step in steps {
+        put_once(&mut once, *step)?;
+    }
+    Ok(once)
 }

@@ -7,11 +7,14 @@ use std::alloc::AllocError;
 /// Why a search ended before all was gone through.
 #[derive(Clone, Copy, PartialEq, Eq, Debug)]
 pub enum SearchFault {
+    /// Memory was refused. That is also answered where a system, made anew and brought the same way, isn't the same.
     Memory,
-    /// There are more schedules than it may go through.
+    /// There are more places than it may find.
     TooMany,
-    /// A schedule has more steps than it may have.
-    TooLong,
+    /// There are more schedules than can be counted: 2^64 or more.
+    TooManySchedules,
+    /// Steps can be taken for ever: some lead back to a place from which they began.
+    Endless,
 }
 
 impl From<AllocError> for SearchFault {

@@ -15,7 +15,7 @@ pub(crate) struct NextCell<'a> {
 }
 
 /// What happened as the cell was run.
-fn run_of(happened: &[Happened], spot: Spot) -> Option<&Happened>
+pub(crate) fn run_of(happened: &[Happened], spot: Spot) -> Option<&Happened>
     ensures { option_map (λ event. event.now) result ≡ find (λ event. is_run_of spot event.deed) happened.now }
 {
     happened.iter().find(|event| event.deed.is_run_of(spot))
@@ -47,7 +47,7 @@ fn goes_ahead(happened: &[Happened], column: usize, condition: &Option<Condition
 }
 
 /// Whether the cell at this place of the column was run, or one behind it.
-fn is_passed(happened: &[Happened], column: usize, cell: usize) -> bool
+pub(crate) fn is_passed(happened: &[Happened], column: usize, cell: usize) -> bool
     ensures { result ≡ is_passed happened.now column cell }
 {
     happened
@@ -55,7 +55,7 @@ fn is_passed(happened: &[Happened], column: usize, cell: usize) -> bool
         .any(|event| event.deed.is_passed_by(column, cell))
 }
 
-fn cells_of(test: &Test, column: usize) -> &[Cell]
+pub(crate) fn cells_of(test: &Test, column: usize) -> &[Cell]
     ensures { result.now ≡ cells_of test.now column }
 {
     match test.columns.as_slice().get(column) {

@@ -4,19 +4,25 @@
 //! that can't go on: `specs/Steps.antt` says which steps can be taken at a place and where they lead, apart from the
 //! search, and `specs/Seen.antt` what the outcome of a schedule is.
 //!
-//! The layer above may rely on this: [`Search::explore`] gives the histogram of all schedules, in which each row's
-//! count is the number of schedules with its outcome, and gives up only where there are too many or one is too long;
+//! Places that are equal are gone on from once, and schedules are counted by adding up over the steps between them.
+//!
+//! The layer above may rely on this: [`Search::explore`] gives the histogram of all schedules by a behaviour that the
+//! system may have, in which each row's count is the number of schedules with its outcome;
 //! [`Search::is_validated`] tells by it whether the test's question is answered as the test says;
 //! [`Search::replay`] runs a schedule once more.
 #![tactic(auto)]
 
+mod alike;
 mod candidates;
 mod fault;
+mod fingerprint;
+mod graph;
 mod happenings;
 mod histogram;
 mod listed;
-mod odometer;
+mod node;
 mod place;
+mod places;
 mod question;
 mod reply;
 mod search;
@@ -24,6 +30,7 @@ mod seen;
 mod step;
 mod system;
 mod taking;
+mod tally;
 
 pub use fault::SearchFault;
 pub use histogram::{Histogram, Row};

@@ -1,5 +1,6 @@
 //! Whether a test's question is answered as the test says.
 ghost use Rattle.std.specs.Prelude.{◌↔◌, IsTrue};
+ghost use Rattle.iom_litmus.specs.Behaviours.{Behaviour};
 ghost use Rattle.iom_litmus.specs.Histograms.{IsHistogram};
 ghost use Rattle.iom_litmus.specs.Questions.{IsValidated, HoldsOfSome, HoldsOfEach};
 
@@ -31,16 +32,17 @@ fn holds_of_each(rows: &[Row], asked: &Proposition) -> bool
 }
 
 impl<S: System> Search<'_, S> {
-    /// Whether the question is answered as the test says, by the histogram of all schedules.
+    /// Whether the question is answered as the test says, by a histogram of all schedules.
     pub fn is_validated(&self, histogram: &Histogram) -> bool
-        requires { IsHistogram S.behaviour self.now.test.now (S.opened self.now.opening.now) histogram.now }
-        ensures { IsTrue result ↔ IsValidated S.behaviour self.now.test.now (S.opened self.now.opening.now) }
+        ensures { (b : Behaviour S) (system : S) → IsHistogram S.readings b self.now.test.now system histogram.now.rows
+            → IsTrue result ↔ IsValidated S.readings b self.now.test.now system }
     {
         let asked = &self.test.question.proposition;
+        let rows = histogram.rows.as_slice();
         match self.test.question.kind {
-            QuestionKind::Exists => holds_of_some(histogram.rows(), asked),
-            QuestionKind::NotExists => !holds_of_some(histogram.rows(), asked),
-            QuestionKind::ForAll => holds_of_each(histogram.rows(), asked),
+            QuestionKind::Exists => holds_of_some(rows, asked),
+            QuestionKind::NotExists => !holds_of_some(rows, asked),
+            QuestionKind::ForAll => holds_of_each(rows, asked),
         }
     }
 }

@@ -1,8 +1,7 @@
 //! What a test sees of a schedule.
-ghost use Rattle.std.specs.Prelude.{◌≡◌, ◌<◌, length, position, IfOk, IfSome};
+ghost use Rattle.std.specs.Prelude.{◌≡◌, IfOk};
 ghost use Rattle.iom_litmus.specs.Seen.{after_run, after_any, is_kind, is_reach, touches};
 ghost use Rattle.iom_litmus.specs.Seen.{is_touched, is_before, is_any_wrong, is_any_violated, seen_of, seen_at};
-ghost use Rattle.iom_litmus.specs.Deeds.{is_run_of};
 
 use crate::happenings::{answer_to, next_cell};
 use crate::place::{Happened, Place};
@@ -11,22 +10,16 @@ use iom_base::{AccessKind, Sequence};
 use iom_litmus_test::{Observable, Reach, Spot, Test, Touch, Value};
 use std::alloc::{AllocError, Global};
 
-/// At which place of what happened the cell was run.
-fn place_of_run(happened: &[Happened], spot: Spot) -> Option<usize>
-    ensures place { result ≡ position (λ event. is_run_of spot event.deed) happened.now }
-    ensures within { IfSome result (λ place. place < length happened.now) }
-{
-    happened.iter().position(|event| event.deed.is_run_of(spot))
-}
-
 /// What happened after the cell was run: nothing where it wasn't.
 fn after_run(happened: &[Happened], spot: Spot) -> &[Happened]
     ensures { result.now ≡ after_run spot happened.now }
 {
-    match place_of_run(happened, spot) {
-        Some(place) => &happened[place + 1..],
-        None => &[],
+    for (place, event) in happened.iter().enumerate() {
+        if event.deed.is_run_of(spot) {
+            return &happened[place + 1..];
+        }
     }
+    &[]
 }
 
 fn after_any(happened: &[Happened], spot: Option<Spot>) -> &[Happened]
@@ -67,7 +60,7 @@ fn touches(event: &Happened, reach: Reach) -> bool
         .any(|touch| is_reach(reach, touch))
 }
 
-fn is_touched(happened: &[Happened], reach: Reach) -> bool
+pub(crate) fn is_touched(happened: &[Happened], reach: Reach) -> bool
     ensures { result ≡ is_touched reach happened.now }
 {
     after_any(happened, reach.after)
@@ -75,7 +68,7 @@ fn is_touched(happened: &[Happened], reach: Reach) -> bool
         .any(|event| touches(event, reach))
 }
 
-fn is_before(happened: &[Happened], first: Spot, then: Spot) -> bool
+pub(crate) fn is_before(happened: &[Happened], first: Spot, then: Spot) -> bool
     ensures { result ≡ is_before first then happened.now }
 {
     after_run(happened, first)
@@ -83,20 +76,20 @@ fn is_before(happened: &[Happened], first: Spot, then: Spot) -> bool
         .any(|event| event.deed.is_run_of(then))
 }
 
-fn is_any_wrong(happened: &[Happened]) -> bool
+pub(crate) fn is_any_wrong(happened: &[Happened]) -> bool
     ensures { result ≡ is_any_wrong happened.now }
 {
     happened.iter().any(|event| event.reply.wrong)
 }
 
-fn is_any_violated(happened: &[Happened]) -> bool
+pub(crate) fn is_any_violated(happened: &[Happened]) -> bool
     ensures { result ≡ is_any_violated happened.now }
 {
     happened.iter().any(|event| event.reply.violated)
 }
 
 /// A copy of the text.
-fn copied(alloc: Global, text: &[u8]) -> Result<Sequence<u8>, AllocError>
+pub(crate) fn copied(alloc: Global, text: &[u8]) -> Result<Sequence<u8>, AllocError>
     ensures { IfOk result (λ copy. copy ≡ text.now) }
 {
     Ok(Sequence::from_vec(Vec::from_slice(alloc, text)?))
@@ -110,7 +103,7 @@ impl<S: System> Place<S> {
         test: &Test,
         observable: Observable,
     ) -> Result<Value, AllocError>
-        ensures { IfOk result (λ value. value ≡ seen_of S.behaviour test.now self.now observable) }
+        ensures { IfOk result (λ value. value ≡ seen_of S.readings test.now self.now observable) }
     {
         let happened = self.happened.as_slice();
         match observable {
@@ -132,7 +125,7 @@ impl<S: System> Place<S> {
 
     /// The outcome, of a schedule that ends here.
     pub(crate) fn outcome(&self, alloc: Global, test: &Test) -> Result<Sequence<Value>, AllocError>
-        ensures { IfOk result (λ values. values ≡ seen_at S.behaviour test.now self.now) }
+        ensures { IfOk result (λ values. values ≡ seen_at S.readings test.now self.now) }
     {
         let mut values = Sequence::new(alloc);
         for observable in test.observables.as_slice() {

@@ -1,8 +1,10 @@
-//! Which steps can be taken at a place, as far as the place alone tells, and where they lead.
+//! Which steps can be taken at a place, and where they lead.
 ghost use Rattle.std.specs.Prelude.{◌≡◌, ◌↔◌, ℕ, ◌<◌, false, IsTrue, IfOk, OnOk};
-ghost use Rattle.iom_litmus.specs.Replies.{system_after, reply_to_lines, no_reply};
+ghost use Rattle.iom_litmus.specs.Candidates.{CanTry};
+ghost use Rattle.iom_litmus.specs.Graphs.{WasTried};
+ghost use Rattle.iom_litmus.specs.Replies.{RunsLines, no_reply};
 ghost use Rattle.iom_litmus.specs.Steps.{CanAct, CanCommit, CanLoad, CanDeliver, CanDrop};
-ghost use Rattle.iom_litmus.specs.Steps.{CanRepeat, CanTimeOut, IsFirstSuch, taken, acted, opening_place};
+ghost use Rattle.iom_litmus.specs.Steps.{CanRepeat, CanTimeOut, IsFirstSuch, IsAnsweredLike, opening_place};
 ghost use Rattle.iom_litmus.specs.declared.step.Step.TheVariants as Steps;
 
 use crate::happenings::{drops, next_cell, repeats, timeouts};
@@ -12,17 +14,16 @@ use crate::reply::Reply;
 use crate::step::{HardwareStep, Step};
 use crate::system::System;
 use iom_base::{DeviceId, Sequence};
-use iom_litmus_test::{Spot, Test};
+use iom_litmus_test::{Glob, Spot, Test};
 use std::alloc::{AllocError, Global};
 
 /// Runs lines, one after another.
-pub(crate) fn run_lines<S: System>(
+fn run_lines<S: System>(
     alloc: Global,
     system: &mut S,
     lines: &[Sequence<u8>],
 ) -> Result<Reply, AllocError>
-    ensures left { OnOk result (system.new ≡ system_after S.behaviour system.old lines.now) }
-    ensures reply { IfOk result (λ reply. reply ≡ reply_to_lines S.behaviour system.old no_reply lines.now) }
+    ensures { IfOk result (λ reply. RunsLines S.rules system.old no_reply lines.now reply system.new) }
 {
     let mut reply = Reply::none(alloc);
     for line in lines {
@@ -32,10 +33,20 @@ pub(crate) fn run_lines<S: System>(
     Ok(reply)
 }
 
+/// Whether an answer is like the one that is awaited.
+fn is_answered(awaited: &Option<Glob>, text: &[u8]) -> bool
+    ensures { IsTrue result ↔ IsAnsweredLike awaited.now text.now }
+{
+    match awaited {
+        Some(glob) => glob.matches(text),
+        None => true,
+    }
+}
+
 impl<S: System> Place<S> {
     /// The place from which a test begins, with a system made anew.
     pub(crate) fn opening(alloc: Global, opening: &S::Opening) -> Result<Place<S>, AllocError>
-        ensures { IfOk result (λ place. place ≡ opening_place (S.opened opening.now)) }
+        ensures { IfOk result (λ place. (system : S) × S.opens opening.now system × (place ≡ opening_place system)) }
     {
         let system = S::new(alloc, opening)?;
         Ok(Place {
@@ -44,45 +55,76 @@ impl<S: System> Place<S> {
         })
     }
 
-    /// Goes on by one step.
-    pub(crate) fn take(&mut self, alloc: Global, test: &Test, step: Step) -> Result<(), AllocError>
-        ensures { OnOk result (self.new ≡ taken S.behaviour test.now self.old step) }
+    /// Whether the step can be tried here: the column has a next cell, or hardware can do this.
+    pub(crate) fn can_try(&self, test: &Test, step: Step) -> bool
+        ensures { IsTrue result ↔ CanTry S.readings test.now self.now step }
     {
         match step {
-            Step::Column(column) => self.run_next(alloc, test, column),
-            Step::Hardware(act) => self.act(alloc, act),
+            Step::Column(column) => next_cell(test, self.happened.as_slice(), column).is_some(),
+            Step::Hardware(act) => self.can_act(test, act),
         }
     }
 
-    fn run_next(&mut self, alloc: Global, test: &Test, column: usize) -> Result<(), AllocError>
-        ensures { OnOk result (self.new ≡ taken S.behaviour test.now self.old (Steps.Column column)) }
+    /// Where the step leads. None where it can't be taken; the system may have been changed then.
+    pub(crate) fn after(
+        self,
+        alloc: Global,
+        test: &Test,
+        step: Step,
+    ) -> Result<Option<Place<S>>, AllocError>
+        ensures { IfOk result (WasTried S.rules S.readings test.now self step) }
+    {
+        match step {
+            Step::Column(column) => self.after_next(alloc, test, column),
+            Step::Hardware(act) => self.after_act(alloc, test, act),
+        }
+    }
+
+    fn after_next(
+        mut self,
+        alloc: Global,
+        test: &Test,
+        column: usize,
+    ) -> Result<Option<Place<S>>, AllocError>
+        ensures { IfOk result (WasTried S.rules S.readings test.now self (Steps.Column column)) }
     {
         let Some(next) = next_cell(test, self.happened.as_slice(), column) else {
-            return Ok(());
+            return Ok(None);
         };
         let reply = run_lines(alloc, &mut self.system, next.cell.lines.as_slice())?;
+        if !is_answered(&next.cell.awaited, reply.text.as_slice()) {
+            return Ok(None);
+        }
         let cell = next.place;
         self.happened.push(Happened {
             deed: Deed::Cell(Spot { column, cell }),
             reply,
         })?;
-        Ok(())
+        Ok(Some(self))
     }
 
-    fn act(&mut self, alloc: Global, act: HardwareStep) -> Result<(), AllocError>
-        ensures { OnOk result (self.new ≡ acted S.behaviour self.old act) }
+    fn after_act(
+        mut self,
+        alloc: Global,
+        test: &Test,
+        act: HardwareStep,
+    ) -> Result<Option<Place<S>>, AllocError>
+        ensures { IfOk result (WasTried S.rules S.readings test.now self (Steps.Hardware act)) }
     {
+        if !self.can_act(test, act) {
+            return Ok(None);
+        }
         let reply = self.system.act(alloc, act)?;
         self.happened.push(Happened {
             deed: Deed::Hardware(act),
             reply,
         })?;
-        Ok(())
+        Ok(Some(self))
     }
 
     /// Whether hardware can do this here.
     pub(crate) fn can_act(&self, test: &Test, act: HardwareStep) -> bool
-        ensures { IsTrue result ↔ CanAct S.behaviour test.now self.now act }
+        ensures { IsTrue result ↔ CanAct S.readings test.now self.now act }
     {
         match act {
             HardwareStep::Fetch => test.parts.fetch && self.system.fetches(),
@@ -96,7 +138,7 @@ impl<S: System> Place<S> {
     }
 
     fn can_commit(&self, test: &Test, device: DeviceId) -> bool
-        ensures { IsTrue result ↔ CanCommit S.behaviour test.now self.now device }
+        ensures { IsTrue result ↔ CanCommit S.readings test.now self.now device }
     {
         test.parts.commit
             && is_device_among(self.system.devices(), device)
@@ -104,7 +146,7 @@ impl<S: System> Place<S> {
     }
 
     fn can_load(&self, test: &Test, device: DeviceId) -> bool
-        ensures { IsTrue result ↔ CanLoad S.behaviour test.now self.now device }
+        ensures { IsTrue result ↔ CanLoad S.readings test.now self.now device }
     {
         test.parts.load
             && is_device_among(self.system.devices(), device)
@@ -112,7 +154,7 @@ impl<S: System> Place<S> {
     }
 
     fn can_deliver(&self, test: &Test, message: usize) -> bool
-        ensures { IsTrue result ↔ CanDeliver S.behaviour test.now self.now message }
+        ensures { IsTrue result ↔ CanDeliver S.readings test.now self.now message }
     {
         test.parts.deliver
             && message < self.system.messages()
@@ -122,7 +164,7 @@ impl<S: System> Place<S> {
 
     /// Whether no earlier message is equal to this one.
     fn is_first_such(&self, message: usize) -> bool
-        ensures { IsTrue result ↔ IsFirstSuch S.behaviour self.now.system message }
+        ensures { IsTrue result ↔ IsFirstSuch S.readings self.now.system message }
     {
         for earlier in 0..message {
             if self.system.is_same_message(earlier, message) {
@@ -133,21 +175,21 @@ impl<S: System> Place<S> {
     }
 
     fn can_drop(&self, test: &Test, message: usize) -> bool
-        ensures { IsTrue result ↔ CanDrop S.behaviour test.now self.now message }
+        ensures { IsTrue result ↔ CanDrop S.readings test.now self.now message }
     {
         message < self.system.messages()
             && drops(self.happened.as_slice()) < test.budgets.drops as usize
     }
 
     fn can_repeat(&self, test: &Test, message: usize) -> bool
-        ensures { IsTrue result ↔ CanRepeat S.behaviour test.now self.now message }
+        ensures { IsTrue result ↔ CanRepeat S.readings test.now self.now message }
     {
         message < self.system.messages()
             && repeats(self.happened.as_slice()) < test.budgets.repeats as usize
     }
 
     fn can_time_out(&self, test: &Test) -> bool
-        ensures { IsTrue result ↔ CanTimeOut S.behaviour test.now self.now }
+        ensures { IsTrue result ↔ CanTimeOut S.readings test.now self.now }
     {
         self.system.times_out()
             && timeouts(self.happened.as_slice()) < test.budgets.timeouts as usize

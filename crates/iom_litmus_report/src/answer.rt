@@ -1,7 +1,7 @@
 //! The answer to a test, but for its schedule.
 use crate::page::Page;
 use crate::values::append_outcome;
-use iom_litmus::Row;
+use iom_litmus::{Histogram, Row};
 use iom_litmus_test::{QuestionKind, Test};
 use std::alloc::{AllocError, Global};
 
@@ -104,13 +104,25 @@ fn append_verdict(page: &mut Page, test: &Test, verdict: Verdict) -> Result<(), 
     page.text(b"\n")
 }
 
+/// How many places there are, and how many schedules through them.
+fn append_size(page: &mut Page, places: usize, verdict: Verdict) -> Result<(), AllocError> {
+    page.text(b"Places ")?;
+    page.number(places as u64)?;
+    page.text(b", schedules ")?;
+    page.number(verdict.positive.saturating_add(verdict.negative))?;
+    page.text(b"\n")
+}
+
 /// The answer to a test, outcomes with most schedules first.
-pub fn report(alloc: Global, test: &Test, rows: &[Row]) -> Result<Vec<u8>, AllocError> {
+pub fn report(alloc: Global, test: &Test, histogram: &Histogram) -> Result<Vec<u8>, AllocError> {
+    let rows = histogram.rows.as_slice();
     let mut sorted: Vec<&Row> = rows.iter().collect(alloc)?;
     sorted.sort_by_key(|row| u64::MAX - row.count)?;
     let mut page = Page::new(alloc);
     append_head(&mut page, test)?;
     append_histogram(&mut page, test, &sorted)?;
-    append_verdict(&mut page, test, verdict_on(test, rows))?;
+    let verdict = verdict_on(test, rows);
+    append_verdict(&mut page, test, verdict)?;
+    append_size(&mut page, histogram.places, verdict)?;
     Ok(page.bytes)
 }

@@ -1,7 +1,7 @@
 //! A schedule as a script.
 use crate::page::Page;
 use crate::values::append_outcome;
-use iom_litmus::{Deed, HardwareStep, Row, Search, System};
+use iom_litmus::{Deed, HardwareStep, Row, Search, SearchFault, System};
 use iom_litmus_test::{QuestionKind, Spot, Test};
 use std::alloc::AllocError;
 
@@ -66,7 +66,7 @@ fn telling_row<'a>(test: &Test, rows: &'a [Row]) -> Option<&'a Row> {
 pub fn schedule<S: System>(
     search: &Search<'_, S>,
     rows: &[Row],
-) -> Result<Option<Vec<u8>>, AllocError> {
+) -> Result<Option<Vec<u8>>, SearchFault> {
     let Some(row) = telling_row(search.test, rows) else {
         return Ok(None);
     };

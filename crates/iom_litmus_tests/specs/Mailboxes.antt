@@ -1,9 +1,10 @@
 -- The mailbox on which the search is tried.
-use Rattle.std.specs.Prelude.{ℕ, ◌+◌, ◌-◌, Bool, true, false, ◌==◌, nat_lt, List, [], ◌∷◌, cond}
+use Rattle.std.specs.Prelude.{◌≡◌, ℕ, ◌+◌, ◌-◌, Bool, true, false, ◌==◌, nat_lt, List, [], ◌∷◌, cond}
 use Rattle.iom_litmus.specs.declared.reply.Reply.{Reply}
 use Rattle.iom_litmus.specs.declared.step.HardwareStep.{HardwareStep}
 use Rattle.iom_litmus.specs.declared.step.HardwareStep.TheVariants as Acts
-use Rattle.iom_litmus.specs.Behaviours.{Behaviour}
+use Rattle.iom_litmus.specs.Readings.{Readings}
+use Rattle.iom_litmus.specs.Rules.{Rules}
 use Rattle.iom_litmus_tests.specs.declared.mailbox.Mailbox.{Mailbox}
 
 abbrev pub is_sending : List ℕ → Bool
@@ -31,12 +32,15 @@ mailbox_after_act box (Acts.Load _) = box
 mailbox_after_act box (Acts.Repeat _) = box
 mailbox_after_act box Acts.Timeout = box
 
-abbrev pub mailbox_behaviour : Behaviour Mailbox
-mailbox_behaviour = record {
-  after_line = mailbox_after_line;
-  reply_to_line = mailbox_says;
-  after_act = mailbox_after_act;
-  reply_to_act = λ _ _. saying [];
+-- it has one answer to each deed
+abbrev pub mailbox_rules : Rules Mailbox
+mailbox_rules = record {
+  runs = λ box line reply after. (reply ≡ mailbox_says box line) × (after ≡ mailbox_after_line box line);
+  acts = λ box act reply after. (reply ≡ saying []) × (after ≡ mailbox_after_act box act);
+}
+
+abbrev pub mailbox_readings : Readings Mailbox
+mailbox_readings = record {
   fetches = λ _. false;
   devices = λ _. [];
   is_in_flight = λ _ _. false;

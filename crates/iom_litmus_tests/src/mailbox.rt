@@ -1,6 +1,6 @@
 //! A system that is small enough to count its schedules by hand: messages are sent, come or are lost.
-ghost use Rattle.std.specs.Prelude.{◌≡◌, IfOk, OnOk};
-ghost use Rattle.iom_litmus_tests.specs.Mailboxes.{is_sending, saying, mailbox_behaviour, empty_mailbox};
+ghost use Rattle.std.specs.Prelude.{◌≡◌, IfOk};
+ghost use Rattle.iom_litmus_tests.specs.Mailboxes.{is_sending, saying, mailbox_rules, mailbox_readings, empty_mailbox};
 
 use iom_base::{DeviceId, Sequence};
 use iom_litmus::{HardwareStep, Reply, System};
@@ -41,9 +41,11 @@ fn replied(alloc: Global, text: &[u8]) -> Result<Reply, AllocError>
 impl System for Mailbox {
     type Opening = ();
 
-    ghost opened = { λ _. empty_mailbox };
+    ghost opens = { λ _ box. box ≡ empty_mailbox };
 
-    ghost behaviour = { mailbox_behaviour };
+    ghost rules = { mailbox_rules };
+
+    ghost readings = { mailbox_readings };
 
     fn new(_alloc: Global, _opening: &()) -> Result<Mailbox, AllocError> {
         Ok(Mailbox {
@@ -111,5 +113,13 @@ impl System for Mailbox {
         _length: usize,
     ) -> Result<Sequence<u8>, AllocError> {
         Ok(Sequence::new(alloc))
+    }
+
+    fn is_same(&self, other: &Mailbox) -> bool {
+        self.under_way == other.under_way && self.any_came == other.any_came
+    }
+
+    fn fingerprint(&self) -> u64 {
+        self.under_way as u64
     }
 }

@@ -49,6 +49,32 @@ fn column(alloc: Global, only: Cell) -> Result<Column, AllocError> {
     })
 }
 
+/// A column that looks so many times.
+fn looking(alloc: Global, times: usize) -> Result<Column, AllocError> {
+    let mut cells = Sequence::new(alloc);
+    for _ in 0..times {
+        let next = cell(alloc, b"look", None)?;
+        cells.push(next)?;
+    }
+    Ok(Column {
+        name: text(alloc, b"C")?,
+        cells,
+    })
+}
+
+/// A test of two columns that look so many times each, in which nothing is to be seen but that neither is stuck.
+pub(crate) fn long_test(alloc: Global, times: usize) -> Result<Test, AllocError> {
+    let first = looking(alloc, times)?;
+    let second = looking(alloc, times)?;
+    let mut columns = Sequence::new(alloc);
+    columns.push(first)?;
+    columns.push(second)?;
+    let mut observables = Sequence::new(alloc);
+    observables.push(Observable::Stuck { column: 0 })?;
+    observables.push(Observable::Stuck { column: 1 })?;
+    made(alloc, columns, observables, 0)
+}
+
 /// A test of two columns with a cell each, that looks at what the second is answered, and at whether it is stuck.
 pub(crate) fn test(
     alloc: Global,
@@ -62,6 +88,15 @@ pub(crate) fn test(
     let mut observables = Sequence::new(alloc);
     observables.push(Observable::Answer(Spot { column: 1, cell: 0 }))?;
     observables.push(Observable::Stuck { column: 1 })?;
+    made(alloc, columns, observables, drops)
+}
+
+fn made(
+    alloc: Global,
+    columns: Sequence<Column>,
+    observables: Sequence<Observable>,
+    drops: u32,
+) -> Result<Test, AllocError> {
     Ok(Test {
         name: text(alloc, b"mailbox")?,
         title: text(alloc, b"")?,

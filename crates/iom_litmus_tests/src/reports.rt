@@ -19,13 +19,14 @@ exists (stuck READER)
 
 const ANSWER: &[u8] = b"Test mail Allowed
 Histogram (2 states)
-1 :>READER:l=\"came\"; stuck READER=0;
 1 *>READER:l=\"\"; stuck READER=1;
+1 :>READER:l=\"came\"; stuck READER=0;
 Ok
 Witnesses
 Positive: 1 Negative: 1
 Condition exists is validated
 Observation mail Sometimes 1 1
+Places 5, schedules 2
 ";
 
 const SCRIPT: &[u8] = b"# mail: READER:l=\"\"; stuck READER=1;
@@ -50,11 +51,13 @@ fn a_test_is_answered(rt: HostRuntime) -> Result<(), Fail> {
         test: &test,
         opening: &(),
     };
-    let histogram = search.explore(10, 100).expect(&rt, "there are two");
+    let histogram = search.explore(10).expect(&rt, "there are two");
     expect(&rt, search.is_validated(&histogram));
-    let answer = report(alloc, &test, histogram.rows())?;
+    let answer = report(alloc, &test, &histogram)?;
     expect(&rt, answer.as_slice() == ANSWER);
-    let script = schedule(&search, histogram.rows())?.expect(&rt, "one is stuck");
+    let script = schedule(&search, histogram.rows.as_slice())
+        .expect(&rt, "it can be run once more")
+        .expect(&rt, "one is stuck");
     expect(&rt, script.as_slice() == SCRIPT);
     Ok(())
 }

@@ -9,7 +9,7 @@ pub returns : goal.returns
 returns g c =
     let last : KeepsListed c.add_device_steps.new.steps c.add_message_steps.new.steps = c.in_ok-add_message_steps.ensures.keeps in
     let later : KeepsListed c.push-2.new.self c.add_message_steps.new.steps = λ x there. last x (c.in_ok-add_device_steps.ensures.keeps x there) in
-    candidates_are_enough g.S.System.behaviour c.args.test.now c.args.place.now c.add_message_steps.new.steps
+    candidates_are_enough g.S.System.readings c.args.test.now c.args.place.now c.add_message_steps.new.steps
     (λ column below. later _ (KeepsListed-push _ _ _ _ (KeepsListed-push _ _ _ _ (λ x there. there) c.in_ok-push.ensures.ok) c.in_ok-push-2.ensures.ok _
     (subst (λ (columns : _). ListsColumns columns c.add_columns.new.steps) (search rules) c.in_ok-add_columns.ensures.lists column below)))
     (later _ (KeepsListed-push _ _ _ _ (λ x there. there) c.in_ok-push-2.ensures.ok _ (pushed_is_listed _ _ _ c.in_ok-push.ensures.ok)))

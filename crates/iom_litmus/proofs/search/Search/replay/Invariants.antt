@@ -1,9 +1,6 @@
-use Rattle.std.proofs.Common.{◌≡◌, drop}
-use Rattle.iom_litmus.specs.Schedules.{arrived}
-use Rattle.iom_litmus.specs.Steps.{taken, place_after}
+use Rattle.std.proofs.Common.{take}
+use Rattle.iom_litmus.specs.Searches.{ComesTo}
 use Rattle.iom_litmus.proofs.search.Search.replay.Given as goal
 
 abbrev pub invariant-loop-step : goal.invariant-loop-step
-invariant-loop-step g l =
-    arrived (taken g.S.System.behaviour l.self.test.now) l.place (drop l.step-index l.steps)
-    ≡ place_after g.S.System.behaviour l.self.test.now (g.S.System.opened l.self.opening.now) l.steps
+invariant-loop-step g l = ComesTo (g.S.System.opens l.self.opening.now) g.S.System.rules g.S.System.readings l.self.test.now (take l.step-index l.steps) l.place

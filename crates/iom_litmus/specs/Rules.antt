@@ -1,0 +1,10 @@
+-- What a system may do: relations, since it may answer one thing or another.
+use Rattle.std.specs.Prelude.{ℕ, List}
+use Rattle.iom_litmus.specs.declared.reply.Reply.{Reply}
+use Rattle.iom_litmus.specs.declared.step.HardwareStep.{HardwareStep}
+
+pub record Rules (S : Type 0) : Type 1 where
+  -- to a line it may say this, and be that afterwards
+  pub runs : S → List ℕ → Reply → S → Type 0
+  -- the same as hardware does something
+  pub acts : S → HardwareStep → Reply → S → Type 0
