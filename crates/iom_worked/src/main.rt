@@ -3,7 +3,7 @@
 //! - `data/rows`: worked scripts, with the lines that were worked out by hand from the rules before there was a program.
 //! - `data/examples`, which the repository also shows as `examples/`: scripts worth reading, with what they print. So the
 //!   outputs that a reader sees can't drift from what the program prints.
-//! - `data/pictures`, which the repository also shows as `docs/pictures`: pictures of examples.
+//! - `data/pictures`, which `docs/GALLERY.md` of the repository shows: pictures of examples.
 //! - `data/traces`: traces, among them those of `docs/JUDGE.md`.
 //! - `data/judged`: outputs that another checker judged, one that shares no code with this repository.
 //! - `data/vectors`: translations that independent implementations confirmed.
