@@ -27,3 +27,4 @@ mod words;
 
 pub use faults::{RunFault, exit_status};
 pub use running::{run, run_live};
+pub use telling::put_answer;

@@ -44,7 +44,7 @@ fn put_bytes(out: &mut LineBuffer, line: &HardwareLine, hardware: &Hardware) {
 }
 
 /// Writes the answer of the line, in place of what stood there; of a claim that is wrong only `wrong: `.
-pub(crate) fn put_answer(
+pub fn put_answer(
     out: &mut LineBuffer,
     line: &HardwareLine,
     answer: &Answer,

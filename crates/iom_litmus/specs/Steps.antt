@@ -25,7 +25,7 @@ use Rattle.iom_litmus.specs.Schedules.{IsSchedule, IsWay, arrived}
 
 -- what hardware can do: no earlier message is equal to one that is delivered
 abbrev pub IsFirstSuch : {S : Type 0} → Readings S → S → ℕ → Type 0
-IsFirstSuch r system message = (earlier : ℕ) → earlier < message → r.is_same_message system earlier message ≡ false
+IsFirstSuch r system message = (earlier : ℕ) → earlier < message → ¬ r.is_same_message system earlier message
 
 abbrev pub CanCommit : {S : Type 0} → Readings S → Test → Place S → ℕ → Type 0
 CanCommit r test place device = IsTrue test.parts.commit × IsListed (r.devices place.system) device × IsTrue (r.is_in_flight place.system device)

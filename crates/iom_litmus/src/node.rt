@@ -1,5 +1,8 @@
+ghost use Rattle.std.specs.Prelude.{◌≡◌};
+
 use crate::place::Place;
 use crate::step::Step;
+use crate::system::System;
 use iom_base::Sequence;
 use iom_litmus_test::Value;
 
@@ -20,4 +23,24 @@ pub(crate) struct Node<S> {
     pub(crate) outcome: Sequence<Value>,
     /// The place that was found before with the same fingerprint.
     pub(crate) twin: Option<usize>,
+}
+
+impl<S: System> Node<S> {
+    /// The place, which is kept: what its system doesn't need for that is given back.
+    pub(crate) fn keeping(
+        mut place: Place<S>,
+        way: Sequence<Step>,
+        outcome: Sequence<Value>,
+        twin: Option<usize>,
+    ) -> Node<S>
+        ensures { result ≡ record { place = place; way = way; outcome = outcome; twin = twin } }
+    {
+        place.system.shrink();
+        Node {
+            place,
+            way,
+            outcome,
+            twin,
+        }
+    }
 }

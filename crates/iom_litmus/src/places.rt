@@ -87,12 +87,8 @@ impl<S: System> Places<S> {
         }
         let outcome = place.outcome(alloc, test)?;
         let twin = self.last.get(&fingerprint).copied();
-        self.nodes.push(Node {
-            place,
-            way,
-            outcome,
-            twin,
-        })?;
+        let node = Node::keeping(place, way, outcome, twin);
+        self.nodes.push(node)?;
         match self.last.insert(fingerprint, number) {
             Ok(_) => Ok(number),
             Err(_) => Err(SearchFault::Memory),

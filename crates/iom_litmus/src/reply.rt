@@ -20,7 +20,7 @@ pub struct Reply {
 
 impl Reply {
     /// What is said to no line at all. It takes no memory.
-    pub(crate) fn none(alloc: Global) -> Reply
+    pub fn none(alloc: Global) -> Reply
         ensures { result ≡ no_reply }
     {
         Reply {

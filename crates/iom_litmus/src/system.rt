@@ -1,4 +1,4 @@
-ghost use Rattle.std.specs.Prelude.{◌≡◌, IfOk, IsTrue};
+ghost use Rattle.std.specs.Prelude.{◌≡◌, ◌↔◌, IfOk, IsTrue};
 ghost use Rattle.iom_litmus.specs.Readings.{Readings};
 ghost use Rattle.iom_litmus.specs.Rules.{Rules};
 
@@ -56,7 +56,7 @@ pub trait System: Sized + Drop {
 
     /// Whether the messages at these places are equal.
     fn is_same_message(&self, place: usize, other: usize) -> bool
-        ensures { result ≡ readings.is_same_message self.now place other };
+        ensures { IsTrue result ↔ readings.is_same_message self.now place other };
 
     /// Whether giving up has an effect.
     fn times_out(&self) -> bool
@@ -69,6 +69,10 @@ pub trait System: Sized + Drop {
     /// Whether they are equal. Where it says so they are; where it doesn't a search only takes longer.
     fn is_same(&self, other: &Self) -> bool
         ensures { IsTrue result → self.now ≡ other.now };
+
+    /// Gives back what it doesn't need while it is only kept. It is the same afterwards.
+    fn shrink(&mut self)
+        ensures { self.new ≡ self.old };
 
     /// A number by which equal systems are looked for.
     fn fingerprint(&self) -> u64;

@@ -51,8 +51,13 @@ fn lines_of(alloc: Global, text: &str) -> Result<Sequence<Sequence<u8>>, Fault> 
     Ok(lines)
 }
 
-/// What a cell says, behind these of its column.
-pub(crate) fn cell_of(alloc: Global, earlier: &[Cell], text: &str) -> Result<Cell, Fault> {
+/// What a cell of the line with this number says, behind these of its column.
+pub(crate) fn cell_of(
+    alloc: Global,
+    earlier: &[Cell],
+    number: u64,
+    text: &str,
+) -> Result<Cell, Fault> {
     let (name, rest) = label_and(text);
     let label = match name {
         Some(name) if cell_with(earlier, name).is_some() => {
@@ -65,6 +70,7 @@ pub(crate) fn cell_of(alloc: Global, earlier: &[Cell], text: &str) -> Result<Cel
     let (awaited, rest) = awaited_and(alloc, rest)?;
     let lines = lines_of(alloc, rest)?;
     Ok(Cell {
+        number,
         label,
         condition,
         awaited,

@@ -93,7 +93,7 @@ impl Draft {
             Section::Title => self.take_title(alloc, line),
             Section::Opening => self.take_opening(alloc, number, line),
             Section::Columns => self.take_columns(alloc, line),
-            Section::Rows => self.take_row_or_end(alloc, line),
+            Section::Rows => self.take_row_or_end(alloc, number, line),
             Section::End => Err(Fault::Because(Why::BehindQuestion)),
         }
     }
@@ -144,7 +144,7 @@ impl Draft {
         Ok(())
     }
 
-    fn take_row_or_end(&mut self, alloc: Global, line: &str) -> Result<(), Fault> {
+    fn take_row_or_end(&mut self, alloc: Global, number: u64, line: &str) -> Result<(), Fault> {
         if let Some(parts) = line.strip_prefix("hardware ") {
             return self.take_parts(parts);
         }
@@ -160,17 +160,17 @@ impl Draft {
         if let Some(proposition) = line.strip_prefix("forall ") {
             return self.take_question(alloc, QuestionKind::ForAll, proposition);
         }
-        self.take_row(alloc, line)
+        self.take_row(alloc, number, line)
     }
 
-    fn take_row(&mut self, alloc: Global, line: &str) -> Result<(), Fault> {
+    fn take_row(&mut self, alloc: Global, number: u64, line: &str) -> Result<(), Fault> {
         let cells = line.strip_suffix(';').ok_or(Why::BadRow)?;
         for (place, cell) in cells.split('|').enumerate() {
             if place >= self.columns.as_slice().len() {
                 return Err(Fault::Because(Why::TooMany));
             }
             if !cell.trim().is_empty() {
-                add_cell(alloc, self.columns.item_mut(place), cell.trim())?;
+                add_cell(alloc, self.columns.item_mut(place), number, cell.trim())?;
             }
         }
         Ok(())
@@ -247,12 +247,12 @@ impl Draft {
     }
 }
 
-/// Puts a cell behind the others of the column.
-fn add_cell(alloc: Global, column: &mut Column, text: &str) -> Result<(), Fault> {
+/// Puts a cell of the line with this number behind the others of the column.
+fn add_cell(alloc: Global, column: &mut Column, number: u64, text: &str) -> Result<(), Fault> {
     if column.cells.as_slice().len() >= MOST_CELLS {
         return Err(Fault::Because(Why::TooMany));
     }
-    let cell = cell_of(alloc, column.cells.as_slice(), text)?;
+    let cell = cell_of(alloc, column.cells.as_slice(), number, text)?;
     column.cells.push(cell)?;
     Ok(())
 }

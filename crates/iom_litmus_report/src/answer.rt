@@ -126,3 +126,11 @@ pub fn report(alloc: Global, test: &Test, histogram: &Histogram) -> Result<Vec<u
     append_size(&mut page, histogram.places, verdict)?;
     Ok(page.bytes)
 }
+
+/// What is told of a test that has more places than may be looked at, or more schedules than can be counted.
+pub fn undecided(alloc: Global, test: &Test) -> Result<Vec<u8>, AllocError> {
+    let mut page = Page::new(alloc);
+    append_head(&mut page, test)?;
+    page.text(b"Undecided\n")?;
+    Ok(page.bytes)
+}

@@ -9,5 +9,5 @@ mod page;
 mod script;
 mod values;
 
-pub use answer::{Verdict, report, verdict_on};
+pub use answer::{Verdict, report, undecided, verdict_on};
 pub use script::schedule;

@@ -12,6 +12,8 @@ pub struct Column {
 /// What is done at once.
 #[derive(Drop)]
 pub struct Cell {
+    /// The number of its line in the file, from 1.
+    pub number: u64,
     /// By which a proposition names what it is answered.
     pub label: Option<Sequence<u8>>,
     /// Where this doesn't hold the cell is passed over.

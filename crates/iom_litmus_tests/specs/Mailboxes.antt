@@ -1,5 +1,5 @@
 -- The mailbox on which the search is tried.
-use Rattle.std.specs.Prelude.{◌≡◌, ℕ, ◌+◌, ◌-◌, Bool, true, false, ◌==◌, nat_lt, List, [], ◌∷◌, cond}
+use Rattle.std.specs.Prelude.{◌≡◌, ℕ, ◌+◌, ◌-◌, Bool, true, false, ◌==◌, nat_lt, List, [], ◌∷◌, cond, ⊤}
 use Rattle.iom_litmus.specs.declared.reply.Reply.{Reply}
 use Rattle.iom_litmus.specs.declared.step.HardwareStep.{HardwareStep}
 use Rattle.iom_litmus.specs.declared.step.HardwareStep.TheVariants as Acts
@@ -46,7 +46,7 @@ mailbox_readings = record {
   is_in_flight = λ _ _. false;
   is_in_walk = λ _ _. false;
   messages = λ box. box.under_way;
-  is_same_message = λ _ _ _. true;
+  is_same_message = λ _ _ _. ⊤;
   times_out = λ _. false;
   memory = λ _ _ _. [];
 }

@@ -119,6 +119,8 @@ impl System for Mailbox {
         self.under_way == other.under_way && self.any_came == other.any_came
     }
 
+    fn shrink(&mut self) {}
+
     fn fingerprint(&self) -> u64 {
         self.under_way as u64
     }

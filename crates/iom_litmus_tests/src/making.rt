@@ -33,6 +33,7 @@ pub(crate) fn cell(alloc: Global, line: &[u8], awaited: Option<&[u8]>) -> Result
         None => None,
     };
     Ok(Cell {
+        number: 1,
         label: None,
         condition: None,
         awaited,

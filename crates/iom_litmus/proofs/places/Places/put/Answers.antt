@@ -10,7 +10,7 @@ returns-in-Some-clause-put g c = inl (c.in-Some.ensures, refl)
 pub returns-clause-put : goal.returns-clause-put
 returns-clause-put g c =
     let node : Node g.row.S.Denot = record { place = c.args.place; way = c.args.way; outcome = c.in_ok-outcome.outcome; twin = c.copied-twin.result } in
-    let is : c.push.new.self ≡ c.args.self.now ++ node ∷ [] = c.in_ok-push.ensures.ok ∙ ap (λ nodes. nodes ++ node ∷ []) c.self.view_is in
+    let is : c.push.new.self ≡ c.args.self.now ++ node ∷ [] = c.in_ok-push.ensures.ok ∙ ap (λ (n : Node g.row.S.Denot). c.self.inside.nodes ++ n ∷ []) c.keeping-node.ensures ∙ ap (λ nodes. nodes ++ node ∷ []) c.self.view_is in
     let at : length c.as_slice-number.result.now ≡ length c.args.self.now = search rules in
     let was : WasPut g.S.System.readings c.args.test.now c.args.way c.args.place c.args.self.now c.push.new.self (length c.as_slice-number.result.now) =
     inr (node, is, at, refl, refl, c.in_ok-outcome.ensures) in

@@ -1,0 +1,5 @@
+pub mod Places
+pub mod Openings
+pub mod Lines
+pub mod Acts
+pub mod Looks

@@ -1,0 +1,49 @@
+-- What comes of a line, and of what hardware does by itself.
+use Rattle.std.specs.Prelude.{◌≡◌, ◌⊎◌, ℕ, List, [], ◌∷◌, Option, None, Some}
+use Rattle.iom_base.specs.declared.access.AccessKind.{AccessKind}
+use Rattle.iom_claims.specs.Claimed.{Claimed}
+use Rattle.iom_claims.specs.Shown.{ShowsClaimed}
+use Rattle.iom_hardware_script.specs.declared.script.HardwareLine.{HardwareLine}
+use Rattle.iom_hardware_script.specs.Grammar.{IsHardwareLine}
+use Rattle.iom_hardware_session.specs.declared.answer.Answer.{Answer}
+use Rattle.iom_hardware_session.specs.declared.session.Stepped.{Stepped}
+use Rattle.iom_hardware_session.specs.declared.state.Session.{Session}
+use Rattle.iom_hardware_session.specs.declared.watched.Watched.{Watched}
+use Rattle.iom_hardware_session.specs.Lines.{made_by}
+use Rattle.iom_hardware_session.specs.Runs.{LineGoesOn, is_wrong_by}
+use Rattle.iom_inflight.specs.declared.made.MadeAt.{MadeAt}
+use Rattle.iom_litmus.specs.declared.reply.Reply.{Reply}
+use Rattle.iom_litmus.specs.Replies.{no_reply}
+use Rattle.iom_litmus_test.specs.declared.observable.Touch.{Touch}
+use Rattle.iom_litmus_hardware.specs.Places.{SessionPlace, Tested, place_of, AreListed}
+
+-- the accesses that were made: one, or none
+abbrev pub touches_of : Option MadeAt → List Touch
+touches_of None = []
+touches_of (Some made) = record { device = made.device; kind = made.kind; frame = made.frame } ∷ []
+
+-- The reply tells which access was made, whether something is wrong, and whether the access is one that nothing claimed allows. Its text is left open.
+pub record RepliesTo (stepped : Stepped) (watched : List Watched) (reply : Reply) : Type 0 where
+  pub touches : reply.touches ≡ touches_of (made_by stepped.answer)
+  pub wrong : reply.wrong ≡ is_wrong_by stepped watched
+  pub violated : reply.violated ≡ stepped.violated
+
+-- THE SESSION TAKES THE LINE, whatever was claimed before it, and this is the reply
+pub record TakesLine (said : HardwareLine) (before : Session) (reply : Reply) (after : Session) : Type 0 where
+  pub stepped : Stepped
+  pub goes_on : (c : Claimed) → ShowsClaimed before.claims c → LineGoesOn before c (record { said = said; stepped = stepped; watched = after.watched.items }) after
+  pub replies : RepliesTo stepped after.watched.items reply
+
+-- so does some session that is at this place
+abbrev pub LeadsBy : HardwareLine → SessionPlace → Reply → SessionPlace → Type 0
+LeadsBy said old reply new = (before : Session) × (after : Session) × (place_of before ≡ old) × (place_of after ≡ new) × TakesLine said before reply after
+
+-- a line that the language hasn't does nothing
+abbrev pub SaysNothing : List ℕ → Type 0
+SaysNothing text = (said : HardwareLine) → ¬ IsHardwareLine text said
+
+-- WHAT COMES OF A TEXT
+abbrev pub RunsText : SessionPlace → List ℕ → Reply → SessionPlace → Type 0
+RunsText old text reply new =
+    ((said : HardwareLine) × IsHardwareLine text said × LeadsBy said old reply new)
+    ⊎ (SaysNothing text × (reply ≡ no_reply) × (new ≡ old))

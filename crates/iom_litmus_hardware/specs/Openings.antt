@@ -1,0 +1,13 @@
+-- How a test begins: hardware at power-on, and lines that happen on it.
+use Rattle.std.specs.Prelude.{◌≡◌, ℕ, Bool, List}
+use Rattle.iom_hardware_runner.specs.Runs.{HasRun}
+use Rattle.iom_hardware_session.specs.declared.state.Session.{Session}
+use Rattle.iom_litmus_hardware.specs.declared.opening.Opening.{Opening}
+use Rattle.iom_litmus_hardware.specs.Places.{Tested, place_of, AreListed}
+
+-- the session has gone through the lines of the opening, from power-on with so many frames
+abbrev pub HasOpened : Opening → Session → Type 0
+HasOpened opening session = (wrong : Bool) × HasRun opening.frames opening.lines session wrong
+
+abbrev pub Opens : Opening → Tested → Type 0
+Opens opening tested = (session : Session) × HasOpened opening session × (tested.place ≡ place_of session) × AreListed tested

@@ -1,0 +1,18 @@
+//! Hardware under a driver as the system of a litmus test: a test's lines are those of a script for a driver under test, and
+//! hardware acts by itself between them.
+//!
+//! The layer above may rely on [`UnderTest`] being a `System` of `iom_litmus` by these relations: its opening is a session from
+//! power-on (`specs/Openings.antt`), a line does what a session says that it does (`specs/Lines.antt`), and so does a step of
+//! hardware (`specs/Acts.antt`). What is read off it is the hardware's own (`specs/Looks.antt`). The text of a reply is that
+//! which `iommu-hw` writes, up to its first `;` or `:`; no clause says which.
+#![tactic(auto)]
+
+mod acts;
+mod fingerprint;
+mod lines;
+mod looks;
+mod opening;
+mod under_test;
+
+pub use opening::Opening;
+pub use under_test::UnderTest;

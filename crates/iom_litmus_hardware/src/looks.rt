@@ -1,0 +1,66 @@
+// What is read off the hardware.
+ghost use Rattle.std.specs.Prelude.{◌≡◌, ◌↔◌, ◌++◌, IfOk, IsTrue};
+ghost use Rattle.iom_litmus_hardware.specs.Looks.{AreEqualMessages, memory_text};
+ghost use Rattle.iom_script.specs.Digits.{hex_digit, hex_of};
+
+use iom_base::{FRAME_SIZE, PAGE_SIZE, Sequence};
+use iom_fabric::Fabric;
+use iom_phys_mem::Memory;
+use std::alloc::{AllocError, Global};
+
+/// Whether both places have the same message.
+pub(crate) fn are_equal(messages: &Fabric, place: usize, other: usize) -> bool
+    ensures { IsTrue result ↔ AreEqualMessages messages.now place other }
+{
+    match (messages.get(place), messages.get(other)) {
+        (Some(message), Some(same)) => message == same,
+        (None, _) | (_, None) => false,
+    }
+}
+
+/// The lower-case hexadecimal digit of a number below 16.
+fn digit_of(number: u8) -> u8
+    requires { number < 16 }
+    ensures { result ≡ hex_digit number }
+{
+    if number > 9 {
+        b'a' + (number - 10)
+    } else {
+        b'0' + number
+    }
+}
+
+/// Two hexadecimal digits for each byte.
+fn hex_of(alloc: Global, bytes: &[u8]) -> Result<Sequence<u8>, AllocError>
+    ensures { IfOk result (λ text. text ≡ hex_of bytes.now) }
+{
+    let mut text = Sequence::new(alloc);
+    for byte in bytes {
+        text.push(digit_of(*byte / 16))?;
+        text.push(digit_of(*byte % 16))?;
+    }
+    Ok(text)
+}
+
+/// So many bytes of memory from the address on, in hexadecimal digits. None where they leave their frame, or memory has no
+/// such frame.
+pub(crate) fn memory_text(
+    alloc: Global,
+    memory: &Memory,
+    address: u64,
+    len: usize,
+) -> Result<Sequence<u8>, AllocError>
+    ensures { IfOk result (λ text. text ≡ memory_text memory.now address len) }
+{
+    let offset = (address % PAGE_SIZE) as usize;
+    if len > FRAME_SIZE - offset {
+        return Ok(Sequence::new(alloc));
+    }
+    let Ok(number) = u32::try_from(address / PAGE_SIZE) else {
+        return Ok(Sequence::new(alloc));
+    };
+    match memory.frame(number) {
+        Some(frame) => hex_of(alloc, &frame[offset..offset + len]),
+        None => Ok(Sequence::new(alloc)),
+    }
+}
