@@ -1,6 +1,7 @@
 pub mod CachedLemmas
 pub mod ByAnswer
 pub mod FenceLemmas
+mod ForeseenLemmas
 pub mod FetchLemmas
 pub mod OneFetch
 pub mod ServiceLemmas

@@ -76,14 +76,14 @@ impl<C: TransCache> Iommu<C> {
 
     /// How many accesses were accepted when the fence at the head was first fetched with no request open, if it was;
     /// else how many were so far.
-    fn counted(&self) -> u64
+    pub(crate) fn counted(&self) -> u64
         ensures { result ≡ counted_in self.now }
     {
         self.fence_snapshot.unwrap_or(self.in_flight.so_far())
     }
 
     /// Whether a fence with PR and PW waits for accesses, where so many were accepted before it.
-    fn waits_with(&self, pr: bool, pw: bool, before: u64) -> bool
+    pub(crate) fn waits_with(&self, pr: bool, pw: bool, before: u64) -> bool
         ensures { result ≡ waits_with pr pw (flights_of self.now) before }
     {
         (pr && are_waited_for(&self.in_flight, before, AccessKind::Read))

@@ -26,6 +26,7 @@ mod commands;
 mod contexts;
 mod fetch;
 mod fetched;
+mod foreseen;
 mod invalidations;
 mod iommu;
 pub mod laws;
