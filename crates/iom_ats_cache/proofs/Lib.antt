@@ -1,3 +1,4 @@
 pub mod EntryLemmas
 pub mod FindLemmas
 pub mod LawLemmas
+mod Sames

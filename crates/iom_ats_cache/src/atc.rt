@@ -1,4 +1,4 @@
-ghost use Rattle.std.specs.Prelude.{◌≡◌, ◌+◌, ◌<◌, ◌^◌, option_map};
+ghost use Rattle.std.specs.Prelude.{◌≡◌, ◌+◌, ◌<◌, ◌^◌, option_map, ◌↔◌, IsTrue};
 ghost use Rattle.std.specs.List.{position};
 ghost use Rattle.iom_fabric.specs.declared.message.Range.TheVariants.{Page};
 ghost use Rattle.iom_ats_cache.specs.Cache.{empty_cache, range_covers, entry_for_page, outside, with_entry, frame_for, AreOfDistinctPages, AreEntries};
@@ -95,6 +95,16 @@ impl Atc {
             epoch: 0,
             entries: ArrayVec::new(),
         }
+    }
+
+    /// Whether the two are equal: of one epoch, with the same entries in the same order.
+    pub fn is_same(&self, other: &Atc) -> bool
+        ensures { IsTrue result ↔ (self.now ≡ other.now) }
+    {
+        if self.epoch != other.epoch {
+            return false;
+        }
+        self.entries.as_slice() == other.entries.as_slice()
     }
 
     /// How many invalidations and resets there were. It never falls.

@@ -2,3 +2,4 @@ pub mod ListLemmas
 pub mod HistoryLemmas
 pub mod RowLemmas
 pub mod ShowLemmas
+mod Sames

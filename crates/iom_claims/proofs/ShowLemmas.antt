@@ -1,7 +1,9 @@
 -- What is shown, after each call.
-use Rattle.std.proofs.Common.{◌≡◌, ℕ, ◌+◌, ◌≤◌, Bool, false, cond, [], ◌∷◌, ◌++◌, find, Contains, None, Some, Result, Ok, Err, IfOk, OnOk, nat_eq, refl, sym, ap, ◌∙◌, subst, arith}
+use Rattle.std.proofs.Common.{◌≡◌, ℕ, ◌+◌, ◌≤◌, Bool, false, ◌||◌, cond, nat_cmp, List, [], ◌∷◌, ◌++◌, find, Contains, None, Some, Result, Ok, Err, IfOk, OnOk, nat_eq, refl, sym, ap, ◌∙◌, subst, arith}
 use Rattle.std.specs.List.{list_any}
+use Rattle.std.specs.BTreeMap.{is_at as is_at_key}
 use Rattle.std.proofs.lemmas.Bool.{eqb-true}
+use Rattle.std.proofs.lemmas.Bool.Decides.{nat_tests}
 use Rattle.iom_base.specs.declared.refusal.Refusal.{Refusal}
 use Rattle.iom_ledger.specs.declared.entry.HistoryEntry.TheVariants.{Granted, Released, Confirmed}
 use Rattle.iom_ledger.specs.History.{held_at}
@@ -93,3 +95,19 @@ shows_marked old new claimed named mark shows held claims last marks = record {
   counted = last ∙ shows.counted;
   marked = λ frame. marks frame ∙ ap (λ b. cond (nat_eq named frame) mark b) (shows.marked frame);
 }
+
+-- a set that is ordered finds what equals a frame
+is_at_frame : (frame other : ℕ) → is_at_key (nat_cmp frame) other ≡ nat_eq frame other
+is_at_frame frame other = grind (arith, nat_tests)
+
+marks_in_order : (frame : ℕ) (keys : List ℕ) → list_any (is_at_key (nat_cmp frame)) keys ≡ list_any (nat_eq frame) keys
+marks_in_order frame [] = refl
+marks_in_order frame (key ∷ keys) = ap (λ here. here || list_any (is_at_key (nat_cmp frame)) keys) (is_at_frame frame key) ∙ ap (λ later. nat_eq frame key || later) (marks_in_order frame keys)
+
+-- a set after one frame's mark was set or cleared
+pub updates_marks : (old new : List ℕ) (named : ℕ) (mark : Bool)
+    → ((frame : ℕ) → list_any (is_at_key (nat_cmp frame)) new ≡ cond (is_at_key (nat_cmp named) frame) mark (list_any (is_at_key (nat_cmp frame)) old))
+    → (frame : ℕ) → list_any (nat_eq frame) new ≡ cond (nat_eq named frame) mark (list_any (nat_eq frame) old)
+updates_marks old new named mark updates frame =
+    sym (marks_in_order frame new) ∙ updates frame ∙ ap (λ here. cond here mark (list_any (is_at_key (nat_cmp frame)) old)) (is_at_frame named frame)
+    ∙ ap (λ before. cond (nat_eq named frame) mark before) (marks_in_order frame old)

@@ -10,12 +10,12 @@ ghost use Rattle.iom_claims.specs.Shown.{ShowsClaimed};
 
 use crate::grant::{Grant, OpenClaim};
 use crate::rows::{
-    claim_on, drop_at, drop_claim, grant_at, grant_on, pair_at, some_claim_lets, some_grant_lets,
-    withdrawn_by,
+    are_same_claims, are_same_frames, are_same_grants, claim_on, drop_at, drop_claim, grant_at,
+    grant_on, pair_at, some_claim_lets, some_grant_lets, withdrawn_by,
 };
 use iom_base::{AccessKind, DeviceId, Refusal, Rights};
 use std::alloc::Global;
-use std::collections::HashSet;
+use std::collections::BTreeSet;
 use std::marker::Model;
 
 /// No claim of this number is open.
@@ -30,7 +30,7 @@ pub struct Claims {
     held: Vec<Grant>,
     /// What was withdrawn and isn't done, in the order of the numbers.
     claims: Vec<OpenClaim>,
-    handed_on: HashSet<u32>,
+    handed_on: BTreeSet<u32>,
     /// The number of the last claim, 0 before the first.
     last: u32,
 }
@@ -51,9 +51,26 @@ impl Claims {
         Claims {
             held: Vec::new(alloc),
             claims: Vec::new(alloc),
-            handed_on: HashSet::new(alloc),
+            handed_on: BTreeSet::new(alloc),
             last: 0,
         }
+    }
+
+    /// Whether the two are equal: the same rows in the same order, the same frames that are handed on, and the same
+    /// last number.
+    pub fn is_same(&self, other: &Claims) -> bool
+        ensures { IsTrue result ↔ (self.now ≡ other.now) }
+    {
+        if self.last != other.last {
+            return false;
+        }
+        if !are_same_frames(&self.handed_on, &other.handed_on) {
+            return false;
+        }
+        if !are_same_grants(&self.held, &other.held) {
+            return false;
+        }
+        are_same_claims(&self.claims, &other.claims)
     }
 
     /// The number of the last claim that was given one, 0 before the first.

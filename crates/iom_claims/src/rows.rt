@@ -1,10 +1,32 @@
 //! Rows of grants and of open claims: look-ups from the front, and what drops out of them.
-ghost use Rattle.std.specs.Prelude.{◌≡◌, find, option_map};
+ghost use Rattle.std.specs.Prelude.{◌≡◌, ◌↔◌, IsTrue, find, option_map};
 ghost use Rattle.std.specs.List.{list_any};
 ghost use Rattle.iom_claims.specs.Rows.{is_at, is_on, is_numbered, lets, claim_is_on, claim_lets, pair_of, grant_of, without_page, without_number};
 
 use crate::grant::{Grant, OpenClaim};
 use iom_base::{AccessKind, DeviceId, Rights};
+use std::collections::BTreeSet;
+
+/// Whether the grants are equal, and in the same order.
+pub(crate) fn are_same_grants(held: &[Grant], other: &[Grant]) -> bool
+    ensures { IsTrue result ↔ (held.now ≡ other.now) }
+{
+    held == other
+}
+
+/// Whether the claims are.
+pub(crate) fn are_same_claims(claims: &[OpenClaim], other: &[OpenClaim]) -> bool
+    ensures { IsTrue result ↔ (claims.now ≡ other.now) }
+{
+    claims == other
+}
+
+/// Whether the frames are the same.
+pub(crate) fn are_same_frames(frames: &BTreeSet<u32>, other: &BTreeSet<u32>) -> bool
+    ensures { IsTrue result ↔ (frames.now.keys ≡ other.now.keys) }
+{
+    frames == other
+}
 
 /// The first grant of this page of the device.
 pub(crate) fn grant_at(held: &[Grant], device: DeviceId, page: u64) -> Option<&Grant>

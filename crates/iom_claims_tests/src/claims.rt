@@ -88,3 +88,19 @@ fn a_frame_is_handed_on_until_it_is_taken_or_granted(rt: HostRuntime) -> Result<
     expect(&rt, !claims.is_handed_on(7));
     Ok(())
 }
+
+// In which order frames were handed on is no matter.
+#[test]
+fn equal_claims_are_the_same(rt: HostRuntime) -> Result<(), Fail> {
+    let mut claims = Claims::new(rt.alloc());
+    let mut other = Claims::new(rt.alloc());
+    expect_hand_on(&rt, &mut claims, 5);
+    expect_hand_on(&rt, &mut claims, 7);
+    expect_hand_on(&rt, &mut other, 7);
+    expect(&rt, !claims.is_same(&other));
+    expect_hand_on(&rt, &mut other, 5);
+    expect(&rt, claims.is_same(&other));
+    expect_grant(&rt, &mut other, both_of(1, 3, 6), Ok(()));
+    expect(&rt, !claims.is_same(&other));
+    Ok(())
+}

@@ -1,5 +1,5 @@
 //! A plugged device, as the world keeps it.
-ghost use Rattle.std.specs.Prelude.{◌≡◌, ◌+◌, ◌<◌, ◌^◌, None, MatchOption, is_some};
+ghost use Rattle.std.specs.Prelude.{◌≡◌, ◌+◌, ◌<◌, ◌^◌, None, MatchOption, is_some, ◌↔◌, IsTrue};
 ghost use Rattle.std.specs.Option.{option_and_then};
 ghost use Rattle.iom_ats_cache.specs.Cache.{Cache, frame_for};
 ghost use Rattle.iom_device.specs.Caches.{epoch_of, epoch_in, device_with, IsDevicePlace};
@@ -28,6 +28,17 @@ fn new_cache(kind: DeviceKind) -> Option<Atc>
         Some(Atc::new())
     } else {
         None
+    }
+}
+
+/// Whether the caches are equal, or there is none in either.
+fn are_same_caches(cache: &Option<Atc>, other: &Option<Atc>) -> bool
+    ensures { IsTrue result ↔ (cache.now ≡ other.now) }
+{
+    match (cache, other) {
+        (Some(own), Some(same)) => own.is_same(same),
+        (None, None) => true,
+        _ => false,
     }
 }
 
@@ -64,6 +75,16 @@ impl Device {
             has_disk: disk.is_some(),
             cache: new_cache(kind),
         }
+    }
+
+    /// Whether the two are equal, caches and all.
+    pub fn is_same(&self, other: &Device) -> bool
+        ensures { IsTrue result ↔ (self.now ≡ other.now) }
+    {
+        if self.id != other.id || self.kind != other.kind || self.has_disk != other.has_disk {
+            return false;
+        }
+        are_same_caches(&self.cache, &other.cache)
     }
 
     /// The epoch of its cache; 0 where it has none.

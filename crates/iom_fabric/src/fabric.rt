@@ -1,4 +1,5 @@
-ghost use Rattle.std.specs.Prelude.{◌≡◌, ℕ, [], ◌∷◌, ◌++◌, length, remove, nat_lt, ◌==◌, ◌≤◌, slice_get, is_some};
+ghost use Rattle.std.specs.Prelude.{◌≡◌, ℕ, [], ◌∷◌, ◌++◌, length, remove, nat_lt, ◌==◌, ◌≤◌, slice_get, is_some, Some, ◌↔◌, IsTrue};
+ghost use Rattle.iom_fabric.specs.declared.fabric.OnLink.{OnLink};
 ghost use Rattle.std.specs.Bool.{OnTrue, OnFalse};
 ghost use Rattle.iom_fabric.specs.Messages.{repeated, repeat_answer};
 
@@ -87,6 +88,23 @@ impl Fabric {
         ensures { result ≡ slice_get self.now place }
     {
         self.messages.get(place).copied()
+    }
+
+    /// Whether the two are equal: the same messages on the same links, in the same order.
+    pub fn is_same(&self, other: &Fabric) -> bool
+        ensures { IsTrue result ↔ (self.now ≡ other.now) }
+    {
+        self.messages.as_slice() == other.messages.as_slice()
+    }
+
+    /// Whether there is a message at each of the two places, and they are equal, links and all.
+    pub fn is_same_message(&self, place: usize, other: usize) -> bool
+        ensures { IsTrue result ↔ ((message : OnLink) × (slice_get self.now place ≡ Some message) × (slice_get self.now other ≡ Some message)) }
+    {
+        let Some(message) = self.get(place) else {
+            return false;
+        };
+        self.get(other) == Some(message)
     }
 
     /// Sends a message on the device's link: it goes last. False exactly where 64 are under way; then it is

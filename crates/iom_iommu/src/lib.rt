@@ -34,6 +34,7 @@ mod questions;
 mod reply;
 mod reports;
 mod requests;
+mod same;
 mod service;
 mod software;
 mod timeouts;

@@ -132,3 +132,14 @@ pub(crate) fn follow(rt: &impl Abort, steps: &[Step]) {
         does(rt, &mut atc, *step);
     }
 }
+
+#[test]
+fn equal_caches_are_the_same(rt: HostRuntime) {
+    let mut atc = Atc::new();
+    let mut other = Atc::new();
+    keep_each(&rt, &mut atc, 3, 5);
+    keep_each(&rt, &mut other, 3, 5);
+    expect(&rt, atc.is_same(&other));
+    keep_each(&rt, &mut other, 3, 4);
+    expect(&rt, !atc.is_same(&other));
+}

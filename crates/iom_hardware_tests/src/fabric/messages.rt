@@ -56,6 +56,19 @@ fn does(fabric: &mut Fabric, step: Step) -> bool {
     }
 }
 
+#[test]
+fn equal_messages_are_the_same(rt: HostRuntime) {
+    let mut fabric = Fabric::new();
+    let mut other = Fabric::new();
+    expect(&rt, send_each(&mut fabric, 2) && send_each(&mut other, 2));
+    expect(&rt, fabric.is_same(&other));
+    expect(&rt, !fabric.is_same_message(0, 1));
+    expect(&rt, send(&mut fabric, 0) && send(&mut other, 1));
+    expect(&rt, !fabric.is_same(&other));
+    expect(&rt, fabric.is_same_message(0, 2));
+    expect(&rt, !fabric.is_same_message(3, 3));
+}
+
 /// 64 messages are under way at most. A taken one and a lost one close up, a copy goes last, and past the
 /// end there is nothing, also where the fabric is full.
 static STEPS: [Step; 13] = [

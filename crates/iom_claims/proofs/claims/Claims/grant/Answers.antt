@@ -1,10 +1,10 @@
-use Rattle.std.proofs.Common.{find, is_some, refl, sym, ap, ◌∙◌, subst}
+use Rattle.std.proofs.Common.{false, find, is_some, refl, sym, ap, ◌∙◌, subst}
 use Rattle.std.specs.Option.{option_map}
 use Rattle.std.proofs.lemmas.Bool.{false≢true}
 use Rattle.iom_claims.specs.Rows.{is_at, pair_of}
 use Rattle.iom_claims.specs.Shown.{ShowsClaimed}
 use Rattle.iom_claims.proofs.RowLemmas.{held_is}
-use Rattle.iom_claims.proofs.ShowLemmas.{shows_granted}
+use Rattle.iom_claims.proofs.ShowLemmas.{shows_granted, updates_marks}
 use Rattle.iom_claims.proofs.claims.Claims.grant.Goals as goal
 
 pub returns-in-Some-clause-busy : goal.returns-in-Some-clause-busy
@@ -26,7 +26,8 @@ returns-in-Ok-clause-granted c claimed shows =
     let inside = subst (λ rows. ShowsClaimed rows claimed) (sym c.self.view_is) shows in
     let found = c.pair_at.ensures ∙ ap (λ rows. option_map pair_of (find (is_at c.args.grant.device c.args.grant.page) rows)) c.deref.ensures.value
     ∙ held_is c.self.inside.held.items claimed.history inside.holds c.args.grant.device c.args.grant.page in
-    shows_granted _ _ claimed c.args.grant inside (sym found ∙ c.in-None.is) c.in-Ok.ensures.items refl refl c.remove.ensures.updates.0
+    shows_granted _ _ claimed c.args.grant inside (sym found ∙ c.in-None.is) c.in-Ok.ensures.items refl refl
+    (updates_marks c.self.inside.handed_on.keys c.remove.new.self.keys c.args.grant.frame false c.remove.ensures.updates.0)
 
 pub returns-in-Ok-clause-busy : goal.returns-in-Ok-clause-busy
 returns-in-Ok-clause-busy c claimed shows =
