@@ -44,12 +44,7 @@ fn put_bytes(out: &mut LineBuffer, line: &HardwareLine, hardware: &Hardware) {
 }
 
 /// Writes the answer of the line, in place of what stood there; of a claim that is wrong only `wrong: `.
-pub fn put_answer(
-    out: &mut LineBuffer,
-    line: &HardwareLine,
-    answer: &Answer,
-    hardware: &Hardware,
-) {
+pub fn put_answer(out: &mut LineBuffer, line: &HardwareLine, answer: &Answer, hardware: &Hardware) {
     match *answer {
         Answer::Plugged(done) | Answer::Reset(done) => put_done(out, done),
         Answer::Replied(reply) => put_replied(out, reply),

@@ -11,3 +11,4 @@ pub mod Lines
 pub mod Laws
 pub mod Runs
 pub mod Sessions
+pub mod Same

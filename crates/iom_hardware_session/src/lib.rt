@@ -17,6 +17,7 @@ mod events;
 mod judging;
 pub mod laws;
 mod ready;
+mod same;
 mod session;
 mod software;
 mod state;

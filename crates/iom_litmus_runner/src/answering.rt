@@ -83,7 +83,7 @@ fn first_line(test: &Test) -> u64 {
 }
 
 /// The answer to the test that the bytes of a file say, over so many places at most.
-pub fn answer(alloc: Global, bytes: &[u8], most: usize) -> Result<Answer, TestFault> {
+pub fn answer_test(alloc: Global, bytes: &[u8], most: usize) -> Result<Answer, TestFault> {
     let test = read(alloc, bytes)?;
     match opening_of(alloc, &test)? {
         Some(opening) => on_hardware(alloc, &test, &opening, most),

@@ -1,7 +1,7 @@
 //! A litmus test, from the bytes of its file to the text of its answer.
 //!
 //! The first line of a test's opening says what is tested: `hardware F` is hardware under somebody's driver, by the lines of
-//! `iommu-hw`. The layer above may rely on [`answer`] ending, and on each histogram that is told being one of the search in
+//! `iommu-hw`. The layer above may rely on [`answer_test`] ending, and on each histogram that is told being one of the search in
 //! `iom_litmus`, whose contract says what it has.
 #![tactic(auto)]
 
@@ -9,5 +9,5 @@ mod answering;
 mod fault;
 mod hardware;
 
-pub use answering::{Answer, Finding, answer};
+pub use answering::{Answer, Finding, answer_test};
 pub use fault::{TestFault, Trouble};

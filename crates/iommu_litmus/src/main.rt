@@ -9,7 +9,7 @@
 mod arguments;
 
 use crate::arguments::{ArgumentsFault, Choice, Request, read_words};
-use iom_litmus_runner::{Answer, Finding, TestFault, answer};
+use iom_litmus_runner::{Answer, Finding, TestFault, answer_test};
 use std::io::{self, ErrorKind, Read, Write};
 use std::process::ExitCode;
 use std::{env, fs};
@@ -114,7 +114,7 @@ fn tell_answer(rt: &HostRuntime, choice: Choice<'_>, answer: &Answer) -> u8 {
 
 /// Answers the test that the bytes of what has this name say, and gives the exit status.
 fn end(rt: &HostRuntime, name: &str, choice: Choice<'_>, bytes: &[u8]) -> u8 {
-    match answer(rt.alloc(), bytes, choice.most) {
+    match answer_test(rt.alloc(), bytes, choice.most) {
         Ok(answer) => tell_answer(rt, choice, &answer),
         Err(TestFault::Memory) => complain(rt, name, "out of memory", FAILED),
         Err(TestFault::Endless) => complain(rt, name, "hardware can go on for ever", NOT_A_TEST),

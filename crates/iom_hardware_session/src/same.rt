@@ -1,0 +1,40 @@
+// Whether two sessions are equal.
+ghost use Rattle.std.specs.Prelude.{◌≡◌, ◌↔◌, IsTrue};
+ghost use Rattle.iom_hardware_session.specs.Same.{IsSameSession};
+
+use crate::state::Session;
+use crate::watched::Watched;
+use iom_base::DeviceId;
+
+/// Whether the devices are the same, and in the same order.
+fn are_same_devices(devices: &[DeviceId], others: &[DeviceId]) -> bool
+    ensures { IsTrue result ↔ (devices.now ≡ others.now) }
+{
+    devices == others
+}
+
+/// Whether the claims that are watched are the same, with what is found of them, and in the same order.
+fn are_same_watched(watched: &[Watched], others: &[Watched]) -> bool
+    ensures { IsTrue result ↔ (watched.now ≡ others.now) }
+{
+    watched == others
+}
+
+impl Session {
+    /// Whether the two are equal but for how many events there were, and for what was last looked at: then whatever is done
+    /// to both does the same to both, and is answered alike.
+    pub fn is_same(&self, other: &Session) -> bool
+        ensures { IsTrue result ↔ IsSameSession self.now other.now }
+    {
+        if !are_same_devices(&self.trusted, &other.trusted) {
+            return false;
+        }
+        if !are_same_watched(&self.watched, &other.watched) {
+            return false;
+        }
+        if !self.claims.is_same(&other.claims) {
+            return false;
+        }
+        self.hardware.is_same(&other.hardware)
+    }
+}
