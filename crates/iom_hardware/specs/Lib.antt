@@ -14,3 +14,4 @@ pub mod PowerOn
 pub mod Counted
 pub mod SoundIsFact
 pub mod Software
+pub mod Same

@@ -20,6 +20,7 @@ mod plugging;
 mod processor;
 mod recovery;
 mod requests;
+mod same;
 mod sender;
 mod start;
 mod through_cache;
