@@ -5,4 +5,4 @@ pub mod Kept
 pub mod InMemory
 pub mod ByPlace
 pub mod Added
-mod Sames
+pub mod Sames
