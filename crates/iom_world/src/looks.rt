@@ -1,4 +1,5 @@
-// What a world tells of what an answer doesn't show: where the newest access is, and which frames are reserved.
+// What a world tells of what an answer doesn't show: its hardware, where the newest access is, and which frames are
+// reserved.
 ghost use Rattle.std.specs.Prelude.{◌≡◌, ◌-◌, length};
 ghost use Rattle.iom_driver.specs.Seen.{state_of};
 ghost use Rattle.iom_inflight.specs.Flights.{count_in, row_of, waiting_at};
@@ -7,9 +8,17 @@ ghost use Rattle.iom_table_frames.specs.Marks.{is_marked};
 
 use crate::world::World;
 use iom_base::DeviceId;
+use iom_hardware::Hardware;
 use iom_inflight::MadeAt;
 
 impl World {
+    /// Its hardware, to be looked at.
+    pub fn hardware(&self) -> &Hardware
+        ensures { result.now ≡ self.now.hardware }
+    {
+        &self.hardware
+    }
+
     /// The access of the device that was accepted last, of those in flight. None where nothing of it is in flight, or no
     /// device has the id.
     pub fn newest(&self, id: DeviceId) -> Option<MadeAt>
