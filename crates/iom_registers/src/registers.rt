@@ -1,4 +1,4 @@
-ghost use Rattle.std.specs.Prelude.{◌≡◌, ◌<◌, ◌≤◌, ◌%◌, ◌^◌, ◌*◌, refl};
+ghost use Rattle.std.specs.Prelude.{◌≡◌, ◌<◌, ◌≤◌, ◌%◌, ◌^◌, ◌*◌, ◌↔◌, IsTrue, refl};
 ghost use Rattle.iom_registers.specs.Places.{register_width};
 ghost use Rattle.iom_registers.specs.Queues.{with_interrupts, directory_mode, directory_root};
 ghost use Rattle.iom_registers.specs.Table.{at_power_on, value_of, written, with_cqcsr, with_fqcsr};
@@ -129,6 +129,13 @@ impl Registers {
             cip: self.ipsr.cip || self.cqcsr.is_interrupt_due(),
             fip: self.ipsr.fip || self.fqcsr.is_interrupt_due(),
         };
+    }
+
+    /// Whether the two hold the same in each register. It changes nothing.
+    pub fn is_same(&self, other: &Registers) -> bool
+        ensures { IsTrue result ↔ (self.now ≡ other.now) }
+    {
+        self == other
     }
 
     /// How a transaction finds its device context.
