@@ -8,3 +8,4 @@ pub mod SlotLemmas
 pub mod Waits
 pub mod Puts
 pub mod Bases
+pub mod SameSlots

@@ -82,6 +82,14 @@ impl Slots {
         self.open.clear();
     }
 
+    /// Whether in both the same are open, in the same order, and the last number that was given is the same. It
+    /// changes nothing.
+    pub fn is_same(&self, other: &Slots) -> bool
+        ensures { IsTrue result ↔ (self.now ≡ other.now) }
+    {
+        self.last == other.last && self.open.as_slice() == other.open.as_slice()
+    }
+
     /// The last number that was given, 0 before the first.
     pub fn last(&self) -> u64
         ensures { result ≡ self.now.last }
