@@ -7,3 +7,4 @@ pub mod Alike
 pub mod Pairs
 pub mod CachedIds
 pub mod SoundCaches
+pub mod SameContexts

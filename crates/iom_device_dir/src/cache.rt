@@ -1,4 +1,4 @@
-ghost use Rattle.std.specs.Prelude.{◌≡◌};
+ghost use Rattle.std.specs.Prelude.{◌≡◌, ◌↔◌, IsTrue};
 
 use crate::context::Context;
 use iom_base::DeviceId;
@@ -20,8 +20,27 @@ pub struct DirCache {
     ghost room: { contexts.cap ≡ 16 },
 }
 
+// Whether both have the same entries, in the same order of use.
+fn have_same_entries(one: &LruCache<DeviceId, Context>, other: &LruCache<DeviceId, Context>) -> bool
+    ensures { IsTrue result ↔ (one.now.entries ≡ other.now.entries) }
+{
+    if one.len() != other.len() {
+        return false;
+    }
+    let mut others = other.iter();
+    for (id, context) in one.iter() {
+        let Some((other_id, other_context)) = others.next() else {
+            return false;
+        };
+        if *id != *other_id || !context.is_same(other_context) {
+            return false;
+        }
+    }
+    true
+}
+
 impl DirCache {
-    ghost use Rattle.std.specs.Prelude.{◌==◌, ◌↔◌, [], true, Some, IfOk, IfSome, IsSome};
+    ghost use Rattle.std.specs.Prelude.{◌==◌, [], true, Some, IfOk, IfSome, IsSome};
     ghost use Rattle.iom_device_dir.specs.Contents.{IsEmptyContent, LooksUp, KeepsOne, DropsCovered};
     ghost use Rattle.iom_device_dir.specs.Orders.{without, after_look, KeepsInOrder};
     ghost use Rattle.iom_device_dir.specs.Cached.{contexts_in_order, cached_contexts, last_in};
@@ -98,6 +117,13 @@ impl DirCache {
     {
         let _ = self.contexts.len();
         let _ = self.contexts.put(id, context);
+    }
+
+    /// Whether both have the same contexts of the same devices, in the same order of use. It changes nothing.
+    pub fn is_same(&self, other: &DirCache) -> bool
+        ensures { IsTrue result ↔ (self.now ≡ other.now) }
+    {
+        have_same_entries(&self.contexts, &other.contexts)
     }
 
     /// Drops the context of the device alone (IODIR.INVAL_DDT with DV).

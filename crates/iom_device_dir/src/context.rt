@@ -20,7 +20,7 @@ pub struct Context {
 }
 
 impl Context {
-    ghost use Rattle.std.specs.Prelude.{◌≡◌, ◌↔◌, Ok, Err};
+    ghost use Rattle.std.specs.Prelude.{◌≡◌, ◌↔◌, IsTrue, Ok, Err};
     ghost use Rattle.iom_base.specs.declared.cause.Cause.{Cause};
     ghost use Rattle.iom_device_dir.specs.declared.context.Context.{Context};
     ghost use Rattle.iom_device_dir.specs.Words.{context_words};
@@ -38,6 +38,13 @@ impl Context {
         ensures value { result ≡ decoded_context (context_words bytes.now) }
     {
         ContextWords::from_bytes(bytes).context()
+    }
+
+    // Whether the two say the same.
+    pub(crate) fn is_same(&self, other: &Context) -> bool
+        ensures { IsTrue result ↔ (self.now ≡ other.now) }
+    {
+        self == other
     }
 
     /// The 32 bytes that are written for the context: fields that it doesn't use are zero.
