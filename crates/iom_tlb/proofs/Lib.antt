@@ -10,3 +10,4 @@ pub mod SetLemmas
 pub mod EmptyLemmas
 pub mod CacheLemmas
 pub mod PlaceLemmas
+pub mod SameLemmas

@@ -1,6 +1,6 @@
 // The entries of a plain cache: the least-recently-used cache below it, by what it has at each key. A call asks for
 // the length first, since from there on it is known that no two entries have one key.
-ghost use Rattle.std.specs.Prelude.{◌≡◌, false, option_map};
+ghost use Rattle.std.specs.Prelude.{◌≡◌, ◌↔◌, false, IsTrue, option_map};
 ghost use Rattle.std.specs.List.{find as first_of};
 ghost use Rattle.iom_tlb.specs.Content.{TranslationsStay, Keeps, DropsWhere};
 ghost use Rattle.iom_tlb.specs.Covers.{covers};
@@ -10,6 +10,35 @@ use crate::cover::Cover;
 use crate::space::Space;
 use crate::trans_cache::Translation;
 use lru::LruCache;
+
+/// Whether both have the same translations of the same pages, in the same order of use.
+pub(crate) fn are_same(
+    one: &LruCache<(Space, u64), Translation>,
+    other: &LruCache<(Space, u64), Translation>,
+) -> bool
+    ensures { IsTrue result ↔ (one.now.entries ≡ other.now.entries) }
+{
+    if one.len() != other.len() {
+        return false;
+    }
+    let mut others = other.iter();
+    for (key, translation) in one.iter() {
+        let Some((other_key, other_translation)) = others.next() else {
+            return false;
+        };
+        if !is_same_key(key, other_key) || !translation.is_same(other_translation) {
+            return false;
+        }
+    }
+    true
+}
+
+// Whether the two are the same page of the same address space.
+fn is_same_key(one: &(Space, u64), other: &(Space, u64)) -> bool
+    ensures { IsTrue result ↔ (one.now ≡ other.now) }
+{
+    one == other
+}
 
 /// The translation at a key, which becomes the most recently used.
 pub(crate) fn find(

@@ -1,5 +1,5 @@
 // The ways of a set side by side, eight words at once.
-ghost use Rattle.std.specs.Prelude.{◌≡◌, ◌≢◌, ◌<◌, ◌==◌, ℕ, IfSome, None, map, slice_index};
+ghost use Rattle.std.specs.Prelude.{◌≡◌, ◌≢◌, ◌<◌, ◌==◌, ◌↔◌, ℕ, IsTrue, IfSome, None, map, slice_index};
 ghost use Rattle.std.specs.Simd.Lanes.{mask_l};
 
 use std::simd::prelude::*;
@@ -11,6 +11,13 @@ fn equal_lanes(lanes: &[u64; 8], word: u64) -> u64
     u64x8::from_array(*lanes)
         .simd_eq(u64x8::splat(word))
         .to_bitmask()
+}
+
+/// Whether the same words stand in both, way by way.
+pub(crate) fn are_same_lanes(one: &[u64; 8], other: &[u64; 8]) -> bool
+    ensures { IsTrue result ↔ (one.now ≡ other.now) }
+{
+    one == other
 }
 
 /// The lowest of eight ways whose space word and page number are both those asked; None exactly where there is

@@ -54,6 +54,10 @@ impl TransCache for PlainCache {
 
     ghost content = { content_of };
 
+    fn is_same(&self, other: &PlainCache) -> bool {
+        entries::are_same(&self.entries, &other.entries)
+    }
+
     fn look(&mut self, space: Space, page: u64) -> Option<Translation>
         ensures found { result ≡ content_of self.old (space, page) }
         ensures stays { TranslationsStay (content_of self.old) (content_of self.new) }

@@ -1,4 +1,4 @@
-ghost use Rattle.std.specs.Prelude.{◌≡◌, Bool};
+ghost use Rattle.std.specs.Prelude.{◌≡◌, ◌↔◌, Bool, IsTrue};
 ghost use Rattle.iom_tlb.specs.Content.{Translations, TranslationsStay, Keeps, DropsWhere, HasNothing};
 ghost use Rattle.iom_tlb.specs.Covers.{covers};
 
@@ -13,6 +13,15 @@ pub struct Translation {
     pub rights: Rights,
 }
 
+impl Translation {
+    // Whether the two are one.
+    pub(crate) fn is_same(&self, other: &Translation) -> bool
+        ensures { IsTrue result ↔ (self.now ≡ other.now) }
+    {
+        self == other
+    }
+}
+
 /// A cache of translations, seen as its content: what it has for each page of each address space.
 pub trait TransCache {
     /// Whether each keep keeps: it takes no memory, and never refuses.
@@ -21,6 +30,10 @@ pub trait TransCache {
     ghost SURE: { Bool };
 
     ghost content: { Self → Translations };
+
+    /// Whether the two are equal: in what they have, and in what each later call will do. It changes nothing.
+    fn is_same(&self, other: &Self) -> bool
+        ensures { IsTrue result ↔ (self.now ≡ other.now) };
 
     /// What is cached for the page, if something is. The content stays.
     fn look(&mut self, space: Space, page: u64) -> Option<Translation>

@@ -1,4 +1,4 @@
-ghost use Rattle.std.specs.Prelude.{◌≡◌, ◌<◌, ◌%◌, ℕ, true, IfOk, IfSome, Some, length, get_or};
+ghost use Rattle.std.specs.Prelude.{◌≡◌, ◌<◌, ◌%◌, ◌↔◌, ℕ, true, IfOk, IsTrue, IfSome, Some, length, get_or};
 ghost use Rattle.iom_tlb.specs.Content.{Keeps, DropsWhere, HasNothing};
 ghost use Rattle.iom_tlb.specs.Covers.{covers};
 ghost use Rattle.iom_tlb.specs.Ways.{in_set, no_ways, content_of_sets};
@@ -66,6 +66,21 @@ fn new_sets(alloc: Global) -> Result<Vec<WaySet>, AllocError>
     Ok(sets)
 }
 
+/// Whether both have as many sets, the same one by one.
+fn are_same_sets(one: &[WaySet], other: &[WaySet]) -> bool
+    ensures { IsTrue result ↔ (one.now ≡ other.now) }
+{
+    if one.len() != other.len() {
+        return false;
+    }
+    for number in 0..one.len() {
+        if !one[number].is_same(&other[number]) {
+            return false;
+        }
+    }
+    true
+}
+
 /// Empties each way whose key is covered, in every set.
 fn drop_in_all(sets: &mut [WaySet], cover: &Cover)
     ensures dropped { (number : ℕ) → number < length sets.old → DropsWhere (covers cover.now)
@@ -129,6 +144,10 @@ impl TransCache for WayCache {
     ghost SURE = { true };
 
     ghost content = { content_of_sets };
+
+    fn is_same(&self, other: &WayCache) -> bool {
+        are_same_sets(&self.sets, &other.sets)
+    }
 
     fn look(&mut self, space: Space, page: u64) -> Option<Translation> {
         let set = &self.sets[set_of(page)];

@@ -1,5 +1,5 @@
 // A set of the cache: eight ways, side by side.
-ghost use Rattle.std.specs.Prelude.{◌≡◌, ◌<◌, ◌%◌, ℕ, true, false, IfSome, Some};
+ghost use Rattle.std.specs.Prelude.{◌≡◌, ◌<◌, ◌%◌, ◌↔◌, ℕ, true, false, IsTrue, IfSome, Some};
 ghost use Rattle.iom_tlb.specs.Content.{Sets, DropsWhere, HasNothing};
 ghost use Rattle.iom_tlb.specs.Covers.{covers};
 ghost use Rattle.iom_tlb.specs.declared.cached_page.CachedPage.{CachedPage};
@@ -11,7 +11,7 @@ ghost use Rattle.iom_tlb.specs.declared.space.Space.{Space};
 
 use crate::cached_page::CachedPage;
 use crate::cover::Cover;
-use crate::lanes::find_way;
+use crate::lanes::{are_same_lanes, find_way};
 use crate::space::Space;
 use crate::trans_cache::Translation;
 use crate::words::{space_of, space_word};
@@ -97,6 +97,13 @@ fn empty_covered(spaces: &mut [u64; WAYS], pages: &[u64; WAYS], cover: &Cover)
     }
 }
 
+/// Whether the same translations stand in both, way by way.
+fn are_same_translations(one: &[Translation; WAYS], other: &[Translation; WAYS]) -> bool
+    ensures { IsTrue result ↔ (one.now ≡ other.now) }
+{
+    one == other
+}
+
 impl WaySet {
     /// Eight empty ways, the lowest at the counter.
     pub(crate) fn new() -> WaySet
@@ -125,6 +132,16 @@ impl WaySet {
         ensures { HasWays self.now }
     {
         let _next = &self.next;
+    }
+
+    /// Whether both have the same in each way, and the same counter. What an empty way had counts too.
+    pub(crate) fn is_same(&self, other: &WaySet) -> bool
+        ensures { IsTrue result ↔ (self.now ≡ other.now) }
+    {
+        self.next == other.next
+            && are_same_lanes(&self.spaces, &other.spaces)
+            && are_same_lanes(&self.pages, &other.pages)
+            && are_same_translations(&self.translations, &other.translations)
     }
 
     /// What a way has.

@@ -41,6 +41,10 @@ impl TransCache for OneTranslation {
 
     ghost content = { content_of_one };
 
+    fn is_same(&self, other: &OneTranslation) -> bool {
+        self.only == other.only
+    }
+
     fn look(&mut self, space: Space, page: u64) -> Option<Translation> {
         match &self.only {
             Some(kept) if space == kept.space && page == kept.page => Some(kept.translation),

@@ -1,5 +1,5 @@
 use crate::one_translation::OneTranslation;
-use crate::steps::{HOST, Step, follow, in_plain, in_ways};
+use crate::steps::{HOST, Step, differ_by_a_page, follow, in_plain, in_ways, new_plain, new_ways};
 use iom_base::Rights;
 use iom_tlb::Space;
 
@@ -49,6 +49,13 @@ static KEPT_AND_DROPPED: [Step; 8] = [
     Step::DropAll,
     Step::Look(HOST, 3, None),
 ];
+
+#[test]
+fn a_page_makes_caches_differ(rt: HostRuntime) {
+    let (plain, ways) = (new_plain(&rt, rt.alloc()), new_ways(&rt, rt.alloc()));
+    differ_by_a_page(&rt, &plain, &mut new_plain(&rt, rt.alloc()));
+    differ_by_a_page(&rt, &ways, &mut new_ways(&rt, rt.alloc()));
+}
 
 #[test]
 fn each_cache_keeps_and_drops(rt: HostRuntime) {

@@ -125,6 +125,13 @@ pub(crate) fn new_ways(rt: &impl Abort, alloc: Global) -> WayCache {
     }
 }
 
+/// Two caches of one kind are equal until a page is kept in one alone.
+pub(crate) fn differ_by_a_page<C: TransCache>(rt: &impl Abort, one: &C, other: &mut C) {
+    expect(rt, one.is_same(other));
+    keep(other, HOST, 1, at(1, Rights::RW));
+    expect(rt, !one.is_same(other));
+}
+
 /// A new cache without sets takes the steps.
 pub(crate) fn in_plain(rt: &impl Abort, alloc: Global, steps: &[Step]) {
     let mut cache = new_plain(rt, alloc);
