@@ -5,3 +5,4 @@ pub mod Kept
 pub mod InMemory
 pub mod ByPlace
 pub mod Added
+mod Sames

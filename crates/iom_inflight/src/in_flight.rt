@@ -1,4 +1,4 @@
-ghost use Rattle.std.specs.Prelude.{◌≡◌, ◌↔◌, ◌<◌, ◌≤◌, ◌+◌, ◌*◌, ◌^◌, length, IfOk, MatchOption, None, is_some, nat_le};
+ghost use Rattle.std.specs.Prelude.{◌≡◌, ◌↔◌, ◌<◌, ◌≤◌, ◌+◌, ◌*◌, ◌^◌, length, IfOk, MatchOption, None, is_some, nat_le, IsTrue};
 ghost use Rattle.iom_base.specs.Accesses.{read_of, write_of};
 ghost use Rattle.iom_base.specs.Sizes.{in_flight_limit, device_limit};
 ghost use Rattle.iom_base.specs.Spans.{FitsInPage};
@@ -77,6 +77,21 @@ fn first_busy_in(rows: &[Row]) -> Option<DeviceId>
     None
 }
 
+/// Whether the rows are equal, and in the same order.
+fn are_same_rows(rows: &[Row], others: &[Row]) -> bool
+    ensures { IsTrue result ↔ (rows.now ≡ others.now) }
+{
+    if rows.len() != others.len() {
+        return false;
+    }
+    for place in 0..rows.len() {
+        if !rows[place].is_same(&others[place]) {
+            return false;
+        }
+    }
+    true
+}
+
 /// Rows for 16 devices.
 fn spare_rows(alloc: Global) -> Result<Vec<Row>, AllocError>
     ensures { IfOk result (λ rows. length rows.items ≡ device_limit) }
@@ -106,6 +121,16 @@ impl InFlight {
         ensures { AreFlights self.now }
     {
         let _so_far = &self.so_far;
+    }
+
+    /// Whether the two are equal.
+    pub fn is_same(&self, other: &InFlight) -> bool
+        ensures { IsTrue result ↔ (self.now ≡ other.now) }
+    {
+        if self.so_far != other.so_far {
+            return false;
+        }
+        are_same_rows(&self.rows, &other.rows)
     }
 
     /// Adds the device, after all others. False exactly where it is there or 16 are, and then nothing

@@ -13,6 +13,7 @@ mod awaiting;
 mod header;
 mod in_flight;
 mod made;
+mod rings;
 mod row;
 
 pub use in_flight::InFlight;

@@ -1,5 +1,5 @@
 // The accesses of one device in flight.
-ghost use Rattle.std.specs.Prelude.{◌≡◌, ◌<◌, ◌≤◌, ◌+◌, ◌^◌, ◌∷◌, List, ℕ, Bool, length, drop, IfOk, Some, slice_get, option_map, IsSomeAnd, not};
+ghost use Rattle.std.specs.Prelude.{◌≡◌, ◌<◌, ◌≤◌, ◌+◌, ◌^◌, ◌∷◌, List, ℕ, Bool, length, drop, IfOk, Some, slice_get, option_map, IsSomeAnd, not, ◌↔◌, IsTrue};
 ghost use Rattle.iom_base.specs.Accesses.{read_of, write_of};
 ghost use Rattle.iom_base.specs.Bytes.{with_bytes};
 ghost use Rattle.iom_base.specs.Sizes.{page_size, in_flight_limit};
@@ -11,6 +11,7 @@ ghost use Rattle.iom_inflight.specs.Rows.{RowAccepts, IsMakeable, RowMakes, Olde
 
 use crate::header::AccessHeader;
 use crate::made::MadeAt;
+use crate::rings::{have_same_accesses, have_same_bytes};
 use circular_buffer::HeapCircularBuffer;
 use iom_base::{AccessKind, DeviceId, FRAME_SIZE, MAX_IN_FLIGHT, PAGE_SIZE};
 use iom_phys_mem::Memory;
@@ -107,6 +108,19 @@ impl Row {
         ensures { result ≡ is_row_drained before kind self.now }
     {
         none_awaited(&self.waiting, before, kind)
+    }
+
+    /// Whether the two are equal.
+    pub(crate) fn is_same(&self, other: &Row) -> bool
+        ensures { IsTrue result ↔ (self.now ≡ other.now) }
+    {
+        if self.device != other.device || self.accepted != other.accepted {
+            return false;
+        }
+        if !have_same_accesses(&self.waiting, &other.waiting) {
+            return false;
+        }
+        have_same_bytes(&self.bytes, &other.bytes)
     }
 
     /// What is made of the access at this place, the oldest at 0.
