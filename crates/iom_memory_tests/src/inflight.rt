@@ -113,3 +113,20 @@ static NINTH: [Step; 14] = [
 fn a_ninth_access_is_refused(rt: HostRuntime) {
     follow(&rt, rt.alloc(), &NINTH);
 }
+
+/// A write of the bytes by one device is in flight.
+fn with_write(rt: &impl Abort, alloc: Global, bytes: &[u8]) -> InFlight {
+    let mut flights = InFlight::new(alloc).expect(rt, "memory for the accesses");
+    flights.add(7);
+    expect(rt, accept(rt, &mut flights, 7, 0x3000, bytes) == Some(1));
+    flights
+}
+
+#[test]
+fn equal_accesses_are_the_same(rt: HostRuntime) {
+    let flights = with_write(&rt, rt.alloc(), b"\xcc");
+    let equal = with_write(&rt, rt.alloc(), b"\xcc");
+    expect(&rt, flights.is_same(&equal));
+    let other = with_write(&rt, rt.alloc(), b"\xcd");
+    expect(&rt, !flights.is_same(&other));
+}
