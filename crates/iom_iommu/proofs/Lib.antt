@@ -7,3 +7,4 @@ pub mod ServiceLemmas
 pub mod StageLemmas
 pub mod PartLemmas
 pub mod MadeLemmas
+pub mod SameParts

@@ -33,6 +33,7 @@ mod questions;
 mod reply;
 mod reports;
 mod requests;
+mod same;
 mod service;
 mod software;
 mod timeouts;
