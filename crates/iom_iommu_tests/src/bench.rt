@@ -110,6 +110,11 @@ impl Bench {
         Box::new(alloc, bench).expect(rt, "memory for the bench")
     }
 
+    /// Whether the memories are equal, and the IOMMUs.
+    pub(crate) fn is_same(&self, other: &Bench) -> bool {
+        self.memory.is_same(&other.memory) && self.iommu.is_same(&other.iommu)
+    }
+
     fn turn_on(&mut self, rt: &impl Abort, cqb: u64) {
         self.iommu.add(DEVICE);
         self.write(rt, CQB, cqb);

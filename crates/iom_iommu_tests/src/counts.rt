@@ -1,5 +1,6 @@
 // Which accesses a fence waits for.
-use crate::bench::{Answer, Step, follow};
+use crate::bench::{Answer, Bench, Step, follow};
+use crate::expect::expect;
 use crate::setup::{BASE_VALUE, CQCSR, CQT, DDTP, DEVICE};
 use iom_iommu::Reply;
 
@@ -75,4 +76,13 @@ fn fences_wait_for_accesses(rt: HostRuntime) {
     follow(&rt, rt.alloc(), &[], &GIVEN_UP);
     follow(&rt, rt.alloc(), &[], &READS);
     follow(&rt, rt.alloc(), &[], &WRITES);
+}
+
+#[test]
+fn a_device_makes_iommus_differ(rt: HostRuntime) {
+    let one = Bench::at_power_on(&rt, rt.alloc());
+    let mut other = Bench::at_power_on(&rt, rt.alloc());
+    expect(&rt, one.is_same(&other));
+    other.follow(&rt, &[Step::Add(DEVICE)]);
+    expect(&rt, !one.is_same(&other));
 }

@@ -62,6 +62,15 @@ fn words_go_up_to_the_last(rt: HostRuntime) {
 }
 
 #[test]
+fn a_byte_makes_memories_differ(rt: HostRuntime) {
+    let one = built(&rt, rt.alloc(), 64);
+    let mut other = built(&rt, rt.alloc(), 64);
+    expect(&rt, one.is_same(&other));
+    expect_store(&rt, &mut other, END - 8, 1, true);
+    expect(&rt, !one.is_same(&other));
+}
+
+#[test]
 fn words_outside_are_none(rt: HostRuntime) {
     let mut memory = built(&rt, rt.alloc(), 64);
     for address in [END, END + 8, 4096 * 4096, u64::MAX - 7] {

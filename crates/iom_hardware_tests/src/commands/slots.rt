@@ -63,6 +63,14 @@ static STEPS: [Step; 15] = [
     Step::Count(1),
 ];
 
+#[test]
+fn a_request_makes_slots_differ(rt: HostRuntime) {
+    let (one, mut other) = (Slots::new(), Slots::new());
+    expect(&rt, one.is_same(&other));
+    expect(&rt, open(&rt, &mut other, 2) == Some(1));
+    expect(&rt, !one.is_same(&other));
+}
+
 // Of slots that are all open one is closed, and then all are.
 #[test]
 fn slots_open_and_close(rt: HostRuntime) {

@@ -92,8 +92,20 @@ static DROPS: [Step; 8] = [
     Step::Lacks(3, 4),
 ];
 
+// Two caches differ where one was looked at in another order.
+fn differ_by_order(rt: &impl Abort, alloc: Global) {
+    let mut one = DirCache::new(alloc).expect(rt, "memory for the cache");
+    let mut other = DirCache::new(alloc).expect(rt, "memory for the cache");
+    keep_each(rt, &mut one, 1, 3);
+    keep_each(rt, &mut other, 1, 3);
+    expect(rt, one.is_same(&other));
+    look_each(rt, &mut other, 1, 2, true);
+    expect(rt, !one.is_same(&other));
+}
+
 #[test]
 fn the_least_recently_used_goes(rt: HostRuntime) {
     follow(&rt, rt.alloc(), &SIXTEEN);
     follow(&rt, rt.alloc(), &DROPS);
+    differ_by_order(&rt, rt.alloc());
 }

@@ -1,6 +1,6 @@
 use crate::expect::expect;
 use crate::registers::steps::{Step, follow, reads, writes};
-use iom_registers::{DirectoryMode, Mmio, RegFault, Registers};
+use iom_registers::{DirectoryMode, Mmio, RegFault, Register, Registers};
 use std::process::Abort;
 
 // What a read of so many bytes at an offset answers at power-on.
@@ -28,6 +28,14 @@ fn is_answered(rt: &impl Abort, registers: &mut Registers, offset: u64, width: u
         expect(rt, written.err() == answer.err());
         expect(rt, *registers == Registers::new());
     }
+}
+
+#[test]
+fn a_write_makes_registers_differ(rt: HostRuntime) {
+    let mut registers = Registers::new();
+    expect(&rt, registers.is_same(&Registers::new()));
+    registers.set(Register::Ddtp, 1);
+    expect(&rt, !registers.is_same(&Registers::new()));
 }
 
 #[test]
