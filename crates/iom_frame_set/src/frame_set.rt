@@ -1,4 +1,4 @@
-ghost use Rattle.std.specs.Prelude.{◌≡◌, ◌+◌, ◌<◌, ◌≤◌, OnOk, MatchOption, length, max};
+ghost use Rattle.std.specs.Prelude.{◌≡◌, ◌↔◌, ◌+◌, ◌<◌, ◌≤◌, IsTrue, OnOk, MatchOption, length, max};
 ghost use Rattle.iom_frame_set.specs.Sets.{has, room, IsEmpty, HasEachFrame, HasSame, InsertsFrame, RemovesFrame, NoneIsCommon, IsHighestCommon, common_below};
 ghost use Rattle.iom_frame_set.specs.Spans.{NoneIsInBoth, IsHighestInBoth};
 
@@ -125,5 +125,13 @@ impl FrameSet {
         ensures { result ≡ length (common_below self.now other.now limit) }
     {
         self.frames.count_in_both(&other.frames, limit)
+    }
+
+    /// Whether the two are equal: the same frames are in both, and both have room for the same.
+    // The numbers of the filled words are determined by the words.
+    pub fn is_same(&self, other: &FrameSet) -> bool
+        ensures { IsTrue result ↔ (self.now ≡ other.now) }
+    {
+        self.frames.is_same(&other.frames)
     }
 }

@@ -1,5 +1,5 @@
 //! Sets of numbers, a bit for each in words of 64.
-ghost use Rattle.std.specs.Prelude.{◌≡◌, ◌+◌, ◌-◌, ◌*◌, ◌/◌, ◌^◌, ◌<◌, ◌≤◌, ℕ, OnOk, MatchOption, length, max};
+ghost use Rattle.std.specs.Prelude.{◌≡◌, ◌↔◌, ◌+◌, ◌-◌, ◌*◌, ◌/◌, ◌^◌, ◌<◌, ◌≤◌, ℕ, IsTrue, OnOk, MatchOption, length, max};
 ghost use Rattle.iom_frame_set.specs.Sets.{nth_word, has, room, IsEmpty, HasEachFrame, InsertsFrame, RemovesFrame, common_below};
 ghost use Rattle.iom_frame_set.specs.Spans.{KeepsWords, KeepsOtherWords, NoneIsInBoth, IsHighestInBoth};
 
@@ -149,5 +149,15 @@ impl NumberSet {
             count += self.count_in_word(other, index, BITS);
         }
         count + self.count_in_word(other, limit / BITS, limit % BITS)
+    }
+
+    /// Whether the two have the same words, and the same word stands for each beyond them.
+    pub(crate) fn is_same(&self, other: &NumberSet) -> bool
+        ensures { IsTrue result ↔ (self.now ≡ other.now) }
+    {
+        if self.beyond != other.beyond {
+            return false;
+        }
+        self.words.as_slice() == other.words.as_slice()
     }
 }
