@@ -9,3 +9,4 @@ pub mod FreeLemmas
 pub mod FrameRowLemmas
 pub mod PageNumbers
 pub mod UnknownTickets
+pub mod SameLemmas

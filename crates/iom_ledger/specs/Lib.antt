@@ -9,3 +9,4 @@ pub mod Counts
 pub mod Shown
 pub mod Changes
 pub mod Confirmations
+pub mod Same

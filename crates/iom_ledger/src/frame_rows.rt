@@ -1,5 +1,5 @@
 //! The row of each frame, and the frames whose rows are free.
-ghost use Rattle.std.specs.Prelude.{◌≡◌, ◌+◌, ◌<◌, ◌^◌, IfOk, OnOk, length, max, replicate, slice_get, vec_capacity};
+ghost use Rattle.std.specs.Prelude.{◌≡◌, ◌↔◌, ◌+◌, ◌<◌, ◌^◌, IsTrue, IfOk, OnOk, length, max, replicate, slice_get, vec_capacity};
 ghost use Rattle.std.specs.Option.{option_copied};
 ghost use Rattle.iom_frame_set.specs.Sets.{room};
 ghost use Rattle.iom_ledger.specs.Counts.{row_of_frame, granted, released, confirmed, KeepsCounts, ChangesRow, IsFreeSet};
@@ -25,6 +25,8 @@ pub(crate) struct FrameRows {
 }
 
 impl FrameRows {
+    ghost use Rattle.iom_ledger.specs.Same.{IsSameFrameRows};
+
     /// A row for each of so many frames, named by nothing.
     pub(crate) fn new(alloc: Global, frames: u32) -> Result<FrameRows, AllocError>
         ensures { IfOk result (λ made. made.rows.items ≡ replicate frames (record { grants = 0; pending = 0 })) }
@@ -115,5 +117,15 @@ impl FrameRows {
         if row.is_free() {
             self.free.insert(frame);
         }
+    }
+
+    /// Whether both have the same row of each frame, and the same set of free frames.
+    pub(crate) fn is_same(&self, other: &FrameRows) -> bool
+        ensures { IsTrue result ↔ IsSameFrameRows self.now other.now }
+    {
+        if !self.free.is_same(&other.free) {
+            return false;
+        }
+        self.rows.as_slice() == other.rows.as_slice()
     }
 }

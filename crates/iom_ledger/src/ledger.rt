@@ -12,7 +12,7 @@ use crate::frame_rows::FrameRows;
 use crate::lookups::{holds_anything_in, lingers_anything_in};
 use crate::page_row::PageRow;
 use crate::pending::Pending;
-use crate::ring::{Ring, confirm_in, note, still_ascend};
+use crate::ring::{Ring, confirm_in, has_same_releases, note, still_ascend};
 use crate::row::Row;
 use circular_buffer::HeapCircularBuffer;
 use iom_base::{DeviceId, Rights};
@@ -50,6 +50,7 @@ impl Ledger {
     ghost use Rattle.iom_base.specs.Calls.{IsGrantable};
     ghost use Rattle.iom_frame_set.specs.Sets.{has};
     ghost use Rattle.iom_ledger.specs.Shown.{held_in, released_in, lingering_in, pending_in, pages_listed, frames_in};
+    ghost use Rattle.iom_ledger.specs.Same.{IsSameLedger};
     ghost use Rattle.iom_ledger.specs.Changes.{IsUnchanged, ShowsGrant, ShowsRelease, ShowsReleaseOfAll, ShowsConfirmation};
 
     /// A ledger of no grants. Makes the room of [`MAX_PENDING`] tickets, so that no release takes memory, and
@@ -254,5 +255,22 @@ impl Ledger {
             self.ascending,
             ticket,
         );
+    }
+
+    /// Whether the two are equal: the same rows in the same order, and the same releases that aren't confirmed. How
+    /// much room their lists have is no matter.
+    pub fn is_same(&self, other: &Ledger) -> bool
+        ensures { IsTrue result ↔ IsSameLedger self.now other.now }
+    {
+        if self.ascending != other.ascending {
+            return false;
+        }
+        if !has_same_releases(&self.pending, &other.pending) {
+            return false;
+        }
+        if !self.frames.is_same(&other.frames) {
+            return false;
+        }
+        self.devices.is_same(&other.devices)
     }
 }

@@ -6,7 +6,7 @@ ghost use Rattle.iom_ledger.specs.RowChanges.{released_row, held_frame};
 use iom_base::Rights;
 
 /// A frame and the right to it, and the ticket under which it was released, if it was.
-#[derive(Clone, Copy)]
+#[derive(Clone, Copy, PartialEq, Eq)]
 pub(crate) struct PageRow {
     pub(crate) frame: u32,
     pub(crate) rights: Rights,

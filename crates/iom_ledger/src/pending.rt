@@ -3,7 +3,7 @@ use iom_base::DeviceId;
 
 /// A release whose ticket isn't confirmed: of one page, or where no page is named of all that the
 /// device held.
-#[derive(Clone, Copy)]
+#[derive(Clone, Copy, PartialEq, Eq)]
 pub(crate) struct Pending {
     pub(crate) ticket: u32,
     pub(crate) device: DeviceId,

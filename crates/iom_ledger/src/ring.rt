@@ -1,5 +1,5 @@
 //! The releases that aren't confirmed, the oldest first, in a ring that is made once.
-ghost use Rattle.std.specs.Prelude.{◌≡◌, ◌<◌, ◌≤◌, ◌==◌, ℕ, List, true, false, not, [], ◌∷◌, ◌++◌, length, filter};
+ghost use Rattle.std.specs.Prelude.{◌≡◌, ◌↔◌, ◌<◌, ◌≤◌, ◌==◌, ℕ, List, IsTrue, true, false, not, [], ◌∷◌, ◌++◌, length, filter};
 ghost use Rattle.iom_ledger.specs.declared.pending.Pending.{Pending};
 ghost use Rattle.iom_ledger.specs.Counts.{AreCounted};
 ghost use Rattle.iom_ledger.specs.Ring.{tickets, is_ticket_among, is_ascending, is_other, DropsNamedBy, TakesFirst};
@@ -123,4 +123,19 @@ pub(crate) fn confirm_in(
     if !is_past(pending, ascending, ticket) {
         confirm_each(devices, frames, pending, ticket);
     }
+}
+
+/// Whether both have the same releases in the same order.
+pub(crate) fn has_same_releases(pending: &Ring, other: &Ring) -> bool
+    ensures { IsTrue result ↔ (pending.now.items ≡ other.now.items) }
+{
+    if pending.len() != other.len() {
+        return false;
+    }
+    for n in 0..pending.len() {
+        if pending.get(n).copied() != other.get(n).copied() {
+            return false;
+        }
+    }
+    true
 }
