@@ -3,3 +3,4 @@ pub mod CountLemmas
 pub mod GivingLemmas
 pub mod MarkLemmas
 pub mod FourLemmas
+pub mod SameLemmas

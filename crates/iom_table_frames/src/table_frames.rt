@@ -172,6 +172,14 @@ impl TableFrames {
             }
         }
     }
+
+    /// Whether both have the same marks.
+    // The set of unreserved frames is determined by the marks.
+    pub fn is_same(&self, other: &TableFrames) -> bool
+        ensures { IsTrue result ↔ (self.now ≡ other.now) }
+    {
+        self.marks.as_slice() == other.marks.as_slice()
+    }
 }
 
 /// Makes the bytes of the frame zero.
