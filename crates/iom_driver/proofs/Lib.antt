@@ -34,3 +34,4 @@ pub mod AppendLists
 pub mod Unmaps
 pub mod CuttingOff
 pub mod Orders
+pub mod SameLemmas

@@ -25,3 +25,4 @@ pub mod Restarts
 pub mod Polling
 pub mod Reports
 pub mod Laws
+pub mod Same

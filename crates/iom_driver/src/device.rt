@@ -1,7 +1,7 @@
 use iom_base::{DeviceId, Mode};
 
 /// The stages by which a device's addresses are translated.
-#[derive(Clone, Copy)]
+#[derive(Clone, Copy, PartialEq, Eq)]
 pub struct Stages {
     /// Which stages they are.
     pub(crate) mode: Mode,
@@ -15,7 +15,7 @@ pub struct Stages {
 }
 
 /// How a device that is plugged in is attached.
-#[derive(Clone, Copy)]
+#[derive(Clone, Copy, PartialEq, Eq)]
 pub enum Attachment {
     /// To nothing.
     Detached,
@@ -28,7 +28,7 @@ pub enum Attachment {
 }
 
 /// A device that is plugged in, as the driver keeps it.
-#[derive(Clone, Copy)]
+#[derive(Clone, Copy, PartialEq, Eq)]
 pub struct Device {
     pub(crate) id: DeviceId,
     /// Whether it has a cache of translations of its own (ATS) that obeys invalidations.

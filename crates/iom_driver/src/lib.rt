@@ -33,6 +33,7 @@ mod attaching;
 mod attachments;
 mod building;
 mod choosing;
+mod comparing;
 mod contexts;
 mod device;
 mod driver;
