@@ -5,3 +5,4 @@ pub mod PowerOn
 pub mod Happens
 pub mod Counts
 pub mod OnHardware
+pub mod Same

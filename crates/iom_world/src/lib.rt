@@ -14,6 +14,7 @@
 
 mod block_devices;
 mod commits;
+mod comparing;
 mod counts;
 mod disks;
 mod driving;
