@@ -12,3 +12,4 @@ pub mod Passing
 pub mod PowerOn
 pub mod Runs
 pub mod Looks
+pub mod Same

@@ -11,6 +11,7 @@
 mod at_hand;
 mod block;
 mod blocks;
+mod comparing;
 mod for_blocks;
 mod looks;
 mod one_step;
