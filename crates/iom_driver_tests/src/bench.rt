@@ -204,6 +204,11 @@ impl Bench {
         self.driver.pending()
     }
 
+    /// Whether its driver is equal to the other's.
+    pub(crate) fn has_same_driver(&self, other: &Bench) -> bool {
+        self.driver.is_same(&other.driver)
+    }
+
     /// A fence stores its number, as the IOMMU would.
     fn complete(&mut self, number: u32) {
         stays_ready();

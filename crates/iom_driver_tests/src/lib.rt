@@ -15,6 +15,8 @@ mod attaches;
 #[cfg(test)]
 mod bench;
 #[cfg(test)]
+mod comparing;
+#[cfg(test)]
 mod detaches;
 #[cfg(test)]
 mod expect;

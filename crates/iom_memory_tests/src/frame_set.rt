@@ -114,3 +114,15 @@ fn a_frame_that_is_taken_out_is_found_no_more(rt: HostRuntime) {
     is_highest(&rt, &set, &all, None, 7);
     is_highest(&rt, &set, &all, Some(7), 6);
 }
+
+// Sets are equal that have the same frames, in whatever order these were put in.
+#[test]
+fn sets_are_compared(rt: HostRuntime) {
+    let set = set_of(&rt, rt.alloc(), &[3, 130]);
+    let turned = set_of(&rt, rt.alloc(), &[130, 3]);
+    let smaller = set_of(&rt, rt.alloc(), &[3]);
+    let all = full(&rt, rt.alloc());
+    expect(&rt, set.is_same(&turned));
+    expect(&rt, !set.is_same(&smaller));
+    expect(&rt, !set.is_same(&all));
+}

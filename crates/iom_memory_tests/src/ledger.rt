@@ -151,12 +151,18 @@ fn answers(ledger: &Ledger, step: Step) -> bool {
     }
 }
 
-/// A ledger of so many frames takes the steps.
-pub(crate) fn follow(rt: &impl Abort, alloc: Global, frames: u32, steps: &[Step]) {
+/// A ledger of so many frames that took the steps.
+fn after(rt: &impl Abort, alloc: Global, frames: u32, steps: &[Step]) -> Box<Ledger> {
     let mut ledger = ledger_of(alloc, frames).expect(rt, "memory for a ledger");
     for step in steps.iter() {
         expect(rt, does(&mut ledger, *step));
     }
+    ledger
+}
+
+/// A ledger of so many frames takes the steps.
+pub(crate) fn follow(rt: &impl Abort, alloc: Global, frames: u32, steps: &[Step]) {
+    let _ledger = after(rt, alloc, frames, steps);
 }
 
 /// A ledger of no grants, boxed: of what a test owns in place each later proof would carry every part.
@@ -539,4 +545,27 @@ static SIX_FRAMES: [Step; 38] = [
 #[test]
 fn the_free_frames_are_those_of_no_row(rt: HostRuntime) {
     follow(&rt, rt.alloc(), 6, &SIX_FRAMES);
+}
+
+/// Two grants.
+static GRANTED: [Step; 2] = [
+    Step::Grant(1, 3, 5, Rights::R),
+    Step::Grant(1, 4, 5, Rights::R),
+];
+
+/// One of the two is released.
+static RELEASED: [Step; 3] = [
+    Step::Grant(1, 3, 5, Rights::R),
+    Step::Grant(1, 4, 5, Rights::R),
+    Step::Release(1, 3, 1),
+];
+
+// Ledgers to which the same happened are equal, and others aren't.
+#[test]
+fn ledgers_are_compared(rt: HostRuntime) {
+    let granted = after(&rt, rt.alloc(), 8, &GRANTED);
+    let again = after(&rt, rt.alloc(), 8, &GRANTED);
+    let released = after(&rt, rt.alloc(), 8, &RELEASED);
+    expect(&rt, granted.is_same(&again));
+    expect(&rt, !granted.is_same(&released));
 }

@@ -128,12 +128,17 @@ impl Bench {
     }
 }
 
-// A bench takes the steps, one after another.
-fn follow(rt: &impl Abort, alloc: Global, steps: &[Step]) {
+/// A bench that took the steps, one after another.
+fn after(rt: &impl Abort, alloc: Global, steps: &[Step]) -> Box<Bench> {
     let mut bench = Bench::new(rt, alloc);
     for step in steps.iter() {
         expect(rt, bench.does(*step));
     }
+    bench
+}
+
+fn follow(rt: &impl Abort, alloc: Global, steps: &[Step]) {
+    let _bench = after(rt, alloc, steps);
 }
 
 /// With 64 frames and one grant of frame 59, tables come from 58 down, and never lie on a fixed frame. Each is
@@ -184,4 +189,20 @@ fn the_highest_free_frames_are_taken(rt: HostRuntime) {
     follow(&rt, rt.alloc(), &HIGHEST);
     follow(&rt, rt.alloc(), &ALL);
     follow(&rt, rt.alloc(), &FOUR);
+}
+
+/// Whether the two are the same once each took its steps.
+fn are_same(rt: &impl Abort, alloc: Global, one: &[Step], other: &[Step]) -> bool {
+    let one = after(rt, alloc, one);
+    let other = after(rt, alloc, other);
+    one.tables.is_same(&other.tables)
+}
+
+// Marks are equal where each frame has the same owner.
+#[test]
+fn marks_are_compared(rt: HostRuntime) {
+    let taken = Step::Take(ONE, None, Some(59));
+    let given_back = [taken, Step::GiveBack(ONE)];
+    expect(&rt, are_same(&rt, rt.alloc(), &[], &given_back));
+    expect(&rt, !are_same(&rt, rt.alloc(), &[taken], &given_back));
 }

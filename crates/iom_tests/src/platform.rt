@@ -3,6 +3,7 @@
 ghost use Rattle.std.specs.Prelude.{◌≡◌, ◌+◌, ◌≤◌, false, length};
 
 use crate::expect::expect;
+use iom_base::NewDevice;
 use iom_machine::{Event, Outcome, Sink, Trace};
 use iom_platform::Platform;
 use iom_runner::program_disks;
@@ -45,6 +46,12 @@ impl Sink for Room {
 fn opened(rt: &impl Abort, alloc: Global) -> Box<Platform<MemoryDisk>> {
     let disks = program_disks(alloc).expect(rt, "memory for the disks");
     let platform = Platform::new(alloc, 64, 1, disks).expect(rt, "memory for a platform");
+    Box::new(alloc, platform).expect(rt, "memory for a platform")
+}
+
+/// The same without disks.
+fn without_disks(rt: &impl Abort, alloc: Global) -> Box<Platform<MemoryDisk>> {
+    let platform = Platform::new(alloc, 64, 1, Vec::new(alloc)).expect(rt, "memory for a platform");
     Box::new(alloc, platform).expect(rt, "memory for a platform")
 }
 
@@ -123,4 +130,21 @@ fn a_platform_settles(rt: HostRuntime) {
             settled(&rt, rt.alloc(), lines) == Some((*count, *events)),
         );
     }
+}
+
+/// Platforms without disks are equal to which the same happened. One with a disk isn't the same as any, not even as itself.
+#[test]
+fn platforms_without_disks_are_compared(rt: HostRuntime) {
+    let mut one = without_disks(&rt, rt.alloc());
+    let other = without_disks(&rt, rt.alloc());
+    let with_disks = opened(&rt, rt.alloc());
+    expect(&rt, one.is_same(&other));
+    expect(&rt, !other.is_same(&with_disks));
+    expect(&rt, !with_disks.is_same(&with_disks));
+    let plug = Event::Plug {
+        device: 2,
+        new: NewDevice::Raw,
+    };
+    expect(&rt, left(&mut one, &[plug], 1) == (0, true, 1));
+    expect(&rt, !one.is_same(&other));
 }

@@ -106,3 +106,20 @@ fn a_block_device_rests_begins_and_tells_its_status(rt: HostRuntime) {
     expect(&rt, !begins_reading(&mut world, &mut kept, 2));
     expect(&rt, world.events() == 10);
 }
+
+// Worlds are equal to which the same happened, and a fetch of no command is nothing.
+#[test]
+fn worlds_are_compared(rt: HostRuntime) {
+    let mut one = opened(&rt, rt.alloc());
+    let mut other = opened(&rt, rt.alloc());
+    let mut kept = KeptOutcomes::new();
+    let plug = Event::Plug {
+        device: 2,
+        new: NewDevice::Raw,
+    };
+    expect(&rt, is_done(&mut one, &mut kept, &plug));
+    expect(&rt, !one.is_same(&other));
+    expect(&rt, is_done(&mut other, &mut kept, &plug));
+    expect(&rt, !is_done(&mut other, &mut kept, &Event::Fetch));
+    expect(&rt, one.is_same(&other) && one.events() != other.events());
+}
