@@ -1,5 +1,4 @@
 pub mod Places
 pub mod Openings
 pub mod Lines
-pub mod Acts
-pub mod Looks
+pub mod Systems

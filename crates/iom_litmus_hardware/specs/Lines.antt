@@ -1,26 +1,18 @@
 -- What comes of a line, and of what hardware does by itself.
-use Rattle.std.specs.Prelude.{◌≡◌, ◌⊎◌, ℕ, List, [], ◌∷◌, Option, None, Some}
-use Rattle.iom_base.specs.declared.access.AccessKind.{AccessKind}
+use Rattle.std.specs.Prelude.{◌≡◌, ◌⊎◌, ℕ, List}
 use Rattle.iom_claims.specs.Claimed.{Claimed}
 use Rattle.iom_claims.specs.Shown.{ShowsClaimed}
 use Rattle.iom_hardware_script.specs.declared.script.HardwareLine.{HardwareLine}
 use Rattle.iom_hardware_script.specs.Grammar.{IsHardwareLine}
-use Rattle.iom_hardware_session.specs.declared.answer.Answer.{Answer}
 use Rattle.iom_hardware_session.specs.declared.session.Stepped.{Stepped}
 use Rattle.iom_hardware_session.specs.declared.state.Session.{Session}
 use Rattle.iom_hardware_session.specs.declared.watched.Watched.{Watched}
 use Rattle.iom_hardware_session.specs.Lines.{made_by}
 use Rattle.iom_hardware_session.specs.Runs.{LineGoesOn, is_wrong_by}
-use Rattle.iom_inflight.specs.declared.made.MadeAt.{MadeAt}
 use Rattle.iom_litmus.specs.declared.reply.Reply.{Reply}
 use Rattle.iom_litmus.specs.Replies.{no_reply}
-use Rattle.iom_litmus_test.specs.declared.observable.Touch.{Touch}
-use Rattle.iom_litmus_hardware.specs.Places.{SessionPlace, Tested, place_of, AreListed}
-
--- the accesses that were made: one, or none
-abbrev pub touches_of : Option MadeAt → List Touch
-touches_of None = []
-touches_of (Some made) = record { device = made.device; kind = made.kind; frame = made.frame } ∷ []
+use Rattle.iom_litmus_looks.specs.Touches.{touches_of}
+use Rattle.iom_litmus_hardware.specs.Places.{SessionPlace, place_of}
 
 -- The reply tells which access was made, whether something is wrong, and whether the access is one that nothing claimed allows. Its text is left open.
 pub record RepliesTo (stepped : Stepped) (watched : List Watched) (reply : Reply) : Type 0 where

@@ -1,31 +1,20 @@
 -- What hardware under a driver is, for a litmus test: what later answers can depend on.
-use Rattle.std.specs.Prelude.{◌≡◌, ℕ, List, map}
+use Rattle.std.specs.Prelude.{◌≡◌, ℕ, List}
 use Rattle.iom_claims.specs.Rows.{Rows}
-use Rattle.iom_device.specs.declared.device.Device.{Device}
-use Rattle.iom_fabric.specs.declared.fabric.OnLink.{OnLink}
 use Rattle.iom_hardware_session.specs.declared.state.Session.{Session}
 use Rattle.iom_hardware_session.specs.declared.watched.Watched.{Watched}
-use Rattle.iom_iommu.specs.OwnIommu.{Iommu}
+use Rattle.iom_litmus_looks.specs.Places.{HardwarePlace, hardware_place, ids_of}
 
--- The hardware, what is claimed of it, who is trusted, and what is watched. How many events there were, how much room lists have, and where a survey was made
--- last aren't part of it.
+-- The hardware, what is claimed of it, who is trusted, and what is watched. Where a survey was made last isn't part of it.
 pub record SessionPlace : Type 0 where
-  pub memory : List (List ℕ)
-  pub iommu : Iommu
-  pub devices : List Device
-  pub messages : List OnLink
-  pub disks : List ℕ
+  pub hardware : HardwarePlace
   pub claims : Rows
   pub trusted : List ℕ
   pub watched : List Watched
 
 abbrev pub place_of : Session → SessionPlace
 place_of session = record {
-  memory = session.hardware.memory;
-  iommu = session.hardware.iommu;
-  devices = session.hardware.devices.items;
-  messages = session.hardware.fabric;
-  disks = session.hardware.disks.items;
+  hardware = hardware_place session.hardware;
   claims = session.claims;
   trusted = session.trusted.items;
   watched = session.watched.items;
@@ -36,9 +25,5 @@ pub record Tested : Type 0 where
   pub place : SessionPlace
   pub ids : List ℕ
 
--- the ids of the devices, in the order of plugging
-abbrev pub ids_of : List Device → List ℕ
-ids_of devices = map (λ (device : Device). device.id) devices
-
 abbrev pub AreListed : Tested → Type 0
-AreListed tested = tested.ids ≡ ids_of tested.place.devices
+AreListed tested = tested.ids ≡ ids_of tested.place.hardware.devices

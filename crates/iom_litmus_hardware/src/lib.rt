@@ -3,14 +3,11 @@
 //!
 //! The layer above may rely on [`UnderTest`] being a `System` of `iom_litmus` by these relations: its opening is a session from
 //! power-on (`specs/Openings.antt`), a line does what a session says that it does (`specs/Lines.antt`), and so does a step of
-//! hardware (`specs/Acts.antt`). What is read off it is the hardware's own (`specs/Looks.antt`). The text of a reply is that
+//! hardware (`specs/Systems.antt`). What is read off it is the hardware's own (`iom_litmus_looks`). The text of a reply is that
 //! which `iommu-hw` writes, up to its first `;` or `:`; no clause says which.
 #![tactic(auto)]
 
-mod acts;
-mod fingerprint;
 mod lines;
-mod looks;
 mod opening;
 mod under_test;
 

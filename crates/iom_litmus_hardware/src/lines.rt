@@ -1,7 +1,7 @@
 // A line happens, and the reply to it.
 ghost use Rattle.std.specs.Prelude.{◌≡◌, ◌+◌, ◌<◌, ◌^◌, IfOk};
 ghost use Rattle.iom_hardware_session.specs.Lines.{made_by};
-ghost use Rattle.iom_litmus_hardware.specs.Lines.{touches_of, TakesLine};
+ghost use Rattle.iom_litmus_hardware.specs.Lines.{TakesLine};
 
 use iom_base::Sequence;
 use iom_hardware_runner::put_answer;
@@ -9,7 +9,7 @@ use iom_hardware_script::HardwareLine;
 use iom_hardware_session::{Answer, Session};
 use iom_inflight::MadeAt;
 use iom_litmus::Reply;
-use iom_litmus_test::Touch;
+use iom_litmus_looks::{front_of, touches};
 use iom_script::LineBuffer;
 use std::alloc::{AllocError, Global};
 
@@ -20,29 +20,6 @@ fn made_by(answer: &Answer) -> Option<MadeAt>
     match answer {
         Answer::Committed(Ok(made)) => *made,
         _ => None,
-    }
-}
-
-/// The accesses that a reply tells.
-fn touches(alloc: Global, made: Option<MadeAt>) -> Result<Sequence<Touch>, AllocError>
-    ensures { IfOk result (λ touches. touches ≡ touches_of made) }
-{
-    let mut touches = Sequence::new(alloc);
-    if let Some(made) = made {
-        touches.push(Touch {
-            device: made.device,
-            kind: made.kind,
-            frame: u64::from(made.frame),
-        })?;
-    }
-    Ok(touches)
-}
-
-/// The text up to its first `;` or `:`.
-fn front_of(text: &[u8]) -> &[u8] {
-    match text.iter().position(|byte| *byte == b';' || *byte == b':') {
-        Some(end) => &text[..end],
-        None => text,
     }
 }
 

@@ -2,20 +2,17 @@
 ghost use Rattle.std.specs.Prelude.{◌≡◌, IfOk, OnOk};
 ghost use Rattle.iom_litmus.specs.Replies.{no_reply};
 ghost use Rattle.iom_litmus_hardware.specs.Lines.{LeadsBy};
-ghost use Rattle.iom_litmus_hardware.specs.Looks.{looks, rules};
 ghost use Rattle.iom_litmus_hardware.specs.Openings.{Opens};
-ghost use Rattle.iom_litmus_hardware.specs.Places.{AreListed, ids_of};
+ghost use Rattle.iom_litmus_hardware.specs.Places.{AreListed};
+ghost use Rattle.iom_litmus_hardware.specs.Systems.{readings, rules};
 
-use crate::acts::event_of;
-use crate::fingerprint::fingerprint;
 use crate::lines::take;
-use crate::looks::{are_equal, memory_text};
 use crate::opening::{MOST_EVENTS, Opening};
 use iom_base::{DeviceId, Sequence};
-use iom_device::Device;
 use iom_hardware_script::{HardwareLine, line_of};
 use iom_hardware_session::Session;
 use iom_litmus::{HardwareStep, Reply, System};
+use iom_litmus_looks::{event_of, fingerprint_of, ids_of, memory_text, mixed};
 use iom_script::LineBuffer;
 use std::alloc::{AllocError, Global};
 use std::marker::Model;
@@ -36,17 +33,6 @@ impl Model for UnderTest {
     ghost Value = { Tested };
 
     ghost view = { λ t. record { place = place_of t.session; ids = t.ids } };
-}
-
-/// The ids of the devices.
-fn ids_of(alloc: Global, devices: &[Device]) -> Result<Sequence<DeviceId>, AllocError>
-    ensures { IfOk result (λ ids. ids ≡ ids_of devices.now) }
-{
-    let mut ids = Sequence::new(alloc);
-    for device in devices {
-        ids.push(device.id)?;
-    }
-    Ok(ids)
 }
 
 impl UnderTest {
@@ -95,7 +81,7 @@ impl System for UnderTest {
 
     ghost rules = { rules };
 
-    ghost readings = { looks };
+    ghost readings = { readings };
 
     fn new(alloc: Global, opening: &Opening) -> Result<UnderTest, AllocError> {
         let session = opening.session(alloc)?;
@@ -143,7 +129,10 @@ impl System for UnderTest {
     }
 
     fn is_same_message(&self, place: usize, other: usize) -> bool {
-        are_equal(self.session.hardware().messages(), place, other)
+        self.session
+            .hardware()
+            .messages()
+            .is_same_message(place, other)
     }
 
     fn times_out(&self) -> bool {
@@ -168,6 +157,9 @@ impl System for UnderTest {
     }
 
     fn fingerprint(&self) -> u64 {
-        fingerprint(&self.session)
+        mixed(
+            fingerprint_of(self.session.hardware()),
+            u64::from(self.session.claims().last()),
+        )
     }
 }

@@ -1,8 +1,7 @@
 //! The answer to one test.
 use crate::fault::{TestFault, Trouble};
-use crate::hardware::{check_cells, opening_of};
+use crate::{hardware, world};
 use iom_litmus::{Histogram, Search, SearchFault, System};
-use iom_litmus_hardware::{Opening, UnderTest};
 use iom_litmus_reader::read;
 use iom_litmus_report::{report, schedule, undecided, verdict_on};
 use iom_litmus_test::Test;
@@ -59,14 +58,31 @@ fn explore<S: System>(search: &Search<'_, S>, most: usize) -> Result<Answer, Tes
     }
 }
 
+/// The answer to a test of hardware.
 fn on_hardware(
     alloc: Global,
     test: &Test,
-    opening: &Opening,
+    opening: &iom_litmus_hardware::Opening,
     most: usize,
 ) -> Result<Answer, TestFault> {
-    check_cells(alloc, test)?;
-    let search: Search<'_, UnderTest> = Search {
+    hardware::check_cells(alloc, test)?;
+    let search: Search<'_, iom_litmus_hardware::UnderTest> = Search {
+        alloc,
+        test,
+        opening,
+    };
+    explore(&search, most)
+}
+
+/// The answer to a test of a world.
+fn on_world(
+    alloc: Global,
+    test: &Test,
+    opening: &iom_litmus_world::Opening,
+    most: usize,
+) -> Result<Answer, TestFault> {
+    world::check_cells(alloc, test)?;
+    let search: Search<'_, iom_litmus_world::UnderTest> = Search {
         alloc,
         test,
         opening,
@@ -85,8 +101,11 @@ fn first_line(test: &Test) -> u64 {
 /// The answer to the test that the bytes of a file say, over so many places at most.
 pub fn answer_test(alloc: Global, bytes: &[u8], most: usize) -> Result<Answer, TestFault> {
     let test = read(alloc, bytes)?;
-    match opening_of(alloc, &test)? {
-        Some(opening) => on_hardware(alloc, &test, &opening, most),
+    if let Some(opening) = hardware::opening_of(alloc, &test)? {
+        return on_hardware(alloc, &test, &opening, most);
+    }
+    match world::opening_of(alloc, &test)? {
+        Some(opening) => on_world(alloc, &test, &opening, most),
         None => Err(TestFault::Line {
             number: first_line(&test),
             trouble: Trouble::NoSystem,

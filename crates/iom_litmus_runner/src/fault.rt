@@ -46,7 +46,7 @@ impl Trouble {
     pub fn words(self) -> &'static str {
         match self {
             Trouble::NotOfTest(why) => words_of(why),
-            Trouble::NoSystem => "`hardware F` is wanted first, with 64 to 4096 frames",
+            Trouble::NoSystem => "`world F L` or `hardware F` is wanted first",
             Trouble::NotOfLanguage => "the language under test has no such line",
         }
     }

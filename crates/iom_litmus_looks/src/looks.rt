@@ -1,21 +1,22 @@
-// What is read off the hardware.
-ghost use Rattle.std.specs.Prelude.{◌≡◌, ◌↔◌, ◌++◌, IfOk, IsTrue};
-ghost use Rattle.iom_litmus_hardware.specs.Looks.{AreEqualMessages, memory_text};
+ghost use Rattle.std.specs.Prelude.{◌≡◌, ◌<◌, IfOk};
+ghost use Rattle.iom_litmus_looks.specs.Looks.{memory_text};
+ghost use Rattle.iom_litmus_looks.specs.Places.{ids_of};
 ghost use Rattle.iom_script.specs.Digits.{hex_digit, hex_of};
 
-use iom_base::{FRAME_SIZE, PAGE_SIZE, Sequence};
-use iom_fabric::Fabric;
+use iom_base::{DeviceId, FRAME_SIZE, PAGE_SIZE, Sequence};
+use iom_device::Device;
 use iom_phys_mem::Memory;
 use std::alloc::{AllocError, Global};
 
-/// Whether both places have the same message.
-pub(crate) fn are_equal(messages: &Fabric, place: usize, other: usize) -> bool
-    ensures { IsTrue result ↔ AreEqualMessages messages.now place other }
+/// The ids of the devices, in their order.
+pub fn ids_of(alloc: Global, devices: &[Device]) -> Result<Sequence<DeviceId>, AllocError>
+    ensures { IfOk result (λ ids. ids ≡ ids_of devices.now) }
 {
-    match (messages.get(place), messages.get(other)) {
-        (Some(message), Some(same)) => message == same,
-        (None, _) | (_, None) => false,
+    let mut ids = Sequence::new(alloc);
+    for device in devices {
+        ids.push(device.id)?;
     }
+    Ok(ids)
 }
 
 /// The lower-case hexadecimal digit of a number below 16.
@@ -23,11 +24,8 @@ fn digit_of(number: u8) -> u8
     requires { number < 16 }
     ensures { result ≡ hex_digit number }
 {
-    if number > 9 {
-        b'a' + (number - 10)
-    } else {
-        b'0' + number
-    }
+    let beyond_nine = if number > 9 { b'a' - b'9' - 1 } else { 0 };
+    b'0' + number + beyond_nine
 }
 
 /// Two hexadecimal digits for each byte.
@@ -44,7 +42,7 @@ fn hex_of(alloc: Global, bytes: &[u8]) -> Result<Sequence<u8>, AllocError>
 
 /// So many bytes of memory from the address on, in hexadecimal digits. None where they leave their frame, or memory has no
 /// such frame.
-pub(crate) fn memory_text(
+pub fn memory_text(
     alloc: Global,
     memory: &Memory,
     address: u64,

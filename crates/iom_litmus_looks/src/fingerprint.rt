@@ -1,13 +1,11 @@
-// A number by which equal sessions are looked for. Nothing rests on it but time.
 use iom_hardware::Hardware;
-use iom_hardware_session::Session;
 
-/// The number with one more mixed in.
-fn mixed(number: u64, next: u64) -> u64 {
+/// The number with one more mixed in. Nothing rests on which number it is but time.
+pub fn mixed(number: u64, next: u64) -> u64 {
     (number.rotate_left(5) ^ next).wrapping_mul(0x517c_c1b7_2722_0a95)
 }
 
-/// Of each device: how many of its accesses are in flight, and the epoch of its cache.
+/// Of each device: whether an access of it is in flight, and the epoch of its cache.
 fn of_devices(mut number: u64, hardware: &Hardware) -> u64 {
     for device in hardware.devices.iter() {
         number = mixed(number, hardware.oldest(device.id).is_some() as u64);
@@ -16,12 +14,11 @@ fn of_devices(mut number: u64, hardware: &Hardware) -> u64 {
     number
 }
 
-pub(crate) fn fingerprint(session: &Session) -> u64 {
-    let hardware = session.hardware();
+/// A number by which equal hardware is looked for. Nothing rests on it but time.
+pub fn fingerprint_of(hardware: &Hardware) -> u64 {
     let registers = hardware.iommu.registers();
     let mut number = mixed(0, u64::from(registers.command_head()));
     number = mixed(number, u64::from(registers.command_tail()));
     number = mixed(number, hardware.messages().len() as u64);
-    number = mixed(number, u64::from(session.claims().last()));
     of_devices(number, hardware)
 }

@@ -1,12 +1,11 @@
-// What hardware does by itself, as a line of a script.
 ghost use Rattle.std.specs.Prelude.{◌≡◌};
-ghost use Rattle.iom_litmus_hardware.specs.Acts.{event_of};
+ghost use Rattle.iom_litmus_looks.specs.Acts.{event_of};
 
 use iom_litmus::HardwareStep;
 use iom_machine::Event;
 
-/// The event. None for a load of a walk: a walk goes whole here.
-pub(crate) fn event_of(step: HardwareStep) -> Option<Event>
+/// What hardware does, as an event of a script. None for a load of a walk: a walk goes whole here.
+pub fn event_of(step: HardwareStep) -> Option<Event>
     ensures { result ≡ event_of step }
 {
     match step {

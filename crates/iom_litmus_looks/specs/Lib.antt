@@ -1,0 +1,4 @@
+pub mod Places
+pub mod Looks
+pub mod Acts
+pub mod Touches

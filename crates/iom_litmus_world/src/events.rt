@@ -1,0 +1,73 @@
+// An event happens in a world, and the reply to it.
+ghost use Rattle.std.specs.Prelude.{◌≡◌, ◌+◌, ◌<◌, ◌^◌, false, IfOk};
+ghost use Rattle.iom_litmus_world.specs.Lines.{is_of_block, made_by, Says, TakesEvent};
+ghost use Rattle.iom_script.specs.Reading.{Reads};
+
+use iom_base::Sequence;
+use iom_inflight::MadeAt;
+use iom_litmus::Reply;
+use iom_litmus_looks::{front_of, touches};
+use iom_machine::{Event, Outcome};
+use iom_script::{LineBuffer, event_of};
+use iom_world::{KeptOutcomes, World};
+use std::alloc::{AllocError, Global};
+
+/// Whether the event is one of a block device.
+pub(crate) fn is_of_block(event: &Event) -> bool
+    ensures { result ≡ is_of_block event.now }
+{
+    matches!(
+        event,
+        Event::Medium { .. } | Event::Queue { .. } | Event::Step { .. } | Event::Status { .. }
+    )
+}
+
+/// The event that a line of a test says. None where it says none, or one of a block device.
+pub fn event_for_tests(alloc: Global, line: &[u8]) -> Result<Option<Event>, AllocError>
+    ensures { IfOk result (λ event. Reads event (Says line.now)) }
+{
+    match event_of(alloc, line)? {
+        Some(event) if !is_of_block(&event) => Ok(Some(event)),
+        _ => Ok(None),
+    }
+}
+
+/// The access that the event makes.
+fn made_by(world: &World, event: &Event) -> Option<MadeAt>
+    ensures { result ≡ made_by event.now world.now }
+{
+    match event {
+        Event::Commit { device } => world.oldest(*device),
+        _ => None,
+    }
+}
+
+/// Writes the line of the outcome, without its line feed, in place of what stood there.
+fn put(buffer: &mut LineBuffer, outcome: &Outcome) {
+    buffer.clear();
+    buffer.append_line(outcome);
+    buffer.take_line_feed();
+}
+
+/// The event happens. Its reply, whose text is written by way of the buffer.
+pub(crate) fn take(
+    alloc: Global,
+    world: &mut World,
+    event: &Event,
+    kept: &mut KeptOutcomes,
+    buffer: &mut LineBuffer,
+) -> Result<Reply, AllocError>
+    requires event { is_of_block event.now ≡ false }
+    requires count { world.old.hardware.events + 1 < 2 ^ 64 }
+    ensures { IfOk result (λ reply. TakesEvent event.now world.old reply world.new) }
+{
+    let touches = touches(alloc, made_by(world, event))?;
+    put(buffer, world.take(event, kept));
+    let text = Vec::from_slice(alloc, front_of(buffer.as_slice()))?;
+    Ok(Reply {
+        text: Sequence::from_vec(text),
+        touches,
+        wrong: false,
+        violated: false,
+    })
+}

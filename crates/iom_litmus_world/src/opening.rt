@@ -1,0 +1,38 @@
+// How a test begins.
+ghost use Rattle.std.specs.Prelude.{IfOk};
+ghost use Rattle.iom_litmus_world.specs.Openings.{HasOpened};
+
+use crate::events::is_of_block;
+use iom_base::Sequence;
+use iom_machine::Event;
+use iom_world::{KeptOutcomes, World};
+use std::alloc::{AllocError, Global};
+
+/// A world of so many frames and levels of the device directory, at power-on, and what happens in it before a test begins.
+#[derive(Drop)]
+pub struct Opening {
+    pub frames: u32,
+    pub levels: u8,
+    pub events: Sequence<Event>,
+}
+
+/// More events than these aren't counted: more is told as if there were no memory.
+pub(crate) const MOST_EVENTS: u64 = u64::MAX - 1;
+
+impl Opening {
+    /// A world that has gone through the events.
+    pub(crate) fn world(&self, alloc: Global, kept: &mut KeptOutcomes) -> Result<World, AllocError>
+        ensures { IfOk result (HasOpened self.now) }
+    {
+        let Ok(mut world) = World::new(alloc, self.frames, self.levels, &[]) else {
+            return Err(AllocError);
+        };
+        for event in self.events.as_slice() {
+            if world.events() >= MOST_EVENTS || is_of_block(event) {
+                return Err(AllocError);
+            }
+            world.take(event, kept);
+        }
+        Ok(world)
+    }
+}

@@ -1,0 +1,183 @@
+//! A world, hardware with the driver, as the system of a litmus test.
+ghost use Rattle.std.specs.Prelude.{◌≡◌, false, IfOk, OnOk};
+ghost use Rattle.iom_litmus.specs.Replies.{no_reply};
+ghost use Rattle.iom_litmus_world.specs.Lines.{is_of_block, LeadsBy};
+ghost use Rattle.iom_litmus_world.specs.Openings.{Opens};
+ghost use Rattle.iom_litmus_world.specs.Places.{AreListed};
+ghost use Rattle.iom_litmus_world.specs.Systems.{readings, rules};
+
+use crate::events::{event_for_tests, take};
+use crate::opening::{MOST_EVENTS, Opening};
+use iom_base::{DeviceId, Sequence};
+use iom_litmus::{HardwareStep, Reply, System};
+use iom_litmus_looks::{event_of, fingerprint_of, ids_of, memory_text};
+use iom_machine::Event;
+use iom_script::LineBuffer;
+use iom_world::{KeptOutcomes, World};
+use std::alloc::{AllocError, Global};
+use std::marker::Model;
+
+/// Where answers are put together.
+#[derive(Drop)]
+struct Bench {
+    kept: KeptOutcomes,
+    buffer: LineBuffer,
+}
+
+/// A world, hardware with the driver.
+#[derive(Drop)]
+pub struct UnderTest {
+    world: World,
+    /// The ids of the devices, in the order of plugging.
+    ids: Sequence<DeviceId>,
+    /// Where answers are put together, once one was.
+    bench: Option<Box<Bench>>,
+}
+
+impl Model for UnderTest {
+    ghost use Rattle.iom_litmus_world.specs.Places.{Tested, place_of};
+
+    ghost Value = { Tested };
+
+    ghost view = { λ t. record { place = place_of t.world; ids = t.ids } };
+}
+
+fn new_bench(alloc: Global) -> Result<Box<Bench>, AllocError> {
+    let buffer = LineBuffer::new(alloc)?;
+    let kept = KeptOutcomes::new();
+    Box::new(alloc, Bench { kept, buffer })
+}
+
+impl UnderTest {
+    /// The ids are those of the devices that are there now.
+    fn list(&mut self, alloc: Global) -> Result<(), AllocError>
+        ensures listed { OnOk result (AreListed self.new) }
+        ensures place { self.new.place ≡ self.old.place }
+    {
+        self.ids = ids_of(alloc, &self.world.hardware().devices)?;
+        Ok(())
+    }
+
+    /// Nothing happens.
+    fn pass(&mut self, alloc: Global) -> Result<Reply, AllocError>
+        ensures listed { OnOk result (AreListed self.new) }
+        ensures place { self.new.place ≡ self.old.place }
+        ensures reply { IfOk result (λ reply. reply ≡ no_reply) }
+    {
+        self.list(alloc)?;
+        Ok(Reply::none(alloc))
+    }
+
+    /// The event happens.
+    fn take(&mut self, alloc: Global, event: &Event) -> Result<Reply, AllocError>
+        requires event { is_of_block event.now ≡ false }
+        ensures listed { OnOk result (AreListed self.new) }
+        ensures leads { IfOk result (λ reply. LeadsBy event.now self.old.place reply self.new.place) }
+    {
+        if self.world.events() >= MOST_EVENTS {
+            return Err(AllocError);
+        }
+        let mut bench = match self.bench.take() {
+            Some(bench) => bench,
+            None => new_bench(alloc)?,
+        };
+        let reply = take(
+            alloc,
+            &mut self.world,
+            event,
+            &mut bench.kept,
+            &mut bench.buffer,
+        )?;
+        self.bench = Some(bench);
+        self.list(alloc)?;
+        Ok(reply)
+    }
+}
+
+impl System for UnderTest {
+    type Opening = Opening;
+
+    ghost opens = { Opens };
+
+    ghost rules = { rules };
+
+    ghost readings = { readings };
+
+    fn new(alloc: Global, opening: &Opening) -> Result<UnderTest, AllocError> {
+        let mut bench = new_bench(alloc)?;
+        let world = opening.world(alloc, &mut bench.kept)?;
+        let ids = ids_of(alloc, &world.hardware().devices)?;
+        Ok(UnderTest {
+            world,
+            ids,
+            bench: Some(bench),
+        })
+    }
+
+    fn run(&mut self, alloc: Global, line: &[u8]) -> Result<Reply, AllocError> {
+        match event_for_tests(alloc, line)? {
+            Some(event) => self.take(alloc, &event),
+            None => self.pass(alloc),
+        }
+    }
+
+    fn act(&mut self, alloc: Global, step: HardwareStep) -> Result<Reply, AllocError> {
+        match event_of(step) {
+            Some(event) => self.take(alloc, &event),
+            None => self.pass(alloc),
+        }
+    }
+
+    fn fetches(&self) -> bool {
+        let hardware = self.world.hardware();
+        hardware.iommu.fetch_has_effect(&hardware.memory)
+    }
+
+    fn devices(&self) -> &[DeviceId] {
+        self.ids.as_slice()
+    }
+
+    fn is_in_flight(&self, device: DeviceId) -> bool {
+        self.world.oldest(device).is_some()
+    }
+
+    fn is_in_walk(&self, _device: DeviceId) -> bool {
+        false
+    }
+
+    fn messages(&self) -> usize {
+        self.world.hardware().messages().len()
+    }
+
+    fn is_same_message(&self, place: usize, other: usize) -> bool {
+        self.world
+            .hardware()
+            .messages()
+            .is_same_message(place, other)
+    }
+
+    fn times_out(&self) -> bool {
+        self.world.hardware().iommu.can_time_out()
+    }
+
+    fn memory(
+        &self,
+        alloc: Global,
+        address: u64,
+        length: usize,
+    ) -> Result<Sequence<u8>, AllocError> {
+        memory_text(alloc, &self.world.hardware().memory, address, length)
+    }
+
+    fn is_same(&self, other: &UnderTest) -> bool {
+        self.world.is_same(&other.world) && self.ids.as_slice() == other.ids.as_slice()
+    }
+
+    fn shrink(&mut self) {
+        self.bench = None;
+    }
+
+    fn fingerprint(&self) -> u64 {
+        fingerprint_of(self.world.hardware())
+    }
+}
