@@ -10,3 +10,4 @@ pub mod EventLemmas
 pub mod KeepLemmas
 pub mod ClaimLemmas
 pub mod SessionLemmas
+mod SameLemmas

@@ -7,13 +7,13 @@ use crate::watched::Watched;
 use iom_base::DeviceId;
 
 /// Whether the devices are the same, and in the same order.
-fn are_same_devices(devices: &[DeviceId], others: &[DeviceId]) -> bool
-    ensures { IsTrue result ↔ (devices.now ≡ others.now) }
+fn are_same_devices(trusted: &[DeviceId], others: &[DeviceId]) -> bool
+    ensures { IsTrue result ↔ (trusted.now ≡ others.now) }
 {
-    devices == others
+    trusted == others
 }
 
-/// Whether the claims that are watched are the same, with what is found of them, and in the same order.
+/// Whether the claims are equal, with what is found of them, and in the same order.
 fn are_same_watched(watched: &[Watched], others: &[Watched]) -> bool
     ensures { IsTrue result ↔ (watched.now ≡ others.now) }
 {
@@ -21,8 +21,8 @@ fn are_same_watched(watched: &[Watched], others: &[Watched]) -> bool
 }
 
 impl Session {
-    /// Whether the two are equal but for how many events there were, and for what was last looked at: then whatever is done
-    /// to both does the same to both, and is answered alike.
+    /// Whether the two are equal but for how many events there were, and for what was last looked at: then whatever lines
+    /// go through both are answered alike.
     pub fn is_same(&self, other: &Session) -> bool
         ensures { IsTrue result ↔ IsSameSession self.now other.now }
     {

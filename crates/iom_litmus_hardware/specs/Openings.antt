@@ -1,9 +1,15 @@
 -- How a test begins: hardware at power-on, and lines that happen on it.
 use Rattle.std.specs.Prelude.{◌≡◌, ℕ, Bool, List}
 use Rattle.iom_hardware_runner.specs.Runs.{HasRun}
+use Rattle.iom_hardware_script.specs.declared.script.HardwareLine.{HardwareLine}
+use Rattle.iom_hardware_session.specs.Runs.{IsSessionAtPowerOn}
 use Rattle.iom_hardware_session.specs.declared.state.Session.{Session}
 use Rattle.iom_litmus_hardware.specs.declared.opening.Opening.{Opening}
 use Rattle.iom_litmus_hardware.specs.Places.{Tested, place_of, AreListed}
+
+-- from power-on the session goes through the lines
+abbrev pub GoesThrough : Session → List HardwareLine → Session → Type 0
+GoesThrough old lines new = (frames : ℕ) → IsSessionAtPowerOn frames old → (wrong : Bool) × HasRun frames lines new wrong
 
 -- the session has gone through the lines of the opening, from power-on with so many frames
 abbrev pub HasOpened : Opening → Session → Type 0

@@ -9,7 +9,7 @@ use iom_hardware_script::HardwareLine;
 use iom_hardware_session::{Answer, Session};
 use iom_inflight::MadeAt;
 use iom_litmus::Reply;
-use iom_litmus_looks::{front_of, touches};
+use iom_litmus_looks::{front_of, touches_of};
 use iom_script::LineBuffer;
 use std::alloc::{AllocError, Global};
 
@@ -38,7 +38,7 @@ pub(crate) fn take(
     let text = Vec::from_slice(alloc, front_of(buffer.as_slice()))?;
     Ok(Reply {
         text: Sequence::from_vec(text),
-        touches: touches(alloc, made_by(&stepped.answer))?,
+        touches: touches_of(alloc, made_by(&stepped.answer))?,
         wrong: session.is_wrong(&stepped),
         violated: stepped.violated,
     })

@@ -1,6 +1,6 @@
 // How a test begins.
-ghost use Rattle.std.specs.Prelude.{IfOk};
-ghost use Rattle.iom_litmus_hardware.specs.Openings.{HasOpened};
+ghost use Rattle.std.specs.Prelude.{IfOk, OnOk};
+ghost use Rattle.iom_litmus_hardware.specs.Openings.{GoesThrough, HasOpened};
 
 use iom_base::Sequence;
 use iom_hardware_script::HardwareLine;
@@ -17,6 +17,19 @@ pub struct Opening {
 /// More events than these aren't counted: more is told as if there were no memory.
 pub(crate) const MOST_EVENTS: u64 = u64::MAX - 1;
 
+/// The lines happen, one after another.
+fn go_through(session: &mut Session, lines: &[HardwareLine]) -> Result<(), AllocError>
+    ensures { OnOk result (GoesThrough session.old lines.now session.new) }
+{
+    for line in lines {
+        if session.hardware().events >= MOST_EVENTS {
+            return Err(AllocError);
+        }
+        session.line(line);
+    }
+    Ok(())
+}
+
 impl Opening {
     /// A session that has gone through the lines.
     pub(crate) fn session(&self, alloc: Global) -> Result<Session, AllocError>
@@ -25,12 +38,7 @@ impl Opening {
         let Ok(mut session) = Session::new(alloc, self.frames) else {
             return Err(AllocError);
         };
-        for line in self.lines.as_slice() {
-            if session.hardware().events >= MOST_EVENTS {
-                return Err(AllocError);
-            }
-            session.line(line);
-        }
+        go_through(&mut session, self.lines.as_slice())?;
         Ok(session)
     }
 }

@@ -8,9 +8,9 @@
 mod acts;
 mod fingerprint;
 mod looks;
-mod touches;
+mod replies;
 
 pub use acts::event_of;
 pub use fingerprint::{fingerprint_of, mixed};
 pub use looks::{ids_of, memory_text};
-pub use touches::{front_of, touches};
+pub use replies::{front_of, touches_of};

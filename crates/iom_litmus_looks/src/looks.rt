@@ -5,7 +5,7 @@ ghost use Rattle.iom_script.specs.Digits.{hex_digit, hex_of};
 
 use iom_base::{DeviceId, FRAME_SIZE, PAGE_SIZE, Sequence};
 use iom_device::Device;
-use iom_phys_mem::Memory;
+use iom_phys_mem::{Bytes, Memory};
 use std::alloc::{AllocError, Global};
 
 /// The ids of the devices, in their order.
@@ -54,10 +54,11 @@ pub fn memory_text(
     if len > FRAME_SIZE - offset {
         return Ok(Sequence::new(alloc));
     }
-    let Ok(number) = u32::try_from(address / PAGE_SIZE) else {
+    let number = address / PAGE_SIZE;
+    if number >= u64::from(memory.frames()) {
         return Ok(Sequence::new(alloc));
-    };
-    match memory.frame(number) {
+    }
+    match memory.frame(number as u32) {
         Some(frame) => hex_of(alloc, &frame[offset..offset + len]),
         None => Ok(Sequence::new(alloc)),
     }

@@ -6,7 +6,7 @@ ghost use Rattle.iom_script.specs.Reading.{Reads};
 use iom_base::Sequence;
 use iom_inflight::MadeAt;
 use iom_litmus::Reply;
-use iom_litmus_looks::{front_of, touches};
+use iom_litmus_looks::{front_of, touches_of};
 use iom_machine::{Event, Outcome};
 use iom_script::{LineBuffer, event_of};
 use iom_world::{KeptOutcomes, World};
@@ -61,7 +61,7 @@ pub(crate) fn take(
     requires count { world.old.hardware.events + 1 < 2 ^ 64 }
     ensures { IfOk result (λ reply. TakesEvent event.now world.old reply world.new) }
 {
-    let touches = touches(alloc, made_by(world, event))?;
+    let touches = touches_of(alloc, made_by(world, event))?;
     put(buffer, world.take(event, kept));
     let text = Vec::from_slice(alloc, front_of(buffer.as_slice()))?;
     Ok(Reply {

@@ -45,7 +45,10 @@ impl Model for UnderTest {
 fn new_bench(alloc: Global) -> Result<Box<Bench>, AllocError> {
     let buffer = LineBuffer::new(alloc)?;
     let kept = KeptOutcomes::new();
-    Box::new(alloc, Bench { kept, buffer })
+    match Box::new(alloc, Bench { kept, buffer }) {
+        Ok(bench) => Ok(bench),
+        Err(_) => Err(AllocError),
+    }
 }
 
 impl UnderTest {
@@ -81,13 +84,8 @@ impl UnderTest {
             Some(bench) => bench,
             None => new_bench(alloc)?,
         };
-        let reply = take(
-            alloc,
-            &mut self.world,
-            event,
-            &mut bench.kept,
-            &mut bench.buffer,
-        )?;
+        let Bench { kept, buffer } = &mut *bench;
+        let reply = take(alloc, &mut self.world, event, kept, buffer)?;
         self.bench = Some(bench);
         self.list(alloc)?;
         Ok(reply)

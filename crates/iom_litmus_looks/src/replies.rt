@@ -7,7 +7,7 @@ use iom_litmus_test::Touch;
 use std::alloc::{AllocError, Global};
 
 /// The access that a line made, as a test sees it: one, or none.
-pub fn touches(alloc: Global, made: Option<MadeAt>) -> Result<Sequence<Touch>, AllocError>
+pub fn touches_of(alloc: Global, made: Option<MadeAt>) -> Result<Sequence<Touch>, AllocError>
     ensures { IfOk result (λ touches. touches ≡ touches_of made) }
 {
     let mut touches = Sequence::new(alloc);
