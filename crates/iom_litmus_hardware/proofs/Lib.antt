@@ -1,1 +1,2 @@
 mod OpeningLemmas
+mod LineLemmas

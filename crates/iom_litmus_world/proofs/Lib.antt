@@ -1,0 +1,2 @@
+mod OpeningLemmas
+mod EventLemmas

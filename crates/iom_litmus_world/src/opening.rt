@@ -1,6 +1,6 @@
 // How a test begins.
-ghost use Rattle.std.specs.Prelude.{IfOk};
-ghost use Rattle.iom_litmus_world.specs.Openings.{HasOpened};
+ghost use Rattle.std.specs.Prelude.{IfOk, OnOk};
+ghost use Rattle.iom_litmus_world.specs.Openings.{GoesThrough, HasOpened};
 
 use crate::events::is_of_block;
 use iom_base::Sequence;
@@ -19,6 +19,23 @@ pub struct Opening {
 /// More events than these aren't counted: more is told as if there were no memory.
 pub(crate) const MOST_EVENTS: u64 = u64::MAX - 1;
 
+/// The events happen, one after another.
+fn go_through(
+    world: &mut World,
+    events: &[Event],
+    kept: &mut KeptOutcomes,
+) -> Result<(), AllocError>
+    ensures { OnOk result (GoesThrough world.old events.now world.new) }
+{
+    for event in events {
+        if world.events() >= MOST_EVENTS || is_of_block(event) {
+            return Err(AllocError);
+        }
+        world.take(event, kept);
+    }
+    Ok(())
+}
+
 impl Opening {
     /// A world that has gone through the events.
     pub(crate) fn world(&self, alloc: Global, kept: &mut KeptOutcomes) -> Result<World, AllocError>
@@ -27,12 +44,7 @@ impl Opening {
         let Ok(mut world) = World::new(alloc, self.frames, self.levels, &[]) else {
             return Err(AllocError);
         };
-        for event in self.events.as_slice() {
-            if world.events() >= MOST_EVENTS || is_of_block(event) {
-                return Err(AllocError);
-            }
-            world.take(event, kept);
-        }
+        go_through(&mut world, self.events.as_slice(), kept)?;
         Ok(world)
     }
 }

@@ -35,9 +35,13 @@ pub struct UnderTest {
 }
 
 impl Model for UnderTest {
+    ghost use Rattle.std.specs.Coded.{codes};
+    ghost use Rattle.iom_litmus_looks.specs.Codes.{rows_coded, translations_coded};
     ghost use Rattle.iom_litmus_world.specs.Places.{Tested, place_of};
 
     ghost Value = { Tested };
+
+    ghost coded = { Prim.hlevel (codes, rows_coded, translations_coded) };
 
     ghost view = { λ t. record { place = place_of t.world; ids = t.ids } };
 }
