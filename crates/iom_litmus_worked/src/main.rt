@@ -11,13 +11,24 @@ use std::fs;
 /// The places that may be looked at.
 const MOST_PLACES: usize = 200_000;
 
-/// Those of the tests in `data/tests` that take few steps. `bench/litmus.sh` answers all of them, by a built program.
-static TESTS: [&str; 5] = [
+/// The tests of `data/tests`. A new one is its two files and a line here.
+static TESTS: [&str; 16] = [
     "drain",
+    "forged",
     "guest-tables",
+    "hw-ats",
+    "hw-ats-first",
+    "hw-ats-first-grouped",
+    "hw-ats-grouped",
+    "hw-clears-late",
     "hw-no-drain",
     "hw-unmap",
+    "late-answer",
+    "lost",
     "poll-before-commit",
+    "recovery",
+    "repeated",
+    "too-early",
 ];
 
 /// The number of the first line that differs, counted from 1. None where all that is wanted was printed, and then what
