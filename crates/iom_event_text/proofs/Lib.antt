@@ -1,0 +1,3 @@
+mod TextLemmas
+mod HexLemmas
+mod EventLemmas
