@@ -30,9 +30,9 @@ use Rattle.iom_litmus.specs.Happenings.{text_said, answer_to, goes_ahead, is_pas
 use Rattle.iom_litmus.specs.Listed.{IsListed}
 use Rattle.iom_litmus.specs.Readings.{Readings}
 use Rattle.iom_litmus.specs.Replies.{RunsLines, no_reply}
-use Rattle.iom_litmus.specs.Rules.{Rules}
+use Rattle.iom_litmus.specs.Rules.{Rules, Noted}
 use Rattle.iom_litmus.specs.Seen.{after_run, after_any, touches, is_touched, is_before, is_any_wrong, is_any_violated, seen_of, seen_at}
-use Rattle.iom_litmus.specs.Steps.{CanAct, CanRun, CanStepBy, IsFirstSuch, MayAnswer, deed_of, deed_of_cell, gone_on}
+use Rattle.iom_litmus.specs.Steps.{CanAct, CanRun, CanStepBy, IsFirstSuch, MayAnswer, MayAnswerNoted, LeavesUnlessNoted, deed_of, deed_of_cell, gone_on}
 
 abbrev text_in : Option (List ℕ) → List ℕ
 text_in None = []
@@ -287,6 +287,17 @@ may_like rules r test p q (Deeds.Cell spot) reply after like may =
     λ cell is. subst (λ s. RunsLines rules s no_reply cell.lines reply after) like.system (may cell (like.next spot.column ∙ is))
 may_like rules r test p q (Deeds.Hardware act) reply after like may =
     λ can. subst (λ s. rules.acts s act reply after) like.system (may (act_like r test q p act (like_sym test p q like) can))
+
+leaves_like : {S : Type 0} (cells : List Spot) (test : Test) (p q : Place S) (deed : Deed) (reply : Reply) (after : S) → IsLike test p q
+    → LeavesUnlessNoted cells test p deed reply after → LeavesUnlessNoted cells test q deed reply after
+leaves_like cells test p q (Deeds.Cell spot) reply after like leaves =
+    λ cell is other. elim (leaves cell (like.next spot.column ∙ is) other) [ inl same ↦ inl (same ∙ like.system) | inr there ↦ inr there ]
+leaves_like cells test p q (Deeds.Hardware act) reply after like leaves = tt
+
+pub noted_like : {S : Type 0} (noted : Noted S) (r : Readings S) (test : Test) (p q : Place S) (deed : Deed) (reply : Reply) (after : S) → IsLike test p q
+    → MayAnswerNoted noted r test p deed reply after → MayAnswerNoted noted r test q deed reply after
+noted_like noted r test p q deed reply after like (may, leaves) =
+    (may_like noted.rules r test p q deed reply after like may, leaves_like noted.cells test p q deed reply after like leaves)
 
 pub deed_like : {S : Type 0} (test : Test) (p q : Place S) (step : Step) → IsLike test p q → deed_of test p.happened step ≡ deed_of test q.happened step
 deed_like test p q (Steps.Column column) like = ap (deed_of_cell column) (like.next column)

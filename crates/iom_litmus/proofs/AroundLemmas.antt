@@ -10,9 +10,11 @@ use Rattle.iom_litmus.specs.declared.step.Step.{Step}
 use Rattle.iom_litmus.specs.Graphs.{Answer, IsExpanded, WasExpanded, WasPut, AreFoundBy, HasGrown}
 use Rattle.iom_litmus.specs.Listed.{IsListed}
 use Rattle.iom_litmus.specs.Readings.{Readings}
-use Rattle.iom_litmus.specs.Rules.{Rules}
+use Rattle.iom_litmus.specs.Rules.{Rules, Noted}
 use Rattle.iom_litmus.specs.Searches.{IsExploring, IsExplored, IsFoundBy, LeadsOn}
 use Rattle.iom_litmus.specs.Graphs.{WasTried}
+use Rattle.iom_litmus.specs.declared.taking.Tried.{Tried}
+use Rattle.iom_litmus.specs.declared.taking.Tried.TheVariants.{Taken}
 use Rattle.iom_litmus.specs.Seen.{seen_at}
 use Rattle.iom_litmus.specs.Steps.{opening_place}
 use Rattle.iom_litmus.specs.Tallies.{edges_at}
@@ -48,10 +50,10 @@ grown_length {S} old new (added, is) = subst (λ xs. length old ≤ length xs) (
     by (first ∷ rest) = let later = by rest in omega (arith, later)
 
 -- the search begins
-pub exploring_begins : {S : Type 0} (rules : Rules S) (r : Readings S) (test : Test) (system : S) (place : Place S) (way : List Step) (nodes : List (Node S)) (to : ℕ)
-    → WasPut r test way place [] nodes to → place ≡ opening_place system → way ≡ [] → IsExploring rules r test system nodes [] []
-exploring_begins rules r test system place way nodes to (inl ((node, got, same), is)) opening none = absurd cc
-exploring_begins {S} rules r test system place way nodes to (inr (node, is, at, there, by, seen)) opening none = record {
+pub exploring_begins : {S : Type 0} (noted : Noted S) (r : Readings S) (test : Test) (system : S) (place : Place S) (way : List Step) (nodes : List (Node S)) (to : ℕ)
+    → WasPut r test way place [] nodes to → place ≡ opening_place system → way ≡ [] → IsExploring noted r test system nodes [] []
+exploring_begins noted r test system place way nodes to (inl ((node, got, same), is)) opening none = absurd cc
+exploring_begins {S} noted r test system place way nodes to (inr (node, is, at, there, by, seen)) opening none = record {
   begun = (node, subst (λ xs. slice_get xs 0 ≡ Some node) (sym is) refl, there ∙ opening, by ∙ none);
   answered = refl;
   within = omega arith;
@@ -69,10 +71,10 @@ exploring_begins {S} rules r test system place way nodes to (inr (node, is, at, 
     only k found got = elim (slice_get_push_cases [] node k found (subst (λ xs. slice_get xs k ≡ Some found) is got)) [ inl there ↦ absurd cc | inr here ↦ here ]
 
 -- one more place has its edges
-pub exploring_more : {S : Type 0} (rules : Rules S) (r : Readings S) (test : Test) (system : S) (old new : List (Node S)) (edges : List (List Edge)) (table : List (List (Answer S))) (node : Node S) (onward : List Edge)
-    → IsExploring rules r test system old edges table → slice_get old (length edges) ≡ Some node → (was : WasExpanded rules r test node old new onward)
-    → IsExploring rules r test system new (edges ++ onward ∷ []) (table ++ was.answers ∷ [])
-exploring_more {S} rules r test system old new edges table node onward x here was = record {
+pub exploring_more : {S : Type 0} (noted : Noted S) (r : Readings S) (test : Test) (system : S) (old new : List (Node S)) (edges : List (List Edge)) (table : List (List (Answer S))) (node : Node S) (onward : List Edge)
+    → IsExploring noted r test system old edges table → slice_get old (length edges) ≡ Some node → (was : WasExpanded noted r test node old new onward)
+    → IsExploring noted r test system new (edges ++ onward ∷ []) (table ++ was.answers ∷ [])
+exploring_more {S} noted r test system old new edges table node onward x here was = record {
   begun = let (first, got, place, way) = x.begun in (first, slice_get_grown old new 0 first was.grown got, place, way);
   answered = push_length table was.answers ∙ ap (λ n. n + 1) x.answered ∙ sym (push_length edges onward);
   within = let less = slice_get_within old (length edges) node here in let more = grown_length old new was.grown in let long = push_length edges onward in omega (arith, less, more, long);
@@ -99,24 +101,24 @@ exploring_more {S} rules r test system old new edges table node onward x here wa
         by false e = let long = new_way k found (ltb-false k (length old) e) got in omega (arith, long)
 
     expanded : (n : ℕ) → n < length edges + 1 → (b : Bool) → nat_lt n (length edges) ≡ b
-        → (at : Node S) × (slice_get new n ≡ Some at) × IsExpanded rules r test new at.place (edges_at (edges ++ onward ∷ []) n) (get_or (table ++ was.answers ∷ []) n [])
+        → (at : Node S) × (slice_get new n ≡ Some at) × IsExpanded noted r test new at.place (edges_at (edges ++ onward ∷ []) n) (get_or (table ++ was.answers ∷ []) n [])
     expanded n less true e =
         let before : n < length edges = ltb-true n (length edges) e in
         let long = x.answered in
         let (at, got, (first, ex, candidates)) = x.expanded n before in (
           at,
           slice_get_grown old new n at was.grown got,
-          subst (λ es. IsExpanded rules r test new at.place es (get_or (table ++ was.answers ∷ []) n [])) (sym (push_before edges onward [] n before))
-              (subst (λ as_here. IsExpanded rules r test new at.place (edges_at edges n) as_here) (sym (push_before table was.answers [] n (omega (arith, before, long))))
-              (first, expands_grown rules r test old new at.place first (edges_at edges n) (get_or table n []) was.grown ex, candidates)),
+          subst (λ es. IsExpanded noted r test new at.place es (get_or (table ++ was.answers ∷ []) n [])) (sym (push_before edges onward [] n before))
+              (subst (λ as_here. IsExpanded noted r test new at.place (edges_at edges n) as_here) (sym (push_before table was.answers [] n (omega (arith, before, long))))
+              (first, expands_grown noted r test old new at.place first (edges_at edges n) (get_or table n []) was.grown ex, candidates)),
         )
     expanded n less false e =
         let equal : length edges ≡ n = (let above = ltb-false n (length edges) e in omega (arith, above, less)) in
         let also : length table ≡ n = x.answered ∙ equal in (
           node,
           slice_get_grown old new n node was.grown (subst (λ k. slice_get old k ≡ Some node) equal here),
-          subst (λ es. IsExpanded rules r test new node.place es (get_or (table ++ was.answers ∷ []) n [])) (sym (subst (λ k. get_or (edges ++ onward ∷ []) k [] ≡ onward) equal (push_at edges onward [])))
-              (subst (λ as_here. IsExpanded rules r test new node.place onward as_here) (sym (subst (λ k. get_or (table ++ was.answers ∷ []) k [] ≡ was.answers) also (push_at table was.answers []))) was.all),
+          subst (λ es. IsExpanded noted r test new node.place es (get_or (table ++ was.answers ∷ []) n [])) (sym (subst (λ k. get_or (edges ++ onward ∷ []) k [] ≡ onward) equal (push_at edges onward [])))
+              (subst (λ as_here. IsExpanded noted r test new node.place onward as_here) (sym (subst (λ k. get_or (table ++ was.answers ∷ []) k [] ≡ was.answers) also (push_at table was.answers []))) was.all),
         )
 
     stays : (n : ℕ) (edge : Edge) → IsListed (edges_at edges n) edge → IsListed (edges_at (edges ++ onward ∷ []) n) edge
@@ -182,12 +184,12 @@ exploring_more {S} rules r test system old new edges table node onward x here wa
 
 -- steps lead on by one more
 pub leads_on-push : {S : Type 0} (rules : Rules S) (r : Readings S) (test : Test) (place middle end : Place S) (steps : List Step) (step : Step)
-    → LeadsOn rules r test place steps middle → WasTried rules r test middle step (Some end) → LeadsOn rules r test place (steps ++ step ∷ []) end
-leads_on-push rules r test place middle end [] step is was = (end, subst (λ p. WasTried rules r test p step (Some end)) is was, refl)
+    → LeadsOn rules r test place steps middle → WasTried rules r test middle step (Taken end) → LeadsOn rules r test place (steps ++ step ∷ []) end
+leads_on-push rules r test place middle end [] step is was = (end, subst (λ p. WasTried rules r test p step (Taken end)) is was, refl)
 leads_on-push rules r test place middle end (first ∷ rest) step (next, tried, on) was = (next, tried, leads_on-push rules r test next middle end rest step on was)
 
-pub leads_on-next : {S : Type 0} (rules : Rules S) (r : Readings S) (test : Test) (place middle end : Place S) (steps : List Step) (k : ℕ) (d : Step) (tried : Option (Place S))
-    → LeadsOn rules r test place (take k steps) middle → k < length steps → WasTried rules r test middle (get_or steps k d) tried → tried ≡ Some end
+pub leads_on-next : {S : Type 0} (rules : Rules S) (r : Readings S) (test : Test) (place middle end : Place S) (steps : List Step) (k : ℕ) (d : Step) (tried : Tried S)
+    → LeadsOn rules r test place (take k steps) middle → k < length steps → WasTried rules r test middle (get_or steps k d) tried → tried ≡ Taken end
     → LeadsOn rules r test place (take (k + 1) steps) end
 leads_on-next rules r test place middle end steps k d tried leads within was is =
     subst (λ xs. LeadsOn rules r test place xs end) (take_next steps k d within)

@@ -22,9 +22,9 @@ use Rattle.iom_litmus.specs.Graphs.{Answer, Expands, WasExplored, WasExpanded, W
 use Rattle.iom_litmus.specs.Happenings.{next_cell}
 use Rattle.iom_litmus.specs.Listed.{IsListed, AreListedOnce}
 use Rattle.iom_litmus.specs.Readings.{Readings}
-use Rattle.iom_litmus.specs.Rules.{Rules}
+use Rattle.iom_litmus.specs.Rules.{Noted}
 use Rattle.iom_litmus.specs.Seen.{seen_at}
-use Rattle.iom_litmus.specs.Steps.{CanRun, CanStepBy, MayAnswer, deed_of, deed_of_cell, gone_on}
+use Rattle.iom_litmus.specs.Steps.{CanRun, CanStepBy, MayAnswerNoted, deed_of, deed_of_cell, gone_on}
 use Rattle.iom_litmus.proofs.AlikeLemmas.{same_refl, same_trans}
 use Rattle.iom_litmus.proofs.ListedLemmas.{IsListed-push, IsListed-push_cases, AreListedOnce-push, last_is_listed, at_is_listed, none_is_taken, all_are_taken}
 
@@ -190,9 +190,9 @@ answer_is_new test happened first answers answer step apart is tried =
     apart (subst (λ s. IsListed first s) (sym (deed_tells test happened other x.deed at) ∙ ap step_of (deed_same x.deed answer.deed e) ∙ deed_tells test happened step answer.deed is) listed)))
 
 -- a step that does nothing
-expands_nothing : {S : Type 0} (rules : Rules S) (r : Readings S) (test : Test) (nodes : List (Node S)) (place : Place S) (first : List Step) (edges : List Edge) (answers : List (Answer S)) (step : Step)
-    → Expands rules r test nodes place first edges answers → deed_of test place.happened step ≡ None → Expands rules r test nodes place (first ++ step ∷ []) edges answers
-expands_nothing {S} rules r test nodes place first edges answers step ex none = record {
+expands_nothing : {S : Type 0} (noted : Noted S) (r : Readings S) (test : Test) (nodes : List (Node S)) (place : Place S) (first : List Step) (edges : List Edge) (answers : List (Answer S)) (step : Step)
+    → Expands noted r test nodes place first edges answers → deed_of test place.happened step ≡ None → Expands noted r test nodes place (first ++ step ∷ []) edges answers
+expands_nothing {S} noted r test nodes place first edges answers step ex none = record {
   once = ex.once;
   from = λ edge listed. IsListed-push first step edge.step (ex.from edge listed);
   can = ex.can;
@@ -210,7 +210,7 @@ expands_nothing {S} rules r test nodes place first edges answers step ex none = 
     all s (inr same) can = let (deed, is) = can_has_deed r test (reply_in answers) place s can in absurd (nothing s deed same is)
 
     may : (s : Step) → IsListed first s ⊎ (step ≡ s) → (deed : Deed) → deed_of test place.happened s ≡ Some deed
-        → (before : S) → MayAnswer rules r test place deed (reply_in answers deed) (after_of before (answer_in answers deed))
+        → (before : S) → MayAnswerNoted noted r test place deed (reply_in answers deed) (after_of before (answer_in answers deed))
     may s (inl there) deed is before = ex.may s there deed is before
     may s (inr same) deed is before = absurd (nothing s deed same is)
 
@@ -219,19 +219,19 @@ leads_stays : {S : Type 0} (test : Test) (nodes : List (Node S)) (place : Place 
     → Leads test nodes place answers edge → Leads test nodes place (answers ++ answer ∷ []) edge
 leads_stays test nodes place answers answer edge (mine, deed, is, to, found) = (mine, deed, find_kept (λ a. is_deed a.deed mine.deed) answers answer mine is, to, found)
 
-may_stays : {S : Type 0} (rules : Rules S) (r : Readings S) (test : Test) (nodes : List (Node S)) (place : Place S) (first : List Step) (edges : List Edge) (answers : List (Answer S)) (step : Step) (answer : Answer S)
-    → Expands rules r test nodes place first edges answers → ¬ IsListed first step → deed_of test place.happened step ≡ Some answer.deed
-    → MayAnswer rules r test place answer.deed answer.reply answer.after
+may_stays : {S : Type 0} (noted : Noted S) (r : Readings S) (test : Test) (nodes : List (Node S)) (place : Place S) (first : List Step) (edges : List Edge) (answers : List (Answer S)) (step : Step) (answer : Answer S)
+    → Expands noted r test nodes place first edges answers → ¬ IsListed first step → deed_of test place.happened step ≡ Some answer.deed
+    → MayAnswerNoted noted r test place answer.deed answer.reply answer.after
     → (s : Step) → IsListed first s ⊎ (step ≡ s) → (deed : Deed) → deed_of test place.happened s ≡ Some deed → (before : S)
-    → MayAnswer rules r test place deed (reply_in (answers ++ answer ∷ []) deed) (after_of before (answer_in (answers ++ answer ∷ []) deed))
-may_stays rules r test nodes place first edges answers step answer ex apart is may s (inl there) deed at before =
-    subst (λ o. MayAnswer rules r test place deed (reply_of o) (after_of before o))
+    → MayAnswerNoted noted r test place deed (reply_in (answers ++ answer ∷ []) deed) (after_of before (answer_in (answers ++ answer ∷ []) deed))
+may_stays noted r test nodes place first edges answers step answer ex apart is may s (inl there) deed at before =
+    subst (λ o. MayAnswerNoted noted r test place deed (reply_of o) (after_of before o))
     (sym (answer_stays test place.happened first answers answer step s deed apart is there at)) (ex.may s there deed at before)
-may_stays rules r test nodes place first edges answers step answer ex apart is may s (inr same) deed at before =
+may_stays noted r test nodes place first edges answers step answer ex apart is may s (inr same) deed at before =
     let here : Some answer.deed ≡ Some deed = sym is ∙ ap (deed_of test place.happened) same ∙ at in
     let same_deed : answer.deed ≡ deed = cc in
-    subst (λ d. MayAnswer rules r test place d (reply_of (answer_in (answers ++ answer ∷ []) d)) (after_of before (answer_in (answers ++ answer ∷ []) d))) same_deed
-    (subst (λ o. MayAnswer rules r test place answer.deed (reply_of o) (after_of before o)) (sym (answer_is_new test place.happened first answers answer step apart is ex.tried)) may)
+    subst (λ d. MayAnswerNoted noted r test place d (reply_of (answer_in (answers ++ answer ∷ []) d)) (after_of before (answer_in (answers ++ answer ∷ []) d))) same_deed
+    (subst (λ o. MayAnswerNoted noted r test place answer.deed (reply_of o) (after_of before o)) (sym (answer_is_new test place.happened first answers answer step apart is ex.tried)) may)
 
 tried_more : {S : Type 0} (test : Test) (happened : List Happened) (first : List Step) (answers : List (Answer S)) (step : Step) (answer : Answer S)
     → ((a : Answer S) → IsListed answers a → (s : Step) × IsListed first s × (deed_of test happened s ≡ Some a.deed)) → deed_of test happened step ≡ Some answer.deed
@@ -241,18 +241,18 @@ tried_more test happened first answers step answer tried is a listed = elim (IsL
   | inr same ↦ (step, last_is_listed first step, is ∙ ap (λ x. Some x.deed) same)
 ]
 
-can_stays : {S : Type 0} (rules : Rules S) (r : Readings S) (test : Test) (nodes : List (Node S)) (place : Place S) (first : List Step) (edges : List Edge) (answers : List (Answer S)) (step : Step) (answer : Answer S)
-    → Expands rules r test nodes place first edges answers → ¬ IsListed first step → deed_of test place.happened step ≡ Some answer.deed
+can_stays : {S : Type 0} (noted : Noted S) (r : Readings S) (test : Test) (nodes : List (Node S)) (place : Place S) (first : List Step) (edges : List Edge) (answers : List (Answer S)) (step : Step) (answer : Answer S)
+    → Expands noted r test nodes place first edges answers → ¬ IsListed first step → deed_of test place.happened step ≡ Some answer.deed
     → (edge : Edge) → IsListed edges edge → CanStepBy r test (reply_in (answers ++ answer ∷ [])) place edge.step
-can_stays rules r test nodes place first edges answers step answer ex apart is edge listed =
+can_stays noted r test nodes place first edges answers step answer ex apart is edge listed =
     let (mine, deed, _, _, _) = ex.leads edge listed in
     can_said r test (reply_in answers) (reply_in (answers ++ answer ∷ [])) place edge.step mine.deed deed
     (ap reply_of (sym (answer_stays test place.happened first answers answer step edge.step mine.deed apart is (ex.from edge listed) deed))) (ex.can edge listed)
 
-all_stays : {S : Type 0} (rules : Rules S) (r : Readings S) (test : Test) (nodes : List (Node S)) (place : Place S) (first : List Step) (edges : List Edge) (answers : List (Answer S)) (step : Step) (answer : Answer S)
-    → Expands rules r test nodes place first edges answers → ¬ IsListed first step → deed_of test place.happened step ≡ Some answer.deed
+all_stays : {S : Type 0} (noted : Noted S) (r : Readings S) (test : Test) (nodes : List (Node S)) (place : Place S) (first : List Step) (edges : List Edge) (answers : List (Answer S)) (step : Step) (answer : Answer S)
+    → Expands noted r test nodes place first edges answers → ¬ IsListed first step → deed_of test place.happened step ≡ Some answer.deed
     → (s : Step) → IsListed first s → CanStepBy r test (reply_in (answers ++ answer ∷ [])) place s → IsListed (steps_of edges) s
-all_stays rules r test nodes place first edges answers step answer ex apart is s there can =
+all_stays noted r test nodes place first edges answers step answer ex apart is s there can =
     let (deed, at) = can_has_deed r test (reply_in (answers ++ answer ∷ [])) place s can in
     ex.all s there (can_said r test (reply_in (answers ++ answer ∷ [])) (reply_in answers) place s deed at
     (ap reply_of (answer_stays test place.happened first answers answer step s deed apart is there at)) can)
@@ -264,39 +264,39 @@ said_now : {S : Type 0} (test : Test) (happened : List Happened) (first : List S
 said_now test happened first answers step answer apart is tried = ap reply_of (answer_is_new test happened first answers answer step apart is tried)
 
 -- one that was answered, and can't be taken
-expands_untaken : {S : Type 0} (rules : Rules S) (r : Readings S) (test : Test) (nodes : List (Node S)) (place : Place S) (first : List Step) (edges : List Edge) (answers : List (Answer S)) (step : Step) (answer : Answer S)
-    → Expands rules r test nodes place first edges answers → ¬ IsListed first step → deed_of test place.happened step ≡ Some answer.deed
-    → MayAnswer rules r test place answer.deed answer.reply answer.after → (¬ CanStepBy r test (λ _. answer.reply) place step)
-    → Expands rules r test nodes place (first ++ step ∷ []) edges (answers ++ answer ∷ [])
-expands_untaken {S} rules r test nodes place first edges answers step answer ex apart is may untaken = record {
+expands_untaken : {S : Type 0} (noted : Noted S) (r : Readings S) (test : Test) (nodes : List (Node S)) (place : Place S) (first : List Step) (edges : List Edge) (answers : List (Answer S)) (step : Step) (answer : Answer S)
+    → Expands noted r test nodes place first edges answers → ¬ IsListed first step → deed_of test place.happened step ≡ Some answer.deed
+    → MayAnswerNoted noted r test place answer.deed answer.reply answer.after → (¬ CanStepBy r test (λ _. answer.reply) place step)
+    → Expands noted r test nodes place (first ++ step ∷ []) edges (answers ++ answer ∷ [])
+expands_untaken {S} noted r test nodes place first edges answers step answer ex apart is may untaken = record {
   once = ex.once;
   from = λ edge listed. IsListed-push first step edge.step (ex.from edge listed);
-  can = can_stays rules r test nodes place first edges answers step answer ex apart is;
+  can = can_stays noted r test nodes place first edges answers step answer ex apart is;
   all = λ s listed can. all s (IsListed-push_cases first step s listed) can;
   leads = λ edge listed. leads_stays test nodes place answers answer edge (ex.leads edge listed);
-  may = λ s listed deed at before. may_stays rules r test nodes place first edges answers step answer ex apart is may s (IsListed-push_cases first step s listed) deed at before;
+  may = λ s listed deed at before. may_stays noted r test nodes place first edges answers step answer ex apart is may s (IsListed-push_cases first step s listed) deed at before;
   tried = tried_more test place.happened first answers step answer ex.tried is;
 }
   where
     all : (s : Step) → IsListed first s ⊎ (step ≡ s) → CanStepBy r test (reply_in (answers ++ answer ∷ [])) place s → IsListed (steps_of edges) s
-    all s (inl there) can = all_stays rules r test nodes place first edges answers step answer ex apart is s there can
+    all s (inl there) can = all_stays noted r test nodes place first edges answers step answer ex apart is s there can
     all s (inr same) can = absurd (untaken (can_said r test (reply_in (answers ++ answer ∷ [])) (λ _. answer.reply) place step answer.deed is
         (said_now test place.happened first answers step answer apart is ex.tried) (subst (λ x. CanStepBy r test (reply_in (answers ++ answer ∷ [])) place x) (sym same) can)))
 
 -- one that was taken
-expands_taken : {S : Type 0} (rules : Rules S) (r : Readings S) (test : Test) (nodes : List (Node S)) (place : Place S) (first : List Step) (edges : List Edge) (answers : List (Answer S)) (step : Step) (answer : Answer S)
-    → Expands rules r test nodes place first edges answers → ¬ IsListed first step → deed_of test place.happened step ≡ Some answer.deed
-    → MayAnswer rules r test place answer.deed answer.reply answer.after → CanStepBy r test (λ _. answer.reply) place step
+expands_taken : {S : Type 0} (noted : Noted S) (r : Readings S) (test : Test) (nodes : List (Node S)) (place : Place S) (first : List Step) (edges : List Edge) (answers : List (Answer S)) (step : Step) (answer : Answer S)
+    → Expands noted r test nodes place first edges answers → ¬ IsListed first step → deed_of test place.happened step ≡ Some answer.deed
+    → MayAnswerNoted noted r test place answer.deed answer.reply answer.after → CanStepBy r test (λ _. answer.reply) place step
     → IsFoundAt test nodes (gone_on place answer.deed answer.reply answer.after) answer.to
-    → Expands rules r test nodes place (first ++ step ∷ []) (edges ++ record { step = step; to = answer.to } ∷ []) (answers ++ answer ∷ [])
-expands_taken {S} rules r test nodes place first edges answers step answer ex apart is may taken found = record {
+    → Expands noted r test nodes place (first ++ step ∷ []) (edges ++ record { step = step; to = answer.to } ∷ []) (answers ++ answer ∷ [])
+expands_taken {S} noted r test nodes place first edges answers step answer ex apart is may taken found = record {
   once = subst (λ steps. AreListedOnce steps) (sym (steps_of-push edges (record { step = step; to = answer.to })))
       (AreListedOnce-push (steps_of edges) step ex.once (λ listed. unlisted (edge_of_step edges step listed)));
   from = λ edge listed. from edge (IsListed-push_cases edges (record { step = step; to = answer.to }) edge listed);
   can = λ edge listed. can edge (IsListed-push_cases edges (record { step = step; to = answer.to }) edge listed);
   all = λ s listed can_be. subst (λ steps. IsListed steps s) (sym (steps_of-push edges (record { step = step; to = answer.to }))) (all s (IsListed-push_cases first step s listed) can_be);
   leads = λ edge listed. leads edge (IsListed-push_cases edges (record { step = step; to = answer.to }) edge listed);
-  may = λ s listed deed at before. may_stays rules r test nodes place first edges answers step answer ex apart is may s (IsListed-push_cases first step s listed) deed at before;
+  may = λ s listed deed at before. may_stays noted r test nodes place first edges answers step answer ex apart is may s (IsListed-push_cases first step s listed) deed at before;
   tried = tried_more test place.happened first answers step answer ex.tried is;
 }
   where
@@ -308,12 +308,12 @@ expands_taken {S} rules r test nodes place first edges answers step answer ex ap
     from edge (inr same) = subst (λ e. IsListed (first ++ step ∷ []) e.step) same (last_is_listed first step)
 
     can : (edge : Edge) → IsListed edges edge ⊎ (record { step = step; to = answer.to } ≡ edge) → CanStepBy r test (reply_in (answers ++ answer ∷ [])) place edge.step
-    can edge (inl there) = can_stays rules r test nodes place first edges answers step answer ex apart is edge there
+    can edge (inl there) = can_stays noted r test nodes place first edges answers step answer ex apart is edge there
     can edge (inr same) = subst (λ e. CanStepBy r test (reply_in (answers ++ answer ∷ [])) place e.step) same
         (can_said r test (λ _. answer.reply) (reply_in (answers ++ answer ∷ [])) place step answer.deed is (sym (said_now test place.happened first answers step answer apart is ex.tried)) taken)
 
     all : (s : Step) → IsListed first s ⊎ (step ≡ s) → CanStepBy r test (reply_in (answers ++ answer ∷ [])) place s → IsListed (steps_of edges ++ step ∷ []) s
-    all s (inl there) can_be = IsListed-push (steps_of edges) step s (all_stays rules r test nodes place first edges answers step answer ex apart is s there can_be)
+    all s (inl there) can_be = IsListed-push (steps_of edges) step s (all_stays noted r test nodes place first edges answers step answer ex apart is s there can_be)
     all s (inr same) can_be = subst (λ x. IsListed (steps_of edges ++ step ∷ []) x) same (last_is_listed (steps_of edges) step)
 
     leads : (edge : Edge) → IsListed edges edge ⊎ (record { step = step; to = answer.to } ≡ edge) → Leads test nodes place (answers ++ answer ∷ []) edge
@@ -322,9 +322,9 @@ expands_taken {S} rules r test nodes place first edges answers step answer ex ap
         (answer, is, answer_is_new test place.happened first answers answer step apart is ex.tried, refl, found)
 
 -- the same over more places
-pub expands_grown : {S : Type 0} (rules : Rules S) (r : Readings S) (test : Test) (old new : List (Node S)) (place : Place S) (first : List Step) (edges : List Edge) (answers : List (Answer S))
-    → HasGrown old new → Expands rules r test old place first edges answers → Expands rules r test new place first edges answers
-expands_grown rules r test old new place first edges answers grown ex = record {
+pub expands_grown : {S : Type 0} (noted : Noted S) (r : Readings S) (test : Test) (old new : List (Node S)) (place : Place S) (first : List Step) (edges : List Edge) (answers : List (Answer S))
+    → HasGrown old new → Expands noted r test old place first edges answers → Expands noted r test new place first edges answers
+expands_grown noted r test old new place first edges answers grown ex = record {
   once = ex.once;
   from = ex.from;
   can = ex.can;
@@ -338,9 +338,9 @@ grown_trans : {S : Type 0} (a b c : List (Node S)) → HasGrown a b → HasGrown
 grown_trans a b c (first, is) (then, also) = (first ++ then, also ∙ ap (λ xs. xs ++ then) is ∙ append_assoc a first then)
 
 -- the steps from a place so far
-pub record IsExpanding {S : Type 0} (rules : Rules S) (r : Readings S) (test : Test) (node : Node S) (old new : List (Node S)) (first : List Step) (edges : List Edge) : Type 0 where
+pub record IsExpanding {S : Type 0} (noted : Noted S) (r : Readings S) (test : Test) (node : Node S) (old new : List (Node S)) (first : List Step) (edges : List Edge) : Type 0 where
   pub answers : List (Answer S)
-  pub expands : Expands rules r test new node.place first edges answers
+  pub expands : Expands noted r test new node.place first edges answers
   pub grown : HasGrown old new
   pub found : AreFoundBy r test node edges old new
 
@@ -355,8 +355,8 @@ slice_get_push_cases [] y (suc k) x at = absurd cc
 slice_get_push_cases (first ∷ rest) y zero x at = inl at
 slice_get_push_cases (first ∷ rest) y (suc k) x at = elim (slice_get_push_cases rest y k x at) [ inl there ↦ inl there | inr last ↦ inr (omega (arith, last.0), last.1) ]
 
-pub expanding_none : {S : Type 0} (rules : Rules S) (r : Readings S) (test : Test) (node : Node S) (nodes : List (Node S)) (first : List Step) → IsExpanding rules r test node nodes nodes (take 0 first) []
-expanding_none rules r test node nodes first = record {
+pub expanding_none : {S : Type 0} (noted : Noted S) (r : Readings S) (test : Test) (node : Node S) (nodes : List (Node S)) (first : List Step) → IsExpanding noted r test node nodes nodes (take 0 first) []
+expanding_none noted r test node nodes first = record {
   answers = [];
   expands = record {
     once = tt;
@@ -372,34 +372,34 @@ expanding_none rules r test node nodes first = record {
 }
 
 -- one more step, which can't be taken
-pub expanding_untaken : {S : Type 0} (rules : Rules S) (r : Readings S) (test : Test) (node : Node S) (old mid new : List (Node S)) (first : List Step) (edges : List Edge) (step : Step)
-    → IsExpanding rules r test node old mid first edges → ¬ IsListed first step → WasExplored rules r test node step mid new None
-    → IsExpanding rules r test node old new (first ++ step ∷ []) edges
-expanding_untaken {S} rules r test node old mid new first edges step e apart (reply, after, may, (cannot, is)) =
-    subst (λ nodes. IsExpanding rules r test node old nodes (first ++ step ∷ []) edges) (sym is) (by (deed_of test node.place.happened step) refl)
+pub expanding_untaken : {S : Type 0} (noted : Noted S) (r : Readings S) (test : Test) (node : Node S) (old mid new : List (Node S)) (first : List Step) (edges : List Edge) (step : Step)
+    → IsExpanding noted r test node old mid first edges → ¬ IsListed first step → WasExplored noted r test node step mid new None
+    → IsExpanding noted r test node old new (first ++ step ∷ []) edges
+expanding_untaken {S} noted r test node old mid new first edges step e apart (reply, after, may, (cannot, is)) =
+    subst (λ nodes. IsExpanding noted r test node old nodes (first ++ step ∷ []) edges) (sym is) (by (deed_of test node.place.happened step) refl)
   where
-    by : (o : Option Deed) → deed_of test node.place.happened step ≡ o → IsExpanding rules r test node old mid (first ++ step ∷ []) edges
+    by : (o : Option Deed) → deed_of test node.place.happened step ≡ o → IsExpanding noted r test node old mid (first ++ step ∷ []) edges
     by None none = record {
       answers = e.answers;
-      expands = expands_nothing rules r test mid node.place first edges e.answers step e.expands none;
+      expands = expands_nothing noted r test mid node.place first edges e.answers step e.expands none;
       grown = e.grown;
       found = e.found;
     }
     by (Some deed) at = record {
       answers = e.answers ++ record { deed = deed; reply = reply; after = after; to = 0 } ∷ [];
-      expands = expands_untaken rules r test mid node.place first edges e.answers step (record { deed = deed; reply = reply; after = after; to = 0 }) e.expands apart at (may deed at) cannot;
+      expands = expands_untaken noted r test mid node.place first edges e.answers step (record { deed = deed; reply = reply; after = after; to = 0 }) e.expands apart at (may deed at) cannot;
       grown = e.grown;
       found = e.found;
     }
 
 -- one that can
-pub expanding_taken : {S : Type 0} (rules : Rules S) (r : Readings S) (test : Test) (node : Node S) (old mid new : List (Node S)) (first : List Step) (edges : List Edge) (step : Step) (to : ℕ)
-    → IsExpanding rules r test node old mid first edges → ¬ IsListed first step → WasExplored rules r test node step mid new (Some to)
-    → IsExpanding rules r test node old new (first ++ step ∷ []) (edges ++ record { step = step; to = to } ∷ [])
-expanding_taken {S} rules r test node old mid new first edges step to e apart (reply, after, may, (can, (deed, at, (end, same, put)))) = record {
+pub expanding_taken : {S : Type 0} (noted : Noted S) (r : Readings S) (test : Test) (node : Node S) (old mid new : List (Node S)) (first : List Step) (edges : List Edge) (step : Step) (to : ℕ)
+    → IsExpanding noted r test node old mid first edges → ¬ IsListed first step → WasExplored noted r test node step mid new (Some to)
+    → IsExpanding noted r test node old new (first ++ step ∷ []) (edges ++ record { step = step; to = to } ∷ [])
+expanding_taken {S} noted r test node old mid new first edges step to e apart (reply, after, may, (can, (deed, at, (end, same, put)))) = record {
   answers = e.answers ++ record { deed = deed; reply = reply; after = after; to = to } ∷ [];
-  expands = expands_taken rules r test new node.place first edges e.answers step (record { deed = deed; reply = reply; after = after; to = to })
-      (expands_grown rules r test mid new node.place first edges e.answers grown e.expands) apart at (may deed at) can (there (found_put r test (node.way ++ step ∷ []) end mid new to put is_same));
+  expands = expands_taken noted r test new node.place first edges e.answers step (record { deed = deed; reply = reply; after = after; to = to })
+      (expands_grown noted r test mid new node.place first edges e.answers grown e.expands) apart at (may deed at) can (there (found_put r test (node.way ++ step ∷ []) end mid new to put is_same));
   grown = grown_trans old mid new e.grown grown;
   found = λ k found past got. found_by k found past got put;
 }
@@ -438,41 +438,41 @@ pub take_next : {X : Type 0} (xs : List X) (k : ℕ) (d : X) → k < length xs �
 take_next xs k d within = sym (take-suc xs k d within) ∙ ap (λ n. take n xs) (sym (add-one k))
 
 -- of the first steps, one more
-pub expanding_past : {S : Type 0} (rules : Rules S) (r : Readings S) (test : Test) (node : Node S) (old mid new : List (Node S)) (first : List Step) (edges : List Edge) (k : ℕ) (d : Step)
-    → IsExpanding rules r test node old mid (take k first) edges → k < length first → AreListedOnce first → WasExplored rules r test node (get_or first k d) mid new None
-    → IsExpanding rules r test node old new (take (k + 1) first) edges
-expanding_past rules r test node old mid new first edges k d e within once explored =
-    subst (λ steps. IsExpanding rules r test node old new steps edges) (take_next first k d within)
-    (expanding_untaken rules r test node old mid new (take k first) edges (get_or first k d) e (once_before first k d within once) explored)
+pub expanding_past : {S : Type 0} (noted : Noted S) (r : Readings S) (test : Test) (node : Node S) (old mid new : List (Node S)) (first : List Step) (edges : List Edge) (k : ℕ) (d : Step)
+    → IsExpanding noted r test node old mid (take k first) edges → k < length first → AreListedOnce first → WasExplored noted r test node (get_or first k d) mid new None
+    → IsExpanding noted r test node old new (take (k + 1) first) edges
+expanding_past noted r test node old mid new first edges k d e within once explored =
+    subst (λ steps. IsExpanding noted r test node old new steps edges) (take_next first k d within)
+    (expanding_untaken noted r test node old mid new (take k first) edges (get_or first k d) e (once_before first k d within once) explored)
 
-pub expanding_on : {S : Type 0} (rules : Rules S) (r : Readings S) (test : Test) (node : Node S) (old mid new : List (Node S)) (first : List Step) (edges later : List Edge) (k to : ℕ) (d : Step)
-    → IsExpanding rules r test node old mid (take k first) edges → k < length first → AreListedOnce first → WasExplored rules r test node (get_or first k d) mid new (Some to)
+pub expanding_on : {S : Type 0} (noted : Noted S) (r : Readings S) (test : Test) (node : Node S) (old mid new : List (Node S)) (first : List Step) (edges later : List Edge) (k to : ℕ) (d : Step)
+    → IsExpanding noted r test node old mid (take k first) edges → k < length first → AreListedOnce first → WasExplored noted r test node (get_or first k d) mid new (Some to)
     → later ≡ edges ++ record { step = get_or first k d; to = to } ∷ []
-    → IsExpanding rules r test node old new (take (k + 1) first) later
-expanding_on rules r test node old mid new first edges later k to d e within once explored is =
-    subst (λ es. IsExpanding rules r test node old new (take (k + 1) first) es) (sym is)
-    (subst (λ steps. IsExpanding rules r test node old new steps (edges ++ record { step = get_or first k d; to = to } ∷ [])) (take_next first k d within)
-    (expanding_taken rules r test node old mid new (take k first) edges (get_or first k d) to e (once_before first k d within once) explored))
+    → IsExpanding noted r test node old new (take (k + 1) first) later
+expanding_on noted r test node old mid new first edges later k to d e within once explored is =
+    subst (λ es. IsExpanding noted r test node old new (take (k + 1) first) es) (sym is)
+    (subst (λ steps. IsExpanding noted r test node old new steps (edges ++ record { step = get_or first k d; to = to } ∷ [])) (take_next first k d within)
+    (expanding_taken noted r test node old mid new (take k first) edges (get_or first k d) to e (once_before first k d within once) explored))
 
-pub expanding_next_past : {S : Type 0} (rules : Rules S) (r : Readings S) (test : Test) (node : Node S) (old mid new : List (Node S)) (first : List Step) (edges later : List Edge) (k : ℕ) (d : Step) (tried : Option ℕ)
-    → IsExpanding rules r test node old mid (take k first) edges → k < length first → AreListedOnce first → WasExplored rules r test node (get_or first k d) mid new tried → tried ≡ None → later ≡ edges
-    → IsExpanding rules r test node old new (take (k + 1) first) later
-expanding_next_past rules r test node old mid new first edges later k d tried e within once explored none is =
-    subst (λ es. IsExpanding rules r test node old new (take (k + 1) first) es) (sym is)
-    (expanding_past rules r test node old mid new first edges k d e within once (subst (λ o. WasExplored rules r test node (get_or first k d) mid new o) none explored))
+pub expanding_next_past : {S : Type 0} (noted : Noted S) (r : Readings S) (test : Test) (node : Node S) (old mid new : List (Node S)) (first : List Step) (edges later : List Edge) (k : ℕ) (d : Step) (tried : Option ℕ)
+    → IsExpanding noted r test node old mid (take k first) edges → k < length first → AreListedOnce first → WasExplored noted r test node (get_or first k d) mid new tried → tried ≡ None → later ≡ edges
+    → IsExpanding noted r test node old new (take (k + 1) first) later
+expanding_next_past noted r test node old mid new first edges later k d tried e within once explored none is =
+    subst (λ es. IsExpanding noted r test node old new (take (k + 1) first) es) (sym is)
+    (expanding_past noted r test node old mid new first edges k d e within once (subst (λ o. WasExplored noted r test node (get_or first k d) mid new o) none explored))
 
-pub expanding_next_on : {S : Type 0} (rules : Rules S) (r : Readings S) (test : Test) (node : Node S) (old mid new : List (Node S)) (first : List Step) (edges later : List Edge) (k to : ℕ) (d : Step) (tried : Option ℕ)
-    → IsExpanding rules r test node old mid (take k first) edges → k < length first → AreListedOnce first → WasExplored rules r test node (get_or first k d) mid new tried → tried ≡ Some to
+pub expanding_next_on : {S : Type 0} (noted : Noted S) (r : Readings S) (test : Test) (node : Node S) (old mid new : List (Node S)) (first : List Step) (edges later : List Edge) (k to : ℕ) (d : Step) (tried : Option ℕ)
+    → IsExpanding noted r test node old mid (take k first) edges → k < length first → AreListedOnce first → WasExplored noted r test node (get_or first k d) mid new tried → tried ≡ Some to
     → later ≡ edges ++ record { step = get_or first k d; to = to } ∷ []
-    → IsExpanding rules r test node old new (take (k + 1) first) later
-expanding_next_on rules r test node old mid new first edges later k to d tried e within once explored some is =
-    expanding_on rules r test node old mid new first edges later k to d e within once (subst (λ o. WasExplored rules r test node (get_or first k d) mid new o) some explored) is
+    → IsExpanding noted r test node old new (take (k + 1) first) later
+expanding_next_on noted r test node old mid new first edges later k to d tried e within once explored some is =
+    expanding_on noted r test node old mid new first edges later k to d e within once (subst (λ o. WasExplored noted r test node (get_or first k d) mid new o) some explored) is
 
 -- all steps
-pub expanded_all : {S : Type 0} (rules : Rules S) (r : Readings S) (test : Test) (node : Node S) (old new : List (Node S)) (all first : List Step) (edges : List Edge) (n : ℕ)
-    → IsExpanding rules r test node old new (take n first) edges → n ≡ length first → ListsCandidates r test node.place all → ListsOnce all first
-    → WasExpanded rules r test node old new edges
-expanded_all rules r test node old new all first edges n e is candidates once = record {
+pub expanded_all : {S : Type 0} (noted : Noted S) (r : Readings S) (test : Test) (node : Node S) (old new : List (Node S)) (all first : List Step) (edges : List Edge) (n : ℕ)
+    → IsExpanding noted r test node old new (take n first) edges → n ≡ length first → ListsCandidates r test node.place all → ListsOnce all first
+    → WasExpanded noted r test node old new edges
+expanded_all noted r test node old new all first edges n e is candidates once = record {
   answers = e.answers;
   all = (take n first, e.expands, λ step can. subst (λ k. IsListed (take k first) step) (sym is) (all_are_taken first step (once.all step (candidates step can))));
   grown = e.grown;

@@ -23,13 +23,13 @@ use Rattle.iom_litmus.specs.Histograms.{IsHistogram, IsScheduleCount, IsSearched
 use Rattle.iom_litmus.specs.Listed.{IsListed, AreListedOnce}
 use Rattle.iom_litmus.specs.Readings.{Readings}
 use Rattle.iom_litmus.specs.Replies.{RunsLines}
-use Rattle.iom_litmus.specs.Rules.{Rules}
+use Rattle.iom_litmus.specs.Rules.{Noted}
 use Rattle.iom_litmus.specs.Schedules.{arrived, IsWay, IsSchedule}
 use Rattle.iom_litmus.specs.Searches.{IsExploring, IsExplored, IsEndless, IsFoundBy}
 use Rattle.iom_litmus.specs.Seen.{seen_at, outcome_after}
-use Rattle.iom_litmus.specs.Steps.{CanRun, CanStep, CanStepBy, MayAnswer, IsLawful, deed_of, deed_of_cell, done, gone_on, taken, opening_place}
+use Rattle.iom_litmus.specs.Steps.{CanRun, CanStep, CanStepBy, MayAnswerNoted, IsLawful, deed_of, deed_of_cell, done, gone_on, taken, opening_place}
 use Rattle.iom_litmus.specs.Tallies.{edges_at, IsRoute, IsEndWith, AreSoMany, IsWalk, GoesOnForEver, IsGraph, IsFirstEndWith, AreRows}
-use Rattle.iom_litmus.proofs.AlikeLemmas.{IsLike, like_from_same, like_sym, can_like, may_like, deed_like, same_more, same_refl, same_trans, seen_same}
+use Rattle.iom_litmus.proofs.AlikeLemmas.{IsLike, like_from_same, like_sym, can_like, noted_like, deed_like, same_more, same_refl, same_trans, seen_same}
 use Rattle.iom_litmus.proofs.ExpandLemmas.{step_is_listed, edge_of_step}
 
 -- the place to which what happened leads, by the answers
@@ -62,13 +62,13 @@ pub record IsAt {S : Type 0} (test : Test) (nodes : List (Node S)) (table : List
 pub some_same : {X : Type 0} (o : Option X) (x y : X) → o ≡ Some x → o ≡ Some y → x ≡ y
 some_same o x y one other = let both : Some x ≡ Some y = sym one ∙ other in cc
 
-pub expanded_at : {S : Type 0} (rules : Rules S) (r : Readings S) (test : Test) (system : S) (nodes : List (Node S)) (edges : List (List Edge)) (table : List (List (Answer S))) (n : ℕ) (node : Node S)
-    → IsExploring rules r test system nodes edges table → length edges ≡ length nodes → slice_get nodes n ≡ Some node
-    → IsExpanded rules r test nodes node.place (edges_at edges n) (get_or table n [])
-expanded_at rules r test system nodes edges table n node x whole got =
+pub expanded_at : {S : Type 0} (noted : Noted S) (r : Readings S) (test : Test) (system : S) (nodes : List (Node S)) (edges : List (List Edge)) (table : List (List (Answer S))) (n : ℕ) (node : Node S)
+    → IsExploring noted r test system nodes edges table → length edges ≡ length nodes → slice_get nodes n ≡ Some node
+    → IsExpanded noted r test nodes node.place (edges_at edges n) (get_or table n [])
+expanded_at noted r test system nodes edges table n node x whole got =
     let within : n < length nodes = slice_get_within nodes n node got in
     let (other, at, ex) = x.expanded n (omega (arith, within, whole)) in
-    subst (λ y. IsExpanded rules r test nodes y.place (edges_at edges n) (get_or table n [])) (some_same (slice_get nodes n) other node at got) ex
+    subst (λ y. IsExpanded noted r test nodes y.place (edges_at edges n) (get_or table n [])) (some_same (slice_get nodes n) other node at got) ex
 
 try_from_can : {S : Type 0} (r : Readings S) (test : Test) (said : Deed → Reply) (place : Place S) (step : Step) → CanStepBy r test said place step → CanTry r test place step
 try_from_can r test said place (Steps.Hardware act) can = can
@@ -79,30 +79,30 @@ try_from_can r test said place (Steps.Column column) can = by (next_cell test pl
     by (Some (k, cell)) at = refl
 
 -- each step that can be taken is an edge
-at_can : {S : Type 0} (rules : Rules S) (r : Readings S) (test : Test) (system : S) (nodes : List (Node S)) (edges : List (List Edge)) (table : List (List (Answer S))) (n : ℕ) (place : Place S) (step : Step)
-    → IsExploring rules r test system nodes edges table → length edges ≡ length nodes → IsAt test nodes table n place
+at_can : {S : Type 0} (noted : Noted S) (r : Readings S) (test : Test) (system : S) (nodes : List (Node S)) (edges : List (List Edge)) (table : List (List (Answer S))) (n : ℕ) (place : Place S) (step : Step)
+    → IsExploring noted r test system nodes edges table → length edges ≡ length nodes → IsAt test nodes table n place
     → CanStep r (behave system table) test place step → (edge : Edge) × IsListed (edges_at edges n) edge × (edge.step ≡ step)
-at_can rules r test system nodes edges table n place step x whole at can =
-    let (first, ex, candidates) = expanded_at rules r test system nodes edges table n at.node x whole at.got in
+at_can noted r test system nodes edges table n place step x whole at can =
+    let (first, ex, candidates) = expanded_at noted r test system nodes edges table n at.node x whole at.got in
     let here : CanStepBy r test (reply_in (get_or table n [])) place step = subst (λ m. CanStepBy r test (reply_in (get_or table m [])) place step) at.followed can in
     let there = can_like r test (reply_in (get_or table n [])) place at.node.place step (like_from_same test place at.node.place at.same) here in
     edge_of_step (edges_at edges n) step (ex.all step (candidates step (try_from_can r test (reply_in (get_or table n [])) at.node.place step there)) there)
 
 -- and each edge is a step that can be taken
-at_edge : {S : Type 0} (rules : Rules S) (r : Readings S) (test : Test) (system : S) (nodes : List (Node S)) (edges : List (List Edge)) (table : List (List (Answer S))) (n : ℕ) (place : Place S) (edge : Edge)
-    → IsExploring rules r test system nodes edges table → length edges ≡ length nodes → IsAt test nodes table n place
+at_edge : {S : Type 0} (noted : Noted S) (r : Readings S) (test : Test) (system : S) (nodes : List (Node S)) (edges : List (List Edge)) (table : List (List (Answer S))) (n : ℕ) (place : Place S) (edge : Edge)
+    → IsExploring noted r test system nodes edges table → length edges ≡ length nodes → IsAt test nodes table n place
     → IsListed (edges_at edges n) edge → CanStep r (behave system table) test place edge.step
-at_edge rules r test system nodes edges table n place edge x whole at listed =
-    let (first, ex, candidates) = expanded_at rules r test system nodes edges table n at.node x whole at.got in
+at_edge noted r test system nodes edges table n place edge x whole at listed =
+    let (first, ex, candidates) = expanded_at noted r test system nodes edges table n at.node x whole at.got in
     subst (λ m. CanStepBy r test (reply_in (get_or table m [])) place edge.step) (sym at.followed)
     (can_like r test (reply_in (get_or table n [])) at.node.place place edge.step (like_sym test place at.node.place (like_from_same test place at.node.place at.same)) (ex.can edge listed))
 
 -- which leads to the place at its end
-at_leads : {S : Type 0} (rules : Rules S) (r : Readings S) (test : Test) (system : S) (nodes : List (Node S)) (edges : List (List Edge)) (table : List (List (Answer S))) (n : ℕ) (place : Place S) (edge : Edge)
-    → IsExploring rules r test system nodes edges table → length edges ≡ length nodes → IsAt test nodes table n place
+at_leads : {S : Type 0} (noted : Noted S) (r : Readings S) (test : Test) (system : S) (nodes : List (Node S)) (edges : List (List Edge)) (table : List (List (Answer S))) (n : ℕ) (place : Place S) (edge : Edge)
+    → IsExploring noted r test system nodes edges table → length edges ≡ length nodes → IsAt test nodes table n place
     → IsListed (edges_at edges n) edge → IsAt test nodes table edge.to (taken (behave system table) test place edge.step)
-at_leads rules r test system nodes edges table n place edge x whole at listed =
-    let (first, ex, candidates) = expanded_at rules r test system nodes edges table n at.node x whole at.got in
+at_leads noted r test system nodes edges table n place edge x whole at listed =
+    let (first, ex, candidates) = expanded_at noted r test system nodes edges table n at.node x whole at.got in
     let (answer, deed, is, to, (end, got, same)) = ex.leads edge listed in
     let does : deed_of test place.happened edge.step ≡ Some answer.deed = deed_like test place at.node.place edge.step (like_from_same test place at.node.place at.same) ∙ deed in
     let by : answer_by table place.happened answer.deed ≡ Some answer = ap (λ m. answer_in (get_or table m []) answer.deed) at.followed ∙ is in
@@ -116,75 +116,75 @@ at_leads rules r test system nodes edges table n place edge x whole at listed =
       followed = follow-push table 0 place.happened (record { deed = answer.deed; reply = answer.reply }) ∙ ap end_of by ∙ to;
     })
 
-at_start : {S : Type 0} (rules : Rules S) (r : Readings S) (test : Test) (system : S) (nodes : List (Node S)) (edges : List (List Edge)) (table : List (List (Answer S)))
-    → IsExploring rules r test system nodes edges table → IsAt test nodes table 0 (opening_place system)
-at_start rules r test system nodes edges table x =
+at_start : {S : Type 0} (noted : Noted S) (r : Readings S) (test : Test) (system : S) (nodes : List (Node S)) (edges : List (List Edge)) (table : List (List (Answer S)))
+    → IsExploring noted r test system nodes edges table → IsAt test nodes table 0 (opening_place system)
+at_start noted r test system nodes edges table x =
     let (node, got, place, way) = x.begun in
     record { node = node; got = got; same = subst (λ p. IsSamePlace test (opening_place system) p) (sym place) (same_refl test (opening_place system)); followed = refl }
 
-seen_there : {S : Type 0} (rules : Rules S) (r : Readings S) (test : Test) (system : S) (nodes : List (Node S)) (edges : List (List Edge)) (table : List (List (Answer S))) (n : ℕ) (place : Place S)
-    → IsExploring rules r test system nodes edges table → (at : IsAt test nodes table n place) → seen_at r test place ≡ at.node.outcome
-seen_there rules r test system nodes edges table n place x at = seen_same r test place at.node.place at.same ∙ sym (x.seen n at.node at.got)
+seen_there : {S : Type 0} (noted : Noted S) (r : Readings S) (test : Test) (system : S) (nodes : List (Node S)) (edges : List (List Edge)) (table : List (List (Answer S))) (n : ℕ) (place : Place S)
+    → IsExploring noted r test system nodes edges table → (at : IsAt test nodes table n place) → seen_at r test place ≡ at.node.outcome
+seen_there noted r test system nodes edges table n place x at = seen_same r test place at.node.place at.same ∙ sym (x.seen n at.node at.got)
 
 none_from_end : (es : List Edge) → ((edge : Edge) → ¬ IsListed es edge) → es ≡ []
 none_from_end [] none = refl
 none_from_end (first ∷ rest) none = absurd (none first (inl refl))
 
-end_has_no_edges : {S : Type 0} (rules : Rules S) (r : Readings S) (test : Test) (system : S) (nodes : List (Node S)) (edges : List (List Edge)) (table : List (List (Answer S))) (n : ℕ) (place : Place S)
-    → IsExploring rules r test system nodes edges table → length edges ≡ length nodes → IsAt test nodes table n place
+end_has_no_edges : {S : Type 0} (noted : Noted S) (r : Readings S) (test : Test) (system : S) (nodes : List (Node S)) (edges : List (List Edge)) (table : List (List (Answer S))) (n : ℕ) (place : Place S)
+    → IsExploring noted r test system nodes edges table → length edges ≡ length nodes → IsAt test nodes table n place
     → ((step : Step) → ¬ CanStep r (behave system table) test place step) → edges_at edges n ≡ []
-end_has_no_edges rules r test system nodes edges table n place x whole at end =
-    none_from_end (edges_at edges n) (λ edge listed. end edge.step (at_edge rules r test system nodes edges table n place edge x whole at listed))
+end_has_no_edges noted r test system nodes edges table n place x whole at end =
+    none_from_end (edges_at edges n) (λ edge listed. end edge.step (at_edge noted r test system nodes edges table n place edge x whole at listed))
 
-no_edges_is_end : {S : Type 0} (rules : Rules S) (r : Readings S) (test : Test) (system : S) (nodes : List (Node S)) (edges : List (List Edge)) (table : List (List (Answer S))) (n : ℕ) (place : Place S)
-    → IsExploring rules r test system nodes edges table → length edges ≡ length nodes → IsAt test nodes table n place
+no_edges_is_end : {S : Type 0} (noted : Noted S) (r : Readings S) (test : Test) (system : S) (nodes : List (Node S)) (edges : List (List Edge)) (table : List (List (Answer S))) (n : ℕ) (place : Place S)
+    → IsExploring noted r test system nodes edges table → length edges ≡ length nodes → IsAt test nodes table n place
     → edges_at edges n ≡ [] → (step : Step) → ¬ CanStep r (behave system table) test place step
-no_edges_is_end rules r test system nodes edges table n place x whole at none step can =
-    let (edge, listed, same) = at_can rules r test system nodes edges table n place step x whole at can in
+no_edges_is_end noted r test system nodes edges table n place x whole at none step can =
+    let (edge, listed, same) = at_can noted r test system nodes edges table n place step x whole at can in
     subst (λ es. IsListed es edge) none listed
 
 -- routes are schedules
-route_is_schedule : {S : Type 0} (rules : Rules S) (r : Readings S) (test : Test) (system : S) (nodes : List (Node S)) (edges : List (List Edge)) (table : List (List (Answer S)))
-    → IsExploring rules r test system nodes edges table → length edges ≡ length nodes
+route_is_schedule : {S : Type 0} (noted : Noted S) (r : Readings S) (test : Test) (system : S) (nodes : List (Node S)) (edges : List (List Edge)) (table : List (List (Answer S)))
+    → IsExploring noted r test system nodes edges table → length edges ≡ length nodes
     → (outcome : List Value) (steps : List Step) (n : ℕ) (place : Place S) → IsAt test nodes table n place → IsRoute nodes edges outcome n steps
     → IsSchedule (CanStep r (behave system table) test) (taken (behave system table) test) place steps
     × (seen_at r test (arrived (taken (behave system table) test) place steps) ≡ outcome)
-route_is_schedule rules r test system nodes edges table x whole outcome [] n place at (none, (node, got, is)) = (
-  no_edges_is_end rules r test system nodes edges table n place x whole at none,
-  seen_there rules r test system nodes edges table n place x at ∙ ap (λ y. y.outcome) (some_same (slice_get nodes n) at.node node at.got got) ∙ is,
+route_is_schedule noted r test system nodes edges table x whole outcome [] n place at (none, (node, got, is)) = (
+  no_edges_is_end noted r test system nodes edges table n place x whole at none,
+  seen_there noted r test system nodes edges table n place x at ∙ ap (λ y. y.outcome) (some_same (slice_get nodes n) at.node node at.got got) ∙ is,
 )
-route_is_schedule rules r test system nodes edges table x whole outcome (step ∷ rest) n place at (to, listed, route) =
-    let next = at_leads rules r test system nodes edges table n place (record { step = step; to = to }) x whole at listed in
-    let (schedule, seen) = route_is_schedule rules r test system nodes edges table x whole outcome rest to (taken (behave system table) test place step) next route in
-    ((at_edge rules r test system nodes edges table n place (record { step = step; to = to }) x whole at listed, schedule), seen)
+route_is_schedule noted r test system nodes edges table x whole outcome (step ∷ rest) n place at (to, listed, route) =
+    let next = at_leads noted r test system nodes edges table n place (record { step = step; to = to }) x whole at listed in
+    let (schedule, seen) = route_is_schedule noted r test system nodes edges table x whole outcome rest to (taken (behave system table) test place step) next route in
+    ((at_edge noted r test system nodes edges table n place (record { step = step; to = to }) x whole at listed, schedule), seen)
 
 -- and schedules are routes
-schedule_is_route : {S : Type 0} (rules : Rules S) (r : Readings S) (test : Test) (system : S) (nodes : List (Node S)) (edges : List (List Edge)) (table : List (List (Answer S)))
-    → IsExploring rules r test system nodes edges table → length edges ≡ length nodes
+schedule_is_route : {S : Type 0} (noted : Noted S) (r : Readings S) (test : Test) (system : S) (nodes : List (Node S)) (edges : List (List Edge)) (table : List (List (Answer S)))
+    → IsExploring noted r test system nodes edges table → length edges ≡ length nodes
     → (outcome : List Value) (steps : List Step) (n : ℕ) (place : Place S) → IsAt test nodes table n place
     → IsSchedule (CanStep r (behave system table) test) (taken (behave system table) test) place steps
     → seen_at r test (arrived (taken (behave system table) test) place steps) ≡ outcome
     → IsRoute nodes edges outcome n steps
-schedule_is_route rules r test system nodes edges table x whole outcome [] n place at end seen =
-    (end_has_no_edges rules r test system nodes edges table n place x whole at end, (at.node, at.got, sym (seen_there rules r test system nodes edges table n place x at) ∙ seen))
-schedule_is_route rules r test system nodes edges table x whole outcome (step ∷ rest) n place at (can, schedule) seen =
-    let (edge, listed, same) = at_can rules r test system nodes edges table n place step x whole at can in
-    let next = subst (λ s. IsAt test nodes table edge.to (taken (behave system table) test place s)) same (at_leads rules r test system nodes edges table n place edge x whole at listed) in (
+schedule_is_route noted r test system nodes edges table x whole outcome [] n place at end seen =
+    (end_has_no_edges noted r test system nodes edges table n place x whole at end, (at.node, at.got, sym (seen_there noted r test system nodes edges table n place x at) ∙ seen))
+schedule_is_route noted r test system nodes edges table x whole outcome (step ∷ rest) n place at (can, schedule) seen =
+    let (edge, listed, same) = at_can noted r test system nodes edges table n place step x whole at can in
+    let next = subst (λ s. IsAt test nodes table edge.to (taken (behave system table) test place s)) same (at_leads noted r test system nodes edges table n place edge x whole at listed) in (
       edge.to,
       subst (λ s. IsListed (edges_at edges n) (record { step = s; to = edge.to })) same listed,
-      schedule_is_route rules r test system nodes edges table x whole outcome rest edge.to (taken (behave system table) test place step) next schedule seen,
+      schedule_is_route noted r test system nodes edges table x whole outcome rest edge.to (taken (behave system table) test place step) next schedule seen,
     )
 
 -- where steps lead, no further than there are steps
-way_is_at : {S : Type 0} (rules : Rules S) (r : Readings S) (test : Test) (system : S) (nodes : List (Node S)) (edges : List (List Edge)) (table : List (List (Answer S)))
-    → IsExploring rules r test system nodes edges table → length edges ≡ length nodes
+way_is_at : {S : Type 0} (noted : Noted S) (r : Readings S) (test : Test) (system : S) (nodes : List (Node S)) (edges : List (List Edge)) (table : List (List (Answer S)))
+    → IsExploring noted r test system nodes edges table → length edges ≡ length nodes
     → (steps : List Step) (n : ℕ) (place : Place S) → (at : IsAt test nodes table n place)
     → IsWay (CanStep r (behave system table) test) (taken (behave system table) test) place steps
     → (m : ℕ) × ((end : IsAt test nodes table m (arrived (taken (behave system table) test) place steps)) × (length end.node.way ≤ length at.node.way + length steps))
-way_is_at rules r test system nodes edges table x whole [] n place at way = (n, (at, omega arith))
-way_is_at rules r test system nodes edges table x whole (step ∷ rest) n place at (can, way) =
-    let (edge, listed, same) = at_can rules r test system nodes edges table n place step x whole at can in
-    let first = at_leads rules r test system nodes edges table n place edge x whole at listed in
+way_is_at noted r test system nodes edges table x whole [] n place at way = (n, (at, omega arith))
+way_is_at noted r test system nodes edges table x whole (step ∷ rest) n place at (can, way) =
+    let (edge, listed, same) = at_can noted r test system nodes edges table n place step x whole at can in
+    let first = at_leads noted r test system nodes edges table n place edge x whole at listed in
     let next : IsAt test nodes table edge.to (taken (behave system table) test place step) = record {
       node = first.node;
       got = first.got;
@@ -192,7 +192,7 @@ way_is_at rules r test system nodes edges table x whole (step ∷ rest) n place 
       followed = subst (λ s. follow table 0 (taken (behave system table) test place s).happened ≡ edge.to) same first.followed;
     } in
     let near = x.near n at.node first.node edge listed at.got first.got in
-    let (m, (end, far)) = way_is_at rules r test system nodes edges table x whole rest edge.to (taken (behave system table) test place step) next way in
+    let (m, (end, far)) = way_is_at noted r test system nodes edges table x whole rest edge.to (taken (behave system table) test place step) next way in
     (m, (end, omega (arith, near, far)))
 
 way_from_schedule : {P : Type 0} (can : P → Step → Type 0) (after : P → Step → P) (place : P) (steps : List Step) → IsSchedule can after place steps
@@ -215,23 +215,23 @@ way-push can after place [] step way may = (may, tt)
 way-push can after place (first ∷ rest) step (here, way) may = (here, way-push can after (after place first) rest step way may)
 
 -- the way that is kept of a place leads there
-way_of_node : {S : Type 0} (rules : Rules S) (r : Readings S) (test : Test) (system : S) (nodes : List (Node S)) (edges : List (List Edge)) (table : List (List (Answer S)))
-    → IsExploring rules r test system nodes edges table → length edges ≡ length nodes
+way_of_node : {S : Type 0} (noted : Noted S) (r : Readings S) (test : Test) (system : S) (nodes : List (Node S)) (edges : List (List Edge)) (table : List (List (Answer S)))
+    → IsExploring noted r test system nodes edges table → length edges ≡ length nodes
     → (bound k : ℕ) (node : Node S) → k < bound → slice_get nodes k ≡ Some node
     → IsWay (CanStep r (behave system table) test) (taken (behave system table) test) (opening_place system) node.way
     × IsAt test nodes table k (arrived (taken (behave system table) test) (opening_place system) node.way)
-way_of_node rules r test system nodes edges table x whole zero k node within got = absurd (omega arith)
-way_of_node rules r test system nodes edges table x whole (suc bound) zero node within got =
+way_of_node noted r test system nodes edges table x whole zero k node within got = absurd (omega arith)
+way_of_node noted r test system nodes edges table x whole (suc bound) zero node within got =
     let (first, at, place, way) = x.begun in
     let none : node.way ≡ [] = ap (λ y. y.way) (some_same (slice_get nodes 0) node first got at) ∙ way in
     subst (λ steps. IsWay (CanStep r (behave system table) test) (taken (behave system table) test) (opening_place system) steps
     × IsAt test nodes table 0 (arrived (taken (behave system table) test) (opening_place system) steps)) (sym none)
-    (tt, at_start rules r test system nodes edges table x)
-way_of_node {S} rules r test system nodes edges table x whole (suc bound) (suc k) node within got =
+    (tt, at_start noted r test system nodes edges table x)
+way_of_node {S} noted r test system nodes edges table x whole (suc bound) (suc k) node within got =
     let (n, before, earlier, there, edge, listed, to, way) = x.found (suc k) node (omega arith) got in
-    let (led, at) = way_of_node rules r test system nodes edges table x whole bound n earlier (omega (arith, before, within)) there in
-    let can = at_edge rules r test system nodes edges table n (arrived (taken (behave system table) test) (opening_place system) earlier.way) edge x whole at listed in
-    let ends = at_leads rules r test system nodes edges table n (arrived (taken (behave system table) test) (opening_place system) earlier.way) edge x whole at listed in
+    let (led, at) = way_of_node noted r test system nodes edges table x whole bound n earlier (omega (arith, before, within)) there in
+    let can = at_edge noted r test system nodes edges table n (arrived (taken (behave system table) test) (opening_place system) earlier.way) edge x whole at listed in
+    let ends = at_leads noted r test system nodes edges table n (arrived (taken (behave system table) test) (opening_place system) earlier.way) edge x whole at listed in
     subst (λ steps. IsWay (CanStep r (behave system table) test) (taken (behave system table) test) (opening_place system) steps
     × IsAt test nodes table (suc k) (arrived (taken (behave system table) test) (opening_place system) steps)) (sym way) (
       way-push (CanStep r (behave system table) test) (taken (behave system table) test) (opening_place system) earlier.way edge.step led can,
@@ -240,22 +240,24 @@ way_of_node {S} rules r test system nodes edges table x whole (suc bound) (suc k
     )
 
 -- each answer is one that the system may give
-may_at_node : {S : Type 0} (rules : Rules S) (r : Readings S) (test : Test) (nodes : List (Node S)) (place : Place S) (edges : List Edge) (answers : List (Answer S)) (before : S)
-    → IsExpanded rules r test nodes place edges answers → (deed : Deed) → MayAnswer rules r test place deed (reply_in answers deed) (after_of before (answer_in answers deed))
-may_at_node rules r test nodes place edges answers before (first, ex, candidates) (Deeds.Cell spot) =
-    λ cell is. (ex.may (Steps.Column spot.column) (candidates (Steps.Column spot.column) (ap is_some is)) (Deeds.Cell spot) (ap (deed_of_cell spot.column) is) before) cell is
-may_at_node rules r test nodes place edges answers before (first, ex, candidates) (Deeds.Hardware act) =
-    λ can. (ex.may (Steps.Hardware act) (candidates (Steps.Hardware act) can) (Deeds.Hardware act) refl before) can
+may_at_node : {S : Type 0} (noted : Noted S) (r : Readings S) (test : Test) (nodes : List (Node S)) (place : Place S) (edges : List Edge) (answers : List (Answer S)) (before : S)
+    → IsExpanded noted r test nodes place edges answers → (deed : Deed) → MayAnswerNoted noted r test place deed (reply_in answers deed) (after_of before (answer_in answers deed))
+may_at_node noted r test nodes place edges answers before (first, ex, candidates) (Deeds.Cell spot) = (
+  (λ cell is. (ex.may (Steps.Column spot.column) (candidates (Steps.Column spot.column) (ap is_some is)) (Deeds.Cell spot) (ap (deed_of_cell spot.column) is) before).0 cell is),
+  (λ cell is other. (ex.may (Steps.Column spot.column) (candidates (Steps.Column spot.column) (ap is_some is)) (Deeds.Cell spot) (ap (deed_of_cell spot.column) is) before).1 cell is other),
+)
+may_at_node noted r test nodes place edges answers before (first, ex, candidates) (Deeds.Hardware act) =
+    ((λ can. (ex.may (Steps.Hardware act) (candidates (Steps.Hardware act) can) (Deeds.Hardware act) refl before).0 can), tt)
 
-pub explored_is_lawful : {S : Type 0} (rules : Rules S) (r : Readings S) (test : Test) (system : S) (nodes : List (Node S)) (edges : List (List Edge)) (table : List (List (Answer S)))
-    → IsExploring rules r test system nodes edges table → length edges ≡ length nodes → IsLawful rules r (behave system table) test system
-explored_is_lawful rules r test system nodes edges table x whole steps way deed =
-    let (m, (at, far)) = way_is_at rules r test system nodes edges table x whole steps 0 (opening_place system) (at_start rules r test system nodes edges table x) way in
+pub explored_is_lawful : {S : Type 0} (noted : Noted S) (r : Readings S) (test : Test) (system : S) (nodes : List (Node S)) (edges : List (List Edge)) (table : List (List (Answer S)))
+    → IsExploring noted r test system nodes edges table → length edges ≡ length nodes → IsLawful noted r (behave system table) test system
+explored_is_lawful noted r test system nodes edges table x whole steps way deed =
+    let (m, (at, far)) = way_is_at noted r test system nodes edges table x whole steps 0 (opening_place system) (at_start noted r test system nodes edges table x) way in
     let place = arrived (taken (behave system table) test) (opening_place system) steps in
-    subst (λ k. MayAnswer rules r test place deed (reply_in (get_or table k []) deed) (after_of system (answer_in (get_or table k []) deed))) (sym at.followed)
-    (may_like rules r test at.node.place place deed (reply_in (get_or table m []) deed) (after_of system (answer_in (get_or table m []) deed))
+    subst (λ k. MayAnswerNoted noted r test place deed (reply_in (get_or table k []) deed) (after_of system (answer_in (get_or table k []) deed))) (sym at.followed)
+    (noted_like noted r test at.node.place place deed (reply_in (get_or table m []) deed) (after_of system (answer_in (get_or table m []) deed))
     (like_sym test place at.node.place (like_from_same test place at.node.place at.same))
-    (may_at_node rules r test nodes at.node.place (edges_at edges m) (get_or table m []) system (expanded_at rules r test system nodes edges table m at.node x whole at.got) deed))
+    (may_at_node noted r test nodes at.node.place (edges_at edges m) (get_or table m []) system (expanded_at noted r test system nodes edges table m at.node x whole at.got) deed))
 
 -- an end to which a schedule leads
 pub record IsEndAt {S : Type 0} (r : Readings S) (test : Test) (nodes : List (Node S)) (edges : List (List Edge)) (system : S) (b : Behaviour S) (schedule : List Step) : Type 0 where
@@ -266,14 +268,14 @@ pub record IsEndAt {S : Type 0} (r : Readings S) (test : Test) (nodes : List (No
   pub seen : node.outcome ≡ outcome_after r b test system schedule
   pub far : length node.way ≤ length schedule
 
-end_of_schedule : {S : Type 0} (rules : Rules S) (r : Readings S) (test : Test) (system : S) (nodes : List (Node S)) (edges : List (List Edge)) (table : List (List (Answer S)))
-    → IsExploring rules r test system nodes edges table → length edges ≡ length nodes → (schedule : List Step)
+end_of_schedule : {S : Type 0} (noted : Noted S) (r : Readings S) (test : Test) (system : S) (nodes : List (Node S)) (edges : List (List Edge)) (table : List (List (Answer S)))
+    → IsExploring noted r test system nodes edges table → length edges ≡ length nodes → (schedule : List Step)
     → IsSchedule (CanStep r (behave system table) test) (taken (behave system table) test) (opening_place system) schedule
     → IsEndAt r test nodes edges system (behave system table) schedule
-end_of_schedule rules r test system nodes edges table x whole schedule is =
+end_of_schedule noted r test system nodes edges table x whole schedule is =
     let (way, end) = way_from_schedule (CanStep r (behave system table) test) (taken (behave system table) test) (opening_place system) schedule is in
-    let start = at_start rules r test system nodes edges table x in
-    let (m, (at, far)) = way_is_at rules r test system nodes edges table x whole schedule 0 (opening_place system) start way in
+    let start = at_start noted r test system nodes edges table x in
+    let (m, (at, far)) = way_is_at noted r test system nodes edges table x whole schedule 0 (opening_place system) start way in
     let place = arrived (taken (behave system table) test) (opening_place system) schedule in
     let (first, got, opened, none) = x.begun in
     let short : length start.node.way ≡ 0 = ap (λ y. length y.way) (some_same (slice_get nodes 0) start.node first start.got got) ∙ ap length none in
@@ -281,18 +283,18 @@ end_of_schedule rules r test system nodes edges table x whole schedule is =
       m = m;
       node = at.node;
       got = at.got;
-      none = end_has_no_edges rules r test system nodes edges table m place x whole at end;
-      seen = sym (seen_there rules r test system nodes edges table m place x at);
+      none = end_has_no_edges noted r test system nodes edges table m place x whole at end;
+      seen = sym (seen_there noted r test system nodes edges table m place x at);
       far = omega (arith, far, short);
     }
 
-pub explored_is_searched : {S : Type 0} (opens : S → Type 0) (rules : Rules S) (r : Readings S) (test : Test) (nodes : List (Node S)) (edges : List (List Edge)) (rows : List Row)
-    → IsExplored opens rules r test nodes edges → AreRows nodes edges (length edges) rows → IsSearched opens rules r test rows
-explored_is_searched {S} opens rules r test nodes edges rows (system, opened, table, x, whole) tells = record {
+pub explored_is_searched : {S : Type 0} (opens : S → Type 0) (noted : Noted S) (r : Readings S) (test : Test) (nodes : List (Node S)) (edges : List (List Edge)) (rows : List Row)
+    → IsExplored opens noted r test nodes edges → AreRows nodes edges (length edges) rows → IsSearched opens noted r test rows
+explored_is_searched {S} opens noted r test nodes edges rows (system, opened, table, x, whole) tells = record {
   system = system;
   behaviour = behave system table;
   opened = opened;
-  lawful = explored_is_lawful rules r test system nodes edges table x whole;
+  lawful = explored_is_lawful noted r test system nodes edges table x whole;
   histogram = record {
     complete = complete;
     counted = counted;
@@ -305,20 +307,20 @@ explored_is_searched {S} opens rules r test nodes edges rows (system, opened, ta
     complete : (schedule : List Step) → IsSchedule (CanStep r (behave system table) test) (taken (behave system table) test) (opening_place system) schedule
         → IsListed (outcomes rows) (outcome_after r (behave system table) test system schedule)
     complete schedule is =
-        let e = end_of_schedule rules r test system nodes edges table x whole schedule is in
+        let e = end_of_schedule noted r test system nodes edges table x whole schedule is in
         let within = slice_get_within nodes e.m e.node e.got in
         subst (λ o. IsListed (outcomes rows) o) e.seen (tells.complete e.m e.node (omega (arith, within, whole)) e.got e.none)
 
     counted : (row : Row) → IsListed rows row → IsScheduleCount r (behave system table) test system row.outcome row.count
     counted row listed =
         let (routes, once, many, are) = tells.counted row listed in
-        let start = at_start rules r test system nodes edges table x in (
+        let start = at_start noted r test system nodes edges table x in (
           routes,
           once,
           many,
           λ schedule. (
-            (λ there. route_is_schedule rules r test system nodes edges table x whole row.outcome schedule 0 (opening_place system) start ((are schedule).0 there)),
-            (λ (is, seen). (are schedule).1 (schedule_is_route rules r test system nodes edges table x whole row.outcome schedule 0 (opening_place system) start is seen)),
+            (λ there. route_is_schedule noted r test system nodes edges table x whole row.outcome schedule 0 (opening_place system) start ((are schedule).0 there)),
+            (λ (is, seen). (are schedule).1 (schedule_is_route noted r test system nodes edges table x whole row.outcome schedule 0 (opening_place system) start is seen)),
           ),
         )
 
@@ -327,45 +329,46 @@ explored_is_searched {S} opens rules r test nodes edges rows (system, opened, ta
     told row listed =
         let (k, node, got, none, seen, way, first) = tells.first row listed in
         let within = slice_get_within nodes k node got in
-        let (led, at) = way_of_node rules r test system nodes edges table x whole (length nodes) k node within got in
+        let (led, at) = way_of_node noted r test system nodes edges table x whole (length nodes) k node within got in
         let place = arrived (taken (behave system table) test) (opening_place system) node.way in
         subst (λ steps. IsSchedule (CanStep r (behave system table) test) (taken (behave system table) test) (opening_place system) steps
         × (outcome_after r (behave system table) test system steps ≡ row.outcome)) way (
-          schedule_from_way (CanStep r (behave system table) test) (taken (behave system table) test) (opening_place system) node.way led (no_edges_is_end rules r test system nodes edges table k place x whole at none),
-          seen_there rules r test system nodes edges table k place x at ∙ ap (λ y. y.outcome) (some_same (slice_get nodes k) at.node node at.got got) ∙ seen,
+          schedule_from_way (CanStep r (behave system table) test) (taken (behave system table) test) (opening_place system) node.way led (no_edges_is_end noted r test system nodes edges table k place x whole at none),
+          seen_there noted r test system nodes edges table k place x at ∙ ap (λ y. y.outcome) (some_same (slice_get nodes k) at.node node at.got got) ∙ seen,
         )
 
     shortest : (row : Row) → IsListed rows row → (schedule : List Step) → IsSchedule (CanStep r (behave system table) test) (taken (behave system table) test) (opening_place system) schedule
         → outcome_after r (behave system table) test system schedule ≡ row.outcome → length row.schedule ≤ length schedule
     shortest row listed schedule is like =
         let (k, node, got, none, seen, way, first) = tells.first row listed in
-        let e = end_of_schedule rules r test system nodes edges table x whole schedule is in
+        let e = end_of_schedule noted r test system nodes edges table x whole schedule is in
         let sorted = x.sorted k e.m node e.node got e.got (first e.m e.node e.got e.none (e.seen ∙ like)) in
         let far = e.far in
         let same : length node.way ≡ length row.schedule = ap length way in
         omega (arith, sorted, far, same)
 
 -- steps that go on for ever
-walk_is_way : {S : Type 0} (rules : Rules S) (r : Readings S) (test : Test) (system : S) (nodes : List (Node S)) (edges : List (List Edge)) (table : List (List (Answer S)))
-    → IsExploring rules r test system nodes edges table → length edges ≡ length nodes
+walk_is_way : {S : Type 0} (noted : Noted S) (r : Readings S) (test : Test) (system : S) (nodes : List (Node S)) (edges : List (List Edge)) (table : List (List (Answer S)))
+    → IsExploring noted r test system nodes edges table → length edges ≡ length nodes
     → (steps : List Step) (n : ℕ) (place : Place S) → IsAt test nodes table n place → IsWalk edges n steps
     → IsWay (CanStep r (behave system table) test) (taken (behave system table) test) place steps
-walk_is_way rules r test system nodes edges table x whole [] n place at walk = tt
-walk_is_way rules r test system nodes edges table x whole (step ∷ rest) n place at (to, listed, walk) = (
-  at_edge rules r test system nodes edges table n place (record { step = step; to = to }) x whole at listed,
-  walk_is_way rules r test system nodes edges table x whole rest to (taken (behave system table) test place step)
-      (at_leads rules r test system nodes edges table n place (record { step = step; to = to }) x whole at listed) walk,
+walk_is_way noted r test system nodes edges table x whole [] n place at walk = tt
+walk_is_way noted r test system nodes edges table x whole (step ∷ rest) n place at (to, listed, walk) = (
+  at_edge noted r test system nodes edges table n place (record { step = step; to = to }) x whole at listed,
+  walk_is_way noted r test system nodes edges table x whole rest to (taken (behave system table) test place step)
+      (at_leads noted r test system nodes edges table n place (record { step = step; to = to }) x whole at listed) walk,
 )
 
-pub explored_is_endless : {S : Type 0} (opens : S → Type 0) (rules : Rules S) (r : Readings S) (test : Test) (nodes : List (Node S)) (edges : List (List Edge))
-    → IsExplored opens rules r test nodes edges → GoesOnForEver edges 0 → IsEndless opens rules r test
-explored_is_endless opens rules r test nodes edges (system, opened, table, x, whole) goes = record {
+pub explored_is_endless : {S : Type 0} (opens : S → Type 0) (noted : Noted S) (r : Readings S) (test : Test) (nodes : List (Node S)) (edges : List (List Edge))
+    → IsExplored opens noted r test nodes edges → GoesOnForEver edges 0 → IsEndless opens noted.rules r test
+explored_is_endless opens noted r test nodes edges (system, opened, table, x, whole) goes = record {
   system = system;
   behaviour = behave system table;
+  cells = noted.cells;
   opened = opened;
-  lawful = explored_is_lawful rules r test system nodes edges table x whole;
+  lawful = explored_is_lawful noted r test system nodes edges table x whole;
   endless = λ count. let (walk, long, is) = goes count in
-      (walk, long, walk_is_way rules r test system nodes edges table x whole walk 0 (opening_place system) (at_start rules r test system nodes edges table x) is);
+      (walk, long, walk_is_way noted r test system nodes edges table x whole walk 0 (opening_place system) (at_start noted r test system nodes edges table x) is);
 }
 
 -- so they are a graph
@@ -374,9 +377,9 @@ no_edges_past [] n past = refl
 no_edges_past (first ∷ rest) zero past = absurd (omega arith)
 no_edges_past (first ∷ rest) (suc n) past = no_edges_past rest n (omega arith)
 
-pub explored_is_graph : {S : Type 0} (opens : S → Type 0) (rules : Rules S) (r : Readings S) (test : Test) (nodes : List (Node S)) (edges : List (List Edge))
-    → IsExplored opens rules r test nodes edges → IsGraph nodes edges
-explored_is_graph {S} opens rules r test nodes edges (system, opened, table, x, whole) = record {
+pub explored_is_graph : {S : Type 0} (opens : S → Type 0) (noted : Noted S) (r : Readings S) (test : Test) (nodes : List (Node S)) (edges : List (List Edge))
+    → IsExplored opens noted r test nodes edges → IsGraph nodes edges
+explored_is_graph {S} opens noted r test nodes edges (system, opened, table, x, whole) = record {
   apart = λ n. apart n (slice_get_cases edges n).1;
   within = λ n edge listed. within n edge listed (slice_get_cases edges n).1;
   as_many = sym whole;

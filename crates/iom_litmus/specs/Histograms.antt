@@ -6,7 +6,7 @@ use Rattle.iom_litmus.specs.declared.histogram.Row.{Row}
 use Rattle.iom_litmus.specs.declared.step.Step.{Step}
 use Rattle.iom_litmus.specs.Behaviours.{Behaviour}
 use Rattle.iom_litmus.specs.Readings.{Readings}
-use Rattle.iom_litmus.specs.Rules.{Rules}
+use Rattle.iom_litmus.specs.Rules.{Noted}
 use Rattle.iom_litmus.specs.Listed.{IsListed, AreListedOnce}
 use Rattle.iom_litmus.specs.Seen.{outcome_after}
 use Rattle.iom_litmus.specs.Steps.{IsScheduleOf, IsLawful}
@@ -32,10 +32,11 @@ pub record IsHistogram {S : Type 0} (r : Readings S) (b : Behaviour S) (test : T
       → length row.schedule ≤ length schedule
   pub apart : AreListedOnce (outcomes rows)
 
--- what a search answers: the histogram of all schedules by some behaviour, of which each answer is one that the system may give
-pub record IsSearched {S : Type 0} (opens : S → Type 0) (rules : Rules S) (r : Readings S) (test : Test) (rows : List Row) : Type 0 where
+-- what a search answers: the histogram of all schedules by some behaviour, of which each answer is one that the system may give. An awaited cell that isn't
+-- answered like that leaves the system as it was, unless it is among those that are noted
+pub record IsSearched {S : Type 0} (opens : S → Type 0) (noted : Noted S) (r : Readings S) (test : Test) (rows : List Row) : Type 0 where
   pub system : S
   pub behaviour : Behaviour S
   pub opened : opens system
-  pub lawful : IsLawful rules r behaviour test system
+  pub lawful : IsLawful noted r behaviour test system
   pub histogram : IsHistogram r behaviour test system rows

@@ -1,5 +1,5 @@
 -- The steps of a test: which can be taken at a place, and where they lead.
-use Rattle.std.specs.Prelude.{◌≡◌, ℕ, ◌<◌, Bool, false, List, [], ◌∷◌, ◌++◌, Option, Some, None, IsTrue}
+use Rattle.std.specs.Prelude.{◌≡◌, ◌⊎◌, ℕ, ◌<◌, Bool, false, List, [], ◌∷◌, ◌++◌, Option, Some, None, IsTrue}
 use Rattle.iom_litmus_test.specs.declared.column.Cell.{Cell}
 use Rattle.iom_litmus_test.specs.declared.glob.Glob.{Glob}
 use Rattle.iom_litmus_test.specs.declared.observable.Spot.{Spot}
@@ -16,7 +16,7 @@ use Rattle.iom_litmus.specs.declared.step.Step.TheVariants as Steps
 use Rattle.iom_litmus.specs.declared.reply.Reply.{Reply}
 use Rattle.iom_litmus.specs.Behaviours.{Behaviour}
 use Rattle.iom_litmus.specs.Readings.{Readings}
-use Rattle.iom_litmus.specs.Rules.{Rules}
+use Rattle.iom_litmus.specs.Rules.{Rules, Noted}
 use Rattle.iom_litmus.specs.Deeds.{is_drop, is_repeat, is_timeout}
 use Rattle.iom_litmus.specs.Happenings.{next_cell, times}
 use Rattle.iom_litmus.specs.Listed.{IsListed}
@@ -117,8 +117,18 @@ MayAnswer rules r test place (Deeds.Cell spot) reply after =
     (cell : Cell) → next_cell test place.happened spot.column ≡ Some (spot.cell, cell) → RunsLines rules place.system no_reply cell.lines reply after
 MayAnswer rules r test place (Deeds.Hardware act) reply after = CanAct r test place act → rules.acts place.system act reply after
 
+-- and where it isn't like the one that is awaited, the system is left as it was, unless the cell is noted
+abbrev pub LeavesUnlessNoted : {S : Type 0} → List Spot → Test → Place S → Deed → Reply → S → Type 0
+LeavesUnlessNoted cells test place (Deeds.Cell spot) reply after =
+    (cell : Cell) → next_cell test place.happened spot.column ≡ Some (spot.cell, cell) → ¬ IsAnsweredLike cell.awaited reply.text
+    → (after ≡ place.system) ⊎ IsListed cells spot
+LeavesUnlessNoted cells test place (Deeds.Hardware act) reply after = Unit {0}
+
+abbrev pub MayAnswerNoted : {S : Type 0} → Noted S → Readings S → Test → Place S → Deed → Reply → S → Type 0
+MayAnswerNoted noted r test place deed reply after = MayAnswer noted.rules r test place deed reply after × LeavesUnlessNoted noted.cells test place deed reply after
+
 -- each answer of a behaviour is one that the system may give there, at each place to which steps lead by it
-abbrev pub IsLawful : {S : Type 0} → Rules S → Readings S → Behaviour S → Test → S → Type 0
-IsLawful rules r b test system = (steps : List Step) → IsWayOf r b test system steps → (deed : Deed)
-    → MayAnswer rules r test (place_after b test system steps) deed
+abbrev pub IsLawful : {S : Type 0} → Noted S → Readings S → Behaviour S → Test → S → Type 0
+IsLawful noted r b test system = (steps : List Step) → IsWayOf r b test system steps → (deed : Deed)
+    → MayAnswerNoted noted r test (place_after b test system steps) deed
     (b.reply (place_after b test system steps).happened deed) (b.after (place_after b test system steps).happened deed)

@@ -1,24 +1,29 @@
 //! Places and the steps between them, and the histogram of the schedules through them.
-ghost use Rattle.std.specs.Prelude.{◌≡◌, ℕ, ◌+◌, ◌<◌, Err, IfOk, OnOk, length};
+ghost use Rattle.std.specs.Prelude.{◌≡◌, ℕ, ◌+◌, ◌<◌, Err, Some, IfOk, OnOk, length, option_map, slice_get};
+ghost use Rattle.iom_litmus.specs.Steps.{deed_of};
+ghost use Rattle.iom_litmus.specs.declared.node.Node.{Node};
 ghost use Rattle.iom_litmus.specs.Tallies.{AreRows, AreSoMany, IsGraph, IsRoute, GoesOnForEver};
 
 use crate::fault::SearchFault;
+use crate::happenings::deed_of;
 use crate::histogram::{Histogram, Row, is_outcome_among};
 use crate::node::Edge;
+use crate::place::Deed;
 use crate::places::Places;
 use crate::seen::copied;
 use crate::step::Step;
 use crate::system::System;
 use crate::tally::Counting;
 use iom_base::Sequence;
-use iom_litmus_test::Value;
+use iom_litmus_test::{Spot, Test, Value};
 use std::alloc::{AllocError, Global};
 
 /// Places that were found, and for each the steps that can be taken there and where they lead.
 #[derive(Drop)]
-pub(crate) struct Graph<S> {
+pub struct Graph<S> {
     pub(crate) places: Places<S>,
     pub(crate) edges: Sequence<Sequence<Edge>>,
+    pub(crate) changing: Sequence<Spot>,
 }
 
 /// A copy of the value.
@@ -93,6 +98,41 @@ impl<S: System> Graph<S> {
             schedule,
         })?;
         Ok(())
+    }
+
+    /// For each place the steps that can be taken there, and the numbers of the places to which they lead. The first is
+    /// the one from which a test begins.
+    pub fn edges(&self) -> &[Sequence<Edge>]
+        ensures { result.now ≡ self.now.edges }
+    {
+        self.edges.as_slice()
+    }
+
+    /// What is seen at the place with this number. None where there is no such place.
+    pub fn outcome(&self, number: usize) -> Option<&[Value]>
+        ensures { option_map (λ outcome. outcome.now) result ≡ option_map (λ node. node.outcome) (slice_get self.now.places number) }
+    {
+        match self.places.as_slice().get(number) {
+            Some(node) => Some(node.outcome.as_slice()),
+            None => None,
+        }
+    }
+
+    /// What the step does at the place with this number. None where there is no such place, or the step is a column's and
+    /// that has come to its end.
+    pub fn deed(&self, test: &Test, number: usize, step: Step) -> Option<Deed>
+        ensures { (node : Node S) → slice_get self.now.places number ≡ Some node → result ≡ deed_of test.now node.place.happened step }
+    {
+        let node = self.places.as_slice().get(number)?;
+        deed_of(test, node.place.happened.as_slice(), step)
+    }
+
+    /// The awaited cells that changed the system where they were answered otherwise than awaited: each once, in the order
+    /// in which that was found. No schedule has such a try.
+    pub fn changing(&self) -> &[Spot]
+        ensures { result.now ≡ self.now.changing }
+    {
+        self.changing.as_slice()
     }
 
     /// A row for each outcome at which schedules end.

@@ -1,9 +1,11 @@
 //! What can be read off what happened.
 ghost use Rattle.std.specs.Prelude.{◌≡◌, option_map, find};
 ghost use Rattle.iom_litmus.specs.Happenings.{answer_to, goes_ahead, is_passed, cells_of, next_cell, times};
+ghost use Rattle.iom_litmus.specs.Steps.{deed_of};
 ghost use Rattle.iom_litmus.specs.Deeds.{is_run_of, is_drop, is_repeat, is_timeout};
 
-use crate::place::Happened;
+use crate::place::{Deed, Happened};
+use crate::step::Step;
 use iom_litmus_test::{Cell, Condition, Spot, Test};
 
 /// A cell that comes next in its column.
@@ -79,6 +81,19 @@ pub(crate) fn next_cell<'a>(
         }
     }
     None
+}
+
+/// What the step does there. None where it is a column's, and that has come to its end.
+pub(crate) fn deed_of(test: &Test, happened: &[Happened], step: Step) -> Option<Deed>
+    ensures { result ≡ deed_of test.now happened.now step }
+{
+    match step {
+        Step::Column(column) => {
+            let cell = next_cell(test, happened, column)?.place;
+            Some(Deed::Cell(Spot { column, cell }))
+        }
+        Step::Hardware(act) => Some(Deed::Hardware(act)),
+    }
 }
 
 /// How many messages were lost.

@@ -31,11 +31,16 @@ mod step;
 mod system;
 mod taking;
 mod tally;
+mod tries;
+mod watch;
 
 pub use fault::SearchFault;
+pub use graph::Graph;
 pub use histogram::{Histogram, Row};
+pub use node::Edge;
 pub use place::{Deed, Happened, Place};
 pub use reply::Reply;
-pub use search::Search;
+pub use search::{Explored, Search};
 pub use step::{HardwareStep, Step};
 pub use system::System;
+pub use watch::Watch;

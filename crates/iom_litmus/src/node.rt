@@ -8,9 +8,9 @@ use iom_litmus_test::Value;
 
 /// A step that can be taken at a place, and the number of the place to which it leads.
 #[derive(Clone, Copy, Drop)]
-pub(crate) struct Edge {
-    pub(crate) step: Step,
-    pub(crate) to: usize,
+pub struct Edge {
+    pub step: Step,
+    pub to: usize,
 }
 
 /// A place that was found.

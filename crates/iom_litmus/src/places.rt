@@ -48,6 +48,14 @@ impl<S: System> Places<S> {
         self.nodes.as_slice()
     }
 
+    /// How many steps lead to this place; 0 where there is none.
+    pub(crate) fn depth_of(&self, number: usize) -> usize {
+        match self.nodes.as_slice().get(number) {
+            Some(node) => node.way.as_slice().len(),
+            None => 0,
+        }
+    }
+
     /// The number of the place, where it was found before.
     fn number_of(&self, test: &Test, place: &Place<S>, fingerprint: u64) -> Option<usize>
         ensures { IfSome result (IsFoundAt test.now self.now place.now) }

@@ -1,11 +1,14 @@
 //! The search: places that are equal are gone on from once. To come to a place, a system is made anew and brought there.
-ghost use Rattle.std.specs.Prelude.{◌≡◌, ◌++◌, ◌∷◌, [], IfOk, Some, Err, slice_get};
+ghost use Rattle.std.specs.Prelude.{◌≡◌, List, ◌++◌, ◌∷◌, [], IfOk, OnOk, Some, None, Err, slice_get};
 ghost use Rattle.iom_litmus.specs.Alike.{IsSamePlace};
-ghost use Rattle.iom_litmus.specs.Graphs.{WasExplored, WasExpanded};
+ghost use Rattle.iom_litmus.specs.Graphs.{WasExplored, WasExpanded, IsSpareOf};
 ghost use Rattle.iom_litmus.specs.Histograms.{IsSearched};
+ghost use Rattle.iom_litmus.specs.Listed.{KeepsListed};
+ghost use Rattle.iom_litmus.specs.Rules.{noting};
 ghost use Rattle.iom_litmus.specs.Searches.{ComesTo, IsExplored, IsEndless};
 ghost use Rattle.iom_litmus.specs.Steps.{opening_place};
 ghost use Rattle.iom_litmus.specs.declared.node.Node.{Node};
+ghost use Rattle.iom_litmus_test.specs.declared.observable.Spot.{Spot};
 
 use crate::candidates::{candidates, each_once};
 use crate::fault::SearchFault;
@@ -16,6 +19,9 @@ use crate::place::Place;
 use crate::places::Places;
 use crate::step::Step;
 use crate::system::System;
+use crate::taking::Tried;
+use crate::tries::Tries;
+use crate::watch::Watch;
 use iom_base::Sequence;
 use iom_litmus_test::Test;
 use std::alloc::{AllocError, Global};
@@ -27,6 +33,13 @@ pub struct Search<'a, S: System> {
     pub test: &'a Test,
     /// What the system is made from, each time.
     pub opening: &'a S::Opening,
+}
+
+/// What a search found.
+#[derive(Drop)]
+pub struct Explored<S> {
+    pub histogram: Histogram,
+    pub graph: Graph<S>,
 }
 
 /// The way with one more step.
@@ -47,8 +60,8 @@ impl<S: System> Search<'_, S> {
         let mut place = Place::opening(self.alloc, self.opening)?;
         for step in steps {
             match place.after(self.alloc, self.test, *step)? {
-                Some(next) => place = next,
-                None => return Err(SearchFault::Memory),
+                Tried::Taken(next) => place = next,
+                Tried::Refused(_) => return Err(SearchFault::Memory),
             }
         }
         Ok(place)
@@ -66,17 +79,35 @@ impl<S: System> Search<'_, S> {
         Ok(place)
     }
 
+    /// The place once more: what an earlier try left, or one with a system made anew.
+    fn place_of(&self, node: &Node<S>, tries: &mut Tries<S>) -> Result<Place<S>, SearchFault>
+        ensures same { IsSpareOf self.now.test.now node.now tries.old.spare → IfOk result (IsSamePlace self.now.test.now node.now.place) }
+        ensures taken { tries.new.spare ≡ None }
+        ensures same_cells { tries.new.changing ≡ tries.old.changing }
+        ensures ends { ¬ (result ≡ Err SearchFault.Endless) }
+    {
+        match tries.spare.take() {
+            Some(place) => Ok(place),
+            None => self.arrive(node),
+        }
+    }
+
     /// Takes the step at this place, and puts the place to which it leads among the others. None where it can't be
     /// taken.
     fn explore_step(
         &self,
         places: &mut Places<S>,
+        tries: &mut Tries<S>,
         current: usize,
         step: Step,
         most: usize,
     ) -> Result<Option<usize>, SearchFault>
-        ensures explored { (node : Node S) → slice_get places.old current ≡ Some node
-            → IfOk result (WasExplored S.rules S.readings self.now.test.now node step places.old places.new) }
+        ensures explored { (node : Node S) → slice_get places.old current ≡ Some node → IsSpareOf self.now.test.now node tries.old.spare
+            → (cells : List Spot) → KeepsListed tries.new.changing cells
+            → IfOk result (WasExplored (noting S.rules cells) S.readings self.now.test.now node step places.old places.new) }
+        ensures keeps { OnOk result (KeepsListed tries.old.changing tries.new.changing) }
+        ensures spare { (node : Node S) → slice_get places.old current ≡ Some node → IsSpareOf self.now.test.now node tries.old.spare
+            → OnOk result (IsSpareOf self.now.test.now node tries.new.spare) }
         ensures ends { ¬ (result ≡ Err SearchFault.Endless) }
     {
         let Some(node) = places.as_slice().get(current) else {
@@ -85,11 +116,15 @@ impl<S: System> Search<'_, S> {
         if !node.place.can_try(self.test, step) {
             return Ok(None);
         }
-        let place = self.arrive(node)?;
-        let way = longer(self.alloc, node.way.as_slice(), step)?;
-        let Some(end) = place.after(self.alloc, self.test, step)? else {
-            return Ok(None);
+        let place = self.place_of(node, tries)?;
+        let end = match place.after(self.alloc, self.test, step)? {
+            Tried::Taken(end) => end,
+            Tried::Refused(left) => {
+                tries.give_back(self.test, node, step, left)?;
+                return Ok(None);
+            }
         };
+        let way = longer(self.alloc, node.way.as_slice(), step)?;
         let number = places.put(self.alloc, self.test, end, way, most)?;
         Ok(Some(number))
     }
@@ -98,11 +133,14 @@ impl<S: System> Search<'_, S> {
     fn expand(
         &self,
         places: &mut Places<S>,
+        tries: &mut Tries<S>,
         current: usize,
         most: usize,
     ) -> Result<Sequence<Edge>, SearchFault>
         ensures expanded { (node : Node S) → slice_get places.old current ≡ Some node
-            → IfOk result (WasExpanded S.rules S.readings self.now.test.now node places.old places.new) }
+            → (cells : List Spot) → KeepsListed tries.new.changing cells
+            → IfOk result (WasExpanded (noting S.rules cells) S.readings self.now.test.now node places.old places.new) }
+        ensures keeps { OnOk result (KeepsListed tries.old.changing tries.new.changing) }
         ensures ends { ¬ (result ≡ Err SearchFault.Endless) }
     {
         let mut edges = Sequence::new(self.alloc);
@@ -111,8 +149,9 @@ impl<S: System> Search<'_, S> {
         };
         let all = candidates(self.alloc, self.test, &node.place)?;
         let first = each_once(self.alloc, all.as_slice())?;
+        tries.spare = None;
         for step in first.as_slice() {
-            if let Some(to) = self.explore_step(places, current, *step, most)? {
+            if let Some(to) = self.explore_step(places, tries, current, *step, most)? {
                 edges.push(Edge { step: *step, to })?;
             }
         }
@@ -120,8 +159,9 @@ impl<S: System> Search<'_, S> {
     }
 
     /// All places, of which there may be so many, and the steps between them: shortest ways first.
-    fn find_places(&self, most: usize) -> Result<Graph<S>, SearchFault>
-        ensures explored { IfOk result (λ graph. IsExplored (S.opens self.now.opening.now) S.rules S.readings self.now.test.now graph.places graph.edges) }
+    fn find_places<W: Watch>(&self, most: usize, watch: &mut W) -> Result<Graph<S>, SearchFault>
+        ensures explored { IfOk result (λ graph. IsExplored (S.opens self.now.opening.now) (noting S.rules graph.changing) S.readings self.now.test.now
+            graph.places graph.edges) }
         ensures ends { ¬ (result ≡ Err SearchFault.Endless) }
     {
         let mut places = Places::new(self.alloc);
@@ -129,29 +169,44 @@ impl<S: System> Search<'_, S> {
         let nowhere = Sequence::new(self.alloc);
         places.put(self.alloc, self.test, opening, nowhere, most)?;
         let mut edges = Sequence::new(self.alloc);
+        let mut tries = Tries::new(self.alloc);
         for current in 0..most {
             if current == places.as_slice().len() {
                 break;
             }
-            let onward = self.expand(&mut places, current, most)?;
+            watch.at(places.as_slice().len(), places.depth_of(current));
+            let onward = self.expand(&mut places, &mut tries, current, most)?;
             edges.push(onward)?;
         }
         if edges.as_slice().len() != places.as_slice().len() {
             return Err(SearchFault::TooMany);
         }
-        Ok(Graph { places, edges })
+        Ok(Graph {
+            places,
+            edges,
+            changing: tries.changing,
+        })
     }
 
-    /// Goes through all schedules, over so many places at most.
-    pub fn explore(&self, most: usize) -> Result<Histogram, SearchFault>
+    /// Goes through all schedules, over so many places at most. Who watches is told of each place.
+    pub fn explore<W: Watch>(&self, most: usize, watch: &mut W) -> Result<Explored<S>, SearchFault>
         // By some behaviour, of which each answer is one that the system may give, each schedule's outcome has a row,
-        // and each row's count is the number of its schedules.
-        ensures histogram { IfOk result (λ histogram. IsSearched (S.opens self.now.opening.now) S.rules S.readings self.now.test.now histogram.rows) }
+        // and each row's count is the number of its schedules. Where an awaited cell isn't answered like that, the
+        // system is left as it was, unless the cell is noted.
+        ensures histogram { IfOk result (λ explored. IsSearched (S.opens self.now.opening.now) (noting S.rules explored.graph.changing) S.readings
+            self.now.test.now explored.histogram.rows) }
+
+        // The places and the steps between them, over which they were counted.
+        ensures graph { IfOk result (λ explored. IsExplored (S.opens self.now.opening.now) (noting S.rules explored.graph.changing) S.readings
+            self.now.test.now explored.graph.places explored.graph.edges) }
 
         // Steps are said to go on for ever only where by some such behaviour they do.
         ensures endless { result ≡ Err SearchFault.Endless → IsEndless (S.opens self.now.opening.now) S.rules S.readings self.now.test.now }
     {
-        let graph = self.find_places(most)?;
-        graph.histogram(self.alloc)
+        let graph = self.find_places(most, watch)?;
+        match graph.histogram(self.alloc) {
+            Ok(histogram) => Ok(Explored { histogram, graph }),
+            Err(fault) => Err(fault),
+        }
     }
 }

@@ -17,6 +17,15 @@ use iom_base::{DeviceId, Sequence};
 use iom_litmus_test::{Glob, Spot, Test};
 use std::alloc::{AllocError, Global};
 
+/// What came of trying a step.
+#[derive(Drop)]
+pub(crate) enum Tried<S> {
+    /// It was taken, and leads here.
+    Taken(Place<S>),
+    /// It can't be taken. What was tried at is given back: an awaited line that was answered otherwise may have changed it.
+    Refused(Place<S>),
+}
+
 /// Runs lines, one after another.
 fn run_lines<S: System>(
     alloc: Global,
@@ -65,13 +74,13 @@ impl<S: System> Place<S> {
         }
     }
 
-    /// Where the step leads. None where it can't be taken; the system may have been changed then.
+    /// Tries the step here.
     pub(crate) fn after(
         self,
         alloc: Global,
         test: &Test,
         step: Step,
-    ) -> Result<Option<Place<S>>, AllocError>
+    ) -> Result<Tried<S>, AllocError>
         ensures { IfOk result (WasTried S.rules S.readings test.now self step) }
     {
         match step {
@@ -85,22 +94,22 @@ impl<S: System> Place<S> {
         alloc: Global,
         test: &Test,
         column: usize,
-    ) -> Result<Option<Place<S>>, AllocError>
+    ) -> Result<Tried<S>, AllocError>
         ensures { IfOk result (WasTried S.rules S.readings test.now self (Steps.Column column)) }
     {
         let Some(next) = next_cell(test, self.happened.as_slice(), column) else {
-            return Ok(None);
+            return Ok(Tried::Refused(self));
         };
         let reply = run_lines(alloc, &mut self.system, next.cell.lines.as_slice())?;
         if !is_answered(&next.cell.awaited, reply.text.as_slice()) {
-            return Ok(None);
+            return Ok(Tried::Refused(self));
         }
         let cell = next.place;
         self.happened.push(Happened {
             deed: Deed::Cell(Spot { column, cell }),
             reply,
         })?;
-        Ok(Some(self))
+        Ok(Tried::Taken(self))
     }
 
     fn after_act(
@@ -108,18 +117,18 @@ impl<S: System> Place<S> {
         alloc: Global,
         test: &Test,
         act: HardwareStep,
-    ) -> Result<Option<Place<S>>, AllocError>
+    ) -> Result<Tried<S>, AllocError>
         ensures { IfOk result (WasTried S.rules S.readings test.now self (Steps.Hardware act)) }
     {
         if !self.can_act(test, act) {
-            return Ok(None);
+            return Ok(Tried::Refused(self));
         }
         let reply = self.system.act(alloc, act)?;
         self.happened.push(Happened {
             deed: Deed::Hardware(act),
             reply,
         })?;
-        Ok(Some(self))
+        Ok(Tried::Taken(self))
     }
 
     /// Whether hardware can do this here.

@@ -1,8 +1,9 @@
 //! The answer to a test, but for its schedule.
+use crate::cells::{append_lines, are_same_lines, lines_at};
 use crate::page::Page;
 use crate::values::append_outcome;
 use iom_litmus::{Histogram, Row};
-use iom_litmus_test::{QuestionKind, Test};
+use iom_litmus_test::{QuestionKind, Spot, Test};
 use std::alloc::{AllocError, Global};
 
 /// How many schedules the proposition holds of.
@@ -44,6 +45,24 @@ fn word_of(kind: QuestionKind) -> &'static [u8] {
     }
 }
 
+/// That lines like this one change what is under test where they are answered otherwise than awaited, each line once.
+fn append_notes(page: &mut Page, test: &Test, changing: &[Spot]) -> Result<(), AllocError> {
+    for (place, spot) in changing.iter().enumerate() {
+        let lines = lines_at(test, *spot);
+        let is_noted = changing[..place]
+            .iter()
+            .any(|earlier| are_same_lines(lines_at(test, *earlier), lines));
+        if !is_noted {
+            page.text(
+                b"Note: where it is answered otherwise this changes the world, and isn't run: ",
+            )?;
+            append_lines(page, lines)?;
+            page.text(b"\n")?;
+        }
+    }
+    Ok(())
+}
+
 /// `Test NAME Allowed`, `Forbidden` or `Required`
 fn append_head(page: &mut Page, test: &Test) -> Result<(), AllocError> {
     page.text(b"Test ")?;
@@ -69,6 +88,7 @@ fn append_histogram(page: &mut Page, test: &Test, rows: &[&Row]) -> Result<(), A
             b" :>"
         })?;
         append_outcome(page, test, row.outcome.as_slice())?;
+        page.text(b"\n")?;
     }
     Ok(())
 }
@@ -113,12 +133,20 @@ fn append_size(page: &mut Page, places: usize, verdict: Verdict) -> Result<(), A
     page.text(b"\n")
 }
 
-/// The answer to a test, outcomes with most schedules first.
-pub fn report(alloc: Global, test: &Test, histogram: &Histogram) -> Result<Vec<u8>, AllocError> {
+/// The answer to a test, outcomes with most schedules first. Before it stands a note of each awaited cell that changed
+/// what is under test where it was answered otherwise: `changing`, as [`Graph::changing`](iom_litmus::Graph::changing)
+/// has them.
+pub fn report(
+    alloc: Global,
+    test: &Test,
+    changing: &[Spot],
+    histogram: &Histogram,
+) -> Result<Vec<u8>, AllocError> {
     let rows = histogram.rows.as_slice();
     let mut sorted: Vec<&Row> = rows.iter().collect(alloc)?;
     sorted.sort_by_key(|row| u64::MAX - row.count)?;
     let mut page = Page::new(alloc);
+    append_notes(&mut page, test, changing)?;
     append_head(&mut page, test)?;
     append_histogram(&mut page, test, &sorted)?;
     let verdict = verdict_on(test, rows);

@@ -5,9 +5,12 @@
 #![tactic(auto)]
 
 mod answer;
+mod cells;
+mod drawing;
 mod page;
 mod script;
 mod values;
 
 pub use answer::{Verdict, report, undecided, verdict_on};
-pub use script::schedule;
+pub use drawing::dot;
+pub use script::{answers_of, script_of, telling_row};

@@ -93,5 +93,5 @@ pub(crate) fn append_outcome(
         page.text(b";")?;
         separator = b" ";
     }
-    page.text(b"\n")
+    Ok(())
 }

@@ -10,5 +10,5 @@ mod fault;
 mod hardware;
 mod world;
 
-pub use answering::{Answer, Finding, answer_test};
+pub use answering::{Answer, Asked, Finding, Replay, answer_test};
 pub use fault::{TestFault, Trouble};

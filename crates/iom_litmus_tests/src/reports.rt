@@ -1,7 +1,7 @@
 use crate::mailbox::Mailbox;
-use iom_litmus::Search;
+use iom_litmus::{Search, Watch};
 use iom_litmus_reader::read;
-use iom_litmus_report::{report, schedule};
+use iom_litmus_report::{answers_of, dot, report, script_of, telling_row};
 use std::process::Abort;
 use std::test::Fail;
 
@@ -37,11 +37,59 @@ send
 drop 0
 ";
 
+const GRAPH: &[u8] = b"digraph \"mail\" {
+  node [shape=circle];
+  0 [shape=doublecircle];
+  0 -> 1 [label=\"SENDER: send\", style=bold, color=red];
+  1 -> 2 [label=\"deliver 0\"];
+  1 -> 3 [label=\"drop 0\", style=bold, color=red];
+  2 -> 4 [label=\"READER: look\"];
+  3 [shape=box, label=\"READER:l=\\\"\\\"; stuck READER=1;\", style=bold, color=red];
+  4 [shape=box, label=\"READER:l=\\\"came\\\"; stuck READER=0;\"];
+}
+";
+
+const CHANGING: &[u8] = b"VIZKRUN mail
+{
+mailbox
+}
+ SENDER                  | OTHER ;
+ await send = \"nothing\" | await send = \"nothing\" ;
+locations [stuck SENDER;]
+exists (stuck SENDER)
+";
+
+const NOTED: &[u8] =
+    b"Note: where it is answered otherwise this changes the world, and isn't run: send
+Test mail Allowed
+Histogram (1 states)
+1 *>stuck SENDER=1;
+Ok
+Witnesses
+Positive: 1 Negative: 0
+Condition exists is validated
+Observation mail Always 1 0
+Places 1, schedules 1
+";
+
 fn expect(rt: &impl Abort, holds: bool) {
     assert!(rt; holds);
 }
 
-// A test from its file to its answer and the schedule of what was asked.
+/// Counts the places of which a search says that it goes on from them.
+struct Counter {
+    calls: usize,
+    deepest: usize,
+}
+
+impl Watch for Counter {
+    fn at(&mut self, _places: usize, depth: usize) {
+        self.calls = self.calls.saturating_add(1);
+        self.deepest = depth;
+    }
+}
+
+// A test from its file to its answer, the schedule of what was asked, and the graph of its places.
 #[test]
 fn a_test_is_answered(rt: HostRuntime) -> Result<(), Fail> {
     let alloc = rt.alloc();
@@ -51,13 +99,41 @@ fn a_test_is_answered(rt: HostRuntime) -> Result<(), Fail> {
         test: &test,
         opening: &(),
     };
-    let histogram = search.explore(10).expect(&rt, "there are two");
-    expect(&rt, search.is_validated(&histogram));
-    let answer = report(alloc, &test, &histogram)?;
+    let mut counter = Counter {
+        calls: 0,
+        deepest: 0,
+    };
+    let explored = search
+        .explore(10, &mut counter)
+        .expect(&rt, "there are two");
+    expect(&rt, counter.calls == 5 && counter.deepest == 3);
+    let histogram = &explored.histogram;
+    expect(&rt, search.is_validated(histogram));
+    let answer = report(alloc, &test, explored.graph.changing(), histogram)?;
     expect(&rt, answer.as_slice() == ANSWER);
-    let script = schedule(&search, histogram.rows.as_slice())
-        .expect(&rt, "it can be run once more")
-        .expect(&rt, "one is stuck");
+    let row = telling_row(&test, histogram.rows.as_slice()).expect(&rt, "one is stuck");
+    let script = script_of(&search, row).expect(&rt, "it can be run once more");
     expect(&rt, script.as_slice() == SCRIPT);
+    let answers = answers_of(&search, row).expect(&rt, "it can be run once more");
+    expect(&rt, answers.as_slice() == b"sent\n\n");
+    let graph = dot(alloc, &test, &explored.graph, row.schedule.as_slice())?;
+    expect(&rt, graph.as_slice() == GRAPH);
+    Ok(())
+}
+
+// A line that does something though it isn't answered as awaited: the answer says so, once for all cells like it.
+#[test]
+fn a_try_that_changes_something_is_noted(rt: HostRuntime) -> Result<(), Fail> {
+    let alloc = rt.alloc();
+    let test = read(alloc, CHANGING).expect(&rt, "it is a test");
+    let search = Search::<Mailbox> {
+        alloc,
+        test: &test,
+        opening: &(),
+    };
+    let explored = search.explore(10, &mut ()).expect(&rt, "there is one");
+    let changing = explored.graph.changing();
+    let answer = report(alloc, &test, changing, &explored.histogram)?;
+    expect(&rt, answer.as_slice() == NOTED);
     Ok(())
 }

@@ -16,7 +16,10 @@ fn explored(alloc: Global, test: &Test, most: usize) -> Result<Histogram, Search
         test,
         opening: &(),
     };
-    search.explore(most)
+    match search.explore(most, &mut ()) {
+        Ok(explored) => Ok(explored.histogram),
+        Err(fault) => Err(fault),
+    }
 }
 
 /// How many schedules have this answer, and are stuck or not.

@@ -15,17 +15,19 @@ pub(crate) struct Choice<'a> {
     pub(crate) quiet: bool,
     /// The file that a schedule is written to; standard output where there is none.
     pub(crate) schedule: Option<&'a str>,
+    /// The file that the graph of the places is written to, if it is wanted.
+    pub(crate) graph: Option<&'a str>,
 }
 
 /// What is asked for.
-#[derive(Clone, Copy, Debug)]
+#[derive(Drop)]
 pub(crate) enum Request<'a> {
     Help,
     Version,
-    /// The answer to the test in the file; where there is none, to that on standard input.
+    /// The answers to the tests in the files; where there is none, to that on standard input.
     Answer {
         choice: Choice<'a>,
-        file: Option<&'a str>,
+        files: Vec<&'a str>,
     },
 }
 
@@ -64,7 +66,8 @@ fn parser<'a>(alloc: Global) -> Result<Command<'a>, AllocError> {
     flagged
         .arg(option(alloc, "max"))?
         .arg(option(alloc, "output"))?
-        .arg(Arg::new(alloc, "file").action(ArgAction::Set))
+        .arg(option(alloc, "dot"))?
+        .arg(Arg::new(alloc, "file").action(ArgAction::Append))
 }
 
 /// How many places a search may find.
@@ -76,6 +79,23 @@ fn most_of(matches: &ArgMatches<'_>) -> Result<usize, ArgumentsFault> {
             Ok(number) => Ok(number),
         },
     }
+}
+
+/// The files that are named; an empty word names none.
+fn files_of<'a>(alloc: Global, matches: &ArgMatches<'a>) -> Result<Vec<&'a str>, ArgumentsFault> {
+    let mut files = Vec::new(alloc);
+    let Some(words) = matches.get_strs("file") else {
+        return Ok(files);
+    };
+    for word in words {
+        if word.is_empty() {
+            return Err(ArgumentsFault::Bad);
+        }
+        if files.push(*word).is_err() {
+            return Err(ArgumentsFault::Memory);
+        }
+    }
+    Ok(files)
 }
 
 /// What the words after the program's name ask for.
@@ -98,14 +118,15 @@ pub(crate) fn read_words(alloc: Global, words: &[String]) -> Result<Request<'_>,
     if matches.get_flag("version") {
         return Ok(Request::Version);
     }
-    let file = matches.get_str("file");
-    if file == Some("") {
-        return Err(ArgumentsFault::Bad);
-    }
+    let files = files_of(alloc, &matches)?;
     let choice = Choice {
         most: most_of(&matches)?,
         quiet: matches.get_flag("quiet"),
         schedule: matches.get_str("output"),
+        graph: matches.get_str("dot"),
     };
-    Ok(Request::Answer { choice, file })
+    if files.len() > 1 && (choice.schedule.is_some() || choice.graph.is_some()) {
+        return Err(ArgumentsFault::Bad);
+    }
+    Ok(Request::Answer { choice, files })
 }

@@ -1,40 +1,35 @@
-//! `iommu-litmus [--max N] [--output FILE] [--quiet] [FILE]` answers the litmus test in the file, or on standard input. The
-//! repository's `docs/LITMUS.md` says how a test is written and what its answer means.
+//! `iommu-litmus [--max N] [--output FILE] [--dot FILE] [--quiet] [FILE ..]` answers the litmus tests in the files, or the
+//! one on standard input. The repository's `docs/LITMUS.md` says how a test is written and what its answer means.
 //!
-//! The exit status is 0 where the question is answered as the test says, 1 where it isn't, 2 where the file isn't a test or a
+//! The exit status is 0 where each question is answered as its test says, 1 where one isn't, 2 where a file isn't a test or a
 //! line in it isn't of its language, 3 where the command line isn't lawful, 4 where reading, writing or memory failed, and 5
-//! where the test isn't decided.
+//! where a test isn't decided. Of several tests it is the first that there is of 4, 2, 1, 5.
 #![tactic(auto)]
 
 mod arguments;
+mod ending;
+mod progress;
 
 use crate::arguments::{ArgumentsFault, Choice, Request, read_words};
-use iom_litmus_runner::{Answer, Finding, TestFault, answer_test};
+use crate::ending::Ending;
+use crate::progress::Progress;
+use iom_litmus_runner::{Answer, Asked, Finding, TestFault, answer_test};
 use std::io::{self, ErrorKind, Read, Write};
 use std::process::ExitCode;
 use std::{env, fs};
-
-const OTHERWISE: u8 = 1;
-
-const NOT_A_TEST: u8 = 2;
-
-const BAD_COMMAND_LINE: u8 = 3;
-
-const FAILED: u8 = 4;
-
-const UNDECIDED: u8 = 5;
 
 /// The name of standard input, where it is what can't be read.
 const INPUT: &str = "standard input";
 
 const HELP: &str = "\
-iommu-litmus [--max N] [--output FILE] [--quiet] [FILE]
+iommu-litmus [--max N] [--output FILE] [--dot FILE] [--quiet] [FILE ..]
 
-Answers the litmus test in the file, or on standard input: goes through all orders in which the test's columns
-and hardware can take their steps.
+Answers the litmus tests in the files, or the one on standard input: goes through all orders in which a test's
+columns and hardware can take their steps.
 
   --max N        looks at N places at most, 200000 unless said
-  --output FILE  writes the schedule there
+  --output FILE  writes the schedule there; of one test alone
+  --dot FILE     writes the graph of the places there, for graphviz, the schedule bold; of one test alone
   --quiet        leaves the schedule out where the question is answered as the test says
   --help         prints this
   --version      prints the version
@@ -52,9 +47,9 @@ fn words_of(rt: &HostRuntime) -> io::Result<Vec<String>> {
 }
 
 /// Tells on standard error what goes wrong with what has this name.
-fn complain(rt: &HostRuntime, name: &str, text: &str, status: u8) -> u8 {
+fn complain(rt: &HostRuntime, name: &str, text: &str, ending: Ending) -> Ending {
     let _ = eprintln!(rt; "iommu-litmus: {name}: {text}");
-    status
+    ending
 }
 
 /// Why what has this name can't be read.
@@ -68,60 +63,70 @@ fn cause_of(error: &io::Error) -> &'static str {
     }
 }
 
-/// Writes the bytes to standard output. Whether that failed.
-fn tell(rt: &HostRuntime, bytes: &[u8], status: u8) -> u8 {
+/// Writes the bytes to standard output.
+fn tell(rt: &HostRuntime, bytes: &[u8]) -> Ending {
     match rt.stdout().write_all(bytes) {
-        Ok(()) => status,
-        Err(_) => complain(rt, "standard output", "writing failed", FAILED),
+        Ok(()) => Ending::Ok,
+        Err(_) => complain(rt, "standard output", "writing failed", Ending::Failed),
     }
 }
 
-fn status_of(finding: Finding) -> u8 {
+/// Writes the bytes to the file.
+fn write(rt: &HostRuntime, file: &str, bytes: &[u8]) -> Ending {
+    match fs::write(rt, file, bytes) {
+        Ok(()) => Ending::Ok,
+        Err(_) => complain(rt, file, "writing failed", Ending::Failed),
+    }
+}
+
+fn ending_of(finding: Finding) -> Ending {
     match finding {
-        Finding::Ok => 0,
-        Finding::No => OTHERWISE,
-        Finding::Undecided => UNDECIDED,
+        Finding::Ok => Ending::Ok,
+        Finding::No => Ending::Otherwise,
+        Finding::Undecided => Ending::Undecided,
     }
 }
 
-/// Writes the schedule where it is wanted.
-fn tell_schedule(rt: &HostRuntime, choice: Choice<'_>, schedule: &[u8], status: u8) -> u8 {
-    let Some(file) = choice.schedule else {
-        let begun = tell(rt, b"Schedule\n", status);
-        return if begun == status {
-            tell(rt, schedule, status)
-        } else {
-            begun
-        };
-    };
-    match fs::write(rt, file, schedule) {
-        Ok(()) => status,
-        Err(_) => complain(rt, file, "writing failed", FAILED),
+/// Writes the schedule to its file, or behind the answer.
+fn tell_schedule(rt: &HostRuntime, choice: Choice<'_>, schedule: &[u8]) -> Ending {
+    match choice.schedule {
+        Some(file) => write(rt, file, schedule),
+        None => tell(rt, b"Schedule\n").join(tell(rt, schedule)),
     }
 }
 
-/// Writes the answer, and gives the exit status.
-fn tell_answer(rt: &HostRuntime, choice: Choice<'_>, answer: &Answer) -> u8 {
-    let status = status_of(answer.finding);
-    let told = tell(rt, &answer.text, status);
-    match &answer.schedule {
-        Some(schedule) if told == status && !(choice.quiet && status == 0) => {
-            tell_schedule(rt, choice, schedule, status)
+/// Writes the answer.
+fn tell_answer(rt: &HostRuntime, choice: Choice<'_>, answer: &Answer) -> Ending {
+    let found = ending_of(answer.finding);
+    let mut ending = found.join(tell(rt, &answer.text));
+    if let Some(schedule) = &answer.schedule {
+        if !choice.quiet || found != Ending::Ok {
+            ending = ending.join(tell_schedule(rt, choice, schedule));
         }
-        _ => told,
+    }
+    match (choice.graph, &answer.graph) {
+        (Some(file), Some(graph)) => ending.join(write(rt, file, graph)),
+        _ => ending,
     }
 }
 
-/// Answers the test that the bytes of what has this name say, and gives the exit status.
-fn end(rt: &HostRuntime, name: &str, choice: Choice<'_>, bytes: &[u8]) -> u8 {
-    match answer_test(rt.alloc(), bytes, choice.most) {
+/// Answers the test that the bytes of what has this name say.
+fn answer(rt: &HostRuntime, name: &str, choice: Choice<'_>, bytes: &[u8]) -> Ending {
+    let asked = Asked {
+        most: choice.most,
+        graph: choice.graph.is_some(),
+        replays: false,
+    };
+    match answer_test(rt.alloc(), bytes, asked, &mut Progress::new(rt, name)) {
         Ok(answer) => tell_answer(rt, choice, &answer),
-        Err(TestFault::Memory) => complain(rt, name, "out of memory", FAILED),
-        Err(TestFault::Endless) => complain(rt, name, "hardware can go on for ever", NOT_A_TEST),
+        Err(TestFault::Memory) => complain(rt, name, "out of memory", Ending::Failed),
+        Err(TestFault::Endless) => {
+            complain(rt, name, "hardware can go on for ever", Ending::NotATest)
+        }
         Err(TestFault::Line { number, trouble }) => {
             let words = trouble.words();
             let _ = eprintln!(rt; "iommu-litmus: {name}: line {number}: {words}");
-            NOT_A_TEST
+            Ending::NotATest
         }
     }
 }
@@ -133,45 +138,66 @@ fn read_all<R: Read>(rt: &HostRuntime, reader: &mut R) -> io::Result<Vec<u8>> {
     Ok(bytes)
 }
 
-/// Answers what the file, or else standard input, has.
-fn answer_from(rt: &HostRuntime, choice: Choice<'_>, file: Option<&str>) -> u8 {
-    let name = file.unwrap_or(INPUT);
-    let read = match file {
-        None => read_all(rt, &mut rt.stdin()),
-        Some(file) => match fs::open(rt, file) {
-            Ok(mut opened) => read_all(rt, &mut opened),
-            Err(error) => Err(error),
-        },
-    };
+/// Answers the test that was read from what has this name.
+fn answer_read(
+    rt: &HostRuntime,
+    name: &str,
+    choice: Choice<'_>,
+    read: io::Result<Vec<u8>>,
+) -> Ending {
     match read {
-        Ok(bytes) => end(rt, name, choice, &bytes),
-        Err(error) => complain(rt, name, cause_of(&error), FAILED),
+        Ok(bytes) => answer(rt, name, choice, &bytes),
+        Err(error) => complain(rt, name, cause_of(&error), Ending::Failed),
     }
 }
 
-/// Does what the words ask for, and gives the exit status.
-fn run(rt: &HostRuntime, words: &[String]) -> u8 {
+/// Answers the test in the file.
+fn answer_file(rt: &HostRuntime, choice: Choice<'_>, file: &str) -> Ending {
+    let read = match fs::open(rt, file) {
+        Ok(mut opened) => read_all(rt, &mut opened),
+        Err(error) => Err(error),
+    };
+    answer_read(rt, file, choice, read)
+}
+
+/// Answers the tests in the files, with an empty line between two answers; or the one on standard input.
+fn answer_all(rt: &HostRuntime, choice: Choice<'_>, files: &[&str]) -> Ending {
+    let Some((first, others)) = files.split_first() else {
+        return answer_read(rt, INPUT, choice, read_all(rt, &mut rt.stdin()));
+    };
+    let mut ending = answer_file(rt, choice, first);
+    for file in others {
+        ending = ending.join(tell(rt, b"\n"));
+        ending = ending.join(answer_file(rt, choice, file));
+    }
+    ending
+}
+
+/// Does what the words ask for.
+fn run(rt: &HostRuntime, words: &[String]) -> Ending {
     match read_words(rt.alloc(), words) {
-        Ok(Request::Help) => tell(rt, HELP.as_bytes(), 0),
-        Ok(Request::Version) => tell(rt, VERSION.as_bytes(), 0),
-        Ok(Request::Answer { choice, file }) => answer_from(rt, choice, file),
-        Err(ArgumentsFault::Memory) => complain(rt, "command line", "out of memory", FAILED),
+        Ok(Request::Help) => tell(rt, HELP.as_bytes()),
+        Ok(Request::Version) => tell(rt, VERSION.as_bytes()),
+        Ok(Request::Answer { choice, files }) => answer_all(rt, choice, &files),
+        Err(ArgumentsFault::Memory) => {
+            complain(rt, "command line", "out of memory", Ending::Failed)
+        }
         Err(ArgumentsFault::Bad) => complain(
             rt,
             "command line",
-            "it isn't [--max N] [--output FILE] [--quiet] [FILE]",
-            BAD_COMMAND_LINE,
+            "it isn't [--max N] [--output FILE] [--dot FILE] [--quiet] [FILE ..], or asks for one file of several tests",
+            Ending::BadCommandLine,
         ),
     }
 }
 
 fn main(rt: HostRuntime) -> ExitCode {
-    let status = match words_of(&rt) {
+    let ending = match words_of(&rt) {
         Ok(words) => run(&rt, &words),
         Err(error) if error.kind() == ErrorKind::OutOfMemory => {
-            complain(&rt, "command line", "out of memory", FAILED)
+            complain(&rt, "command line", "out of memory", Ending::Failed)
         }
-        Err(_) => complain(&rt, "command line", "it isn't text", BAD_COMMAND_LINE),
+        Err(_) => complain(&rt, "command line", "it isn't text", Ending::BadCommandLine),
     };
-    ExitCode::from(status)
+    ExitCode::from(ending.status())
 }

@@ -9,8 +9,8 @@ loop-step-preserved g c =
     let (system, opened, leads) = c.loop-step.invariant in (
       system,
       opened,
-      leads_on-next g.S.System.rules g.S.System.readings c.args.self.now.test.now (opening_place system) c.loop-step.place c.in-Some.next
-          c.args.steps.now c.loop-step.step-index _ c.in_ok-next.field-0 leads c.loop-step-test.true c.in_ok-next.ensures c.in-Some.is,
+      leads_on-next g.S.System.rules g.S.System.readings c.args.self.now.test.now (opening_place system) c.loop-step.place c.in-Taken.next
+          c.args.steps.now c.loop-step.step-index _ c.in_ok-next.field-0 leads c.loop-step-test.true c.in_ok-next.ensures c.in-Taken.is,
     )
 
 pub returns-clause-comes : goal.returns-clause-comes
