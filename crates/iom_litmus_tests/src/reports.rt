@@ -77,6 +77,7 @@ fn expect(rt: &impl Abort, holds: bool) {
 }
 
 /// Counts the places of which a search says that it goes on from them.
+#[derive(Drop)]
 struct Counter {
     calls: usize,
     deepest: usize,
@@ -115,7 +116,7 @@ fn a_test_is_answered(rt: HostRuntime) -> Result<(), Fail> {
     let script = script_of(&search, row).expect(&rt, "it can be run once more");
     expect(&rt, script.as_slice() == SCRIPT);
     let answers = answers_of(&search, row).expect(&rt, "it can be run once more");
-    expect(&rt, answers.as_slice() == b"sent\n\n");
+    expect(&rt, answers.as_slice() == b"sent\n\n".as_slice());
     let graph = dot(alloc, &test, &explored.graph, row.schedule.as_slice())?;
     expect(&rt, graph.as_slice() == GRAPH);
     Ok(())
