@@ -14,6 +14,7 @@ use crate::arguments::{ArgumentsFault, Choice, Request, read_words};
 use crate::ending::Ending;
 use crate::progress::Progress;
 use iom_litmus_runner::{Answer, Asked, Finding, TestFault, answer_test};
+use std::alloc::Global;
 use std::io::{self, ErrorKind, Read, Write};
 use std::process::ExitCode;
 use std::{env, fs};
@@ -34,6 +35,9 @@ columns and hardware can take their steps.
   --help         prints this
   --version      prints the version
 ";
+
+/// Bytes of the block by which freed memory is kept.
+const LARGEST_BLOCK: usize = 16 << 20;
 
 const VERSION: &str = "iommu-litmus 1.0\n";
 
@@ -173,12 +177,22 @@ fn answer_all(rt: &HostRuntime, choice: Choice<'_>, files: &[&str]) -> Ending {
     ending
 }
 
+/// A search makes system after system. Between two of them the C library would hand the memory of the first to the operating
+/// system and ask for it again. It keeps twice as much as the largest block that was ever freed: so one is taken and freed,
+/// untouched. Nothing but time depends on it.
+fn keep_freed_memory(alloc: Global) {
+    let _ = Vec::<u8>::with_capacity(alloc, LARGEST_BLOCK);
+}
+
 /// Does what the words ask for.
 fn run(rt: &HostRuntime, words: &[String]) -> Ending {
     match read_words(rt.alloc(), words) {
         Ok(Request::Help) => tell(rt, HELP.as_bytes()),
         Ok(Request::Version) => tell(rt, VERSION.as_bytes()),
-        Ok(Request::Answer { choice, files }) => answer_all(rt, choice, &files),
+        Ok(Request::Answer { choice, files }) => {
+            keep_freed_memory(rt.alloc());
+            answer_all(rt, choice, &files)
+        }
         Err(ArgumentsFault::Memory) => {
             complain(rt, "command line", "out of memory", Ending::Failed)
         }
