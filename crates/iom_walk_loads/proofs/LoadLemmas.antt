@@ -22,7 +22,7 @@ pub loads_are_of_the_whole : {A : Type 0} → LoadsAreOfTheWhole A
 loads_are_of_the_whole memory zero walk = refl
 loads_are_of_the_whole memory (suc made) walk = loads_are_of_the_whole memory made (after_load memory walk) ∙ made_load memory walk
 
-after_within : {A : Type 0} (n : ℕ) (memory : List (List ℕ)) (walk : Walk A) → EndsWithin (suc n) walk → EndsWithin n (after_load memory walk)
+pub after_within : {A : Type 0} (n : ℕ) (memory : List (List ℕ)) (walk : Walk A) → EndsWithin (suc n) walk → EndsWithin n (after_load memory walk)
 after_within n memory (Ends answer) within = tt
 after_within n memory (ReadsEntry address rest) within = within _
 after_within n memory (ReadsContext address rest) within = within _
