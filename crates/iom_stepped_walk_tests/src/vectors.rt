@@ -34,7 +34,9 @@ struct Case {
 /// The context that is found for the device, load by load.
 fn located(rt: &impl Abort, memory: &Memory, case: Case) -> Result<Context, Cause> {
     let root = Ppn::new(case.root).expect(rt, "44 bits");
-    expect(rt, case.mode != DirectoryMode::Bare);
+    if case.mode == DirectoryMode::Bare {
+        panic!(rt; "a walk of no directory");
+    }
     let ddtp = DirectoryPointer {
         mode: case.mode,
         ppn: root.number(),
