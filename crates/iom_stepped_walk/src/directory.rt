@@ -1,10 +1,9 @@
 // A walk through the device directory, where it stands, and what one load makes of it.
-ghost use Rattle.std.specs.Prelude.{◌≡◌, ◌≢◌, ◌<◌, ◌/◌, ◌%◌, ◌*◌, ◌+◌, ◌^◌};
+ghost use Rattle.std.specs.Prelude.{◌≡◌, ◌≢◌, ◌<◌};
 ghost use Rattle.iom_registers.specs.declared.directory.DirectoryMode.TheVariants.{Bare};
 ghost use Rattle.iom_device_dir.specs.Located.{loaded_context};
 ghost use Rattle.iom_device_dir.specs.Paths.{ddi, context_place, context_words_at};
-ghost use Rattle.iom_walk_loads.specs.Loads.{after_load};
-ghost use Rattle.iom_walk_loads.specs.Directory.{locating, directory_walk};
+ghost use Rattle.iom_walk_loads.specs.Directory.{locating};
 
 use iom_base::{Cause, DeviceId, ENTRY_SIZE, PAGE_SIZE, Ppn};
 use iom_device_dir::{Context, NonLeafEntry, fits_directory, locate};

@@ -1,6 +1,6 @@
 // A walk in both stages: where it stands on the way to an entry of a guest's table, at that entry, and on the way to the
 // page that the guest's tables give.
-ghost use Rattle.std.specs.Prelude.{◌≡◌, ◌<◌, ◌≤◌, ◌*◌, ◌/◌, ◌%◌, ◌+◌, ◌^◌, ℕ, length, true, false};
+ghost use Rattle.std.specs.Prelude.{◌≡◌, ◌<◌, ◌+◌, ◌^◌, ℕ, length};
 ghost use Rattle.iom_base.specs.Tables.{table_entries};
 ghost use Rattle.iom_stage_walk.specs.Both.{rights_of_both};
 ghost use Rattle.iom_stepped_walk.specs.Told.{told};

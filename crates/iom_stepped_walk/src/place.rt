@@ -1,8 +1,7 @@
 // A table in hand, and what one load of an entry there makes of a walk.
-ghost use Rattle.std.specs.Prelude.{◌≡◌, ◌<◌, ◌≤◌, ◌*◌, ◌/◌, ◌%◌, ◌+◌, ◌-◌, ◌^◌, ℕ, IfSome, if◌then◌else◌};
+ghost use Rattle.std.specs.Prelude.{◌≡◌, ◌<◌, ◌≤◌, ◌^◌, IfSome};
 ghost use Rattle.iom_base.specs.Tables.{table_entries};
 ghost use Rattle.iom_stage_walk.specs.Entries.{IsBounded};
-ghost use Rattle.iom_stage_walk.specs.Second.{root_entries};
 ghost use Rattle.iom_stepped_walk.specs.Indices.{width_of, index_at, indices_below, page_by};
 
 use iom_base::{AccessKind, Ppn, Rights, TABLE_ENTRIES};
@@ -85,7 +84,6 @@ pub(crate) fn index_at(is_wide: bool, level: u32, page: u64) -> u16
 }
 
 impl Place {
-    ghost use Rattle.std.specs.Prelude.{length};
     ghost use Rattle.iom_stepped_walk.specs.Steps.{Makes, GoesOnBy, FollowsBy};
 
     /// What follows a pointer: the table that it names, one level down. There is none below level 0.

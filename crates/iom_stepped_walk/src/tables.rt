@@ -1,5 +1,5 @@
 // A walk of tables, where it stands, and what one load makes of it.
-ghost use Rattle.std.specs.Prelude.{◌≡◌, ℕ, [], length};
+ghost use Rattle.std.specs.Prelude.{◌≡◌, ℕ};
 ghost use Rattle.iom_base.specs.Sizes.{levels_of};
 ghost use Rattle.iom_walk_loads.specs.Tables.{first_walk, second_walk, both_walk};
 ghost use Rattle.iom_stepped_walk.specs.Positions.{remains, IsOneLoad};

@@ -1,5 +1,5 @@
 // All loads of a walk, made of one memory.
-ghost use Rattle.std.specs.Prelude.{◌≡◌, ◌≢◌, ◌↔◌, ◌≤◌, ℕ, Ok, Err, length};
+ghost use Rattle.std.specs.Prelude.{◌≡◌, ◌≢◌, ◌↔◌, Ok, Err, length};
 ghost use Rattle.iom_base.specs.Sizes.{levels_of};
 ghost use Rattle.iom_stage_walk.specs.Paths.{ReachesFirst, StopsFirst};
 ghost use Rattle.iom_stage_walk.specs.Second.{ReachesSecond, StopsSecond};
