@@ -1,0 +1,5 @@
+pub mod StandingLemmas
+pub mod PositionLemmas
+pub mod NowLemmas
+pub mod PageLemmas
+pub mod JudgedLemmas

@@ -1,0 +1,5 @@
+pub mod Positions
+pub mod Standing
+pub mod Pages
+pub mod Judged
+pub mod Walks

@@ -1,0 +1,4 @@
+pub mod Loads
+pub mod Tables
+pub mod Directory
+pub mod Laws
