@@ -1,4 +1,4 @@
-//! `iommu-judge [FILE]` judges the trace in the file, or on standard input: it prints `lawful`, or the first line that
+//! `iommu-judge [--help | --version | FILE]` judges the trace in the file, or on standard input: it prints `lawful`, or the first line that
 //! can't have come, with the reason, or the first that couldn't be followed, where none is found unlawful. The
 //! repository's `docs/JUDGE.md` says how a trace is written, and what the verdicts mean.
 //!
@@ -12,7 +12,7 @@ mod progress;
 
 use iom_judge::{Verdict, judge_trace};
 use progress::Watched;
-use std::io::{self, ErrorKind, Read};
+use std::io::{self, ErrorKind, IsTerminal, Read, Write};
 use std::process::ExitCode;
 use std::{env, fs};
 
@@ -30,6 +30,20 @@ const NOT_CERTIFIED: u8 = 5;
 
 /// The name of standard input, where it is what can't be read.
 const INPUT: &str = "standard input";
+
+const USAGE: &str = "iommu-judge [--help | --version | FILE]";
+
+const HELP: &str = "\
+iommu-judge [--help | --version | FILE]
+
+Judges the trace in the file, or on standard input: prints `lawful`, or the first line that can't have come, with the
+reason.
+
+  --help     prints this
+  --version  prints the version
+";
+
+const VERSION: &str = "iommu-judge 1.0\n";
 
 /// The words of the command line, after the program's name.
 fn words_of(rt: &HostRuntime) -> io::Result<Vec<String>> {
@@ -104,21 +118,43 @@ fn judge<R: Read + Drop>(rt: &HostRuntime, name: &str, reader: R) -> io::Result<
     judge_trace(rt.alloc(), &mut watched)
 }
 
-/// Judges what the words name, and gives the exit status.
+/// Writes the text, and gives the exit status.
+fn print(rt: &HostRuntime, text: &str) -> u8 {
+    match rt.stdout().write_all(text.as_bytes()) {
+        Ok(()) => LAWFUL,
+        Err(_) => complain(rt, "standard output", "writing failed", FAILED),
+    }
+}
+
+/// Judges the trace on standard input. Where that is a terminal, nobody wrote one there: what is wanted is said.
+fn judge_input(rt: &HostRuntime) -> u8 {
+    if rt.stdin().is_terminal() {
+        let _ = eprintln!(rt; "{USAGE}");
+        return BAD_COMMAND_LINE;
+    }
+    end(rt, INPUT, judge(rt, INPUT, rt.stdin()))
+}
+
+/// Judges the trace in the file.
+fn judge_file(rt: &HostRuntime, file: &str) -> u8 {
+    let found = match fs::open(rt, file) {
+        Ok(opened) => judge(rt, file, opened),
+        Err(error) => Err(error),
+    };
+    end(rt, file, found)
+}
+
+/// Does what the words ask for, and gives the exit status.
 fn run(rt: &HostRuntime, words: &[String]) -> u8 {
     match words {
-        [] => end(rt, INPUT, judge(rt, INPUT, rt.stdin())),
-        [file] if is_file(file) => {
-            let found = match fs::open(rt, file) {
-                Ok(opened) => judge(rt, file, opened),
-                Err(error) => Err(error),
-            };
-            end(rt, file, found)
-        }
+        [] => judge_input(rt),
+        [word] if word.as_str() == "--help" => print(rt, HELP),
+        [word] if word.as_str() == "--version" => print(rt, VERSION),
+        [file] if is_file(file) => judge_file(rt, file),
         _ => complain(
             rt,
             "command line",
-            "at most one file is named",
+            "it isn't [--help | --version | FILE]",
             BAD_COMMAND_LINE,
         ),
     }
