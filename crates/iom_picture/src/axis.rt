@@ -2,6 +2,7 @@
 use crate::layout::Layout;
 use crate::scale::Scale;
 use crate::svg::Svg;
+use crate::symbol::Symbol;
 use iom_timeline::{LineText, MarkKind, Timeline};
 use std::alloc::AllocError;
 
@@ -22,7 +23,10 @@ static INTERVALS: [u64; 14] = [
     1, 2, 5, 10, 20, 50, 100, 200, 500, 1_000, 2_000, 5_000, 10_000, 20_000,
 ];
 
-fn interval_of(scale: Scale) -> u64 {
+/// The look of the line at a poll.
+pub(crate) const POLL_LINE: &str = "stroke=\"#0072b2\" stroke-dasharray=\"2 3\"";
+
+fn interval_of(scale: &Scale) -> u64 {
     let room = if scale.last < 100 {
         SHORT_ROOM
     } else {
@@ -53,15 +57,38 @@ fn append_number(svg: &mut Svg, layout: &Layout, line: u64, top: u64) -> Result<
     svg.markup("</text>\n")
 }
 
+/// The ground of each fold, with the number of its lines above it.
+pub(crate) fn append_folds(svg: &mut Svg, layout: &Layout, top: u64) -> Result<(), AllocError> {
+    let height = layout.bottom.saturating_sub(layout.driver.top);
+    for fold in &layout.scale.folds {
+        svg.rectangle(
+            fold.left,
+            layout.driver.top,
+            fold.width(),
+            height,
+            Symbol::Folded.fill(),
+        )?;
+        svg.markup("/>\n")?;
+        svg.begin_text(
+            fold.middle(),
+            top,
+            " text-anchor=\"middle\" fill=\"#555555\" font-size=\"11\"",
+        )?;
+        svg.number(fold.count())?;
+        svg.markup(" lines</text>\n")?;
+    }
+    Ok(())
+}
+
 /// The numbers of lines, and the grid.
 pub(crate) fn append_axis(svg: &mut Svg, layout: &Layout, top: u64) -> Result<(), AllocError> {
-    let scale = layout.scale;
+    let scale = &layout.scale;
     let interval = interval_of(scale).max(1);
     let first = scale.first / interval;
     let last = scale.last / interval;
     for turn in first..last.saturating_add(1) {
         let line = turn.saturating_mul(interval);
-        if scale.first <= line && line <= scale.last {
+        if scale.first <= line && line <= scale.last && !scale.is_folded(line) {
             append_number(svg, layout, line, top)?;
         }
     }
@@ -80,11 +107,7 @@ pub(crate) fn append_polls(
         };
         if layout.choice.has_line(mark.line) {
             let x = layout.scale.middle(mark.line);
-            svg.line(
-                (x, layout.driver.top),
-                (x, layout.bottom),
-                "stroke=\"#0072b2\" stroke-dasharray=\"2 3\"",
-            )?;
+            svg.line((x, layout.driver.top), (x, layout.bottom), POLL_LINE)?;
         }
     }
     Ok(())
@@ -92,10 +115,10 @@ pub(crate) fn append_polls(
 
 /// A text, and two dots for what is beyond so many bytes of it.
 fn append_cut(svg: &mut Svg, text: &[u8], most: usize) -> Result<(), AllocError> {
-    let Some(shown) = text.get(..most) else {
+    if text.len() <= most {
         return svg.text(text);
-    };
-    svg.text(shown)?;
+    }
+    svg.text(text.get(..most).unwrap_or(&[]))?;
     svg.markup("..")
 }
 
@@ -149,7 +172,7 @@ pub(crate) fn append_words(
     }
     svg.markup("<g font-size=\"11\">\n")?;
     for line in &timeline.lines {
-        if layout.choice.has_line(line.line) {
+        if layout.choice.has_line(line.line) && !layout.scale.is_folded(line.line) {
             append_line_words(svg, layout, timeline, *line)?;
         }
     }
@@ -176,7 +199,7 @@ pub(crate) fn height_of_words(layout: &Layout, timeline: &Timeline) -> u64 {
     }
     let mut longest: usize = 0;
     for line in &timeline.lines {
-        if layout.choice.has_line(line.line) {
+        if layout.choice.has_line(line.line) && !layout.scale.is_folded(line.line) {
             longest = longest.max(shown_letters(timeline.text_of(*line)));
         }
     }

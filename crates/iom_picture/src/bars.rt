@@ -57,29 +57,26 @@ fn letters(rights: GrantRights) -> &'static str {
 
 /// A bar, with what its tip says.
 #[derive(Clone, Copy, PartialEq, Eq, Debug)]
-struct Bar {
-    place: Place,
-    period: Period,
-    top: u64,
-    symbol: Symbol,
-    ticket: Option<u32>,
+pub(crate) struct Bar {
+    pub(crate) place: Place,
+    pub(crate) period: Period,
+    pub(crate) top: u64,
+    pub(crate) height: u64,
+    pub(crate) symbol: Symbol,
+    pub(crate) ticket: Option<u32>,
+    /// From which line on the frame is free, if it is with the end of the bar.
+    pub(crate) free_from: Option<u64>,
 }
 
-fn append_bar(
+pub(crate) fn append_bar(
     svg: &mut Svg,
     layout: &Layout,
     timeline: &Timeline,
     bar: Bar,
 ) -> Result<(), AllocError> {
     let (left, width) = layout.scale.bar(bar.period);
-    let height = match bar.symbol {
-        Symbol::Held | Symbol::Lingering => BAR,
-        _ => THIN,
-    };
-    svg.rectangle(left, bar.top, width, height, bar.symbol.fill())?;
-    if bar.symbol == Symbol::Lingering {
-        svg.markup(" stroke=\"#0072b2\"")?;
-    }
+    svg.rectangle(left, bar.top, width, bar.height, bar.symbol.fill())?;
+    svg.markup(bar.symbol.outline())?;
     svg.markup("><title>")?;
     append_place(svg, timeline, bar.place)?;
     svg.markup(": ")?;
@@ -89,6 +86,10 @@ fn append_bar(
         svg.number(u64::from(ticket))?;
     }
     append_lines(svg, bar.period)?;
+    if let Some(line) = bar.free_from {
+        svg.markup(", frame free from line ")?;
+        svg.number(line)?;
+    }
     svg.markup("</title></rect>\n")
 }
 
@@ -154,6 +155,86 @@ fn append_ticket(
     svg.markup("</text>\n")
 }
 
+/// The width of the words behind a bar, and of their short form.
+const FREE_ROOM: u64 = 78;
+
+const SHORT_FREE_ROOM: u64 = 34;
+
+const NOT_FREE_ROOM: u64 = 52;
+
+/// From which line on the frame is free, behind the end of the lingering page's bar, where nothing else stands there.
+fn append_free(
+    svg: &mut Svg,
+    layout: &Layout,
+    stay: &Stay,
+    line: u64,
+    top: u64,
+) -> Result<(), AllocError> {
+    let left = layout.scale.middle(line).saturating_add(4);
+    let room = layout.scale.room(line, stay.quiet_until);
+    if room < SHORT_FREE_ROOM {
+        return Ok(());
+    }
+    svg.begin_text(
+        left,
+        top.saturating_add(11),
+        " font-size=\"11\" font-weight=\"bold\" fill=\"#005a43\"",
+    )?;
+    svg.markup("free")?;
+    if room >= FREE_ROOM {
+        svg.markup(" from ")?;
+        svg.number(line)?;
+    }
+    svg.markup("</text>\n")
+}
+
+/// That the frame isn't free yet, behind the bar of a page that lingers to the last line.
+fn append_not_free(svg: &mut Svg, layout: &Layout, top: u64) -> Result<(), AllocError> {
+    let left = layout.scale.end().saturating_add(4);
+    if layout.scale.width().saturating_sub(left) < NOT_FREE_ROOM {
+        return Ok(());
+    }
+    svg.begin_text(
+        left,
+        top.saturating_add(11),
+        " font-size=\"11\" font-weight=\"bold\" fill=\"#a04000\"",
+    )?;
+    svg.markup("not free</text>\n")
+}
+
+/// The words behind the bars of a stay.
+fn append_end(svg: &mut Svg, layout: &Layout, stay: &Stay) -> Result<(), AllocError> {
+    let Some(row) = layout.row(Place::Lane(stay.lane)) else {
+        return Ok(());
+    };
+    if let Some(line) = stay.free_from() {
+        if layout.choice.has_line(line) {
+            append_free(svg, layout, stay, line, row.top)?;
+        }
+    }
+    let Some(period) = stay.lingering() else {
+        return Ok(());
+    };
+    if period.until > layout.choice.to && layout.choice.has_period(period) {
+        append_not_free(svg, layout, row.top)?;
+    }
+    Ok(())
+}
+
+/// The words behind the bars of all stays that are chosen.
+pub(crate) fn append_ends(
+    svg: &mut Svg,
+    layout: &Layout,
+    timeline: &Timeline,
+) -> Result<(), AllocError> {
+    for stay in &timeline.stays {
+        if layout.choice.has_place(timeline, Place::Lane(stay.lane)) {
+            append_end(svg, layout, stay)?;
+        }
+    }
+    Ok(())
+}
+
 /// The bars of a stay.
 fn append_stay(
     svg: &mut Svg,
@@ -171,8 +252,10 @@ fn append_stay(
             place,
             period: held,
             top: row.top,
+            height: BAR,
             symbol: Symbol::Held,
             ticket: None,
+            free_from: None,
         };
         append_bar(svg, layout, timeline, bar)?;
         append_rights(svg, layout, held, row.top, stay.rights)?;
@@ -187,8 +270,10 @@ fn append_stay(
         place,
         period,
         top: row.top,
+        height: BAR,
         symbol: Symbol::Lingering,
         ticket: stay.ticket,
+        free_from: stay.free_from(),
     };
     append_bar(svg, layout, timeline, bar)?;
     match stay.ticket {
@@ -211,23 +296,49 @@ pub(crate) fn append_stays(
     Ok(())
 }
 
+/// A thin bar of a copy, if there is anything to be drawn of it.
+fn append_thin(
+    svg: &mut Svg,
+    layout: &Layout,
+    timeline: &Timeline,
+    at: (Place, u64),
+    symbol: Symbol,
+    period: Option<Period>,
+) -> Result<(), AllocError> {
+    let (place, top) = at;
+    let Some(period) = period else {
+        return Ok(());
+    };
+    if !layout.choice.has_period(period) {
+        return Ok(());
+    }
+    let bar = Bar {
+        place,
+        period,
+        top,
+        height: THIN,
+        symbol,
+        ticket: None,
+        free_from: None,
+    };
+    append_bar(svg, layout, timeline, bar)
+}
+
+/// The thin bars of a copy: up to where it is of use, and from there on.
 fn append_copy(
     svg: &mut Svg,
     layout: &Layout,
     timeline: &Timeline,
     copy: &PageCopy,
+    track: u64,
 ) -> Result<(), AllocError> {
     let Some(row) = layout.row(copy.place) else {
         return Ok(());
     };
-    let bar = Bar {
-        place: copy.place,
-        period: copy.period,
-        top: row.top_of(copy.kind),
-        symbol: Symbol::of_copy(copy.kind),
-        ticket: None,
-    };
-    append_bar(svg, layout, timeline, bar)
+    let at = (copy.place, row.top_of(copy.kind, track));
+    let symbol = Symbol::of_copy(copy.kind);
+    append_thin(svg, layout, timeline, at, symbol, copy.of_use())?;
+    append_thin(svg, layout, timeline, at, Symbol::OfNoUse, copy.of_no_use())
 }
 
 /// The thin bars of all copies that are chosen.
@@ -236,9 +347,9 @@ pub(crate) fn append_copies(
     layout: &Layout,
     timeline: &Timeline,
 ) -> Result<(), AllocError> {
-    for copy in &timeline.copies {
+    for (copy, track) in timeline.copies.iter().zip(layout.tracks.iter()) {
         if layout.choice.has_period(copy.period) && layout.choice.has_place(timeline, copy.place) {
-            append_copy(svg, layout, timeline, copy)?;
+            append_copy(svg, layout, timeline, copy, *track)?;
         }
     }
     Ok(())

@@ -1,11 +1,12 @@
 // Where each row stands.
 use crate::choice::Choice;
+use crate::folds::Changes;
 use crate::rows::Row;
 use crate::scale::Scale;
 use crate::symbol::Symbol;
 use indexmap::IndexMap;
 use iom_base::DeviceId;
-use iom_timeline::{Period, Place, Timeline};
+use iom_timeline::{PageCopy, Period, Place, Timeline};
 use std::alloc::{AllocError, Global};
 
 /// The height of a frame's own row.
@@ -22,6 +23,8 @@ pub(crate) struct Layout {
     pub(crate) frames: IndexMap<u64, u64>,
     /// For each lane of the timeline.
     pub(crate) lanes: Vec<Row>,
+    /// For each copy of the timeline, on which track it stands.
+    pub(crate) tracks: Vec<u64>,
     /// For each device with something at pages that weren't granted or aren't known.
     pub(crate) devices: IndexMap<DeviceId, Row>,
     /// What there is to be explained.
@@ -37,12 +40,15 @@ impl Layout {
         choice: Choice,
         timeline: &Timeline,
     ) -> Result<Layout, AllocError> {
+        let changes = Changes::of(alloc, choice, timeline)?;
+        let folded = changes.into_folded(alloc)?;
         let mut layout = Layout {
             choice,
-            scale: Scale::new(choice),
+            scale: Scale::new(alloc, choice, &folded)?,
             driver: Row::hidden(),
             frames: IndexMap::new(alloc),
             lanes: Vec::new(alloc),
+            tracks: Vec::new(alloc),
             devices: IndexMap::new(alloc),
             seen: Vec::new(alloc),
             bottom: 0,
@@ -53,6 +59,11 @@ impl Layout {
         layout.show_stays(timeline)?;
         layout.show_copies(timeline)?;
         layout.show_marks(timeline)?;
+        layout.show_cuts(timeline)?;
+        layout.show_waits(timeline)?;
+        if !layout.scale.folds.is_empty() {
+            layout.see(Symbol::Folded)?;
+        }
         Ok(layout)
     }
 
@@ -105,15 +116,55 @@ impl Layout {
 
     fn show_copies(&mut self, timeline: &Timeline) -> Result<(), AllocError> {
         for copy in &timeline.copies {
-            if !self.choice.has_period(copy.period)
-                || !self.choice.has_place(timeline, copy.place)
-            {
+            let mut track = 0;
+            if self.choice.has_period(copy.period) && self.choice.has_place(timeline, copy.place) {
+                if let Some(row) = self.row_mut(copy.place)? {
+                    track = row.add(copy.kind, copy.period);
+                }
+                self.see_copy(copy)?;
+            }
+            self.tracks.push(track)?;
+        }
+        Ok(())
+    }
+
+    /// The legend has to explain the bars of the copy.
+    fn see_copy(&mut self, copy: &PageCopy) -> Result<(), AllocError> {
+        if let Some(period) = copy.of_use() {
+            if self.choice.has_period(period) {
+                self.see(Symbol::of_copy(copy.kind))?;
+            }
+        }
+        if let Some(period) = copy.of_no_use() {
+            if self.choice.has_period(period) {
+                self.see(Symbol::OfNoUse)?;
+            }
+        }
+        Ok(())
+    }
+
+    /// The legend has to explain the spans of devices that are cut off, in rows that are shown.
+    fn show_cuts(&mut self, timeline: &Timeline) -> Result<(), AllocError> {
+        for cut in &timeline.cuts {
+            if !self.choice.has_period(cut.period) || !self.choice.has_place(timeline, cut.place) {
                 continue;
             }
-            if let Some(row) = self.row_mut(copy.place)? {
-                row.add(copy.kind);
+            let Some(row) = self.row(cut.place) else {
+                continue;
+            };
+            if row.is_shown {
+                self.see(Symbol::CutOff)?;
             }
-            self.see(Symbol::of_copy(copy.kind))?;
+        }
+        Ok(())
+    }
+
+    /// The legend has to explain what the command queue waits for.
+    fn show_waits(&mut self, timeline: &Timeline) -> Result<(), AllocError> {
+        for wait in &timeline.waits {
+            if self.choice.has_period(wait.period) {
+                self.see(Symbol::of_wait(wait.cause))?;
+            }
         }
         Ok(())
     }

@@ -1,6 +1,7 @@
 // What the bars and signs mean.
 ghost use Rattle.std.specs.Prelude.{◌<◌};
 
+use crate::axis::POLL_LINE;
 use crate::layout::Layout;
 use crate::marks::append_sign;
 use crate::rows::{BAR, THIN};
@@ -33,15 +34,17 @@ pub(crate) fn height_of_legend(layout: &Layout) -> u64 {
 fn append_entry(svg: &mut Svg, symbol: Symbol, left: u64, top: u64) -> Result<(), AllocError> {
     if symbol.is_bar() {
         let (space, height) = match symbol {
-            Symbol::Held | Symbol::Lingering => (0, BAR),
+            Symbol::Held | Symbol::Lingering | Symbol::CutOff | Symbol::Folded => (0, BAR),
             _ => (5, THIN),
         };
         svg.rectangle(left, top.saturating_add(space), 24, height, symbol.fill())?;
-        if symbol == Symbol::Lingering {
-            svg.markup(" stroke=\"#0072b2\"")?;
-        }
+        svg.markup(symbol.outline())?;
         svg.markup("/>")?;
     } else {
+        if symbol == Symbol::Confirmed {
+            let middle = left.saturating_add(12);
+            svg.line((middle, top), (middle, top.saturating_add(18)), POLL_LINE)?;
+        }
         append_sign(
             svg,
             symbol,

@@ -12,6 +12,7 @@ mod axis;
 mod bars;
 mod choice;
 mod escapes;
+mod folds;
 mod labels;
 mod layout;
 mod legend;
@@ -21,6 +22,7 @@ mod picture;
 mod reading;
 mod rows;
 mod scale;
+mod spans;
 mod svg;
 mod symbol;
 

@@ -74,6 +74,12 @@ pub(crate) fn append_sign(svg: &mut Svg, symbol: Symbol, x: u64, y: u64) -> Resu
             y,
             "m-5-5h10v10h-10z\" fill=\"#ffffff\" stroke=\"#222222\" stroke-width=\"2\"",
         ),
+        Symbol::Lost => append_path(
+            svg,
+            x,
+            y,
+            "m-6-4h12v8h-12zm0 0l12 8m0-8l-12 8\" fill=\"#ffffff\" stroke=\"#222222\"",
+        ),
         _ => append_frame_sign(svg, symbol, x, y),
     }
 }
@@ -163,7 +169,10 @@ pub(crate) fn append_marks(
     timeline: &Timeline,
 ) -> Result<(), AllocError> {
     for mark in &timeline.marks {
-        if layout.choice.has_line(mark.line) && layout.choice.has_place(timeline, mark.place) {
+        if layout.choice.has_line(mark.line)
+            && layout.choice.has_place(timeline, mark.place)
+            && !layout.scale.is_folded(mark.line)
+        {
             append_mark(svg, layout, timeline, mark)?;
         }
     }

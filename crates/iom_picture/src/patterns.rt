@@ -39,5 +39,20 @@ pub(crate) fn append_patterns(svg: &mut Svg) -> Result<(), AllocError> {
         "#ffffff",
         "#cc79a7",
     )?;
+    append_stripes(
+        svg,
+        "cut",
+        " patternTransform=\"rotate(-45)\"",
+        "#ffffff",
+        "#f3e4da",
+    )?;
+    append_stripes(svg, "waits", "", "#ffffff", "#222222")?;
+    append_stripes(
+        svg,
+        "asks",
+        " patternTransform=\"scale(3 1)\"",
+        "#ffffff",
+        "#009e73",
+    )?;
     svg.markup("</defs>\n")
 }

@@ -1,12 +1,13 @@
 // A timeline as a picture.
-use crate::axis::{append_axis, append_polls, append_words, height_of_words};
-use crate::bars::{append_copies, append_stays};
+use crate::axis::{append_axis, append_folds, append_polls, append_words, height_of_words};
+use crate::bars::{append_copies, append_ends, append_stays};
 use crate::choice::Choice;
 use crate::labels::append_labels;
 use crate::layout::Layout;
 use crate::legend::{append_legend, height_of_legend};
 use crate::marks::append_marks;
 use crate::patterns::append_patterns;
+use crate::spans::{append_cuts, append_waits};
 use crate::svg::Svg;
 use iom_timeline::Timeline;
 use std::alloc::{AllocError, Global};
@@ -20,7 +21,7 @@ const LEGEND_TOP: u64 = 34;
 const DESCRIPTION: &str =
     "Time goes from left to right, a column for each line of the trace. For each frame stand the pages \
 that devices were granted there: a solid bar while a page is held, a hatched one while it lingers until its ticket is \
-confirmed. Thin bars below show what could still reach the frame.";
+confirmed. Thin bars below show what could still reach the frame. Those at the top show what the command queue waits for.";
 
 /// Which lines of how many are drawn.
 fn append_title(svg: &mut Svg, layout: &Layout, timeline: &Timeline) -> Result<(), AllocError> {
@@ -74,10 +75,14 @@ pub fn draw(alloc: Global, choice: Choice, timeline: &Timeline) -> Result<Vec<u8
     append_head(&mut svg, &layout, timeline, height)?;
     append_legend(&mut svg, &layout, LEGEND_TOP)?;
     append_axis(&mut svg, &layout, numbers)?;
+    append_folds(&mut svg, &layout, numbers)?;
     append_labels(&mut svg, &layout, timeline)?;
+    append_cuts(&mut svg, &layout, timeline)?;
+    append_waits(&mut svg, &layout, timeline)?;
     append_stays(&mut svg, &layout, timeline)?;
     append_copies(&mut svg, &layout, timeline)?;
     append_polls(&mut svg, &layout, timeline)?;
+    append_ends(&mut svg, &layout, timeline)?;
     append_marks(&mut svg, &layout, timeline)?;
     append_words(&mut svg, &layout, timeline)?;
     svg.markup("</svg>\n")?;

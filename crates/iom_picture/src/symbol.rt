@@ -1,5 +1,5 @@
 // The bars and signs of a picture, with what they mean.
-use iom_timeline::{CopyKind, MarkKind};
+use iom_timeline::{CopyKind, MarkKind, WaitCause};
 
 #[derive(Clone, Copy, PartialEq, Eq, Debug)]
 pub(crate) enum Symbol {
@@ -9,6 +9,12 @@ pub(crate) enum Symbol {
     DeviceCache,
     Answer,
     InFlight,
+    OfNoUse,
+    CutOff,
+    WaitsForAccesses,
+    WaitsForDevices,
+    Stopped,
+    Folded,
     Accepted,
     Made,
     Fault,
@@ -16,19 +22,26 @@ pub(crate) enum Symbol {
     Confirmed,
     TimedOut,
     Restarted,
+    Lost,
     Free,
     NotFree,
     HandedOff,
 }
 
 /// All of them, in the order of the legend.
-pub(crate) static SYMBOLS: [Symbol; 16] = [
+pub(crate) static SYMBOLS: [Symbol; 23] = [
     Symbol::Held,
     Symbol::Lingering,
     Symbol::CachedTranslation,
     Symbol::DeviceCache,
     Symbol::Answer,
     Symbol::InFlight,
+    Symbol::OfNoUse,
+    Symbol::CutOff,
+    Symbol::WaitsForAccesses,
+    Symbol::WaitsForDevices,
+    Symbol::Stopped,
+    Symbol::Folded,
     Symbol::Accepted,
     Symbol::Made,
     Symbol::Fault,
@@ -36,6 +49,7 @@ pub(crate) static SYMBOLS: [Symbol; 16] = [
     Symbol::Confirmed,
     Symbol::TimedOut,
     Symbol::Restarted,
+    Symbol::Lost,
     Symbol::Free,
     Symbol::NotFree,
     Symbol::HandedOff,
@@ -51,6 +65,14 @@ impl Symbol {
         }
     }
 
+    pub(crate) fn of_wait(cause: WaitCause) -> Symbol {
+        match cause {
+            WaitCause::Accesses => Symbol::WaitsForAccesses,
+            WaitCause::Devices => Symbol::WaitsForDevices,
+            WaitCause::Stopped => Symbol::Stopped,
+        }
+    }
+
     pub(crate) fn of_mark(kind: MarkKind) -> Symbol {
         match kind {
             MarkKind::Accepted(_) | MarkKind::AcceptedStep => Symbol::Accepted,
@@ -59,6 +81,7 @@ impl Symbol {
             MarkKind::FenceDone => Symbol::FenceDone,
             MarkKind::TimedOut => Symbol::TimedOut,
             MarkKind::Restarted => Symbol::Restarted,
+            MarkKind::Lost => Symbol::Lost,
             MarkKind::Confirmed { .. } => Symbol::Confirmed,
             MarkKind::Asked { is_free: true } => Symbol::Free,
             MarkKind::Asked { is_free: false } => Symbol::NotFree,
@@ -75,13 +98,20 @@ impl Symbol {
             Symbol::DeviceCache => "in the device's cache",
             Symbol::Answer => "answer under way",
             Symbol::InFlight => "access in flight",
+            Symbol::OfNoUse => "there, but of no use",
+            Symbol::CutOff => "device is cut off",
+            Symbol::WaitsForAccesses => "waits for accesses",
+            Symbol::WaitsForDevices => "waits for a device",
+            Symbol::Stopped => "queue is stopped",
+            Symbol::Folded => "lines with nothing new",
             Symbol::Accepted => "accepted",
             Symbol::Made => "made",
             Symbol::Fault => "refused",
             Symbol::FenceDone => "fence done",
-            Symbol::Confirmed => "poll confirms",
+            Symbol::Confirmed => "poll confirms (dotted)",
             Symbol::TimedOut => "timeout",
             Symbol::Restarted => "queue restarted",
+            Symbol::Lost => "message lost",
             Symbol::Free => "frame is free",
             Symbol::NotFree => "frame isn't free",
             Symbol::HandedOff => "handed to others",
@@ -96,7 +126,23 @@ impl Symbol {
             Symbol::CachedTranslation => "#e69f00",
             Symbol::DeviceCache => "url(#kept)",
             Symbol::Answer => "url(#answer)",
+            Symbol::OfNoUse => "#ffffff",
+            Symbol::CutOff => "url(#cut)",
+            Symbol::WaitsForAccesses => "url(#waits)",
+            Symbol::WaitsForDevices => "url(#asks)",
+            Symbol::Stopped => "#d55e00",
+            Symbol::Folded => "#ececec",
             _ => "#222222",
+        }
+    }
+
+    /// The outline of its bar, as attributes.
+    pub(crate) fn outline(self) -> &'static str {
+        match self {
+            Symbol::Lingering => " stroke=\"#0072b2\"",
+            Symbol::OfNoUse => " stroke=\"#888888\"",
+            Symbol::CutOff => " stroke=\"#d55e00\" stroke-dasharray=\"6 3\"",
+            _ => "",
         }
     }
 
@@ -108,7 +154,13 @@ impl Symbol {
             | Symbol::CachedTranslation
             | Symbol::DeviceCache
             | Symbol::Answer
-            | Symbol::InFlight => true,
+            | Symbol::InFlight
+            | Symbol::OfNoUse
+            | Symbol::CutOff
+            | Symbol::WaitsForAccesses
+            | Symbol::WaitsForDevices
+            | Symbol::Stopped
+            | Symbol::Folded => true,
             _ => false,
         }
     }

@@ -121,6 +121,7 @@ impl Follower {
             return self.messages.send(Message::Question {
                 device: id,
                 page: None,
+                is_stale: false,
             });
         }
         let is_translated = match self.devices.get(id) {

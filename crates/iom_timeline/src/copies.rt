@@ -1,6 +1,6 @@
 // The copies of translations, and which of each lane are there.
-use crate::period::Period;
-use crate::timeline::{CopyKind, PageCopy, Place};
+use crate::page_copy::PageCopy;
+use crate::timeline::{CopyKind, Place};
 use std::alloc::{AllocError, Global};
 
 /// The copies of a lane that haven't ended, by their places in the list of all.
@@ -49,11 +49,7 @@ impl Copies {
         line: u64,
     ) -> Result<usize, AllocError> {
         let copy = self.all.len();
-        self.all.push(PageCopy {
-            kind,
-            place,
-            period: Period::since(line),
-        })?;
+        self.all.push(PageCopy::begin(kind, place, line))?;
         Ok(copy)
     }
 
@@ -61,6 +57,23 @@ impl Copies {
     pub(crate) fn end(&mut self, copy: usize, line: u64) {
         if let Some(copy) = self.all.get_mut(copy) {
             copy.period = copy.period.ended(line);
+        }
+    }
+
+    /// Nothing reaches the frame by the copy from here on.
+    pub(crate) fn spoil(&mut self, copy: usize, line: u64) {
+        if let Some(copy) = self.all.get_mut(copy) {
+            copy.useless_from = copy.useless_from.min(line);
+        }
+    }
+
+    /// Nothing reaches the frame by what the device's own cache has of the lane's page, from here on.
+    pub(crate) fn spoil_kept(&mut self, lane: usize, line: u64) {
+        let Some(open) = self.open.get(lane) else {
+            return;
+        };
+        if let Some(copy) = open.kept {
+            self.spoil(copy, line);
         }
     }
 

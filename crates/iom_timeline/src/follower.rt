@@ -4,7 +4,7 @@ use crate::copies::Copies;
 use crate::devices::Devices;
 use crate::messages::Messages;
 use crate::timeline::{CopyKind, Lane, LineText, Mark, MarkKind, Place, Timeline};
-use indexmap::IndexSet;
+use indexmap::{IndexMap, IndexSet};
 use iom_base::{Access, DeviceId};
 use iom_machine::{Event, Fetched, Outcome};
 use std::alloc::{AllocError, Global};
@@ -47,6 +47,14 @@ pub struct Follower {
     /// In the order of the tickets; so many of the first are confirmed.
     pub(crate) pending: Vec<Pending>,
     pub(crate) confirmed: usize,
+    /// How many stays of each frame are held or linger.
+    pub(crate) holders: IndexMap<u64, u64>,
+    /// For each lane the stay with which its frame was free, while nothing happened there since.
+    pub(crate) quiet: Vec<Option<usize>>,
+    /// The wait of the command queue that hasn't ended, in the timeline's list.
+    pub(crate) wait: Option<usize>,
+    /// How many requests to invalidate are open.
+    pub(crate) open_requests: u64,
     /// Whether a line told that the IOMMU forgot something.
     pub(crate) shows_invalidations: bool,
 }
@@ -62,6 +70,8 @@ impl Follower {
                 lanes: Vec::new(alloc),
                 stays: Vec::new(alloc),
                 copies: Vec::new(alloc),
+                cuts: Vec::new(alloc),
+                waits: Vec::new(alloc),
                 marks: Vec::new(alloc),
                 lines: Vec::new(alloc),
                 text: Vec::new(alloc),
@@ -73,6 +83,10 @@ impl Follower {
             messages: Messages::new(alloc),
             pending: Vec::new(alloc),
             confirmed: 0,
+            holders: IndexMap::new(alloc),
+            quiet: Vec::new(alloc),
+            wait: None,
+            open_requests: 0,
             shows_invalidations: false,
         }
     }
@@ -149,13 +163,11 @@ impl Follower {
         match (event, outcome) {
             (Event::Restart, Outcome::Done) => self.restart(),
             (Event::Fetch, Outcome::Fetched(Fetched::Did(name))) => self.fetch(*name),
-            (Event::Timeout, Outcome::TimedOut) => self.mark(Place::Driver, MarkKind::TimedOut),
+            (Event::Fetch, Outcome::Fetched(Fetched::Waiting)) => self.find_waiting(),
+            (Event::Timeout, Outcome::TimedOut) => self.time_out(),
             (Event::Poll, Outcome::Confirmed { first, last, .. }) => self.confirm(*first, *last),
             (Event::Deliver { place }, _) => self.deliver(*place, outcome),
-            (Event::Drop { place }, Outcome::Dropped) => {
-                self.lose(*place);
-                Ok(())
-            }
+            (Event::Drop { place }, Outcome::Dropped) => self.drop_message(*place),
             (Event::Repeat { place }, Outcome::Repeated) => self.repeat(*place),
             _ => self.take_device(event, outcome, shown),
         }
@@ -164,6 +176,9 @@ impl Follower {
     /// What comes of it is marked at this line.
     pub(crate) fn mark(&mut self, place: Place, kind: MarkKind) -> Result<(), AllocError> {
         let line = self.line;
+        if let Place::Lane(lane) = place {
+            self.disturb(lane);
+        }
         self.timeline.marks.push(Mark { line, place, kind })?;
         Ok(())
     }
@@ -182,6 +197,10 @@ impl Follower {
             messages: _,
             pending: _,
             confirmed: _,
+            holders: _,
+            quiet: _,
+            wait: _,
+            open_requests: _,
             shows_invalidations,
         } = self;
         let mut all = copies.into_all();

@@ -3,8 +3,9 @@ use crate::commands::{Command, Scope};
 use crate::devices::{Device, Standing};
 use crate::follower::{Follower, Pending, Waiting};
 use crate::messages::Message;
+use crate::period::{NEVER, Period};
 use crate::stay::Stay;
-use crate::timeline::{Lane, MarkKind, Place};
+use crate::timeline::{CutOff, Lane, MarkKind, Place};
 use iom_base::{DeviceId, GrantRights, Mode};
 use iom_machine::CommandName;
 use std::alloc::AllocError;
@@ -33,6 +34,7 @@ impl Follower {
         if is_new {
             self.timeline.lanes.push(lane)?;
             self.copies.add_lane()?;
+            self.quiet.push(None)?;
         }
         Ok(place)
     }
@@ -60,7 +62,68 @@ impl Follower {
         self.timeline
             .stays
             .push(Stay::begin(place, lane, rights, self.line))?;
+        self.disturb(place);
+        self.hold(frame)
+    }
+
+    /// Something happens on the lane at this line.
+    pub(crate) fn disturb(&mut self, lane: usize) {
+        let Some(quiet) = self.quiet.get_mut(lane) else {
+            return;
+        };
+        let Some(stay) = quiet.take() else {
+            return;
+        };
+        if let Some(stay) = self.timeline.stays.get_mut(stay) {
+            stay.quiet_until = self.line;
+        }
+    }
+
+    /// The frame has a holder more.
+    fn hold(&mut self, frame: u64) -> Result<(), AllocError> {
+        let count = self.holders.get(&frame).copied().unwrap_or(0);
+        self.holders.insert(frame, count.saturating_add(1))?;
         Ok(())
+    }
+
+    /// The stay is confirmed: its frame has a holder less.
+    fn confirm_stay(&mut self, place: usize) {
+        let line = self.line;
+        let Some(stay) = self.timeline.stays.get_mut(place) else {
+            return;
+        };
+        if !stay.confirm(line) {
+            return;
+        }
+        if let Some(count) = self.holders.get_mut(&stay.frame) {
+            *count = count.saturating_sub(1);
+        }
+    }
+
+    /// The ticket that this waited for is confirmed at this line, with all others up to it: a frame without a holder is free.
+    fn free_frame(&mut self, waiting: Waiting) {
+        let Waiting::Stay(place) = waiting else {
+            return;
+        };
+        let Some(stay) = self.timeline.stays.get_mut(place) else {
+            return;
+        };
+        if self.holders.get(&stay.frame).copied() != Some(0) || stay.confirmed != self.line {
+            return;
+        }
+        stay.is_last = true;
+        if let Some(quiet) = self.quiet.get_mut(stay.lane) {
+            *quiet = Some(place);
+        }
+    }
+
+    /// With the tickets that were confirmed from this place of the list on, the frames without a holder are free.
+    fn free_frames(&mut self, from: usize) {
+        for place in from..self.confirmed {
+            if let Some(pending) = self.pending.get(place).copied() {
+                self.free_frame(pending.waiting);
+            }
+        }
     }
 
     /// Something waits for the ticket.
@@ -117,6 +180,7 @@ impl Follower {
         self.queue_farewell(id)?;
         self.commands.push(Command::Fence)?;
         self.reset(id);
+        self.end_cuts(id);
         if let Some(device) = self.devices.get_mut(id) {
             device.standing = Standing::Leaving;
         }
@@ -143,11 +207,67 @@ impl Follower {
             }
         }
         device.granted.clear();
+        self.cut_off(id)
+    }
+
+    /// The device is cut off from this line on, at each of its pages that lingers.
+    fn cut_off(&mut self, id: DeviceId) -> Result<(), AllocError> {
+        let period = Period::since(self.line);
+        let first = self.timeline.cuts.len();
+        let Some(device) = self.devices.get_mut(id) else {
+            return Ok(());
+        };
+        for place in device.pages.values() {
+            let Some(stay) = self.timeline.stays.get(*place) else {
+                continue;
+            };
+            if stay.confirmed == NEVER {
+                let place = Place::Lane(stay.lane);
+                self.timeline.cuts.push(CutOff { place, period })?;
+            }
+        }
+        let place = Place::Device(id);
+        self.timeline.cuts.push(CutOff { place, period })?;
+        device.first_cut = first;
+        device.cuts_end = self.timeline.cuts.len();
         Ok(())
+    }
+
+    /// The device isn't cut off any more.
+    fn end_cuts(&mut self, id: DeviceId) {
+        let line = self.line;
+        let Some(device) = self.devices.get_mut(id) else {
+            return;
+        };
+        device.is_barred = false;
+        for place in device.first_cut..device.cuts_end {
+            if let Some(cut) = self.timeline.cuts.get_mut(place) {
+                cut.period = cut.period.ended(line);
+            }
+        }
+        device.first_cut = 0;
+        device.cuts_end = 0;
+    }
+
+    /// The IOMMU has forgotten the device's context. Where it is cut off nothing of it is accepted any more.
+    fn bar(&mut self, id: DeviceId) {
+        let line = self.line;
+        let Some(device) = self.devices.get_mut(id) else {
+            return;
+        };
+        if device.standing != Standing::Quarantined {
+            return;
+        }
+        device.is_barred = true;
+        for lane in &device.kept {
+            self.copies.spoil_kept(*lane, line);
+        }
+        self.messages.spoil(id, &mut self.copies, line);
     }
 
     pub(crate) fn revive(&mut self, id: DeviceId) {
         self.reset(id);
+        self.end_cuts(id);
         if let Some(device) = self.devices.get_mut(id) {
             device.standing = Standing::Attached;
         }
@@ -156,6 +276,8 @@ impl Follower {
     /// The queue is emptied, and what is still needed is queued anew.
     pub(crate) fn restart(&mut self) -> Result<(), AllocError> {
         self.commands.clear();
+        self.open_requests = 0;
+        self.end_wait();
         for device in self.devices.all.values() {
             if device.standing == Standing::Detached {
                 continue;
@@ -180,6 +302,7 @@ impl Follower {
 
     /// The IOMMU did the next command of this name, and those before it.
     pub(crate) fn fetch(&mut self, name: CommandName) -> Result<(), AllocError> {
+        self.end_wait();
         for _turn in 0..self.commands.count_to(name) {
             if let Some(command) = self.commands.take() {
                 self.run(command)?;
@@ -199,9 +322,11 @@ impl Follower {
             }
             Command::InvalidateContext { device } => {
                 self.forget(device, Scope::Everything);
+                self.bar(device);
                 Ok(())
             }
             Command::AskDevice { device, scope } => {
+                self.open_requests = self.open_requests.saturating_add(1);
                 self.messages.send(Message::Request { device, scope })
             }
             Command::Fence => Ok(()),
@@ -244,12 +369,7 @@ impl Follower {
     /// It waited for a ticket that is confirmed.
     fn settle(&mut self, waiting: Waiting) {
         match waiting {
-            Waiting::Stay(place) => {
-                let line = self.line;
-                if let Some(stay) = self.timeline.stays.get_mut(place) {
-                    stay.confirm(line);
-                }
-            }
+            Waiting::Stay(place) => self.confirm_stay(place),
             Waiting::Leaving(id) => {
                 if let Some(device) = self.devices.get_mut(id) {
                     device.standing = Standing::Detached;
@@ -260,12 +380,14 @@ impl Follower {
 
     /// The tickets from the first to the last are confirmed.
     pub(crate) fn confirm(&mut self, first: u32, last: u32) -> Result<(), AllocError> {
+        let before = self.confirmed;
         for _turn in 0..self.pending.len() {
             let Some(waiting) = self.take_confirmed(last) else {
                 break;
             };
             self.settle(waiting);
         }
+        self.free_frames(before);
         self.mark(Place::Driver, MarkKind::Confirmed { first, last })
     }
 }

@@ -18,12 +18,17 @@ mod devices;
 mod follower;
 mod grants;
 mod messages;
+mod page_copy;
 mod period;
 mod stay;
 mod timeline;
 mod traffic;
+mod waits;
 
 pub use follower::{Follower, Shown};
+pub use page_copy::PageCopy;
 pub use period::{NEVER, Period};
 pub use stay::Stay;
-pub use timeline::{CopyKind, Lane, LineText, Mark, MarkKind, PageCopy, Place, Timeline};
+pub use timeline::{
+    CopyKind, CutOff, Lane, LineText, Mark, MarkKind, Place, Timeline, Wait, WaitCause,
+};

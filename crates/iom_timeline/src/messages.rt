@@ -1,5 +1,6 @@
 // The messages under way, by their places.
 use crate::commands::Scope;
+use crate::copies::Copies;
 use iom_base::DeviceId;
 use iom_fabric::MAX_MESSAGES;
 use std::alloc::{AllocError, Global};
@@ -11,12 +12,14 @@ pub(crate) enum Message {
     Question {
         device: DeviceId,
         page: Option<u64>,
+        is_stale: bool,
     },
     /// It is answered: with the page of this lane, if it is one that was granted, and as this copy.
     Answer {
         device: DeviceId,
         lane: Option<usize>,
         copy: Option<usize>,
+        is_stale: bool,
     },
     /// A device is asked to forget.
     Request {
@@ -24,7 +27,9 @@ pub(crate) enum Message {
         scope: Scope,
     },
     /// A device says that it did.
-    Done,
+    Done {
+        device: DeviceId,
+    },
 }
 
 /// The messages: the one that was sent last stands last.
@@ -52,6 +57,32 @@ impl Messages {
     pub(crate) fn at(&self, place: u64) -> Option<Message> {
         let place = usize::try_from(place).ok()?;
         self.list.get(place).copied()
+    }
+
+    /// The device's questions and answers are stale: it doesn't keep an answer to one of them, so their copies are of no use
+    /// from this line on.
+    pub(crate) fn spoil(&mut self, id: DeviceId, copies: &mut Copies, line: u64) {
+        for message in self.list.iter_mut() {
+            match message {
+                Message::Question {
+                    device,
+                    is_stale,
+                    ..
+                } if *device == id => *is_stale = true,
+                Message::Answer {
+                    device,
+                    copy,
+                    is_stale,
+                    ..
+                } if *device == id => {
+                    *is_stale = true;
+                    if let Some(copy) = copy {
+                        copies.spoil(*copy, line);
+                    }
+                }
+                _ => {}
+            }
+        }
     }
 
     /// Takes out the message at the place; those behind it close up.

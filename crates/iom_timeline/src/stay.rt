@@ -1,4 +1,4 @@
-ghost use Rattle.std.specs.Prelude.{◌≡◌, ◌≤◌, IfSome};
+ghost use Rattle.std.specs.Prelude.{◌≡◌, ◌≤◌, ◌<◌, ◌↔◌, IfSome, IsSome, true};
 
 use crate::period::{NEVER, Period};
 use crate::timeline::Lane;
@@ -22,6 +22,10 @@ pub struct Stay {
     pub released: u64,
     /// The line of the poll that confirmed the ticket, or [`NEVER`].
     pub confirmed: u64,
+    /// Whether the frame was free with that poll: nobody else held it then, and it lingered nowhere else.
+    pub is_last: bool,
+    /// The first line behind that poll at which something happened on the lane, or [`NEVER`].
+    pub quiet_until: u64,
     pub ghost in_order: { (granted ≤ released) × (released ≤ confirmed) },
 }
 
@@ -38,6 +42,8 @@ impl Stay {
             granted: line,
             released: NEVER,
             confirmed: NEVER,
+            is_last: false,
+            quiet_until: NEVER,
         }
     }
 
@@ -69,6 +75,18 @@ impl Stay {
         })
     }
 
+    /// The line from which on the frame was free, if it was: that of the poll that confirmed the ticket.
+    pub fn free_from(&self) -> Option<u64>
+        ensures found { IsSome result ↔ (self.now.is_last ≡ true) × (self.now.confirmed < NEVER) }
+        ensures line { IfSome result (λ line. line ≡ self.now.confirmed) }
+    {
+        if self.is_last && self.confirmed < NEVER {
+            Some(self.confirmed)
+        } else {
+            None
+        }
+    }
+
     /// The page is released under the ticket. Nothing changes where it was already.
     pub(crate) fn release(&mut self, line: u64, ticket: u32) {
         if self.is_held() {
@@ -78,10 +96,12 @@ impl Stay {
         }
     }
 
-    /// The ticket is confirmed. Nothing changes where it was already, or the page is held.
-    pub(crate) fn confirm(&mut self, line: u64) {
-        if !self.is_held() && self.confirmed == NEVER {
-            self.confirmed = line.max(self.released);
+    /// The ticket is confirmed. Nothing changes where it was already, or the page is held. Whether it is confirmed now.
+    pub(crate) fn confirm(&mut self, line: u64) -> bool {
+        if self.is_held() || self.confirmed != NEVER {
+            return false;
         }
+        self.confirmed = line.max(self.released);
+        true
     }
 }

@@ -1,4 +1,5 @@
 // What a picture shows, as values.
+use crate::page_copy::PageCopy;
 use crate::period::Period;
 use crate::stay::Stay;
 use iom_base::{AccessKind, Cause, DeviceId};
@@ -36,11 +37,28 @@ pub enum CopyKind {
     InFlight,
 }
 
-/// A copy of a translation, for as long as it was there.
+/// The time in which a device is cut off: from a quarantine to the revival, at a page that lingered, or at the device's others.
 #[derive(Clone, Copy, PartialEq, Eq, Debug)]
-pub struct PageCopy {
-    pub kind: CopyKind,
+pub struct CutOff {
     pub place: Place,
+    pub period: Period,
+}
+
+/// What the fences of the command queue wait for.
+#[derive(Clone, Copy, PartialEq, Eq, Debug)]
+pub enum WaitCause {
+    /// Accesses that were accepted before, of any device.
+    Accesses,
+    /// A device that was asked to drop a page.
+    Devices,
+    /// A restart: the queue is stopped.
+    Stopped,
+}
+
+/// The time in which the command queue waits, as far as fetches show it.
+#[derive(Clone, Copy, PartialEq, Eq, Debug)]
+pub struct Wait {
+    pub cause: WaitCause,
     pub period: Period,
 }
 
@@ -58,6 +76,8 @@ pub enum MarkKind {
     FenceDone,
     TimedOut,
     Restarted,
+    /// A message between a device and the IOMMU is lost.
+    Lost,
     /// A poll confirmed the tickets from the first to the last.
     Confirmed { first: u32, last: u32 },
     /// It was asked whether the frame is free.
@@ -92,6 +112,10 @@ pub struct Timeline {
     pub stays: Vec<Stay>,
     /// In the order in which they came to be.
     pub copies: Vec<PageCopy>,
+    /// In the order of the quarantines.
+    pub cuts: Vec<CutOff>,
+    /// One after another.
+    pub waits: Vec<Wait>,
     /// In the order of the lines.
     pub marks: Vec<Mark>,
     /// The lines that say something, in order.

@@ -2,7 +2,7 @@
 use crate::commands::Scope;
 use crate::follower::Follower;
 use crate::messages::Message;
-use crate::timeline::{CopyKind, MarkKind};
+use crate::timeline::{CopyKind, MarkKind, Place};
 use iom_base::DeviceId;
 use iom_fabric::Translation;
 use iom_machine::{Event, Outcome};
@@ -20,9 +20,12 @@ impl Follower {
                 self.messages.send(Message::Question {
                     device: *device,
                     page: Some(page.number()),
+                    is_stale: false,
                 })
             }
-            (Event::Forge { .. }, Outcome::Sent) => self.messages.send(Message::Done),
+            (Event::Forge { device, .. }, Outcome::Sent) => {
+                self.messages.send(Message::Done { device: *device })
+            }
             (Event::Reset { device } | Event::Queue { device, .. }, Outcome::Done) => {
                 self.reset(*device);
                 Ok(())
@@ -40,6 +43,7 @@ impl Follower {
             }
             device.kept.clear();
         }
+        self.messages.spoil(id, &mut self.copies, line);
     }
 
     /// What came of the delivery of the message at the place.
@@ -63,11 +67,12 @@ impl Follower {
                 };
                 self.drop_pages(message)
             }
-            Outcome::Stale
-            | Outcome::AnswerRefused
-            | Outcome::Ignored
-            | Outcome::Closed(_)
-            | Outcome::NotClosed(_) => {
+            Outcome::Closed(_) => {
+                self.open_requests = self.open_requests.saturating_sub(1);
+                self.lose(place);
+                Ok(())
+            }
+            Outcome::Stale | Outcome::AnswerRefused | Outcome::Ignored | Outcome::NotClosed(_) => {
                 self.lose(place);
                 Ok(())
             }
@@ -81,21 +86,19 @@ impl Follower {
         message: Message,
         translation: Translation,
     ) -> Result<(), AllocError> {
-        let Message::Question { device, page } = message else {
+        let Message::Question {
+            device,
+            page,
+            is_stale,
+        } = message
+        else {
             return Ok(());
         };
         match translation {
             Translation::Page { frame, .. } => {
                 let lane = self.lane_at(device, page, Some(u64::from(frame)));
-                let place = self.place_at(device, lane);
-                let line = self.line;
                 self.remember(device, lane)?;
-                let copy = self.copies.begin(CopyKind::Answer, place, line)?;
-                self.messages.send(Message::Answer {
-                    device,
-                    lane,
-                    copy: Some(copy),
-                })
+                self.send_answer(device, lane, is_stale)
             }
             Translation::Refused(cause) => {
                 let lane = self.lane_at(device, page, None);
@@ -105,14 +108,50 @@ impl Follower {
                     device,
                     lane: None,
                     copy: None,
+                    is_stale,
                 })
             }
         }
     }
 
+    /// Whether the IOMMU accepts nothing of the device.
+    fn is_barred(&self, id: DeviceId) -> bool {
+        match self.devices.get(id) {
+            Some(device) => device.is_barred,
+            None => false,
+        }
+    }
+
+    /// An answer with the lane's page is sent: of no use where its question is stale, or nothing of the device is accepted.
+    fn send_answer(
+        &mut self,
+        id: DeviceId,
+        lane: Option<usize>,
+        is_stale: bool,
+    ) -> Result<(), AllocError> {
+        let place = self.place_at(id, lane);
+        let line = self.line;
+        let copy = self.copies.begin(CopyKind::Answer, place, line)?;
+        if is_stale || self.is_barred(id) {
+            self.copies.spoil(copy, line);
+        }
+        self.messages.send(Message::Answer {
+            device: id,
+            lane,
+            copy: Some(copy),
+            is_stale,
+        })
+    }
+
     /// The device keeps what it is answered.
     fn keep(&mut self, message: Message) -> Result<(), AllocError> {
-        let Message::Answer { device, lane, copy } = message else {
+        let Message::Answer {
+            device: id,
+            lane,
+            copy,
+            ..
+        } = message
+        else {
             return Ok(());
         };
         let line = self.line;
@@ -122,12 +161,16 @@ impl Follower {
         let Some(lane) = lane else {
             return Ok(());
         };
-        if let Some(device) = self.devices.get_mut(device) {
+        if let Some(device) = self.devices.get_mut(id) {
             if let Some(gone) = device.keep(lane)? {
                 self.copies.drop_kept(gone, line);
             }
         }
-        self.copies.keep(lane, line)
+        self.copies.keep(lane, line)?;
+        if self.is_barred(id) {
+            self.copies.spoil_kept(lane, line);
+        }
+        Ok(())
     }
 
     /// The device drops what it is asked to drop, and says so.
@@ -135,19 +178,20 @@ impl Follower {
         let Message::Request { device, scope } = message else {
             return Ok(());
         };
+        let line = self.line;
         match scope {
             Scope::Everything => self.reset(device),
             Scope::Page(page) => {
                 if let Some(lane) = self.lane_at(device, Some(page), None) {
-                    let line = self.line;
                     self.copies.drop_kept(lane, line);
                     if let Some(device) = self.devices.get_mut(device) {
                         device.kept.retain(|other| *other != lane);
                     }
                 }
+                self.messages.spoil(device, &mut self.copies, line);
             }
         }
-        self.messages.send(Message::Done)
+        self.messages.send(Message::Done { device })
     }
 
     /// The message at the place is gone.
@@ -164,21 +208,43 @@ impl Follower {
         }
     }
 
+    /// Where a message stands in the picture.
+    fn place_of_message(&self, message: Message) -> Place {
+        match message {
+            Message::Question { device, page, .. } => {
+                self.place_at(device, self.lane_at(device, page, None))
+            }
+            Message::Answer { device, lane, .. } => self.place_at(device, lane),
+            Message::Request {
+                device,
+                scope: Scope::Page(page),
+            } => self.place_at(device, self.lane_at(device, Some(page), None)),
+            Message::Request { device, .. } | Message::Done { device } => Place::Device(device),
+        }
+    }
+
+    /// The message at the place doesn't arrive.
+    pub(crate) fn drop_message(&mut self, place: u64) -> Result<(), AllocError> {
+        if let Some(message) = self.messages.at(place) {
+            let shown = self.place_of_message(message);
+            self.mark(shown, MarkKind::Lost)?;
+        }
+        self.lose(place);
+        Ok(())
+    }
+
     /// A copy of the message at the place is sent.
     pub(crate) fn repeat(&mut self, place: u64) -> Result<(), AllocError> {
         match self.messages.at(place) {
             None => Ok(()),
-            Some(Message::Answer { device, lane, copy }) => {
-                let copy = match copy {
-                    None => None,
-                    Some(_) => {
-                        let place = self.place_at(device, lane);
-                        let line = self.line;
-                        Some(self.copies.begin(CopyKind::Answer, place, line)?)
-                    }
-                };
-                self.messages.send(Message::Answer { device, lane, copy })
-            }
+            Some(
+                Message::Answer {
+                    device,
+                    lane,
+                    copy: Some(_),
+                    is_stale,
+                },
+            ) => self.send_answer(device, lane, is_stale),
             Some(message) => self.messages.send(message),
         }
     }

@@ -20,12 +20,28 @@ static PICTURES: [&str; 12] = [
     "buffer-taken-back",
 ];
 
+/// Whether a trace of the example is stored that also shows on which frames accesses were accepted: its lines alone don't tell,
+/// since its device has both stages, or is a block device.
+fn is_shown(name: &str) -> bool {
+    name == "guest-rewrites" || name == "buffer-taken-back"
+}
+
+/// The trace of the example.
+fn trace_for(rt: &HostRuntime, name: &str) -> anyhow::Result<String> {
+    let alloc = rt.alloc();
+    if is_shown(name) {
+        let trace = fs::read_to_string(rt, format!(in alloc; "traces/{name}-shown.trace")?)?;
+        return Ok(trace);
+    }
+    let script = fs::read_to_string(rt, format!(in alloc; "examples/{name}.iommu")?)?;
+    let output = fs::read_to_string(rt, format!(in alloc; "examples/{name}.out")?)?;
+    Ok(trace_of(alloc, &script, &output)?)
+}
+
 /// The picture of the example.
 fn drawn(rt: &HostRuntime, name: &str) -> anyhow::Result<String> {
     let alloc = rt.alloc();
-    let script = fs::read_to_string(rt, format!(in alloc; "examples/{name}.iommu")?)?;
-    let output = fs::read_to_string(rt, format!(in alloc; "examples/{name}.out")?)?;
-    let trace = trace_of(alloc, &script, &output)?;
+    let trace = trace_for(rt, name)?;
     match read_trace(alloc, &mut trace.as_bytes())? {
         Reading::BadLine(line) => Ok(format!(in alloc; "line {line} isn't in the grammar")?),
         Reading::Trace(timeline) => {
