@@ -1,16 +1,19 @@
 -- What is shown behind an answer, where the frames that were reserved before were noted.
-use Rattle.std.proofs.Common.{◌≡◌, ◌<◌, ⊤, ℕ, Bool, true, false, not, ◌&&◌, List, Option, None, Some, get_or, refl, ap, if◌then◌else◌}
+use Rattle.std.specs.Bool.{⊤}
+use Rattle.std.proofs.Common.{◌≡◌, ℕ, Bool, true, false, not, ◌&&◌, List, [], ◌∷◌, ◌++◌, codes, Option, None, Some, refl, ap, subst, if◌then◌else◌}
 use Rattle.iom_base.specs.declared.access.Access.{Access}
+use Rattle.iom_event_text.specs.Texts.{event_text}
 use Rattle.iom_platform.specs.Blocks.{block_with}
 use Rattle.iom_platform.specs.Looks.{wanted_of}
 use Rattle.iom_machine.specs.declared.event.Event.{Event}
 use Rattle.iom_machine.specs.declared.event.Event.TheVariants as events
 use Rattle.iom_machine.specs.declared.outcome.Outcome.{Outcome}
 use Rattle.iom_platform.specs.Seen.{Seen}
+use Rattle.iom_script.specs.Lines.{outcome_text}
 use Rattle.iom_trace_lines.specs.TraceLines.{is_accepted, takes_frames}
 use Rattle.iom_tell.specs.declared.behind.Behind.{Behind}
 use Rattle.iom_tell.specs.declared.behind.Behind.TheVariants.{Nothing, Tables, On, Began}
-use Rattle.iom_tell.specs.Told.{AreMarksOf, behind_of, behind_accepted, behind_asked, began_by, behind_text, is_reserved_in, may_take, newest_frame, shown_tables, is_taken_since, taken_below, taken_by}
+use Rattle.iom_tell.specs.Told.{AreMarksOf, behind_of, behind_accepted, behind_asked, began_by, behind_text, is_reserved_in, may_take, newest_frame, shown_tables, is_taken_since, taken_below, taken_by, told_line}
 use Rattle.iom_tell.proofs.TakenLemmas.{same_taken}
 
 -- what was noted before is what was so before
@@ -25,10 +28,10 @@ ShowsNoTables Tables = ⊥
 ShowsNoTables _ = ⊤
 
 same_text : (these those : List ℕ) (behind : Behind) → ShowsNoTables behind → behind_text these behind ≡ behind_text those behind
-same_text these those Nothing no = refl
-same_text these those Tables no = absurd no
-same_text these those (On frame) no = refl
-same_text these those (Began asks) no = refl
+same_text these those Nothing shown = refl
+same_text these those Tables shown = absurd shown
+same_text these those (On frame) shown = refl
+same_text these those (Began asks) shown = refl
 
 asked_shows_none : (frame : Option ℕ) → ShowsNoTables (behind_asked frame)
 asked_shows_none None = tt
@@ -121,3 +124,11 @@ takes_if_it_may (events.Commit device) outcome takes = takes
 takes_if_it_may (events.Poke address bytes) outcome takes = takes
 takes_if_it_may (events.Peek address len) outcome takes = takes
 takes_if_it_may (events.Free frame) outcome takes = takes
+
+-- the whole line
+pub line_as_noted : (marks : List Bool) (old new : Seen) (event : Event) (outcome : Outcome) (before after : List ℕ) → (may_take event ≡ true → AreMarksOf marks old)
+    → after ≡ before ++ (event_text event ++ codes " => " ++ outcome_text outcome ++ behind_text (taken_below (is_taken_since marks new) 4096) (behind_of new event outcome)) ++ 10 ∷ []
+    → after ≡ before ++ told_line old event outcome new ++ 10 ∷ []
+line_as_noted marks old new event outcome before after noted is =
+    subst (λ (b : List ℕ). after ≡ before ++ (event_text event ++ codes " => " ++ outcome_text outcome ++ b) ++ 10 ∷ [])
+    (told_as_noted marks old new event outcome (λ takes. noted (takes_if_it_may event outcome takes))) is

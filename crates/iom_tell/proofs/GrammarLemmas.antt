@@ -1,5 +1,7 @@
 -- The line that tells an event is one of the grammar of traces, and says what is told.
-use Rattle.std.proofs.Common.{◌≡◌, ⊤, ℕ, Bool, true, false, IsTrue, List, [], ◌∷◌, ◌++◌, Option, None, Some, codes, inl, refl, sym, subst, append-nil, if◌then◌else◌}
+use Rattle.std.specs.Bool.{⊤}
+use Rattle.std.proofs.Common.{◌≡◌, ℕ, Bool, true, false, List, [], ◌∷◌, ◌++◌, Option, None, Some, codes, inl, refl, sym, subst, append-nil, if◌then◌else◌}
+use Rattle.std.proofs.lemmas.Bool.{false≢true}
 use Rattle.iom_base.specs.declared.access.Access.{Access}
 use Rattle.iom_base.specs.declared.access.AccessKind.{AccessKind}
 use Rattle.iom_base.specs.declared.access.AccessKind.TheVariants as kinds
@@ -95,15 +97,15 @@ says_began taken event outcome device access kinds.Write says is accepted asked 
 
 says_behind : (taken : List ℕ) (event : Event) (outcome : Outcome) (behind : Behind) → IsEventLine (event_text event) event → MayBeShown event outcome behind → SaysBehind behind
     → SaysLine (behind_line taken event outcome behind) (said_behind taken event outcome behind) taken
-says_behind taken event outcome Nothing says may asked = inl (((λ no. absurd no), tt), step_line event outcome [] says)
-says_behind [] event outcome Tables says may asked = inl (((λ no. absurd no), tt), step_line event outcome [] says)
+says_behind taken event outcome Nothing says may asked = inl (((λ shown. absurd (false≢true shown)), tt), step_line event outcome [] says)
+says_behind [] event outcome Tables says may asked = inl (((λ shown. absurd (false≢true shown)), tt), step_line event outcome [] says)
 says_behind (frame ∷ frames) event outcome Tables says may asked =
     inl (
-      ((λ yes. may), tt),
+      ((λ shown. may), tt),
       subst (λ (b : List ℕ). IsStepLine (behind_line (frame ∷ frames) event outcome Tables) event outcome b) (sym (append-nil (tables_text true (frame ∷ frames))))
           (step_line event outcome (tables_text true (frame ∷ frames)) says),
     )
-says_behind taken event outcome (On frame) says may asked = inl (((λ no. absurd no), may), step_line event outcome _ says)
+says_behind taken event outcome (On frame) says may asked = inl (((λ shown. absurd (false≢true shown)), may), step_line event outcome _ says)
 says_behind taken event outcome (Began asks) says (device, access, is, accepted, asks_is) asked =
     subst (λ (e : Event). SaysLine (behind_line taken event outcome (Began e)) (said_behind taken event outcome (Began e)) taken) (sym asks_is)
     (says_began taken event outcome device access access.kind says is accepted (subst (λ (e : Event). IsEventLine (event_text e) e) asks_is asked))

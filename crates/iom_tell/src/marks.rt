@@ -1,4 +1,5 @@
 // Which frames are reserved at some time.
+ghost use Rattle.std.specs.Prelude.{◌≡◌, length};
 ghost use Rattle.iom_platform.specs.Seen.{platform_seen};
 ghost use Rattle.iom_tell.specs.Told.{AreMarksOf};
 
@@ -24,6 +25,17 @@ impl Model for FrameMarks {
     ghost invariant = { λ noted. length noted.marks.items ≡ 4096 };
 }
 
+/// Notes which frames of the platform are reserved.
+fn note_each<D: Disk>(marks: &mut [bool], platform: &Platform<D>)
+    requires { length marks.old ≡ 4096 }
+    ensures noted { AreMarksOf marks.new (platform_seen D.seen platform.now) }
+    ensures len { length marks.new ≡ 4096 }
+{
+    for frame in 0..MAX_FRAMES {
+        marks[frame as usize] = platform.is_reserved(frame);
+    }
+}
+
 impl FrameMarks {
     ghost use Rattle.std.specs.Prelude.{◌≡◌, ◌<◌, false, get_or};
 
@@ -37,9 +49,7 @@ impl FrameMarks {
     pub(crate) fn note<D: Disk>(&mut self, platform: &Platform<D>)
         ensures { AreMarksOf self.new (platform_seen D.seen platform.now) }
     {
-        for frame in 0..MAX_FRAMES {
-            self.marks[frame as usize] = platform.is_reserved(frame);
-        }
+        note_each(&mut self.marks, platform);
     }
 
     /// Whether the frame was noted as reserved.

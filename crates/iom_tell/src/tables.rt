@@ -33,14 +33,14 @@ fn count_taken<D: Disk>(platform: &Platform<D>, before: &FrameMarks) -> u32
 }
 
 /// Appends a space and the frame.
-fn append_frame(out: &mut LineBuffer, frame: u32)
+fn append_frame(out: &mut LineBuffer, frame: u64)
     requires frame { frame < 4096 }
     requires room { length out.old + 21 ≤ BUFFER_SIZE }
     ensures text { out.new ≡ out.old ++ (codes " " ++ decimal frame) }
     ensures short { length out.new ≤ length out.old + 5 }
 {
     out.append(b" ");
-    out.append_decimal(u64::from(frame));
+    out.append_decimal(frame);
 }
 
 /// Appends each frame that was taken, with a space before it.
@@ -51,7 +51,7 @@ fn append_frames<D: Disk>(out: &mut LineBuffer, platform: &Platform<D>, before: 
 {
     for frame in 0..MAX_FRAMES {
         if is_taken(platform, before, frame) {
-            append_frame(out, frame);
+            append_frame(out, u64::from(frame));
         }
     }
 }

@@ -1,12 +1,11 @@
 // An event, and its line.
 ghost use Rattle.std.specs.Prelude.{◌≡◌, ◌+◌, ◌<◌, ◌≤◌, ◌^◌, ◌++◌, ◌∷◌, [], true, codes, ◌↔◌, length, IsTrue, OnOk, OnErr, IfErr};
-ghost use Rattle.iom_machine.specs.declared.outcome.Outcome as spec;
 ghost use Rattle.iom_platform.specs.Happens.{HappensHere};
 ghost use Rattle.iom_platform.specs.Seen.{platform_seen};
 ghost use Rattle.iom_script.specs.Grammar.{IsEventLine};
 ghost use Rattle.iom_script.specs.Lines.{outcome_text};
 ghost use Rattle.iom_event_text.specs.Texts.{event_text, IsSayable};
-ghost use Rattle.iom_trace_lines.specs.TraceLines.{SaysLine, takes_frames};
+ghost use Rattle.iom_trace_lines.specs.TraceLines.{SaysLine};
 ghost use Rattle.iom_tell.specs.Told.{AreMarksOf, IsSayableBehind, behind_of, behind_text, is_taken_since, may_take, SaysBehind, taken_below, taken_by, told_line, told_said};
 
 use crate::behind::Behind;
@@ -33,7 +32,7 @@ fn may_take(event: &Event) -> bool
 
 /// Notes which frames are reserved, where the event may take frames for tables.
 fn note_before<D: Disk>(platform: &Platform<D>, before: &mut FrameMarks, event: &Event)
-    ensures { (outcome : spec.Outcome) → takes_frames event.now outcome ≡ true → AreMarksOf before.new (platform_seen D.seen platform.now) }
+    ensures { may_take event.now ≡ true → AreMarksOf before.new (platform_seen D.seen platform.now) }
 {
     if !may_take(event) {
         return;

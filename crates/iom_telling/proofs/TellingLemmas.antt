@@ -48,6 +48,19 @@ fails_begins contents old new text (same, part) = (same, part-front _ _ (old.buf
 pub taken_begins : {W : Type 0} (contents : W → Option (List ℕ)) (old new : LineWriter W) (text : List ℕ) → TakesText contents old text new → BeginsText contents old text new
 taken_begins contents old new text (same, written, wrote, is) = (same, (written, new.buffer, is, wrote))
 
+-- there is room, and a text is appended to the buffer
+pub one_told : {W : Type 0} (contents : W → Option (List ℕ)) (old mid : LineWriter W) (line after : List ℕ) → TakesText contents old [] mid → after ≡ mid.buffer ++ line
+    → TakesText contents old line (record mid { buffer = after })
+one_told contents old mid line after took is =
+    takes-more contents old mid (record mid { buffer = after }) [] line took ((refl, refl), [], Appends-nil (contents mid.writer.now), sym is)
+
+-- there is room, and nothing is appended
+pub one_untold : {W : Type 0} (contents : W → Option (List ℕ)) (old mid : LineWriter W) (line after : List ℕ) → TakesText contents old [] mid → after ≡ mid.buffer
+    → BeginsText contents old line (record mid { buffer = after })
+one_untold contents old mid line after took is =
+    begins_longer contents old (record mid { buffer = after }) [] line
+    (taken_begins contents old (record mid { buffer = after }) [] (subst (λ (b : List ℕ). TakesText contents old [] (record mid { buffer = b })) (sym is) took))
+
 -- ONE TEXT MORE
 pub told_more : {W : Type 0} (contents : W → Option (List ℕ)) (first old new : LineWriter W) (text more : List ℕ) (before after : Option TellingFault)
     → HasTold contents first text before old → GoesOnTelling contents before old more after new → HasTold contents first (text ++ more) after new

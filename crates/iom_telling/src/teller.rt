@@ -57,7 +57,7 @@ fn tell_one<W: Write, D: Disk>(
     ensures told { OnOk result.1 (TakesText W.contents lines.old (told_line (platform_seen D.seen platform.old) event.now result.0 (platform_seen D.seen platform.new) ++ 10 ∷ []) lines.new) }
     ensures failed { OnErr result.1 (BeginsText W.contents lines.old (told_line (platform_seen D.seen platform.old) event.now result.0 (platform_seen D.seen platform.new) ++ 10 ∷ []) lines.new) }
 {
-    if make_room(lines).is_err() {
+    if let Err(WriteFault) = make_room(lines) {
         return (platform.step(event), Err(TellingFault::Writing));
     }
     let (outcome, told) = tell_event(alloc, platform, before, event, &mut lines.buffer);
