@@ -130,10 +130,11 @@ fn tell_run<W: Write, D: Disk>(
     ensures told { OnOk result (WritesRun (platform_seen D.seen platform) buffer script.now (W.contents writer.old) (W.contents writer.new)) }
     ensures failed { OnErr result (BeginsRun (platform_seen D.seen platform) buffer script.now (W.contents writer.old) (W.contents writer.new)) }
 {
+    let lines = LineWriter::new(buffer, writer, false);
     let mut teller = Teller {
         platform,
         before,
-        lines: LineWriter::new(buffer, writer, false),
+        lines,
         fault: None,
         alloc,
     };
@@ -152,7 +153,10 @@ fn tell_run<W: Write, D: Disk>(
     } = lines;
     // No effect at run time: from this use the proof reads what the writer holds.
     let _ = &*writer;
-    told
+    match told {
+        Ok(()) => Ok(()),
+        Err(fault) => Err(fault),
+    }
 }
 
 /// Tells the script, which is run with these disks, to the writer: the line of the world, and that of each event, with what came of
