@@ -1,5 +1,5 @@
 -- Lines of a script that are told, one after another, and what of them is written in the end.
-use Rattle.std.proofs.Common.{◌≡◌, ◌+◌, ◌<◌, ◌≤◌, ◌++◌, ◌∙◌, ℕ, List, [], ◌∷◌, length, take, get_or, Option, None, Some, refl, sym, ap, subst, take_all, arith}
+use Rattle.std.proofs.Common.{◌≡◌, ◌+◌, ◌<◌, ◌++◌, ◌∙◌, ℕ, List, [], ◌∷◌, length, take, get_or, Option, None, Some, Result, refl, sym, ap, subst, subst₂, take_all, arith}
 use Rattle.std.proofs.lemmas.List.{take_more}
 use Rattle.std.specs.Io.KnownBytes.{Appends}
 use Rattle.std.proofs.KnownBytes.{Appends-nil}
@@ -7,13 +7,34 @@ use Rattle.iom_line_writer.specs.declared.writing.LineWriter.{LineWriter}
 use Rattle.iom_line_writer.specs.Writing.{AppendsFront, AppendsPart, KeepsWriter, TakesText}
 use Rattle.iom_line_writer.proofs.WritingLemmas.{all_written, part-front, part_written}
 use Rattle.iom_platform.specs.Seen.{platform_seen}
+use Rattle.iom_base.specs.declared.refusal.Refusal.{Refusal}
+use Rattle.iom_machine.specs.declared.event.Event.{Event}
+use Rattle.iom_machine.specs.declared.outcome.Outcome.{Outcome}
 use Rattle.iom_script.specs.declared.script.ScriptLine.{ScriptLine}
+use Rattle.iom_script.specs.declared.script.ScriptLine.TheVariants as says
+use Rattle.iom_settling.specs.Stages.{Settled}
+use Rattle.iom_tell.specs.Told.{told_line}
+use Rattle.iom_world.specs.Seen.{parts_of}
 use Rattle.iom_virtio_blk.specs.declared.disk.Disk.{Ghosts}
 use Rattle.iom_virtio_blk.specs.DiskStates.{DiskState}
 use Rattle.iom_telling.specs.declared.fault.TellingFault.{TellingFault}
 use Rattle.iom_telling.specs.declared.teller.Teller.{Teller}
 use Rattle.iom_telling.specs.Scripts.{Telling, TellsLine, TellsLines}
-use Rattle.iom_telling.specs.Tellers.{BeginsAll, BeginsRun, BeginsText, GoesByLine, GoesByLines, HasTold, telling_of, WritesAll, WritesRun}
+use Rattle.iom_telling.specs.Tellers.{BeginsAll, BeginsRun, BeginsText, GoesByLine, GoesByLines, HasTold, TellerTakes, telling_of, WritesAll, WritesRun}
+use Rattle.iom_telling.proofs.TellingLemmas.{settled_told, told_more}
+
+-- AN EVENT is told
+pub event_told : {W D : Type 0} {d : Ghosts D} (contents : W → Option (List ℕ)) (seen : D → DiskState) (old new : Teller W D d) (event : Event) (outcome : Outcome)
+    → TellerTakes contents seen old event outcome new → GoesByLine contents seen old (says.Event event) new
+event_told {W} contents seen old new event outcome (happens, goes) = λ (first : LineWriter W) (text : List ℕ) told.
+    let line : List ℕ = told_line (platform_seen seen old.platform) event outcome (platform_seen seen new.platform) ++ 10 ∷ [] in
+    (text ++ line, (outcome, (happens, refl)), told_more contents first old.lines new.lines text line old.fault new.fault told goes)
+
+-- A SETTLING is told
+pub settling_told : {W D : Type 0} {d : Ghosts D} (contents : W → Option (List ℕ)) (seen : D → DiskState) (old new : Teller W D d) (answer : Result ℕ Refusal)
+    → Settled (λ (t : Teller W D d). parts_of t.platform.world) (TellerTakes contents seen) old answer new → GoesByLine contents seen old says.Settle new
+settling_told {W} contents seen old new answer settled = λ (first : LineWriter W) (text : List ℕ) told.
+    let all = settled_told contents seen first old new answer text told settled in (all.0, (answer, all.1), all.2)
 
 -- one line more
 lines_more : (old mid new : Telling) (lines : List ScriptLine) (line : ScriptLine) → TellsLines old lines mid → TellsLine mid line new → TellsLines old (lines ++ line ∷ []) new
@@ -93,3 +114,8 @@ pub run_begins : {W D : Type 0} {d : Ghosts D} (contents : W → Option (List �
 run_begins contents seen old new lines all =
     let here = all (record old.lines { buffer = [] }) old.lines.buffer refl (starts contents old.lines) in
     (here.0, (here.1, telling_of seen new.platform here.2, here.3, here.4))
+
+-- what is told by way of a writer, where the writer began and ended so
+pub told_by : {W : Type 0} (contents : W → Option (List ℕ)) (Tells : Option (List ℕ) → Option (List ℕ) → Type 0) (old start end new : W) → start ≡ old → end ≡ new
+    → Tells (contents start) (contents end) → Tells (contents old) (contents new)
+told_by contents Tells old start end new from to told = subst₂ (λ a b. Tells (contents a) (contents b)) from to told

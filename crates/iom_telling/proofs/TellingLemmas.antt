@@ -1,23 +1,25 @@
 -- The text that a teller tells, event after event.
-use Rattle.std.proofs.Common.{◌≡◌, ◌++◌, ◌∙◌, ℕ, List, [], ◌∷◌, Option, None, Some, Result, Ok, Err, refl, sym, ap, subst, append_assoc, append-nil}
+use Rattle.std.proofs.Common.{◌≡◌, ◌++◌, ◌∙◌, ℕ, List, [], ◌∷◌, Option, None, Some, Result, Ok, Err, OnOk, OnErr, refl, sym, ap, subst, append_assoc}
 use Rattle.std.specs.Io.KnownBytes.{Appends}
 use Rattle.std.proofs.KnownBytes.{Appends-nil, Appends-trans}
 use Rattle.iom_base.specs.declared.refusal.Refusal.{Refusal}
 use Rattle.iom_line_writer.specs.declared.writing.LineWriter.{LineWriter}
-use Rattle.iom_line_writer.specs.Writing.{AppendsFront, AppendsPart, FailsAt, TakesText}
-use Rattle.iom_line_writer.proofs.WritingLemmas.{front-longer, part-front, takes-more}
+use Rattle.iom_line_writer.specs.Writing.{AppendsFront, FailsAt, TakesText}
+use Rattle.iom_line_writer.proofs.WritingLemmas.{front-longer, front-none, part-front, takes-more}
 use Rattle.iom_machine.specs.declared.event.Event.{Event}
 use Rattle.iom_machine.specs.declared.outcome.Outcome.{Outcome}
 use Rattle.iom_platform.specs.Seen.{platform_seen}
 use Rattle.iom_settling.specs.Stages.{Settled}
 use Rattle.iom_settling.specs.Went.{Takes}
+use Rattle.iom_tell.specs.declared.tell_fault.TellFault.{TellFault}
 use Rattle.iom_tell.specs.Told.{told_line}
 use Rattle.iom_virtio_blk.specs.declared.disk.Disk.{Ghosts}
 use Rattle.iom_virtio_blk.specs.DiskStates.{DiskState}
 use Rattle.iom_world.specs.Seen.{parts_of}
 use Rattle.iom_telling.specs.declared.fault.TellingFault.{TellingFault}
 use Rattle.iom_telling.specs.declared.teller.Teller.{Teller}
-use Rattle.iom_telling.specs.Scripts.{Telling, parts_in, TellsOne}
+use Rattle.iom_telling.specs.Faults.{fault_of}
+use Rattle.iom_telling.specs.Scripts.{parts_in, TellsOne}
 use Rattle.iom_telling.specs.Tellers.{BeginsText, HasTold, GoesOnTelling, TellerTakes, telling_of}
 
 -- some is written, and then a beginning of the rest
@@ -44,22 +46,11 @@ begins_longer contents old new text more (same, front) =
 pub fails_begins : {W : Type 0} (contents : W → Option (List ℕ)) (old new : LineWriter W) (text : List ℕ) → FailsAt contents old text new → BeginsText contents old text new
 fails_begins contents old new text (same, part) = (same, part-front _ _ (old.buffer ++ text) part)
 
--- a sink that took a text has written a beginning of it
-pub taken_begins : {W : Type 0} (contents : W → Option (List ℕ)) (old new : LineWriter W) (text : List ℕ) → TakesText contents old text new → BeginsText contents old text new
-taken_begins contents old new text (same, written, wrote, is) = (same, (written, new.buffer, is, wrote))
-
--- there is room, and a text is appended to the buffer
-pub one_told : {W : Type 0} (contents : W → Option (List ℕ)) (old mid : LineWriter W) (line after : List ℕ) → TakesText contents old [] mid → after ≡ mid.buffer ++ line
-    → TakesText contents old line (record mid { buffer = after })
-one_told contents old mid line after took is =
-    takes-more contents old mid (record mid { buffer = after }) [] line took ((refl, refl), [], Appends-nil (contents mid.writer.now), sym is)
-
--- there is room, and nothing is appended
-pub one_untold : {W : Type 0} (contents : W → Option (List ℕ)) (old mid : LineWriter W) (line after : List ℕ) → TakesText contents old [] mid → after ≡ mid.buffer
-    → BeginsText contents old line (record mid { buffer = after })
-one_untold contents old mid line after took is =
-    begins_longer contents old (record mid { buffer = after }) [] line
-    (taken_begins contents old (record mid { buffer = after }) [] (subst (λ (b : List ℕ). TakesText contents old [] (record mid { buffer = b })) (sym is) took))
+-- THE LINE OF AN EVENT is appended to the buffer, with its line feed, or nothing is
+pub one_goes : {W : Type 0} (contents : W → Option (List ℕ)) (old : LineWriter W) (line after : List ℕ) (told : Result (Unit {0}) TellFault) → OnOk told (after ≡ old.buffer ++ line ++ 10 ∷ [])
+    → OnErr told (after ≡ old.buffer) → HasTold contents old (line ++ 10 ∷ []) (fault_of told) (record old { buffer = after })
+one_goes contents old line after (Ok done) text kept = ((refl, refl), [], Appends-nil (contents old.writer.now), sym (text ∙ append_assoc old.buffer line (10 ∷ [])))
+one_goes contents old line after (Err fault) text kept = ((refl, refl), front-none (contents old.writer.now) (old.buffer ++ (line ++ 10 ∷ [])))
 
 -- ONE TEXT MORE
 pub told_more : {W : Type 0} (contents : W → Option (List ℕ)) (first old new : LineWriter W) (text more : List ℕ) (before after : Option TellingFault)

@@ -1,6 +1,6 @@
 -- THE TEXT OF A SCRIPT THAT IS TOLD: the line of the world, and behind it the line of each event of a run that a platform goes through from power-on, those of
 -- each settling in its place.
-use Rattle.std.specs.Prelude.{◌≡◌, ◌⊎◌, ℕ, List, [], ◌∷◌, ◌++◌, codes, take, Option, None, Some, Result, Ok, Err, ⊥, MatchOption}
+use Rattle.std.specs.Prelude.{◌≡◌, ◌⊎◌, ℕ, List, [], ◌∷◌, ◌++◌, codes, take, Option, Result, Ok, Err, MatchOption}
 use Rattle.std.specs.Fmt.{decimal}
 use Rattle.std.specs.Io.KnownBytes.{Appends, Keeps}
 use Rattle.iom_base.specs.declared.refusal.Refusal.{Refusal}

@@ -1,4 +1,5 @@
-ghost use Rattle.iom_telling.specs.Faults.{telling_fault_of};
+ghost use Rattle.std.specs.Prelude.{◌≡◌};
+ghost use Rattle.iom_telling.specs.Faults.{telling_fault_of, fault_of};
 
 use iom_tell::TellFault;
 use thiserror::Error;
@@ -16,13 +17,22 @@ pub enum TellingFault {
     Unsayable,
 }
 
-impl From<TellFault> for TellingFault {
-    ghost from_gives = { λ fault telling. telling ≡ telling_fault_of fault };
+/// What a fault at one event is for the whole.
+fn widened(fault: TellFault) -> TellingFault
+    ensures { result ≡ telling_fault_of fault }
+{
+    match fault {
+        TellFault::Memory => TellingFault::Memory,
+        TellFault::Unsayable => TellingFault::Unsayable,
+    }
+}
 
-    fn from(fault: TellFault) -> TellingFault {
-        match fault {
-            TellFault::Memory => TellingFault::Memory,
-            TellFault::Unsayable => TellingFault::Unsayable,
-        }
+/// What failed, if something did.
+pub(crate) fn fault_of(told: Result<(), TellFault>) -> Option<TellingFault>
+    ensures { result ≡ fault_of told }
+{
+    match told {
+        Ok(()) => None,
+        Err(fault) => Some(widened(fault)),
     }
 }

@@ -93,8 +93,9 @@ fn tell_lines<W: Write, D: Disk>(
 {
     for line in script {
         tell_line(teller, line);
-        if let Some(fault) = teller.fault {
-            return Err(fault);
+        match teller.fault {
+            None => {}
+            Some(fault) => return Err(fault),
         }
     }
     Ok(())
@@ -115,6 +116,21 @@ fn tell_all<W: Write, D: Disk>(
         Ok(()) => Ok(()),
         Err(_) => Err(TellingFault::Writing),
     }
+}
+
+/// The lines that the teller has, and the rest of it goes.
+fn lines_of<'a, W: Write, D: Disk>(teller: Teller<'a, W, D>) -> LineWriter<'a, W>
+    ensures same_writer { result.writer.ghost_name ≡ teller.entry.lines.writer.ghost_name }
+    ensures contents { result.writer.now ≡ teller.entry.lines.writer.now }
+{
+    let Teller {
+        platform: _,
+        before: _,
+        lines,
+        fault: _,
+        alloc: _,
+    } = teller;
+    lines
 }
 
 /// The same to the writer, by way of the buffer.
@@ -139,18 +155,12 @@ fn tell_run<W: Write, D: Disk>(
         alloc,
     };
     let told = tell_all(&mut teller, script);
-    let Teller {
-        platform: _,
-        before: _,
-        lines,
-        fault: _,
-        alloc: _,
-    } = teller;
+    let told_lines = lines_of(teller);
     let LineWriter {
         buffer: _,
         writer,
         counts: _,
-    } = lines;
+    } = told_lines;
     // No effect at run time: from this use the proof reads what the writer holds.
     let _ = &*writer;
     match told {

@@ -7,9 +7,9 @@ ghost use Rattle.iom_settling.specs.Stages.{brief};
 ghost use Rattle.iom_tell.specs.Told.{told_line};
 ghost use Rattle.iom_world.specs.Seen.{disks_of, parts_of};
 ghost use Rattle.iom_world_effects.proofs.DriverLemmas.{sound_driver};
-ghost use Rattle.iom_telling.specs.Tellers.{BeginsText, TellerTakes};
+ghost use Rattle.iom_telling.specs.Tellers.{HasTold, TellerTakes};
 
-use crate::fault::TellingFault;
+use crate::fault::{TellingFault, fault_of};
 use iom_base::DeviceId;
 use iom_line_writer::{LineWriter, WriteFault};
 use iom_machine::{Event, Fetched, Outcome};
@@ -44,26 +44,44 @@ fn make_room<W: Write>(lines: &mut LineWriter<'_, W>) -> Result<(), WriteFault>
     Ok(())
 }
 
-/// One event happens to the platform, and its line goes to the lines. With the outcome, what failed, if something did.
+/// One event happens to the platform, and its line goes into the buffer, which has room for it. What failed, if something did, is noted.
+fn tell_in_room<W: Write, D: Disk>(
+    alloc: Global,
+    platform: &mut Platform<D>,
+    before: &mut FrameMarks,
+    event: &Event,
+    lines: &mut LineWriter<'_, W>,
+    fault: &mut Option<TellingFault>,
+) -> Outcome
+    requires count { platform.old.world.hardware.events + 1 < 2 ^ 64 }
+    requires room { length lines.old.buffer + TELL_ROOM ≤ BUFFER_SIZE }
+    ensures happens { HappensHere (platform_seen D.seen platform.old) event.now result (platform_seen D.seen platform.new) }
+    ensures told { HasTold W.contents lines.old (told_line (platform_seen D.seen platform.old) event.now result (platform_seen D.seen platform.new) ++ 10 ∷ []) fault.new lines.new }
+{
+    let told = tell_event(alloc, platform, before, event, &mut lines.buffer);
+    *fault = fault_of(told.1);
+    told.0
+}
+
+/// One event happens to the platform, and its line goes to the lines. What failed, if something did, is noted.
 fn tell_one<W: Write, D: Disk>(
     alloc: Global,
     platform: &mut Platform<D>,
     before: &mut FrameMarks,
     event: &Event,
     lines: &mut LineWriter<'_, W>,
-) -> (Outcome, Result<(), TellingFault>)
+    fault: &mut Option<TellingFault>,
+) -> Outcome
     requires count { platform.old.world.hardware.events + 1 < 2 ^ 64 }
-    ensures happens { HappensHere (platform_seen D.seen platform.old) event.now result.0 (platform_seen D.seen platform.new) }
-    ensures told { OnOk result.1 (TakesText W.contents lines.old (told_line (platform_seen D.seen platform.old) event.now result.0 (platform_seen D.seen platform.new) ++ 10 ∷ []) lines.new) }
-    ensures failed { OnErr result.1 (BeginsText W.contents lines.old (told_line (platform_seen D.seen platform.old) event.now result.0 (platform_seen D.seen platform.new) ++ 10 ∷ []) lines.new) }
+    ensures happens { HappensHere (platform_seen D.seen platform.old) event.now result (platform_seen D.seen platform.new) }
+    ensures told { HasTold W.contents lines.old (told_line (platform_seen D.seen platform.old) event.now result (platform_seen D.seen platform.new) ++ 10 ∷ []) fault.new lines.new }
 {
-    if let Err(WriteFault) = make_room(lines) {
-        return (platform.step(event), Err(TellingFault::Writing));
-    }
-    let (outcome, told) = tell_event(alloc, platform, before, event, &mut lines.buffer);
-    match told {
-        Ok(()) => (outcome, Ok(())),
-        Err(fault) => (outcome, Err(TellingFault::from(fault))),
+    match make_room(lines) {
+        Err(WriteFault) => {
+            *fault = Some(TellingFault::Writing);
+            platform.step(event)
+        }
+        Ok(()) => tell_in_room(alloc, platform, before, event, lines, fault),
     }
 }
 
@@ -84,20 +102,17 @@ impl<W: Write, D: Disk> Teller<'_, W, D> {
         requires count { self.old.platform.world.hardware.events + 1 < 2 ^ 64 }
         ensures { TellerTakes W.contents D.seen self.old event.now result self.new }
     {
-        if self.fault.is_some() {
-            return self.platform.step(event);
+        match self.fault {
+            Some(_) => self.platform.step(event),
+            None => tell_one(
+                self.alloc,
+                &mut self.platform,
+                &mut self.before,
+                event,
+                &mut self.lines,
+                &mut self.fault,
+            ),
         }
-        let (outcome, told) = tell_one(
-            self.alloc,
-            &mut self.platform,
-            &mut self.before,
-            event,
-            &mut self.lines,
-        );
-        if let Err(fault) = told {
-            self.fault = Some(fault);
-        }
-        outcome
     }
 }
 

@@ -1,5 +1,4 @@
 -- What was told is written out.
-use Rattle.std.proofs.lemmas.Result.{err_from_is_err_and}
 use Rattle.iom_line_writer.proofs.WritingLemmas.{at_err}
 use Rattle.iom_telling.proofs.LineLemmas.{writes_all, begins_part, begins_first}
 use Rattle.iom_telling.proofs.script.tell_all.Goals as goal
@@ -7,7 +6,7 @@ use Rattle.iom_telling.proofs.script.tell_all.Goals as goal
 pub returns-in_err-tell_lines-clause-failed : goal.returns-in_err-tell_lines-clause-failed
 returns-in_err-tell_lines-clause-failed g c =
     let failed = c.in_err-tell_lines.ensures.failed in
-    at_err c.from_residual.result (begins_first g.W.Write.contents g.D.Disk.seen c.args.teller.now c.tell_lines.new.teller c.args.script.now _ failed.1 c.requires.fresh failed.0 failed.2)
+    at_err c.from_residual.result (begins_first g.W.Write.contents g.D.Disk.seen c.args.teller.now c.tell_lines.new.teller c.args.script.now _ failed.1.0 c.requires.fresh failed.0 failed.1.1)
 
 pub returns-in-Ok-clause-told : goal.returns-in-Ok-clause-told
 returns-in-Ok-clause-told g c =
