@@ -3,6 +3,7 @@
 //! - `data/rows`: worked scripts, with the lines that were worked out by hand from the rules before there was a program.
 //! - `data/examples`, which the repository also shows as `examples/`: scripts worth reading, with what they print. So the
 //!   outputs that a reader sees can't drift from what the program prints.
+//! - `data/told`: traces of three scripts, as `iommu-tell` tells them, which were written by hand.
 //! - `data/pictures`, which `docs/GALLERY.md` of the repository shows: pictures of examples.
 //! - `data/traces`: traces, among them those of `docs/JUDGE.md`.
 //! - `data/judged`: outputs that another checker judged, one that shares no code with this repository.
@@ -12,12 +13,14 @@
 mod judged;
 mod pictures;
 mod scripts;
+mod told;
 mod traces;
 mod vectors;
 
 fn main(rt: HostRuntime) -> anyhow::Result<()> {
     scripts::tell_rows(&rt)?;
     scripts::tell_examples(&rt)?;
+    told::tell(&rt)?;
     pictures::tell(&rt)?;
     traces::tell(&rt)?;
     judged::tell(&rt)?;

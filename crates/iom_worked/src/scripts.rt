@@ -5,7 +5,7 @@ use std::alloc::Global;
 use std::fs;
 
 /// The worked scripts of `data/rows`. A new one is its two files and a line here.
-static ROWS: [&str; 59] = [
+pub(crate) static ROWS: [&str; 59] = [
     "empty-script",
     "first-path",
     "grant-boundaries",
@@ -68,7 +68,7 @@ static ROWS: [&str; 59] = [
 ];
 
 /// Those whose scripts have a line `settle`, which a trace hasn't: these aren't judged.
-static SETTLING: [&str; 4] = [
+pub(crate) static SETTLING: [&str; 4] = [
     "settle-nothing",
     "settle-eight",
     "settle-after-timeout",
@@ -83,7 +83,7 @@ static COUNTED: [&str; 3] = [
 ];
 
 /// The scripts of `data/examples`, in the order in which they are best read.
-static EXAMPLES: [&str; 20] = [
+pub(crate) static EXAMPLES: [&str; 20] = [
     "first-path",
     "stale-read",
     "draining",

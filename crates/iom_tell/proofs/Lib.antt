@@ -1,0 +1,3 @@
+pub mod BehindLemmas
+pub mod GrammarLemmas
+pub mod TakenLemmas

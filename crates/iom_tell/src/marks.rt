@@ -1,0 +1,62 @@
+// Which frames are reserved at some time.
+ghost use Rattle.std.specs.Prelude.{◌≡◌, length};
+ghost use Rattle.iom_platform.specs.Seen.{platform_seen};
+ghost use Rattle.iom_tell.specs.Told.{AreMarksOf};
+
+use iom_phys_mem::MAX_FRAMES;
+use iom_platform::Platform;
+use iom_virtio_blk::Disk;
+use std::alloc::{AllocError, Global};
+use std::marker::Model;
+
+/// Whether each frame of a memory is reserved, as it was noted last. It takes its memory when it is made, and none after that.
+#[derive(Drop)]
+pub struct FrameMarks {
+    marks: Vec<bool>,
+}
+
+impl Model for FrameMarks {
+    ghost use Rattle.std.specs.Prelude.{List, Bool, ◌≡◌, length};
+
+    ghost Value = { List Bool };
+
+    ghost view = { λ noted. noted.marks.items };
+
+    ghost invariant = { λ noted. length noted.marks.items ≡ 4096 };
+}
+
+/// Notes which frames of the platform are reserved.
+fn note_each<D: Disk>(marks: &mut [bool], platform: &Platform<D>)
+    requires { length marks.old ≡ 4096 }
+    ensures noted { AreMarksOf marks.new (platform_seen D.seen platform.now) }
+    ensures len { length marks.new ≡ 4096 }
+{
+    for frame in 0..MAX_FRAMES {
+        marks[frame as usize] = platform.is_reserved(frame);
+    }
+}
+
+impl FrameMarks {
+    ghost use Rattle.std.specs.Prelude.{◌≡◌, ◌<◌, false, get_or};
+
+    /// No frame is noted.
+    pub fn new(alloc: Global) -> Result<FrameMarks, AllocError> {
+        let marks = vec![in alloc; false; MAX_FRAMES as usize]?;
+        Ok(FrameMarks { marks })
+    }
+
+    /// Notes which frames of the platform are reserved.
+    pub(crate) fn note<D: Disk>(&mut self, platform: &Platform<D>)
+        ensures { AreMarksOf self.new (platform_seen D.seen platform.now) }
+    {
+        note_each(&mut self.marks, platform);
+    }
+
+    /// Whether the frame was noted as reserved.
+    pub(crate) fn was_reserved(&self, frame: u32) -> bool
+        requires { frame < 4096 }
+        ensures { result ≡ get_or self.now frame false }
+    {
+        self.marks[frame as usize]
+    }
+}

@@ -1,0 +1,3 @@
+pub mod Faults
+pub mod Scripts
+pub mod Tellers

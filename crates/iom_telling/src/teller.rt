@@ -1,0 +1,160 @@
+// What tells events: a platform, and the lines on their way out.
+ghost use Rattle.std.specs.Prelude.{◌≡◌, ◌+◌, ◌<◌, ◌≤◌, ◌^◌, ◌++◌, ◌∷◌, [], length, OnOk, OnErr};
+ghost use Rattle.iom_line_writer.specs.Writing.{TakesText, FailsAt};
+ghost use Rattle.iom_platform.specs.Happens.{HappensHere};
+ghost use Rattle.iom_platform.specs.Seen.{platform_seen};
+ghost use Rattle.iom_settling.specs.Stages.{brief};
+ghost use Rattle.iom_tell.specs.Told.{told_line};
+ghost use Rattle.iom_world.specs.Seen.{disks_of, parts_of};
+ghost use Rattle.iom_world_effects.proofs.DriverLemmas.{sound_driver};
+ghost use Rattle.iom_telling.specs.Tellers.{HasTold, TellerTakes};
+
+use crate::fault::{TellingFault, fault_of};
+use iom_base::DeviceId;
+use iom_line_writer::{LineWriter, WriteFault};
+use iom_machine::{Event, Fetched, Outcome};
+use iom_platform::Platform;
+use iom_script::BUFFER_SIZE;
+use iom_settling::{TakesEvents, Told};
+use iom_tell::{FrameMarks, TELL_ROOM, tell_event};
+use iom_virtio_blk::Disk;
+use std::alloc::Global;
+use std::io::Write;
+
+/// A platform whose events are told, up to the first at which something fails. The later ones happen untold.
+pub(crate) struct Teller<'a, W, D: Disk> {
+    pub(crate) platform: Platform<D>,
+    /// A place for which frames were reserved before an event.
+    pub(crate) before: FrameMarks,
+    pub(crate) lines: LineWriter<'a, W>,
+    /// What failed.
+    pub(crate) fault: Option<TellingFault>,
+    pub(crate) alloc: Global,
+}
+
+/// Writes the lines out where there is no room for the longest that tells an event.
+fn make_room<W: Write>(lines: &mut LineWriter<'_, W>) -> Result<(), WriteFault>
+    ensures room { OnOk result (length lines.new.buffer + TELL_ROOM ≤ BUFFER_SIZE) }
+    ensures taken { OnOk result (TakesText W.contents lines.old [] lines.new) }
+    ensures failed { OnErr result (FailsAt W.contents lines.old [] lines.new) }
+{
+    if lines.buffer.as_slice().len() > BUFFER_SIZE - TELL_ROOM {
+        lines.write_out()?;
+    }
+    Ok(())
+}
+
+/// One event happens to the platform, and its line goes into the buffer, which has room for it. What failed, if something did, is noted.
+fn tell_in_room<W: Write, D: Disk>(
+    alloc: Global,
+    platform: &mut Platform<D>,
+    before: &mut FrameMarks,
+    event: &Event,
+    lines: &mut LineWriter<'_, W>,
+    fault: &mut Option<TellingFault>,
+) -> Outcome
+    requires count { platform.old.world.hardware.events + 1 < 2 ^ 64 }
+    requires room { length lines.old.buffer + TELL_ROOM ≤ BUFFER_SIZE }
+    ensures happens { HappensHere (platform_seen D.seen platform.old) event.now result (platform_seen D.seen platform.new) }
+    ensures told { HasTold W.contents lines.old (told_line (platform_seen D.seen platform.old) event.now result (platform_seen D.seen platform.new) ++ 10 ∷ []) fault.new lines.new }
+{
+    let told = tell_event(alloc, platform, before, event, &mut lines.buffer);
+    *fault = fault_of(told.1);
+    told.0
+}
+
+/// One event happens to the platform, and its line goes to the lines. What failed, if something did, is noted.
+fn tell_one<W: Write, D: Disk>(
+    alloc: Global,
+    platform: &mut Platform<D>,
+    before: &mut FrameMarks,
+    event: &Event,
+    lines: &mut LineWriter<'_, W>,
+    fault: &mut Option<TellingFault>,
+) -> Outcome
+    requires count { platform.old.world.hardware.events + 1 < 2 ^ 64 }
+    ensures happens { HappensHere (platform_seen D.seen platform.old) event.now result (platform_seen D.seen platform.new) }
+    ensures told { HasTold W.contents lines.old (told_line (platform_seen D.seen platform.old) event.now result (platform_seen D.seen platform.new) ++ 10 ∷ []) fault.new lines.new }
+{
+    match make_room(lines) {
+        Err(WriteFault) => {
+            *fault = Some(TellingFault::Writing);
+            platform.step(event)
+        }
+        Ok(()) => tell_in_room(alloc, platform, before, event, lines, fault),
+    }
+}
+
+/// What settling wants to know of the outcome.
+fn brief(outcome: &Outcome) -> Told
+    ensures { result ≡ brief outcome.now }
+{
+    match outcome {
+        Outcome::Fetched(Fetched::Waiting) => Told::Waits,
+        Outcome::Fetched(Fetched::Empty) => Told::Empty,
+        _ => Told::Other,
+    }
+}
+
+impl<W: Write, D: Disk> Teller<'_, W, D> {
+    /// One event, and its line, where nothing failed before.
+    fn tell(&mut self, event: &Event) -> Outcome
+        requires count { self.old.platform.world.hardware.events + 1 < 2 ^ 64 }
+        ensures { TellerTakes W.contents D.seen self.old event.now result self.new }
+    {
+        match self.fault {
+            Some(_) => self.platform.step(event),
+            None => tell_one(
+                self.alloc,
+                &mut self.platform,
+                &mut self.before,
+                event,
+                &mut self.lines,
+                &mut self.fault,
+            ),
+        }
+    }
+}
+
+/// A teller takes events as its platform does, and tells them along: so settling, which is over whatever takes events, tells its own.
+impl<W: Write, D: Disk> TakesEvents for Teller<'_, W, D> {
+    ghost parts = { λ teller. parts_of teller.platform.world };
+
+    ghost counted = { λ teller. teller.platform.world.hardware.events };
+
+    ghost happens = { TellerTakes W.contents D.seen };
+
+    ghost does = { λ old new event told happens. (disks_of old.platform.world, happens.0.0.does) };
+
+    ghost commands = { λ old new event told happens. happens.0.0.commands };
+
+    ghost counts = { λ old new event told happens. happens.0.0.events };
+
+    ghost sound = { λ teller. teller.platform.world.sound };
+
+    ghost own = { λ teller. sound_driver teller.platform.world.driver };
+
+    fn facts(&self) {
+        self.platform.facts();
+    }
+
+    fn first_busy(&self) -> Option<DeviceId> {
+        self.platform.first_busy()
+    }
+
+    fn is_quiet(&self) -> bool {
+        self.platform.is_quiet()
+    }
+
+    fn has_pending(&self) -> bool {
+        self.platform.has_pending()
+    }
+
+    fn has_used_up(&self) -> bool {
+        self.platform.has_used_up()
+    }
+
+    fn take(&mut self, event: &Event) -> Told {
+        brief(&self.tell(event))
+    }
+}

@@ -1,0 +1,184 @@
+//! `iommu-tell [--help | --version | FILE]` runs the script in the file, or on standard input, and writes it as a trace: each line
+//! with its answer, and with what that doesn't show. The repository's `docs/LANGUAGE.md` says how a script is written, and
+//! `docs/JUDGE.md` how a trace is.
+//!
+//! The exit status is 0 where it was told, 1 where reading, writing or memory failed, 2 where a line isn't in the grammar, and
+//! 3 where the command line isn't lawful. What goes wrong is told on standard error, as `iommu-tell: NAME: TEXT`.
+#![tactic(auto)]
+
+mod bad_line;
+
+use bad_line::explain;
+use iom_runner::program_disks;
+use iom_script::{Script, ScriptFault, is_spoken, parse};
+use iom_script_reading::{ReadFault, read_script};
+use iom_telling::{TellingFault, tell};
+use std::io::{self, ErrorKind, IsTerminal, Read, Write};
+use std::process::ExitCode;
+use std::{env, fs, str};
+
+const FAILED: u8 = 1;
+
+const NOT_IN_GRAMMAR: u8 = 2;
+
+const BAD_COMMAND_LINE: u8 = 3;
+
+/// The name of standard input, where it is what can't be read.
+const INPUT: &str = "standard input";
+
+const USAGE: &str = "iommu-tell [--help | --version | FILE]";
+
+const HELP: &str = "\
+iommu-tell [--help | --version | FILE]
+
+Runs the script in the file, or on standard input, and writes it as a trace, which iommu-judge judges: each line with its
+answer, and with what that doesn't show. A line `settle` is written as the events that it stands for.
+
+  --help     prints this
+  --version  prints the version
+";
+
+const VERSION: &str = "iommu-tell 1.0\n";
+
+/// The words of the command line, after the program's name.
+fn words_of(rt: &HostRuntime) -> io::Result<Vec<String>> {
+    let mut words = Vec::new(rt.alloc());
+    for word in env::args(rt)?.skip(1) {
+        words.push(word)?;
+    }
+    Ok(words)
+}
+
+/// Tells on standard error what goes wrong with what has this name.
+fn complain(rt: &HostRuntime, name: &str, text: &str, status: u8) -> u8 {
+    let _ = eprintln!(rt; "iommu-tell: {name}: {text}");
+    status
+}
+
+/// Why what has this name can't be read.
+fn cause_of(error: &io::Error) -> &'static str {
+    match error.kind() {
+        ErrorKind::NotFound => "no such file",
+        ErrorKind::PermissionDenied => "permission denied",
+        ErrorKind::IsADirectory => "it is a directory",
+        ErrorKind::OutOfMemory => "out of memory",
+        _ => "reading failed",
+    }
+}
+
+/// Writes the text, and gives the exit status.
+fn print(rt: &HostRuntime, text: &str) -> u8 {
+    match rt.stdout().write_all(text.as_bytes()) {
+        Ok(()) => 0,
+        Err(_) => complain(rt, "standard output", "writing failed", FAILED),
+    }
+}
+
+/// Tells the script that was read of what has this name, and gives the exit status.
+fn tell_script(rt: &HostRuntime, name: &str, script: &Script) -> u8 {
+    let Ok(disks) = program_disks(rt.alloc()) else {
+        return complain(rt, name, "out of memory", FAILED);
+    };
+    match tell(rt.alloc(), script, disks, &mut rt.stdout()) {
+        Ok(()) => 0,
+        Err(TellingFault::Writing) => complain(rt, "standard output", "writing failed", FAILED),
+        Err(fault) => {
+            let _ = eprintln!(rt; "iommu-tell: {name}: {fault}");
+            FAILED
+        }
+    }
+}
+
+/// Whether the line is the first that says something, of these lines up to it.
+fn is_first_spoken(text: &str, number: usize) -> bool {
+    let before = text.lines().take(number.saturating_sub(1));
+    !before.into_iter().any(|line| is_spoken(line.as_bytes()))
+}
+
+/// Tells what is wrong with the line, which isn't in the grammar.
+fn complain_of_line(rt: &HostRuntime, name: &str, bytes: &[u8], number: u64) {
+    let place = usize::try_from(number).unwrap_or(usize::MAX);
+    let Ok(text) = str::from_utf8(bytes) else {
+        let _ = eprintln!(rt; "iommu-tell: {name}: line {number}: bad script: it isn't text");
+        return;
+    };
+    let line = text.lines().nth(place.saturating_sub(1)).unwrap_or("");
+    let wrong = explain(line, is_first_spoken(text, place));
+    let (column, found, expected, form) = (wrong.column, wrong.found, wrong.expected, wrong.form);
+    let _ = eprintln!(rt;
+        "iommu-tell: {name}: line {number}, column {column}: bad script: `{found}` stands where {expected} was expected ({form})"
+    );
+}
+
+/// Tells the script that the bytes say, which were read of what has this name, and gives the exit status.
+fn tell_bytes(rt: &HostRuntime, name: &str, bytes: &[u8]) -> u8 {
+    match parse(rt.alloc(), bytes) {
+        Ok(script) => tell_script(rt, name, &script),
+        Err(ScriptFault::Line(number)) => {
+            complain_of_line(rt, name, bytes, number);
+            NOT_IN_GRAMMAR
+        }
+        Err(ScriptFault::Memory) => complain(rt, name, "out of memory", FAILED),
+    }
+}
+
+/// Tells the script that the reader has, and gives the exit status.
+fn tell_read<R: Read>(rt: &HostRuntime, name: &str, reader: &mut R) -> u8 {
+    match read_script(rt.alloc(), reader) {
+        Ok(bytes) => tell_bytes(rt, name, &bytes),
+        Err(ReadFault::Reading) => complain(rt, name, "reading failed", FAILED),
+        Err(ReadFault::Memory) => complain(rt, name, "out of memory", FAILED),
+    }
+}
+
+/// Tells the script on standard input. Where that is a terminal, nobody wrote one there: what is wanted is said.
+fn tell_input(rt: &HostRuntime) -> u8 {
+    if rt.stdin().is_terminal() {
+        let _ = eprintln!(rt; "{USAGE}");
+        return BAD_COMMAND_LINE;
+    }
+    tell_read(rt, INPUT, &mut rt.stdin())
+}
+
+/// Tells the script in the file.
+fn tell_file(rt: &HostRuntime, file: &str) -> u8 {
+    match fs::open(rt, file) {
+        Ok(mut opened) => tell_read(rt, file, &mut opened),
+        Err(error) => complain(rt, file, cause_of(&error), FAILED),
+    }
+}
+
+/// Whether the word can name a file: it isn't empty, and doesn't begin with `-`.
+fn is_file(word: &str) -> bool {
+    match word.as_bytes() {
+        [] => false,
+        [first, ..] => *first != b'-',
+    }
+}
+
+/// Does what the words ask for, and gives the exit status.
+fn run(rt: &HostRuntime, words: &[String]) -> u8 {
+    match words {
+        [] => tell_input(rt),
+        [word] if word.as_str() == "--help" => print(rt, HELP),
+        [word] if word.as_str() == "--version" => print(rt, VERSION),
+        [file] if is_file(file) => tell_file(rt, file),
+        _ => complain(
+            rt,
+            "command line",
+            "it isn't [--help | --version | FILE]",
+            BAD_COMMAND_LINE,
+        ),
+    }
+}
+
+fn main(rt: HostRuntime) -> ExitCode {
+    let status = match words_of(&rt) {
+        Ok(words) => run(&rt, &words),
+        Err(error) if error.kind() == ErrorKind::OutOfMemory => {
+            complain(&rt, "command line", "out of memory", FAILED)
+        }
+        Err(_) => complain(&rt, "command line", "it isn't text", BAD_COMMAND_LINE),
+    };
+    ExitCode::from(status)
+}
