@@ -6,6 +6,9 @@
 //! 3 where the command line isn't lawful. What goes wrong is told on standard error, as `iommu-tell: NAME: TEXT`.
 #![tactic(auto)]
 
+ghost use Rattle.std.specs.Prelude.{◌≤◌, length, IfSome};
+ghost use Rattle.iom_script.specs.Grammar.{IsWorldSize};
+
 mod bad_line;
 
 use bad_line::explain;
@@ -75,7 +78,10 @@ fn print(rt: &HostRuntime, text: &str) -> u8 {
 }
 
 /// Tells the script that was read of what has this name, and gives the exit status.
-fn tell_script(rt: &HostRuntime, name: &str, script: &Script) -> u8 {
+fn tell_script(rt: &HostRuntime, name: &str, script: &Script) -> u8
+    requires world { IfSome script.now.world IsWorldSize }
+    requires few { length script.now.lines ≤ 1048576 }
+{
     let Ok(disks) = program_disks(rt.alloc()) else {
         return complain(rt, name, "out of memory", FAILED);
     };
