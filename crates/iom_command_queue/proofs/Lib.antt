@@ -6,6 +6,7 @@ pub mod Encodes
 pub mod TwoWords
 pub mod SlotLemmas
 pub mod Waits
+pub mod ByPlace
 pub mod Puts
 pub mod Bases
 pub mod SameSlots

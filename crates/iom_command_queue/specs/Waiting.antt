@@ -1,5 +1,5 @@
 -- The commands that wait between head and tail, read off memory and registers (IOMMU specification, section 3.1, "Command-Queue (CQ)").
-use Rattle.std.specs.Prelude.{◌≡◌, ◌≢◌, ℕ, ◌+◌, ◌-◌, ◌*◌, ◌/◌, ◌%◌, zero, suc, nat_le, List, [], ◌∷◌, length, Option, Some, None, Result, Ok, Err, slice_get, if◌then◌else◌}
+use Rattle.std.specs.Prelude.{◌≡◌, ◌≢◌, ◌<◌, ◌⊎◌, ℕ, ◌+◌, ◌-◌, ◌*◌, ◌/◌, ◌%◌, zero, suc, nat_le, List, [], ◌∷◌, length, Option, Some, None, Result, Ok, Err, slice_get, if◌then◌else◌}
 use Rattle.iom_phys_mem.specs.Words.{byte_at, word_at, with_word}
 use Rattle.iom_registers.specs.declared.registers.Registers.{Registers}
 use Rattle.iom_registers.specs.Queues.{command_base, command_entries, command_head, command_tail, next_index}
@@ -47,6 +47,11 @@ commands_in memory r = entries_from memory (command_base r) (command_entries r) 
 -- what stands at the head
 abbrev pub first_entry : List (List ℕ) → Registers → QueueEntry
 first_entry memory r = entry_at memory (place_of r (command_head r))
+
+-- this is the index of the entry at a place behind the head, over the ring's end
+pub record IsIndexOf (r : Registers) (place index : ℕ) : Type 0 where
+  pub within : index < command_entries r
+  pub there : (command_head r + place ≡ index) ⊎ (command_head r + place ≡ index + command_entries r)
 
 -- memory with the command's 16 bytes at the address
 abbrev pub with_command : List (List ℕ) → ℕ → Commanded → List (List ℕ)

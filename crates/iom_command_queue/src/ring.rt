@@ -4,7 +4,7 @@ ghost use Rattle.std.specs.Prelude.{◌≡◌, ◌≢◌, ◌↔◌, ◌<◌, �
 ghost use Rattle.iom_registers.specs.Queues.{command_base, command_entries, command_head, command_tail, next_index, with_command_done};
 ghost use Rattle.iom_registers.specs.Table.{value_of};
 ghost use Rattle.iom_registers.specs.declared.register.Register.TheVariants.{Cqt};
-ghost use Rattle.iom_command_queue.specs.Waiting.{commands_in, entry_at, place_of, how_many, first_entry, WritesCommand};
+ghost use Rattle.iom_command_queue.specs.Waiting.{commands_in, entry_at, place_of, how_many, first_entry, IsIndexOf, WritesCommand};
 
 use crate::bytes::COMMAND_SIZE;
 use crate::command::Command;
@@ -103,6 +103,21 @@ fn ring<M: Mmio>(memory: &Memory, io: &mut M, command: &Command, after: u32)
     );
 }
 
+/// The index in the ring of the command at this place of those that wait, the head's at 0.
+fn index_of(registers: &Registers, place: u32) -> u64
+    requires { place < how_many registers.now }
+    ensures index { IsIndexOf registers.now place result }
+    ensures small { result < 2 ^ 32 }
+{
+    let index = u64::from(registers.command_head()) + u64::from(place);
+    let entries = registers.command_entries();
+    if index < entries {
+        index
+    } else {
+        index - entries
+    }
+}
+
 impl CommandRing {
     /// The index of the next command.
     pub fn head(registers: &Registers) -> u32
@@ -128,6 +143,32 @@ impl CommandRing {
         }
         let place = registers.command_base() + COMMAND_SIZE as u64 * head as u64;
         Some(entry_at(memory, place))
+    }
+
+    /// How many commands wait between head and tail, by the registers.
+    pub fn count(registers: &Registers) -> u32
+        ensures { result ≡ how_many registers.now }
+    {
+        let head = registers.command_head();
+        let tail = registers.command_tail();
+        if head <= tail {
+            return tail - head;
+        }
+        (registers.command_entries() - u64::from(head) + u64::from(tail)) as u32
+    }
+
+    /// What stands at this place of the commands that wait, the head's at 0. None exactly where as many don't wait.
+    pub fn at(memory: &Memory, registers: &Registers, place: u32) -> Option<QueueEntry>
+        ensures { result ≡ slice_get (commands_in memory.now registers.now) place }
+    {
+        if place >= CommandRing::count(registers) {
+            return None;
+        }
+        let index = index_of(registers, place);
+        Some(entry_at(
+            memory,
+            registers.command_base() + COMMAND_SIZE as u64 * index,
+        ))
     }
 
     /// The command at the head is done, and no more waits.

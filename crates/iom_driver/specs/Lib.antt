@@ -26,3 +26,4 @@ pub mod Polling
 pub mod Reports
 pub mod Laws
 pub mod Same
+pub mod Looks

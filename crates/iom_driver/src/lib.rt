@@ -42,6 +42,7 @@ mod granting;
 pub mod laws;
 mod layout;
 mod leaving;
+mod looks;
 mod lookups;
 mod plugging;
 mod polling;

@@ -24,7 +24,7 @@ use iom_registers::Mmio;
 use iom_table_frames::TableFrames;
 
 /// The number in the first four bytes of the frame.
-fn first_word(memory: &Memory, frame: u32) -> u32
+pub(crate) fn first_word(memory: &Memory, frame: u32) -> u32
     requires { frame < length memory.now }
     ensures { word_at 4 memory.now (page_size * frame) ≡ Some result }
 {

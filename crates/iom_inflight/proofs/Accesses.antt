@@ -6,7 +6,7 @@ use Rattle.std.proofs.lemmas.List.{take-append-le, drop-append-le, take_all}
 use Rattle.iom_base.specs.declared.access.AccessKind.{AccessKind}
 use Rattle.circular_buffer.specs.Buffer.{Buffer, buffer, keep_last}
 use Rattle.iom_inflight.specs.declared.header.AccessHeader.{AccessHeader}
-use Rattle.iom_inflight.specs.Flights.{made_in, has_access, first_made, is_awaited}
+use Rattle.iom_inflight.specs.Flights.{made_in, has_access, first_made, first_number, is_awaited}
 use Rattle.iom_inflight.specs.Rings.{kept_bytes, access_with, accesses_with_bytes, bytes_kept, AreShort, AreRings, is_header_awaited}
 
 -- each header has its access
@@ -25,6 +25,11 @@ pub oldest_of : (device : ℕ) (waiting : List AccessHeader) (bytes : List ℕ)
     ≡ option_map (λ (a : AccessHeader). record { device = device; frame = a.frame; offset = a.address % 4096; len = a.len; kind = a.kind }) (slice_get waiting 0)
 oldest_of device [] bytes = refl
 oldest_of device (a ∷ later) bytes = refl
+
+-- the oldest's number is the oldest header's
+pub number_of : (waiting : List AccessHeader) (bytes : List ℕ) → first_number (accesses_with_bytes waiting bytes) ≡ option_map (λ (a : AccessHeader). a.number) (slice_get waiting 0)
+number_of [] bytes = refl
+number_of (a ∷ later) bytes = refl
 
 -- the access at a place is that of the header there
 pub made_of : (device place : ℕ) (waiting : List AccessHeader) (bytes : List ℕ)

@@ -87,6 +87,16 @@ abbrev pub oldest_in : Option FlightRow → Option MadeAt
 oldest_in None = None
 oldest_in (Some row) = first_made row.device row.waiting
 
+-- its number, in the order of acceptance over all devices
+abbrev pub first_number : List NumberedAccess → Option ℕ
+first_number [] = None
+first_number (oldest ∷ later) = Some oldest.number
+
+-- the same of the oldest access of a row
+abbrev pub oldest_number_in : Option FlightRow → Option ℕ
+oldest_number_in None = None
+oldest_number_in (Some row) = first_number row.waiting
+
 -- whether there is one
 abbrev pub has_access : List NumberedAccess → Bool
 has_access [] = false

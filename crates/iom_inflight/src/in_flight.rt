@@ -2,7 +2,7 @@ ghost use Rattle.std.specs.Prelude.{◌≡◌, ◌↔◌, ◌<◌, ◌≤◌, �
 ghost use Rattle.iom_base.specs.Accesses.{read_of, write_of};
 ghost use Rattle.iom_base.specs.Sizes.{in_flight_limit, device_limit};
 ghost use Rattle.iom_base.specs.Spans.{FitsInPage};
-ghost use Rattle.iom_inflight.specs.Flights.{Flights, no_flights, row_of, IsAddedTo, count_in, accepted_in, count_all, waiting_at, oldest_in, first_busy, some_in_flight, are_drained};
+ghost use Rattle.iom_inflight.specs.Flights.{Flights, no_flights, row_of, IsAddedTo, count_in, accepted_in, count_all, waiting_at, oldest_in, oldest_number_in, first_busy, some_in_flight, are_drained};
 ghost use Rattle.iom_inflight.specs.Calls.{Adds, Accepts, MakesOldestInFlight, IsReadyToCommit};
 ghost use Rattle.iom_inflight.specs.Rows.{RowStandsAt};
 ghost use Rattle.iom_inflight.specs.Sound.{AreFlights};
@@ -203,6 +203,15 @@ impl InFlight {
     {
         let place = find(&self.rows, device)?;
         self.rows[place].oldest()
+    }
+
+    /// The place of the device's oldest access in the order of acceptance over all devices, from 1: by that a fence knows which it
+    /// waits for. None where nothing of the device is in flight, or it wasn't added.
+    pub fn oldest_number(&self, device: DeviceId) -> Option<u64>
+        ensures { result ≡ oldest_number_in (row_of self.now.rows device) }
+    {
+        let place = find(&self.rows, device)?;
+        self.rows[place].oldest_number()
     }
 
     /// What is made of the access of the device at this place, the oldest at 0; None where as many aren't in flight, or

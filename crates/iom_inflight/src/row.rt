@@ -4,7 +4,7 @@ ghost use Rattle.iom_base.specs.Accesses.{read_of, write_of};
 ghost use Rattle.iom_base.specs.Bytes.{with_bytes};
 ghost use Rattle.iom_base.specs.Sizes.{page_size, in_flight_limit};
 ghost use Rattle.iom_base.specs.declared.access.AccessKind.TheVariants.{Read, Write};
-ghost use Rattle.iom_inflight.specs.Flights.{FlightRow, new_row, made_in, first_made, has_access, is_row_drained};
+ghost use Rattle.iom_inflight.specs.Flights.{FlightRow, new_row, made_in, first_made, first_number, has_access, is_row_drained};
 ghost use Rattle.std.specs.List.{list_all};
 ghost use Rattle.iom_inflight.specs.Rings.{is_header_awaited};
 ghost use Rattle.iom_inflight.specs.Rows.{RowAccepts, IsMakeable, RowMakes, OldestIsRead, OldestWrites};
@@ -151,6 +151,15 @@ impl Row {
             len: header.len,
             kind: header.kind,
         })
+    }
+
+    /// The oldest's place in the order of acceptance over all devices.
+    #[tactic(auto, using(crate::proofs::Accesses::number_of))]
+    pub(crate) fn oldest_number(&self) -> Option<u64>
+        ensures { result ≡ first_number self.now.waiting }
+    {
+        let header = self.waiting.front()?;
+        Some(header.number)
     }
 
     /// Accepts a read of so many bytes at the address, on the frame: it goes last. None exactly where eight

@@ -1,6 +1,7 @@
 // What can be foreseen of a fetch and of a timeout, without doing either.
 ghost use Rattle.std.specs.Prelude.{◌≡◌, false};
 ghost use Rattle.iom_iommu.specs.Foreseen.{fence_waits_again, waits_again, fetch_has_effect, FetchLeavesAll};
+ghost use Rattle.iom_iommu.specs.Parts.{fence_snapshot_of};
 ghost use Rattle.iom_iommu.specs.Timeouts.{can_time_out};
 
 use crate::iommu::Iommu;
@@ -49,6 +50,14 @@ impl<C: TransCache> Iommu<C> {
             Some(QueueEntry::Outside | QueueEntry::Illegal(_)) => true,
             Some(QueueEntry::Command(command)) => !self.waits_again(&command),
         }
+    }
+
+    /// How many accesses were accepted when the fence at the head of the command queue was first fetched with no request open: it waits
+    /// for those among them that aren't made, and for no later ones. None where it wasn't fetched so, or no fence stands there.
+    pub fn fence_snapshot(&self) -> Option<u64>
+        ensures { result ≡ fence_snapshot_of self.now }
+    {
+        self.fence_snapshot
     }
 
     /// Whether a timeout would have its effect: the fence at the head was fetched and told to wait for invalidation requests,

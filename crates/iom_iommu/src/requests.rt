@@ -1,7 +1,7 @@
 // What a device asks of memory, and what becomes of an access in flight.
 ghost use Rattle.std.specs.Prelude.{◌≡◌, ◌<◌, ◌≤◌, ◌+◌, ◌*◌, ◌^◌, length, IfSome};
 ghost use Rattle.iom_base.specs.Sizes.{in_flight_limit, device_limit};
-ghost use Rattle.iom_inflight.specs.Flights.{count_in, accepted_in, count_all, first_busy, oldest_in, row_of};
+ghost use Rattle.iom_inflight.specs.Flights.{count_in, accepted_in, count_all, first_busy, oldest_in, oldest_number_in, row_of};
 ghost use Rattle.iom_inflight.specs.Sound.{CarriesBytes};
 ghost use Rattle.iom_inflight.specs.Calls.{IsAccepted};
 ghost use Rattle.iom_inflight.specs.Rows.{RowStandsAt};
@@ -145,6 +145,14 @@ impl<C: TransCache> Iommu<C> {
         ensures { result ≡ oldest_in (row_of (flights_of self.now).rows device) }
     {
         self.in_flight.oldest(device)
+    }
+
+    /// The place of the device's oldest access in flight in the order of acceptance over all devices, from 1. None where nothing of
+    /// the device is in flight, or it wasn't added.
+    pub fn oldest_number(&self, device: DeviceId) -> Option<u64>
+        ensures { result ≡ oldest_number_in (row_of (flights_of self.now).rows device) }
+    {
+        self.in_flight.oldest_number(device)
     }
 
     /// The first device, in the order in which they were added, of which an access is in flight. None where nothing

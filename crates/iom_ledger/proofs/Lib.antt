@@ -10,3 +10,4 @@ pub mod FrameRowLemmas
 pub mod PageNumbers
 pub mod UnknownTickets
 pub mod SameLemmas
+pub mod ReachLemmas

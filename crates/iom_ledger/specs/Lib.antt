@@ -10,3 +10,5 @@ pub mod Shown
 pub mod Changes
 pub mod Confirmations
 pub mod Same
+pub mod Reaching
+pub mod RowsReaching

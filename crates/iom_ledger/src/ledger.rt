@@ -12,6 +12,7 @@ use crate::frame_rows::FrameRows;
 use crate::lookups::{holds_anything_in, lingers_anything_in};
 use crate::page_row::PageRow;
 use crate::pending::Pending;
+use crate::reaching::{Reach, reach_in};
 use crate::ring::{Ring, confirm_in, has_same_releases, note, still_ascend};
 use crate::row::Row;
 use circular_buffer::HeapCircularBuffer;
@@ -41,7 +42,7 @@ pub struct Ledger {
 
 impl Ledger {
     ghost use Rattle.std.specs.Prelude.{◌↔◌, ◌+◌, ◌<◌, ◌≤◌, ℕ, List, [], ◌∷◌, Contains, length, max, slice_get, false, not};
-    ghost use Rattle.std.specs.Prelude.{IsTrue, IsNone, IsSome, IfOk, IfSome, OnOk, OnErr, Some, None};
+    ghost use Rattle.std.specs.Prelude.{IsTrue, IsNone, IsSome, IfOk, IfSome, MatchOption, OnOk, OnErr, Some, None};
     ghost use Rattle.iom_ledger.specs.declared.entry.HistoryEntry.TheVariants.{Granted, Released, AllReleased, Confirmed};
     ghost use Rattle.iom_ledger.specs.History.{History, Pair, confirms, held_at, lingering_at, Holds, Lingers, NoneMayReach, pending_limit};
     ghost use Rattle.iom_ledger.specs.Pending.{pending_of};
@@ -51,6 +52,7 @@ impl Ledger {
     ghost use Rattle.iom_frame_set.specs.Sets.{has};
     ghost use Rattle.iom_ledger.specs.Shown.{held_in, released_in, lingering_in, pending_in, pages_listed, frames_in};
     ghost use Rattle.iom_ledger.specs.Same.{IsSameLedger};
+    ghost use Rattle.iom_ledger.specs.Reaching.{IsNextReach, NoneReachesWithin};
     ghost use Rattle.iom_ledger.specs.Changes.{IsUnchanged, ShowsGrant, ShowsRelease, ShowsReleaseOfAll, ShowsConfirmation};
 
     /// A ledger of no grants. Makes the room of [`MAX_PENDING`] tickets, so that no release takes memory, and
@@ -164,6 +166,14 @@ impl Ledger {
         ensures { result ≡ slice_get (pages_listed self.now device) index }
     {
         page_at(&self.devices, device, index)
+    }
+
+    /// The first page of the device, from this index of its pages on, at which it holds the frame or at which the frame lingers. None
+    /// where there is none. So all of them are found by asking again from the index after the one that was found last.
+    pub fn reach_from(&self, device: DeviceId, frame: u32, from: usize) -> Option<Reach>
+        ensures { MatchOption result (NoneReachesWithin self.now device frame from (length (pages_listed self.now device))) (IsNextReach self.now device frame from) }
+    {
+        reach_in(&self.devices, device, frame, from)
     }
 
     /// The number of tickets under which something was released and that aren't confirmed.

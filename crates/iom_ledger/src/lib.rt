@@ -27,9 +27,11 @@ mod lookups;
 mod page_row;
 mod pages;
 mod pending;
+mod reaching;
 mod ring;
 mod row;
 
 pub use entry::HistoryEntry;
 pub use ledger::{Ledger, MAX_PENDING};
+pub use reaching::Reach;
 pub use row::Row;

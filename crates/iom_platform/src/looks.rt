@@ -18,6 +18,7 @@ use iom_base::{Access, AccessKind, DeviceId, Sequence};
 use iom_inflight::MadeAt;
 use iom_virtio_blk::{Blk, Disk, WantedAccess};
 use iom_virtqueue::Want;
+use iom_world::World;
 use std::alloc::{AllocError, Global};
 
 /// A write of the bytes.
@@ -56,6 +57,13 @@ fn wanted<D: Disk>(alloc: Global, blk: &Blk<D>) -> Result<Option<Access>, AllocE
 }
 
 impl<D: Disk> Platform<D> {
+    /// Its world, to be looked at.
+    pub fn world(&self) -> &World
+        ensures { result.now ≡ self.now.world }
+    {
+        &self.world
+    }
+
     /// The access of the device that was accepted last, of those in flight. None where nothing of it is in flight, or no
     /// device has the id.
     pub fn newest(&self, id: DeviceId) -> Option<MadeAt>

@@ -1,7 +1,7 @@
 -- Marks of reserved frames, and free frames.
 use Rattle.std.specs.Prelude.{◌≡◌, ◌≢◌, ℕ, zero, suc, ◌-◌, ◌<◌, ◌≤◌, Bool, false, ⊤, List, length, ◌++◌, replicate, Option, None, Some, is_some, slice_get, All, Contains, nat_eq}
 use Rattle.std.specs.List.{IsDistinct}
-use Rattle.std.specs.Option.{option_map_or}
+use Rattle.std.specs.Option.{option_and_then, option_map_or}
 use Rattle.iom_ledger.specs.declared.ledger.Ledger.{Ledger}
 use Rattle.iom_ledger.specs.Shown.{IsFreeIn}
 use Rattle.iom_phys_mem.specs.Words.{zeroed}
@@ -15,6 +15,10 @@ opening_marks frames = replicate (frames - 4) None ++ replicate 4 (Some System)
 -- whether the frame is reserved; one outside memory isn't
 abbrev pub is_marked : List (Option Owner) → ℕ → Bool
 is_marked marks frame = option_map_or (λ mark. is_some mark) (slice_get marks frame) false
+
+-- whom the frame is reserved for, if it is
+abbrev pub owner_at : List (Option Owner) → ℕ → Option Owner
+owner_at marks frame = option_and_then (λ mark. mark) (slice_get marks frame)
 
 -- the frame is free for a table that isn't to be the named one: not reserved, and no device holds or lingers on it
 pub record IsFreeForTable (marks : List (Option Owner)) (ledger : Ledger) (named : Option ℕ) (frame : ℕ) : Type 0 where

@@ -1,7 +1,7 @@
 ghost use Rattle.std.specs.Prelude.{◌≡◌, ◌↔◌, ◌+◌, ◌-◌, ◌^◌, ◌<◌, ◌≤◌, length, replicate, IfOk, IsTrue, None, Some, slice_get, slice_set, MatchOption};
 ghost use Rattle.std.specs.Option.{option_map_or};
 ghost use Rattle.iom_phys_mem.specs.Words.{zeroed};
-ghost use Rattle.iom_table_frames.specs.Marks.{is_marked, opening_marks, IsFreeForTable, NoneIsFree, IsHighestFree, HasFree, GivesBack, AreSoMany, IsFreeInMemory};
+ghost use Rattle.iom_table_frames.specs.Marks.{is_marked, owner_at, opening_marks, IsFreeForTable, NoneIsFree, IsHighestFree, HasFree, GivesBack, AreSoMany, IsFreeInMemory};
 
 use iom_base::{FRAME_SIZE, Owner};
 use iom_frame_set::FrameSet;
@@ -60,6 +60,16 @@ impl TableFrames {
         match self.marks.get(frame as usize) {
             None => false,
             Some(mark) => mark.is_some(),
+        }
+    }
+
+    /// Whom the frame is reserved for. None where it isn't reserved, or outside memory.
+    pub fn owner_of(&self, frame: u32) -> Option<Owner>
+        ensures { result ≡ owner_at self.now frame }
+    {
+        match self.marks.get(frame as usize) {
+            None => None,
+            Some(mark) => *mark,
         }
     }
 

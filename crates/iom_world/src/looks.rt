@@ -8,6 +8,7 @@ ghost use Rattle.iom_table_frames.specs.Marks.{is_marked};
 
 use crate::world::World;
 use iom_base::DeviceId;
+use iom_driver::Driver;
 use iom_hardware::Hardware;
 use iom_inflight::MadeAt;
 
@@ -17,6 +18,13 @@ impl World {
         ensures { result.now ≡ self.now.hardware }
     {
         &self.hardware
+    }
+
+    /// Its driver, to be looked at.
+    pub fn driver(&self) -> &Driver
+        ensures { result.now ≡ self.now.driver }
+    {
+        &self.driver
     }
 
     /// The access of the device that was accepted last, of those in flight. None where nothing of it is in flight, or no
