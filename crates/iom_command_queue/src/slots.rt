@@ -1,4 +1,4 @@
-ghost use Rattle.std.specs.Prelude.{◌≡◌, ◌↔◌, ◌+◌, ◌<◌, ◌≤◌, ◌^◌, [], length, IsTrue, IsNone, IfSome, OnSome, IfNone, Any, not, filter};
+ghost use Rattle.std.specs.Prelude.{◌≡◌, ◌↔◌, ◌+◌, ◌<◌, ◌≤◌, ◌^◌, [], length, IsTrue, IsNone, IfSome, OnSome, IfNone, Any, not, filter, slice_get};
 ghost use Rattle.iom_command_queue.specs.OpenSlots.{OpenSlots, no_slots, with_next, is_request, without_request};
 
 use crate::slot::Slot;
@@ -88,6 +88,13 @@ impl Slots {
         ensures { IsTrue result ↔ (self.now ≡ other.now) }
     {
         self.last == other.last && self.open.as_slice() == other.open.as_slice()
+    }
+
+    /// The request that has been open longest: the one with the lowest number. None where none is open.
+    pub fn oldest(&self) -> Option<Slot>
+        ensures { result ≡ slice_get self.now.open_slots 0 }
+    {
+        self.open.first().copied()
     }
 
     /// The last number that was given, 0 before the first.
