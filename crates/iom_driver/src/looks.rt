@@ -3,7 +3,7 @@ ghost use Rattle.std.specs.Prelude.{◌≡◌};
 ghost use Rattle.iom_phys_mem.specs.Words.{word_at};
 ghost use Rattle.iom_table_frames.specs.Marks.{owner_at};
 ghost use Rattle.iom_driver.specs.Layout.{completion_address};
-ghost use Rattle.iom_driver.specs.Looks.{awaited_fence, parting_ticket};
+ghost use Rattle.iom_driver.specs.Looks.{awaited_fence, oldest_pending, parting_ticket};
 ghost use Rattle.iom_driver.specs.Devices.{attachment_by_id};
 ghost use Rattle.iom_driver.specs.Seen.{state_of};
 
@@ -28,6 +28,17 @@ impl Driver {
         ensures { result ≡ owner_at (state_of self.now).marks frame }
     {
         self.marks.owner_of(frame)
+    }
+
+    /// The oldest ticket that isn't confirmed: the next that a poll confirms. None where all are.
+    pub fn oldest_pending(&self) -> Option<u32>
+        ensures { result ≡ oldest_pending (state_of self.now) }
+    {
+        if self.confirmed < self.given {
+            Some(self.confirmed + 1)
+        } else {
+            None
+        }
     }
 
     /// The number of the fence that the ticket waits for. None where the ticket wasn't given, or is confirmed.
