@@ -71,9 +71,21 @@ pub struct Device {
     pub in_flight: Sequence<AcceptedAccess>,
 }
 
+/// How much the machine allows at a time. `Step` never changes it.
+#[derive(Clone, Copy, PartialEq, Eq, Debug)]
+pub struct Limits {
+    /// The most tickets that aren't confirmed at a time.
+    pub pending: u64,
+    /// The most accesses of a device in flight.
+    pub in_flight: u64,
+    /// The most devices plugged in.
+    pub devices: u64,
+}
+
 /// All that the machine knows.
 #[derive(Drop)]
 pub struct State {
+    pub limits: Limits,
     /// How many levels the device directory has, from 1 to 3. They bound the ids that it can name.
     pub levels: u8,
     pub frames: Sequence<Frame>,
