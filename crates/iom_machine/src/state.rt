@@ -1,5 +1,7 @@
-use iom_base::{AcceptedAccess, DeviceId, DeviceKind, Mode, Owner, Sequence};
-use iom_ledger::HistoryEntry;
+use iom_base::{
+    AcceptedAccess, DeviceId, DeviceKind, MAX_DEVICES, MAX_IN_FLIGHT, Mode, Owner, Sequence,
+};
+use iom_ledger::{HistoryEntry, MAX_PENDING};
 
 /// How a device is attached.
 #[derive(Clone, Copy, PartialEq, Eq, Debug)]
@@ -80,6 +82,22 @@ pub struct Limits {
     pub in_flight: u64,
     /// The most devices plugged in.
     pub devices: u64,
+}
+
+impl Limits {
+    ghost use Rattle.std.specs.Prelude.{◌≡◌};
+    ghost use Rattle.iom_machine.specs.PowerOn.{model_limits};
+
+    /// What the model's driver, its devices and its IOMMU have room for.
+    pub fn of_model() -> Limits
+        ensures { result ≡ model_limits }
+    {
+        Limits {
+            pending: MAX_PENDING as u64,
+            in_flight: MAX_IN_FLIGHT as u64,
+            devices: MAX_DEVICES as u64,
+        }
+    }
 }
 
 /// All that the machine knows.
