@@ -11,3 +11,4 @@ pub mod PageNumbers
 pub mod UnknownTickets
 pub mod SameLemmas
 pub mod ReachLemmas
+pub mod RoomLemmas

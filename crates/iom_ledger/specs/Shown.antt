@@ -23,6 +23,10 @@ lingering_in ledger device page = option_map (λ released. released.1) (released
 unfoldable pub pending_in : Ledger → List ℕ
 pending_in ledger = map (λ release. release.ticket) ledger.pending.items
 
+-- so many tickets may be pending before more room is made
+unfoldable pub pending_room : Ledger → ℕ
+pending_room ledger = ledger.pending.capacity
+
 -- the pages at which the device holds something or something lingers, in the order in which the ledger keeps them
 unfoldable pub pages_listed : Ledger → ℕ → List ℕ
 pages_listed ledger device = pages_of ledger.devices device

@@ -1,6 +1,6 @@
-#![tactic(auto, unfolding(crate::specs::Shown::held_in, crate::specs::Shown::released_in, crate::specs::Shown::pending_in, crate::specs::Shown::pages_listed, crate::specs::Shown::frames_in))]
+#![tactic(auto, unfolding(crate::specs::Shown::held_in, crate::specs::Shown::released_in, crate::specs::Shown::pending_in, crate::specs::Shown::pending_room, crate::specs::Shown::pages_listed, crate::specs::Shown::frames_in))]
 
-ghost use Rattle.std.specs.Prelude.{◌≡◌, true};
+ghost use Rattle.std.specs.Prelude.{◌≡◌, ◌≤◌, true};
 ghost use Rattle.iom_ledger.specs.Counts.{AreCounted};
 ghost use Rattle.iom_ledger.specs.History.{pending_limit};
 ghost use Rattle.iom_ledger.specs.Ring.{is_ascending};
@@ -20,7 +20,7 @@ use iom_base::{DeviceId, Rights};
 use iom_frame_set::FrameSet;
 use std::alloc::{AllocError, Global};
 
-/// The most tickets that are pending at a time.
+/// So many tickets may be pending at a time without more room being made.
 pub const MAX_PENDING: usize = 256;
 
 /// The grants of all devices, and the tickets that aren't confirmed.
@@ -37,20 +37,20 @@ pub struct Ledger {
     ghost named: { AllNamed devices pending.items },
     ghost counted: { AreCounted devices frames.rows.items },
     ghost ordered: { ascending ≡ true → is_ascending pending.items ≡ true },
-    ghost room: { pending.capacity ≡ pending_limit },
+    ghost room: { pending_limit ≤ pending.capacity },
 }
 
 impl Ledger {
     ghost use Rattle.std.specs.Prelude.{◌↔◌, ◌+◌, ◌<◌, ◌≤◌, ℕ, List, [], ◌∷◌, Contains, length, max, slice_get, false, not};
     ghost use Rattle.std.specs.Prelude.{IsTrue, IsNone, IsSome, IfOk, IfSome, MatchOption, OnOk, OnErr, Some, None};
     ghost use Rattle.iom_ledger.specs.declared.entry.HistoryEntry.TheVariants.{Granted, Released, AllReleased, Confirmed};
-    ghost use Rattle.iom_ledger.specs.History.{History, Pair, confirms, held_at, lingering_at, Holds, Lingers, NoneMayReach, pending_limit};
+    ghost use Rattle.iom_ledger.specs.History.{History, Pair, confirms, held_at, lingering_at, Holds, Lingers, NoneMayReach};
     ghost use Rattle.iom_ledger.specs.Pending.{pending_of};
     ghost use Rattle.iom_ledger.specs.Shown.{Agrees, IsFreeIn};
     ghost use Rattle.iom_ledger.specs.FrameRows.{IsRowOf, IsFreeRow};
     ghost use Rattle.iom_base.specs.Calls.{IsGrantable};
     ghost use Rattle.iom_frame_set.specs.Sets.{has};
-    ghost use Rattle.iom_ledger.specs.Shown.{held_in, released_in, lingering_in, pending_in, pages_listed, frames_in};
+    ghost use Rattle.iom_ledger.specs.Shown.{held_in, released_in, lingering_in, pending_in, pending_room, pages_listed, frames_in};
     ghost use Rattle.iom_ledger.specs.Same.{IsSameLedger};
     ghost use Rattle.iom_ledger.specs.Reaching.{IsNextReach, NoneReachesWithin};
     ghost use Rattle.iom_ledger.specs.Changes.{IsUnchanged, ShowsGrant, ShowsRelease, ShowsReleaseOfAll, ShowsConfirmation};
@@ -180,9 +180,26 @@ impl Ledger {
     pub fn pending(&self) -> usize
         ensures shown { result ≡ length (pending_in self.now) }
         ensures pending { (h : History) → Agrees self.now h → result ≡ length (pending_of h) }
-        ensures within { result ≤ pending_limit }
+        ensures within { result ≤ pending_room self.now }
     {
         self.pending.len()
+    }
+
+    /// Makes the room of a release more, where there is none. Where that is refused nothing changes.
+    pub fn make_room(&mut self) -> Result<(), AllocError>
+        ensures room { OnOk result (length (pending_in self.new) < pending_room self.new) }
+        ensures refused { OnErr result (pending_room self.new ≡ pending_room self.old) }
+        ensures kept { pending_room self.old ≤ pending_room self.new }
+        ensures same { IsSameLedger self.old self.new }
+        ensures unchanged { IsUnchanged self.old self.new }
+        ensures frames { frames_in self.new ≡ frames_in self.old }
+        ensures agrees { (h : History) → Agrees self.old h → Agrees self.new h }
+    {
+        let room = self.pending.capacity();
+        if self.pending.len() < room {
+            return Ok(());
+        }
+        self.pending.resize(2 * room)
     }
 
     /// Grants the device the frame at a page where it holds nothing and nothing lingers, with the
@@ -217,7 +234,7 @@ impl Ledger {
     /// memory. That the device holds there is the caller's premise: what is ensured is proved without it.
     pub fn release(&mut self, device: DeviceId, page: u64, ticket: u32)
         requires held { IsSome (held_in self.old device page) }
-        requires room { length (pending_in self.old) < pending_limit }
+        requires room { length (pending_in self.old) < pending_room self.old }
         ensures agrees { (h : History) → Agrees self.old h → confirms h ticket ≡ false → Agrees self.new (Released device page ticket ∷ h) }
         ensures released { ShowsRelease self.old self.new device page ticket }
         ensures frames { frames_in self.new ≡ frames_in self.old }
@@ -235,7 +252,7 @@ impl Ledger {
     /// Releases all that the device holds, under a ticket that isn't confirmed yet. It is pending
     /// even where the device holds nothing. Takes no memory.
     pub fn release_all(&mut self, device: DeviceId, ticket: u32)
-        requires { length (pending_in self.old) < pending_limit }
+        requires { length (pending_in self.old) < pending_room self.old }
         ensures agrees { (h : History) → Agrees self.old h → confirms h ticket ≡ false → Agrees self.new (AllReleased device ticket ∷ h) }
         ensures released { ShowsReleaseOfAll self.old self.new device ticket }
         ensures frames { frames_in self.new ≡ frames_in self.old }

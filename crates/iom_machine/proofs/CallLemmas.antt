@@ -33,9 +33,9 @@ none_if_not_some (Some x) e = cc
 pub granted_as : (taken : List ℕ) (old : State) (id page frame : ℕ) (rights : GrantRights) (history : History) (frames : List Frame)
     → NoneApplies (grant_reasons old id page frame) → All (IsFreeBesides old (Some frame)) taken
     → history ≡ entries.Granted id page frame (rights_of rights) ∷ old.history → frames ≡ reserved_for (OneDevice id) taken old.frames
-    → (new : State) → (◌≡◌ {A = Option State} (Some (record { levels = old.levels; frames = frames; history = history; last_ticket = old.last_ticket; devices = old.devices; disks = old.disks })) (Some new)) ↔ Grants taken old id page frame rights Done new
+    → (new : State) → (◌≡◌ {A = Option State} (Some (record { limits = old.limits; levels = old.levels; frames = frames; history = history; last_ticket = old.last_ticket; devices = old.devices; disks = old.disks })) (Some new)) ↔ Grants taken old id page frame rights Done new
 granted_as taken old id page frame rights history frames none free h f new =
-    let next : State = record { levels = old.levels; frames = frames; history = history; last_ticket = old.last_ticket; devices = old.devices; disks = old.disks } in
+    let next : State = record { limits = old.limits; levels = old.levels; frames = frames; history = history; last_ticket = old.last_ticket; devices = old.devices; disks = old.disks } in
     let is : next ≡ record old { history = entries.Granted id page frame (rights_of rights) ∷ old.history; frames = reserved_for (OneDevice id) taken old.frames } = rw (h, f) refl in (
       (λ same. (none, free, sym (only_state next new same) ∙ is)),
       (λ step. some_state next new (is ∙ sym step.2)),
@@ -49,9 +49,9 @@ attached_state pages taken old id mode ats device =
 pub attached_as : (pages taken : List ℕ) (old : State) (id : ℕ) (mode : Mode) (ats : Bool) (place : ℕ) (device : Device) (devices : List Device) (frames : List Frame)
     → NoneApplies (attach_reasons old id ats) → All (IsFree old) (pages ++ taken) → StandsAt old.devices id place → slice_get old.devices place ≡ Some device
     → devices ≡ slice_set old.devices place (record device { attachment = Attached mode ats }) → frames ≡ reserved_for (OneDevice id) taken (reserved_for System pages old.frames)
-    → (new : State) → (◌≡◌ {A = Option State} (Some (record { levels = old.levels; frames = frames; history = old.history; last_ticket = old.last_ticket; devices = devices; disks = old.disks })) (Some new)) ↔ Attaches pages taken old id mode ats Done new
+    → (new : State) → (◌≡◌ {A = Option State} (Some (record { limits = old.limits; levels = old.levels; frames = frames; history = old.history; last_ticket = old.last_ticket; devices = devices; disks = old.disks })) (Some new)) ↔ Attaches pages taken old id mode ats Done new
 attached_as pages taken old id mode ats place device devices frames none free is_place at d f new =
-    let next : State = record { levels = old.levels; frames = frames; history = old.history; last_ticket = old.last_ticket; devices = devices; disks = old.disks } in
+    let next : State = record { limits = old.limits; levels = old.levels; frames = frames; history = old.history; last_ticket = old.last_ticket; devices = devices; disks = old.disks } in
     let own = own_place old.devices id place device is_place at in
     let now : Device = record device { attachment = Attached mode ats } in
     let is : next ≡ attached_state pages taken old id mode ats device = rw (d, f, own.2 now) refl in
@@ -80,9 +80,9 @@ detached_state ticket old device = record (with_device old (record device { has_
 pub detached_as : (ticket : ℕ) (old : State) (id place : ℕ) (device : Device) (devices : List Device)
     → NoneApplies (detach_reasons old id) → ticket ≡ old.last_ticket + 1 → StandsAt old.devices id place → slice_get old.devices place ≡ Some device
     → devices ≡ slice_set old.devices place (record device { has_disk = false; attachment = leaving_under ticket device.attachment })
-    → (new : State) → (◌≡◌ {A = Option State} (Some (record { levels = old.levels; frames = old.frames; history = old.history; last_ticket = ticket; devices = devices; disks = old.disks })) (Some new)) ↔ Detaches old id (Ticket ticket) new
+    → (new : State) → (◌≡◌ {A = Option State} (Some (record { limits = old.limits; levels = old.levels; frames = old.frames; history = old.history; last_ticket = ticket; devices = devices; disks = old.disks })) (Some new)) ↔ Detaches old id (Ticket ticket) new
 detached_as ticket old id place device devices none next_one is_place at d new =
-    let next : State = record { levels = old.levels; frames = old.frames; history = old.history; last_ticket = ticket; devices = devices; disks = old.disks } in
+    let next : State = record { limits = old.limits; levels = old.levels; frames = old.frames; history = old.history; last_ticket = ticket; devices = devices; disks = old.disks } in
     let own = own_place old.devices id place device is_place at in
     let now : Device = record device { has_disk = false; attachment = leaving_under ticket device.attachment } in
     let is : next ≡ detached_state ticket old device = rw (d, own.2 now) refl in
@@ -101,9 +101,9 @@ cut_off_state ticket id old device = record (with_device old (record device { at
 pub cut_off_as : (ticket : ℕ) (old : State) (id place : ℕ) (device : Device) (history : History) (devices : List Device)
     → NoneApplies (quarantine_reasons old id) → ticket ≡ old.last_ticket + 1 → StandsAt old.devices id place → slice_get old.devices place ≡ Some device
     → history ≡ entries.AllReleased id ticket ∷ old.history → devices ≡ slice_set old.devices place (record device { attachment = cut_off_under ticket device.attachment })
-    → (new : State) → (◌≡◌ {A = Option State} (Some (record { levels = old.levels; frames = old.frames; history = history; last_ticket = ticket; devices = devices; disks = old.disks })) (Some new)) ↔ Quarantines old id (Ticket ticket) new
+    → (new : State) → (◌≡◌ {A = Option State} (Some (record { limits = old.limits; levels = old.levels; frames = old.frames; history = history; last_ticket = ticket; devices = devices; disks = old.disks })) (Some new)) ↔ Quarantines old id (Ticket ticket) new
 cut_off_as ticket old id place device history devices none next_one is_place at h d new =
-    let next : State = record { levels = old.levels; frames = old.frames; history = history; last_ticket = ticket; devices = devices; disks = old.disks } in
+    let next : State = record { limits = old.limits; levels = old.levels; frames = old.frames; history = history; last_ticket = ticket; devices = devices; disks = old.disks } in
     let own = own_place old.devices id place device is_place at in
     let now : Device = record device { attachment = cut_off_under ticket device.attachment } in
     let is : next ≡ cut_off_state ticket id old device = rw (h, d, own.2 now) refl in
@@ -116,9 +116,9 @@ cut_off_as ticket old id place device history devices none next_one is_place at 
 pub revived_as : (old : State) (id place : ℕ) (device : Device) (devices : List Device)
     → NoneApplies (revive_reasons old id) → StandsAt old.devices id place → slice_get old.devices place ≡ Some device
     → devices ≡ slice_set old.devices place (record device { attachment = attached_again device.attachment })
-    → (new : State) → (◌≡◌ {A = Option State} (Some (record { levels = old.levels; frames = old.frames; history = old.history; last_ticket = old.last_ticket; devices = devices; disks = old.disks })) (Some new)) ↔ Revives old id Done new
+    → (new : State) → (◌≡◌ {A = Option State} (Some (record { limits = old.limits; levels = old.levels; frames = old.frames; history = old.history; last_ticket = old.last_ticket; devices = devices; disks = old.disks })) (Some new)) ↔ Revives old id Done new
 revived_as old id place device devices none is_place at d new =
-    let next : State = record { levels = old.levels; frames = old.frames; history = old.history; last_ticket = old.last_ticket; devices = devices; disks = old.disks } in
+    let next : State = record { limits = old.limits; levels = old.levels; frames = old.frames; history = old.history; last_ticket = old.last_ticket; devices = devices; disks = old.disks } in
     let own = own_place old.devices id place device is_place at in
     let now : Device = record device { attachment = attached_again device.attachment } in
     let is : next ≡ with_device old now = rw (d, own.2 now) refl in
@@ -130,10 +130,10 @@ revived_as old id place device devices none is_place at d new =
 -- the state after a poll
 pub confirmed_as : (old : State) (first last : ℕ) (timed_out : Bool) (history : History) → AreNextTickets old first last → history ≡ confirmed_from first (suc (last - first)) old.history
     → All (DeviceMay history) old.devices
-    → (next : State) → next ≡ with_left (record { levels = old.levels; frames = old.frames; history = history; last_ticket = old.last_ticket; devices = old.devices; disks = old.disks })
+    → (next : State) → next ≡ with_left (record { limits = old.limits; levels = old.levels; frames = old.frames; history = history; last_ticket = old.last_ticket; devices = old.devices; disks = old.disks })
     → (new : State) → (◌≡◌ {A = Option State} (Some next) (Some new)) ↔ Polls old (Confirmed first last timed_out) new
 confirmed_as old first last timed_out history tickets extended may next left new =
-    let confirmed : State = record { levels = old.levels; frames = old.frames; history = history; last_ticket = old.last_ticket; devices = old.devices; disks = old.disks } in
+    let confirmed : State = record { limits = old.limits; levels = old.levels; frames = old.frames; history = history; last_ticket = old.last_ticket; devices = old.devices; disks = old.disks } in
     let was : confirmed ≡ with_confirmed old first last = rw extended refl in
     let is : next ≡ with_left (with_confirmed old first last) = left ∙ ap with_left was in
     let may_next : EachInFlightMay next = subst EachInFlightMay (sym left) ((devices_may history old.devices).0 may) in (

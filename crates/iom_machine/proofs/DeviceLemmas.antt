@@ -528,12 +528,12 @@ own_ids-run old new (event ∷ events) (outcome ∷ outcomes) (mid, step, run) o
 
 -- each access in flight was accepted at an event of its own
 pub in_flight_were_accepted : AccessesInFlightWereAccepted
-in_flight_were_accepted state events outcomes (frames, levels, disks, run) k d below =
+in_flight_were_accepted state events outcomes (limits, frames, levels, disks, run) k d below =
     let device = get_or state.devices k d in
     let at : slice_get state.devices k ≡ Some device = slice_get-get_or state.devices k d below in
-    let there : device_of state device.id ≡ Some device = own_ids-found state.devices k device (own_ids-run (opening frames levels disks) state events outcomes run tt) at in
+    let there : device_of state device.id ≡ Some device = own_ids-found state.devices k device (own_ids-run (opening limits frames levels disks) state events outcomes run tt) at in
     let flows : Flows (accepted_in events outcomes device.id) (made_in events outcomes device.id) None (Some device) =
-    subst (λ found. Flows (accepted_in events outcomes device.id) (made_in events outcomes device.id) None found) there (flows-run (opening frames levels disks) state events outcomes run device.id) in
+    subst (λ found. Flows (accepted_in events outcomes device.id) (made_in events outcomes device.id) None found) there (flows-run (opening limits frames levels disks) state events outcomes run device.id) in
     let from = flows [] tt in
     record {
       made = from.made;

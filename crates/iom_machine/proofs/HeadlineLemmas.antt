@@ -190,7 +190,7 @@ no_fault_where_held device state id access frame cause (size, ats, inl first) he
 no_fault_where_held device state id access frame cause (size, ats, inr second) held may = (subst (λ a. MayFault a state id access cause) second may).0 frame held
 
 answered_where_held : (chosen : ℕ) (old new : State) (frame : ℕ) (device : Device) (access : Access) (outcome : Outcome)
-    → MayAnswer old device access chosen outcome → new ≡ state_after old device access chosen outcome → IsOneStage device → IsWithinPage access → ¬ IsBusy device.in_flight
+    → MayAnswer old device access chosen outcome → new ≡ state_after old device access chosen outcome → IsOneStage device → IsWithinPage access → ¬ IsBusy old.limits.in_flight device.in_flight
     → HoldsFor old.history device.id access frame
     → (outcome ≡ Accepted (device.accepted + 1)) × (new ≡ with_accepted old device access frame)
 answered_where_held chosen old new frame device access BadSpan answer next one within room held = absurd (answer within)
@@ -204,7 +204,7 @@ answered_where_held chosen old new frame device access (Accepted number) answer 
 answered_where_held chosen old new frame device access _ answer next one within room held = absurd answer
 
 asked_where_held : (chosen : ℕ) (old new : State) (id frame : ℕ) (device : Device) (access : Access) (outcome : Outcome)
-    → Requests chosen old id access outcome new → IsPlugged old id device → device.kind ≡ Raw → IsOneStage device → IsWithinPage access → ¬ IsBusy device.in_flight
+    → Requests chosen old id access outcome new → IsPlugged old id device → device.kind ≡ Raw → IsOneStage device → IsWithinPage access → ¬ IsBusy old.limits.in_flight device.in_flight
     → HoldsFor old.history id access frame
     → (outcome ≡ Accepted (device.accepted + 1)) × (new ≡ with_accepted old device access frame)
 asked_where_held chosen old new id frame device access outcome step there raw one within room held =
@@ -214,7 +214,7 @@ asked_where_held chosen old new id frame device access outcome step there raw on
     answered_where_held chosen old new frame device access outcome answer.0 answer.1 one within room (subst (λ i. HoldsFor old.history i access frame) (sym own) held)
 
 pub accepted_on_its_frame : (old new : State) (event : Event) (outcome : Outcome) (id frame : ℕ) (device : Device) (access : Access)
-    → Step old event outcome new → AsksFor event id access → IsPlugged old id device → device.kind ≡ Raw → IsOneStage device → IsWithinPage access → ¬ IsBusy device.in_flight
+    → Step old event outcome new → AsksFor event id access → IsPlugged old id device → device.kind ≡ Raw → IsOneStage device → IsWithinPage access → ¬ IsBusy old.limits.in_flight device.in_flight
     → HoldsFor old.history id access frame
     → (outcome ≡ Accepted (device.accepted + 1)) × (new ≡ with_accepted old device access frame)
 accepted_on_its_frame old new event outcome id frame device access step asks there raw one within room held =

@@ -5,6 +5,7 @@ pub mod LeavingLemmas
 pub mod GrantLemmas
 pub mod AskedLemmas
 pub mod DeviceLemmas
+pub mod LimitLemmas
 pub mod SoundLemmas
 pub mod HeadlineLemmas
 pub mod ReclaimLemmas

@@ -21,6 +21,7 @@ use Rattle.iom_machine.specs.declared.outcome.Outcome.{Outcome}
 use Rattle.iom_machine.specs.declared.outcome.Outcome.TheVariants.{Done, Refused, Ticket, Confirmed, NoneConfirmed, Record, NoRecord, Fetched, TimedOut, NoEffect, Accepted, Busy, BadSpan, Fault, Read, Wrote, NothingInFlight, Bytes, Free, Stepped}
 use Rattle.iom_base.specs.declared.access.Access.{Access}
 use Rattle.iom_machine.specs.declared.state.Device.{Device}
+use Rattle.iom_machine.specs.declared.state.Limits.{Limits}
 use Rattle.iom_machine.specs.declared.state.Frame.{Frame}
 use Rattle.iom_base.specs.declared.access.AcceptedAccess.{AcceptedAccess}
 use Rattle.iom_base.specs.declared.owner.Owner.{Owner}
@@ -600,8 +601,8 @@ never_before : (device frame : ℕ) (kind : AccessKind) → ¬ May [] device fra
 never_before device frame kind (page, rights, inl holds, allowed) = let none : ◌≡◌ {A = Option Pair} None (Some (frame, rights)) = holds in cc
 never_before device frame kind (page, rights, inr (ticket, (k, below, at)), allowed) = omega arith
 
-pub sound-opening : (frames levels : ℕ) (disks : List ℕ) → IsSound (opening frames levels disks)
-sound-opening frames levels disks = record {
+pub sound-opening : (limits : Limits) (frames levels : ℕ) (disks : List ℕ) → IsSound (opening limits frames levels disks)
+sound-opening limits frames levels disks = record {
   reaches = All-nil (λ (d : Device). All (StillMay [] d.id) d.in_flight);
   whole = All-nil (λ (d : Device). All (IsWhole d.id) d.in_flight);
   tickets = λ t c. cc;
@@ -612,5 +613,5 @@ sound-opening frames levels disks = record {
 
 -- every state that is reached is sound
 pub sound_if_reached : (state : State) → IsReached state → IsSound state
-sound_if_reached state (events, outcomes, (frames, levels, disks, run)) =
-    sound-run (opening frames levels disks) state events outcomes (sound-opening frames levels disks) run
+sound_if_reached state (events, outcomes, (limits, frames, levels, disks, run)) =
+    sound-run (opening limits frames levels disks) state events outcomes (sound-opening limits frames levels disks) run

@@ -45,13 +45,13 @@ IsStatus (outcomes.Status status) = ⊤
 IsStatus _ = ⊥
 
 -- What a step may be that begins no access. Only a device with a cache asks for a translation, where its access would come before the IOMMU.
-abbrev pub MayBe : Device → Access → BlockStep → Type 0
-MayBe device access Idle = ⊤
-MayBe device access Waiting = ⊤
-MayBe device access Asked = (has_cache device.kind ≡ true) × IsForwarded device.in_flight access.address access.len
-MayBe device access (Chain fault) = ⊤
-MayBe device access (Finished head len) = ⊤
-MayBe device access Down = ⊤
+abbrev pub MayBe : State → Device → Access → BlockStep → Type 0
+MayBe state device access Idle = ⊤
+MayBe state device access Waiting = ⊤
+MayBe state device access Asked = (has_cache device.kind ≡ true) × IsForwarded state.limits.in_flight device.in_flight access.address access.len
+MayBe state device access (Chain fault) = ⊤
+MayBe state device access (Finished head len) = ⊤
+MayBe state device access Down = ⊤
 
 -- It is answered as a request that the IOMMU translates, or, of a device with a cache, as one through that.
 abbrev pub IsAnswered : Bool → State → Device → Access → ℕ → Outcome → State → Type 0
@@ -66,7 +66,7 @@ Begins old device access frame outcome new = MayWant access × IsAnswered (has_c
 
 -- A block device takes a step. One whose access misses in the cache asks, so no step tells of that.
 abbrev pub TakesStep : State → Device → Access → ℕ → Outcome → State → Type 0
-TakesStep old device access frame (outcomes.Stepped step) new = MayBe device access step × (new ≡ old)
+TakesStep old device access frame (outcomes.Stepped step) new = MayBe old device access step × (new ≡ old)
 TakesStep old device access frame (outcomes.Accepted number) new = Begins old device access frame (outcomes.Accepted number) new
 TakesStep old device access frame outcomes.Busy new = Begins old device access frame outcomes.Busy new
 TakesStep old device access frame (outcomes.Fault cause) new = Begins old device access frame (outcomes.Fault cause) new

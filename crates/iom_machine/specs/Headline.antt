@@ -102,5 +102,5 @@ abbrev pub HeldPageIsAccepted : State → Event → Outcome → State → Type 0
 HeldPageIsAccepted old event outcome new =
     (id frame : ℕ) (device : Device) (access : Access)
     → AsksFor event id access → IsPlugged old id device → device.kind ≡ Raw → IsOneStage device
-    → IsWithinPage access → ¬ IsBusy device.in_flight → HoldsFor old.history id access frame
+    → IsWithinPage access → ¬ IsBusy old.limits.in_flight device.in_flight → HoldsFor old.history id access frame
     → (outcome ≡ Accepted (device.accepted + 1)) × (new ≡ with_accepted old device access frame)

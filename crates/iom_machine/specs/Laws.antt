@@ -7,6 +7,7 @@ use Rattle.iom_machine.specs.declared.outcome.Outcome.TheVariants.{Accepted}
 use Rattle.iom_base.specs.declared.access.Access.{Access}
 use Rattle.iom_base.specs.declared.access.AcceptedAccess.{AcceptedAccess}
 use Rattle.iom_machine.specs.declared.state.Device.{Device}
+use Rattle.iom_machine.specs.declared.state.Limits.{Limits}
 use Rattle.iom_machine.specs.declared.state.State.{State}
 use Rattle.iom_base.specs.Accesses.{read_of, write_of, at_frame}
 use Rattle.iom_machine.specs.Frames.{IsFree}
@@ -16,9 +17,10 @@ use Rattle.iom_machine.specs.Machine.{Step, Run}
 use Rattle.iom_machine.specs.PowerOn.{opening}
 use Rattle.iom_machine.specs.Headline.{AsksFor, GrantsFrameTo, GrantsFrame, MakesAccessOf, TouchesFrameBy, TouchesFrame, MadeAccessTouchesItsOwn, HeldPageIsAccepted}
 
--- these events from power-on may have had these outcomes, and left the state
+-- these events from power-on, with some limits, may have had these outcomes, and left the state
 abbrev pub IsReachedBy : List Event → List Outcome → State → Type 0
-IsReachedBy events outcomes state = (frames levels : ℕ) × (disks : List ℕ) × Run (opening frames levels disks) events outcomes state
+IsReachedBy events outcomes state =
+    (limits : Limits) × (frames levels : ℕ) × (disks : List ℕ) × Run (opening limits frames levels disks) events outcomes state
 
 -- some list of events from power-on leaves the state
 abbrev pub IsReached : State → Type 0
@@ -142,6 +144,10 @@ AccessesInFlightWereAccepted =
 abbrev pub CommitsAreAnswered : Type 0
 CommitsAreAnswered =
     (state : State) (id : ℕ) → IsReached state → (outcome : Outcome) × (new : State) × Step state (events.Commit id) outcome new
+
+-- No event changes the limits.
+abbrev pub LimitsStay : Type 0
+LimitsStay = (old new : State) (event : Event) (outcome : Outcome) → Step old event outcome new → new.limits ≡ old.limits
 
 -- A device has grants exactly where there is a page at which it holds something, or something lingers.
 abbrev pub GrantsAreAtPages : Type 0

@@ -1,4 +1,4 @@
--- What a device's request may be answered: the first of a bad span, eight in flight, and what the history says of the page.
+-- What a device's request may be answered: the first of a bad span, too many in flight, and what the history says of the page.
 use Rattle.std.specs.Prelude.{◌≡◌, ℕ, ◌+◌, ◌≤◌, ◌⊎◌, true, false, List, [], ◌∷◌, ◌++◌, length, if◌then◌else◌}
 use Rattle.iom_base.specs.declared.access.AccessKind.{AccessKind}
 use Rattle.iom_base.specs.declared.cause.Cause.{Cause}
@@ -7,7 +7,6 @@ use Rattle.iom_base.specs.declared.rights.Rights.{Rights}
 use Rattle.iom_base.specs.Causes.{page_fault_of, guest_page_fault_of}
 use Rattle.iom_base.specs.Rights.{allows}
 use Rattle.iom_base.specs.Accesses.{page_of, IsWithinPage}
-use Rattle.iom_base.specs.Sizes.{in_flight_limit}
 use Rattle.iom_base.specs.Spans.{FitsInPage}
 use Rattle.iom_ledger.specs.History.{History, Holds, Lingers, May, confirms}
 use Rattle.iom_machine.specs.declared.outcome.Outcome.{Outcome}
@@ -22,9 +21,9 @@ use Rattle.iom_machine.specs.declared.state.State.{State}
 use Rattle.iom_machine.specs.Devices.{with_device}
 use Rattle.iom_machine.specs.Refusals.{is_too_wide}
 
--- a device with these accesses in flight may have no more
-abbrev pub IsBusy : {X : Type 0} → List X → Type 0
-IsBusy in_flight = in_flight_limit ≤ length in_flight
+-- a device with these accesses in flight may have no more, where this is the most
+abbrev pub IsBusy : {X : Type 0} → ℕ → List X → Type 0
+IsBusy most in_flight = most ≤ length in_flight
 
 -- the device holds the frame where the access is to, with a right that allows it
 abbrev pub HoldsFor : History → ℕ → Access → ℕ → Type 0
@@ -106,17 +105,17 @@ MayFault (Quarantined ticket mode ats) state id access cause = MayFaultCutOff ti
 MayFault (Leaving ticket mode ats) state id access cause = MayFaultCutOff ticket mode state id access cause
 
 -- the request comes before the IOMMU: it stays within its page, and the device, with these in flight, isn't busy
-abbrev pub IsForwarded : {X : Type 0} → List X → ℕ → ℕ → Type 0
-IsForwarded in_flight address len = FitsInPage address len × (¬ IsBusy in_flight)
+abbrev pub IsForwarded : {X : Type 0} → ℕ → List X → ℕ → ℕ → Type 0
+IsForwarded most in_flight address len = FitsInPage address len × (¬ IsBusy most in_flight)
 
 -- what a plugged device's request may be answered, on which frame
 abbrev pub MayAnswer : State → Device → Access → ℕ → Outcome → Type 0
 MayAnswer state device access frame BadSpan = ¬ IsWithinPage access
-MayAnswer state device access frame Busy = IsWithinPage access × IsBusy device.in_flight
+MayAnswer state device access frame Busy = IsWithinPage access × IsBusy state.limits.in_flight device.in_flight
 MayAnswer state device access frame (Accepted number) =
-    IsForwarded device.in_flight access.address access.len × MayAccept device.attachment state device.id access frame × (number ≡ device.accepted + 1)
+    IsForwarded state.limits.in_flight device.in_flight access.address access.len × MayAccept device.attachment state device.id access frame × (number ≡ device.accepted + 1)
 MayAnswer state device access frame (Fault cause) =
-    IsForwarded device.in_flight access.address access.len × MayFault device.attachment state device.id access cause
+    IsForwarded state.limits.in_flight device.in_flight access.address access.len × MayFault device.attachment state device.id access cause
 MayAnswer state device access frame _ = ⊥
 
 -- the state, where one more access of the device is in flight

@@ -29,13 +29,13 @@ MayGoThrough (Leaving ticket mode ats) state id access frame = MayAcceptCutOff t
 -- What may come of a plugged device's access through its cache, on which frame. Whatever the device may do, its cache need not have it.
 abbrev pub MayAnswerThroughCache : State → Device → Access → ℕ → Outcome → Type 0
 MayAnswerThroughCache state device access frame BadSpan = ¬ IsWithinPage access
-MayAnswerThroughCache state device access frame Busy = IsWithinPage access × IsBusy device.in_flight
-MayAnswerThroughCache state device access frame Miss = IsForwarded device.in_flight access.address access.len
+MayAnswerThroughCache state device access frame Busy = IsWithinPage access × IsBusy state.limits.in_flight device.in_flight
+MayAnswerThroughCache state device access frame Miss = IsForwarded state.limits.in_flight device.in_flight access.address access.len
 MayAnswerThroughCache state device access frame (Accepted number) =
-    IsForwarded device.in_flight access.address access.len × MayGoThrough device.attachment state device.id access frame
+    IsForwarded state.limits.in_flight device.in_flight access.address access.len × MayGoThrough device.attachment state device.id access frame
     × (number ≡ device.accepted + 1)
 MayAnswerThroughCache state device access frame (Fault cause) =
-    IsForwarded device.in_flight access.address access.len × MayFindNoContext state device cause
+    IsForwarded state.limits.in_flight device.in_flight access.address access.len × MayFindNoContext state device cause
 MayAnswerThroughCache state device access frame _ = ⊥
 
 -- the state after it: what is in flight is the access at its physical address

@@ -31,7 +31,7 @@ MayFaultTranslated state device cause = (cause ≡ TransactionTypeDisallowed) �
 -- what a plugged device's request may be answered that says it is translated already: it is never accepted
 abbrev pub MayAnswerTranslated : State → Device → Access → Outcome → Type 0
 MayAnswerTranslated state device access BadSpan = ¬ IsWithinPage access
-MayAnswerTranslated state device access Busy = IsWithinPage access × IsBusy device.in_flight
+MayAnswerTranslated state device access Busy = IsWithinPage access × IsBusy state.limits.in_flight device.in_flight
 MayAnswerTranslated state device access (Fault cause) =
-    IsForwarded device.in_flight access.address access.len × MayFaultTranslated state device cause
+    IsForwarded state.limits.in_flight device.in_flight access.address access.len × MayFaultTranslated state device cause
 MayAnswerTranslated state device access _ = ⊥

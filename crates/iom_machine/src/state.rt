@@ -1,5 +1,7 @@
-use iom_base::{AcceptedAccess, DeviceId, DeviceKind, Mode, Owner, Sequence};
-use iom_ledger::HistoryEntry;
+use iom_base::{
+    AcceptedAccess, DeviceId, DeviceKind, MAX_DEVICES, MAX_IN_FLIGHT, Mode, Owner, Sequence,
+};
+use iom_ledger::{HistoryEntry, MAX_PENDING};
 
 /// How a device is attached.
 #[derive(Clone, Copy, PartialEq, Eq, Debug)]
@@ -71,9 +73,37 @@ pub struct Device {
     pub in_flight: Sequence<AcceptedAccess>,
 }
 
+/// How much the machine allows at a time. `Step` never changes it.
+#[derive(Clone, Copy, PartialEq, Eq, Debug)]
+pub struct Limits {
+    /// The most tickets that aren't confirmed at a time.
+    pub pending: u64,
+    /// The most accesses of a device in flight.
+    pub in_flight: u64,
+    /// The most devices plugged in.
+    pub devices: u64,
+}
+
+impl Limits {
+    ghost use Rattle.std.specs.Prelude.{◌≡◌};
+    ghost use Rattle.iom_machine.specs.PowerOn.{model_limits};
+
+    /// What the model's driver, its devices and its IOMMU have room for.
+    pub fn of_model() -> Limits
+        ensures { result ≡ model_limits }
+    {
+        Limits {
+            pending: MAX_PENDING as u64,
+            in_flight: MAX_IN_FLIGHT as u64,
+            devices: MAX_DEVICES as u64,
+        }
+    }
+}
+
 /// All that the machine knows.
 #[derive(Drop)]
 pub struct State {
+    pub limits: Limits,
     /// How many levels the device directory has, from 1 to 3. They bound the ids that it can name.
     pub levels: u8,
     pub frames: Sequence<Frame>,

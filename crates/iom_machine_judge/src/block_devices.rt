@@ -207,23 +207,23 @@ pub(crate) fn judge_status(state: &State, id: DeviceId, outcome: &Outcome) -> bo
 }
 
 /// Whether the device may ask for a translation, that it may have this access.
-fn may_ask(device: &Device, access: &Access) -> bool
-    ensures { IsTrue result ↔ ((has_cache device.now.kind ≡ true) × IsForwarded device.now.in_flight access.now.address access.now.len) }
+fn may_ask(state: &State, device: &Device, access: &Access) -> bool
+    ensures { IsTrue result ↔ ((has_cache device.now.kind ≡ true) × IsForwarded state.now.limits.in_flight device.now.in_flight access.now.address access.now.len) }
 {
     if !device.kind.has_cache() {
         return false;
     }
-    is_forwarded(device, access)
+    is_forwarded(state, device, access)
 }
 
 /// Whether a step of the device may be this one, which begins no access.
-fn may_be(device: &Device, access: &Access, step: BlockStep) -> bool
-    ensures { IsTrue result ↔ MayBe device.now access.now step }
+fn may_be(state: &State, device: &Device, access: &Access, step: BlockStep) -> bool
+    ensures { IsTrue result ↔ MayBe state.now device.now access.now step }
 {
     match step {
         BlockStep::Idle => true,
         BlockStep::Waiting => true,
-        BlockStep::Asked => may_ask(device, access),
+        BlockStep::Asked => may_ask(state, device, access),
         BlockStep::Chain(_) => true,
         BlockStep::Finished { .. } => true,
         BlockStep::Down => true,
@@ -353,7 +353,7 @@ fn take_step(
     match outcome {
         Outcome::Stepped(step) => {
             let device = &state.devices.as_slice()[place];
-            Ok(may_be(device, &choice.access, *step))
+            Ok(may_be(state, device, &choice.access, *step))
         }
         Outcome::Accepted(_) | Outcome::Busy | Outcome::Fault(_) => {
             begin(alloc, state, place, &choice.access, choice.frame, outcome)

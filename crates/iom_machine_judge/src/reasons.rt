@@ -15,8 +15,8 @@ use crate::block_devices::is_among;
 use crate::devices::device_with;
 use crate::frames::has_owner;
 use crate::history::{grants_left, is_confirmed, last_ticket_confirmed, lingers_at, pair_held};
-use iom_base::{DeviceId, MAX_DEVICES, NewDevice, Refusal};
-use iom_ledger::{HistoryEntry, MAX_PENDING};
+use iom_base::{DeviceId, NewDevice, Refusal};
+use iom_ledger::HistoryEntry;
 use iom_machine::{Attachment, Device, State};
 
 fn plugged(state: &State, id: DeviceId) -> bool
@@ -148,7 +148,7 @@ pub(crate) fn plug_refusal(state: &State, id: DeviceId, what: NewDevice) -> Opti
 {
     if plugged(state, id) {
         Some(Refusal::AlreadyPlugged)
-    } else if state.devices.as_slice().len() >= MAX_DEVICES {
+    } else if state.devices.as_slice().len() as u64 >= state.limits.devices {
         Some(Refusal::TooManyDevices)
     } else if missing(state.disks.as_slice(), what.disk()) {
         Some(Refusal::BadMedium)
@@ -185,7 +185,7 @@ pub(crate) fn detach_refusal(state: &State, id: DeviceId) -> Option<Refusal>
         Some(Refusal::Quarantined)
     } else if still_granted(state, id) {
         Some(Refusal::StillGranted)
-    } else if pending(state) >= MAX_PENDING as u32 {
+    } else if u64::from(pending(state)) >= state.limits.pending {
         Some(Refusal::TooManyPending)
     } else {
         None
@@ -234,7 +234,7 @@ pub(crate) fn release_refusal(state: &State, id: DeviceId, page: u64) -> Option<
         Some(Refusal::Quarantined)
     } else if !held(state, id, page) {
         Some(Refusal::NotGranted)
-    } else if pending(state) >= MAX_PENDING as u32 {
+    } else if u64::from(pending(state)) >= state.limits.pending {
         Some(Refusal::TooManyPending)
     } else {
         None
@@ -251,7 +251,7 @@ pub(crate) fn quarantine_refusal(state: &State, id: DeviceId) -> Option<Refusal>
         Some(Refusal::NotAttached)
     } else if quarantined(attachment) {
         Some(Refusal::Quarantined)
-    } else if pending(state) >= MAX_PENDING as u32 {
+    } else if u64::from(pending(state)) >= state.limits.pending {
         Some(Refusal::TooManyPending)
     } else {
         None

@@ -15,7 +15,7 @@ use crate::cut_off::{
 };
 use crate::devices::{accept, place_of};
 use crate::history::{is_held_for, lingers_in, may, pair_held};
-use iom_base::{Access, Cause, DeviceId, MAX_IN_FLIGHT, Mode, PAGE_SIZE, Span};
+use iom_base::{Access, Cause, DeviceId, Mode, PAGE_SIZE, Span};
 use iom_ledger::HistoryEntry;
 use iom_machine::{Attachment, Device, Outcome, State};
 use std::alloc::AllocError;
@@ -26,20 +26,20 @@ pub(crate) fn is_within_page(access: &Access) -> bool
     Span::new(access.address, access.len).is_some()
 }
 
-fn is_busy(device: &Device) -> bool
-    ensures { IsTrue result ↔ IsBusy device.now.in_flight }
+fn is_busy(state: &State, device: &Device) -> bool
+    ensures { IsTrue result ↔ IsBusy state.now.limits.in_flight device.now.in_flight }
 {
-    device.in_flight.as_slice().len() >= MAX_IN_FLIGHT
+    device.in_flight.as_slice().len() as u64 >= state.limits.in_flight
 }
 
 /// Whether the request comes before the IOMMU.
-pub(crate) fn is_forwarded(device: &Device, access: &Access) -> bool
-    ensures { IsTrue result ↔ IsForwarded device.now.in_flight access.now.address access.now.len }
+pub(crate) fn is_forwarded(state: &State, device: &Device, access: &Access) -> bool
+    ensures { IsTrue result ↔ IsForwarded state.now.limits.in_flight device.now.in_flight access.now.address access.now.len }
 {
     if !is_within_page(access) {
         return false;
     }
-    !is_busy(device)
+    !is_busy(state, device)
 }
 
 /// Whether the device holds the frame where the access is to, with a right that allows it.
@@ -175,13 +175,13 @@ fn may_fault(
     }
 }
 
-pub(crate) fn answers_busy(device: &Device, access: &Access) -> bool
-    ensures { IsTrue result ↔ (IsWithinPage access.now × IsBusy device.now.in_flight) }
+pub(crate) fn answers_busy(state: &State, device: &Device, access: &Access) -> bool
+    ensures { IsTrue result ↔ (IsWithinPage access.now × IsBusy state.now.limits.in_flight device.now.in_flight) }
 {
     if !is_within_page(access) {
         return false;
     }
-    is_busy(device)
+    is_busy(state, device)
 }
 
 /// Whether the number is that of the device's next accepted access.
@@ -192,10 +192,10 @@ pub(crate) fn is_next(device: &Device, number: u64) -> bool
 }
 
 fn accepts(state: &State, device: &Device, access: &Access, frame: u32, number: u64) -> bool
-    ensures { IsTrue result ↔ (IsForwarded device.now.in_flight access.now.address access.now.len
+    ensures { IsTrue result ↔ (IsForwarded state.now.limits.in_flight device.now.in_flight access.now.address access.now.len
         × MayAccept device.now.attachment state.now device.now.id access.now frame × (number ≡ device.now.accepted + 1)) }
 {
-    if !is_forwarded(device, access) {
+    if !is_forwarded(state, device, access) {
         return false;
     }
     if !is_next(device, number) {
@@ -205,10 +205,10 @@ fn accepts(state: &State, device: &Device, access: &Access, frame: u32, number: 
 }
 
 fn faults(state: &State, device: &Device, access: &Access, cause: Cause) -> bool
-    ensures { IsTrue result ↔ (IsForwarded device.now.in_flight access.now.address access.now.len
+    ensures { IsTrue result ↔ (IsForwarded state.now.limits.in_flight device.now.in_flight access.now.address access.now.len
         × MayFault device.now.attachment state.now device.now.id access.now cause) }
 {
-    if !is_forwarded(device, access) {
+    if !is_forwarded(state, device, access) {
         return false;
     }
     may_fault(device.attachment, state, device.id, access, cause)
@@ -226,7 +226,7 @@ pub(crate) fn may_answer(
 {
     match outcome {
         Outcome::BadSpan => !is_within_page(access),
-        Outcome::Busy => answers_busy(device, access),
+        Outcome::Busy => answers_busy(state, device, access),
         Outcome::Accepted(number) => accepts(state, device, access, frame, *number),
         Outcome::Fault(cause) => faults(state, device, access, *cause),
         _ => false,

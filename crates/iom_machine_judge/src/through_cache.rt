@@ -71,10 +71,10 @@ fn may_go_through(
 }
 
 fn goes_through(state: &State, device: &Device, access: &Access, frame: u32, number: u64) -> bool
-    ensures { IsTrue result ↔ (IsForwarded device.now.in_flight access.now.address access.now.len
+    ensures { IsTrue result ↔ (IsForwarded state.now.limits.in_flight device.now.in_flight access.now.address access.now.len
         × MayGoThrough device.now.attachment state.now device.now.id access.now frame × (number ≡ device.now.accepted + 1)) }
 {
-    if !is_forwarded(device, access) {
+    if !is_forwarded(state, device, access) {
         return false;
     }
     if !is_next(device, number) {
@@ -84,9 +84,9 @@ fn goes_through(state: &State, device: &Device, access: &Access, frame: u32, num
 }
 
 fn finds_no_context(state: &State, device: &Device, access: &Access, cause: Cause) -> bool
-    ensures { IsTrue result ↔ (IsForwarded device.now.in_flight access.now.address access.now.len × MayFindNoContext state.now device.now cause) }
+    ensures { IsTrue result ↔ (IsForwarded state.now.limits.in_flight device.now.in_flight access.now.address access.now.len × MayFindNoContext state.now device.now cause) }
 {
-    if !is_forwarded(device, access) {
+    if !is_forwarded(state, device, access) {
         return false;
     }
     may_find_no_context(state, device, cause)
@@ -104,8 +104,8 @@ pub(crate) fn may_answer(
 {
     match outcome {
         Outcome::BadSpan => !is_within_page(access),
-        Outcome::Busy => answers_busy(device, access),
-        Outcome::Miss => is_forwarded(device, access),
+        Outcome::Busy => answers_busy(state, device, access),
+        Outcome::Miss => is_forwarded(state, device, access),
         Outcome::Accepted(number) => goes_through(state, device, access, frame, *number),
         Outcome::Fault(cause) => finds_no_context(state, device, access, *cause),
         _ => false,

@@ -46,9 +46,9 @@ fn may_fault(state: &State, device: &Device, cause: Cause) -> bool
 }
 
 fn faults(state: &State, device: &Device, access: &Access, cause: Cause) -> bool
-    ensures { IsTrue result ↔ (IsForwarded device.now.in_flight access.now.address access.now.len × MayFaultTranslated state.now device.now cause) }
+    ensures { IsTrue result ↔ (IsForwarded state.now.limits.in_flight device.now.in_flight access.now.address access.now.len × MayFaultTranslated state.now device.now cause) }
 {
-    if !is_forwarded(device, access) {
+    if !is_forwarded(state, device, access) {
         return false;
     }
     may_fault(state, device, cause)
@@ -60,7 +60,7 @@ fn may_answer(state: &State, device: &Device, access: &Access, outcome: &Outcome
 {
     match outcome {
         Outcome::BadSpan => !is_within_page(access),
-        Outcome::Busy => answers_busy(device, access),
+        Outcome::Busy => answers_busy(state, device, access),
         Outcome::Fault(cause) => faults(state, device, access, *cause),
         _ => false,
     }

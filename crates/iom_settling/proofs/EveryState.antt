@@ -16,7 +16,7 @@ use Rattle.iom_machine.specs.Devices.{replaced_device}
 use Rattle.iom_base.specs.DeviceKinds.{is_any_kind}
 use Rattle.iom_machine.specs.Laws.{IsReached}
 use Rattle.iom_machine.specs.Machine.{Makes, Step, Run, with_oldest_made}
-use Rattle.iom_machine.specs.PowerOn.{opening}
+use Rattle.iom_machine.specs.PowerOn.{model_limits, opening}
 use Rattle.iom_machine.specs.Tickets.{last_confirmed, pending_tickets}
 use Rattle.iom_machine.specs.Traces.{count_in_flight}
 use Rattle.iom_machine.proofs.DeviceLemmas.{HaveOwnIds, own_ids-run}
@@ -24,7 +24,7 @@ use Rattle.iom_machine.proofs.HeadlineLemmas.{commits_are_answered}
 use Rattle.iom_machine.proofs.InFlightLemmas.{able_act, some_case}
 use Rattle.iom_machine.proofs.SoundLemmas.{SameLedger}
 use Rattle.iom_settling.specs.Settles.{in_flight_by, AreInSettlingOrder, SettlesBy, RefusesToSettle, Settles}
-use Rattle.iom_settling.proofs.FewLemmas.{few_if_reached, few_in_flight}
+use Rattle.iom_settling.proofs.FewLemmas.{AreFew, few_if_reached, few_in_flight}
 
 -- the device, where its oldest access is in flight no more
 abbrev with_one_less : Device → Device
@@ -40,12 +40,12 @@ run_more old mid new (first ∷ events) (other ∷ outcomes) event told run step
     (run.0, run.1, run_more run.0 mid new events outcomes event told run.2 step)
 
 reached_after : (old new : State) (event : Event) (told : Outcome) → IsReached old → Step old event told new → IsReached new
-reached_after old new event told (events, outcomes, (frames, levels, disks, run)) step =
-    (events ++ event ∷ [], outcomes ++ told ∷ [], (frames, levels, disks, run_more (opening frames levels disks) old new events outcomes event told run step))
+reached_after old new event told (events, outcomes, (limits, frames, levels, disks, run)) step =
+    (events ++ event ∷ [], outcomes ++ told ∷ [], (limits, frames, levels, disks, run_more (opening limits frames levels disks) old new events outcomes event told run step))
 
 -- no two devices of a state that is reached have the same id
 own_ids_if_reached : (state : State) → IsReached state → HaveOwnIds state.devices
-own_ids_if_reached state (events, outcomes, (frames, levels, disks, run)) = own_ids-run (opening frames levels disks) state events outcomes run tt
+own_ids_if_reached state (events, outcomes, (limits, frames, levels, disks, run)) = own_ids-run (opening limits frames levels disks) state events outcomes run tt
 
 -- as many accesses are in flight as devices are named for them
 count_named : (devices : List Device) → count_in_flight devices ≡ length (in_flight_by devices)
@@ -206,15 +206,15 @@ refuses_idle old some all =
       unconfirmed = omega (arith, pending, same);
     }
 
-pub can_settle : (state : State) → IsReached state → (answer : Result ℕ Refusal) × (next : State) × Settles state answer next
-can_settle state reached = by (nat_lt 0 (pending_tickets state)) refl
+pub can_settle : (state : State) → state.limits ≡ model_limits → IsReached state → (answer : Result ℕ Refusal) × (next : State) × Settles state answer next
+can_settle state model reached = by (nat_lt 0 (pending_tickets state)) refl
   where
     all : CommitsAll state (in_flight_by state.devices)
     all = commits_all (in_flight_by state.devices) state reached refl
 
     few : length (in_flight_by state.devices) ≤ 400
     few =
-        let most = few_in_flight state.devices (few_if_reached state reached) in
+        let most = few_in_flight state.devices (subst (λ limits. AreFew limits state.devices) model (few_if_reached state reached)) in
         let counted = count_named state.devices in
         omega (arith, most, counted)
 

@@ -1,4 +1,5 @@
--- In every state that is reached few accesses are in flight: at most 16 devices are plugged in, and each has at most 8.
+-- In every state that is reached few accesses are in flight: no more devices are plugged in, and each has no more, than its limits say. In the model
+-- these are 16 and 8.
 use Rattle.std.proofs.Common.{◌≡◌, ◌+◌, ◌*◌, ◌≤◌, ◌<◌, ◌==◌, ℕ, inl, inr, Bool, true, false, cond, if◌then◌else◌, List, [], ◌∷◌, ◌++◌, length, map, drop, find, Some, slice_get, refl, sym, ap, subst, arith}
 use Rattle.std.proofs.lemmas.Bool.{cases_lt, leb-false}
 use Rattle.std.proofs.lemmas.List.{length-append, length-drop, length-map}
@@ -13,6 +14,7 @@ use Rattle.iom_machine.specs.declared.outcome.Outcome.{Outcome}
 use Rattle.iom_machine.specs.declared.outcome.Outcome.TheVariants as outcome
 use Rattle.iom_machine.specs.declared.state.Device.{Device}
 use Rattle.iom_base.specs.declared.device_kind.NewDevice.{NewDevice}
+use Rattle.iom_machine.specs.declared.state.Limits.{Limits}
 use Rattle.iom_machine.specs.declared.state.State.{State}
 use Rattle.iom_machine.specs.BlockDevices.{Inserts, IsAnswered, TakesStep}
 use Rattle.iom_machine.specs.Devices.{device_of, replaced_device}
@@ -20,55 +22,56 @@ use Rattle.iom_base.specs.DeviceKinds.{is_block_device, sends_untranslated, send
 use Rattle.iom_machine.specs.Laws.{IsReached}
 use Rattle.iom_machine.specs.Leaving.{leaving_under, device_once_confirmed}
 use Rattle.iom_machine.specs.Machine.{Requests, RequestsThroughCache, InsertsDisk, Steps, Makes, Commits, Step, Run, plugged_device}
-use Rattle.iom_machine.specs.PowerOn.{opening}
+use Rattle.iom_machine.specs.PowerOn.{model_limits, opening}
 use Rattle.iom_machine.specs.Refusals.{plug_reasons}
 use Rattle.iom_machine.specs.Requests.{IsBusy, MayAnswer, state_after, with_accepted}
 use Rattle.iom_machine.specs.ThroughCache.{MayAnswerThroughCache, state_after_cached}
 use Rattle.iom_machine.specs.Tickets.{with_confirmed}
 use Rattle.iom_machine.specs.Traces.{count_in_flight}
 use Rattle.iom_machine.proofs.InFlightLemmas.{act_cases, some_case, same-sets_queue, same-tells_status, same-translated, same-asks, same-forges, same-delivers, same-drops, same-repeats, same-resets}
+use Rattle.iom_machine.proofs.LimitLemmas.{limits-step}
 use Rattle.iom_machine.proofs.SoundLemmas.{none_applies}
 
--- each of the devices has at most 8 in flight
-abbrev pub HaveFew : List Device → Type 0
-HaveFew [] = Unit {0}
-HaveFew (device ∷ others) = (length device.in_flight ≤ 8) × HaveFew others
+-- each of the devices has at most so many in flight
+abbrev pub HaveFew : ℕ → List Device → Type 0
+HaveFew most [] = Unit {0}
+HaveFew most (device ∷ others) = (length device.in_flight ≤ most) × HaveFew most others
 
--- and they are at most 16
-abbrev pub AreFew : List Device → Type 0
-AreFew devices = (length devices ≤ 16) × HaveFew devices
+-- and they are no more than the limits say
+abbrev pub AreFew : Limits → List Device → Type 0
+AreFew limits devices = (length devices ≤ limits.devices) × HaveFew limits.in_flight devices
 
--- so at most 128 are in flight
-by_device : (devices : List Device) → HaveFew devices → count_in_flight devices ≤ 8 * length devices
+-- so in the model at most 128 are in flight
+by_device : (devices : List Device) → HaveFew 8 devices → count_in_flight devices ≤ 8 * length devices
 by_device [] few = omega arith
 by_device (device ∷ others) few =
     let own : length device.in_flight ≤ 8 = few.0 in
     let rest = by_device others few.1 in
     omega (arith, own, rest)
 
-pub few_in_flight : (devices : List Device) → AreFew devices → count_in_flight devices ≤ 128
+pub few_in_flight : (devices : List Device) → AreFew model_limits devices → count_in_flight devices ≤ 128
 few_in_flight devices few =
     let each = by_device devices few.1 in
     let all : length devices ≤ 16 = few.0 in
     omega (arith, each, all)
 
 -- WHERE A DEVICE IS PLUGGED IN
-have_few-pushed : (devices : List Device) (now : Device) → length now.in_flight ≤ 8 → HaveFew devices → HaveFew (devices ++ now ∷ [])
-have_few-pushed [] now its few = (its, tt)
-have_few-pushed (device ∷ others) now its few = (few.0, have_few-pushed others now its few.1)
+have_few-pushed : (most : ℕ) (devices : List Device) (now : Device) → length now.in_flight ≤ most → HaveFew most devices → HaveFew most (devices ++ now ∷ [])
+have_few-pushed most [] now its few = (its, tt)
+have_few-pushed most (device ∷ others) now its few = (few.0, have_few-pushed most others now its few.1)
 
 -- there was room for it
-plug_finds_room : (state : State) (id : ℕ) (what : NewDevice) → NoneApplies (plug_reasons state id what) → length state.devices < 16
+plug_finds_room : (state : State) (id : ℕ) (what : NewDevice) → NoneApplies (plug_reasons state id what) → length state.devices < state.limits.devices
 plug_finds_room state id what none =
     let fails = none_applies (plug_reasons state id what) none in
-    leb-false 16 (length state.devices) fails.1.0
+    leb-false state.limits.devices (length state.devices) fails.1.0
 
 few-plugs : (old new : State) (id : ℕ) (what : NewDevice) → NoneApplies (plug_reasons old id what) → new.devices ≡ old.devices ++ plugged_device id what ∷ []
-    → AreFew old.devices → AreFew new.devices
+    → AreFew old.limits old.devices → AreFew old.limits new.devices
 few-plugs old new id what none same few =
     let room = plug_finds_room old id what none in
     let one_more : length (old.devices ++ plugged_device id what ∷ []) ≡ length old.devices + 1 = length-append old.devices (plugged_device id what ∷ []) in
-    subst AreFew (sym same) (omega (arith, room, one_more), have_few-pushed old.devices (plugged_device id what) (omega arith) few.1)
+    subst (AreFew old.limits) (sym same) (omega (arith, room, one_more), have_few-pushed old.limits.in_flight old.devices (plugged_device id what) (omega arith) few.1)
 
 -- WHERE ONE IS CHANGED
 length-replaced : (devices : List Device) (id : ℕ) (now : Device) → length (replaced_device devices id now) ≡ length devices
@@ -80,53 +83,53 @@ length-replaced (device ∷ others) id now = by (device.id == id) (length-replac
     by true rest = refl
     by false rest = omega (arith, rest)
 
-have_few-replaced : (devices : List Device) (id : ℕ) (now : Device) → length now.in_flight ≤ 8 → HaveFew devices → HaveFew (replaced_device devices id now)
-have_few-replaced [] id now its few = tt
-have_few-replaced (device ∷ others) id now its few = by (device.id == id) (have_few-replaced others id now its few.1)
+have_few-replaced : (most : ℕ) (devices : List Device) (id : ℕ) (now : Device) → length now.in_flight ≤ most → HaveFew most devices → HaveFew most (replaced_device devices id now)
+have_few-replaced most [] id now its few = tt
+have_few-replaced most (device ∷ others) id now its few = by (device.id == id) (have_few-replaced most others id now its few.1)
   where
-    by : (b : Bool) → HaveFew (replaced_device others id now) → HaveFew (if b then now ∷ others else device ∷ replaced_device others id now)
+    by : (b : Bool) → HaveFew most (replaced_device others id now) → HaveFew most (if b then now ∷ others else device ∷ replaced_device others id now)
     by true rest = (its, few.1)
     by false rest = (few.0, rest)
 
-found_has_few : (devices : List Device) (id : ℕ) (device : Device) → find (λ d. d.id == id) devices ≡ Some device → HaveFew devices → length device.in_flight ≤ 8
-found_has_few [] id device at few = cc
-found_has_few (first ∷ others) id device at few = by (first.id == id) at (found_has_few others id device)
+found_has_few : (most : ℕ) (devices : List Device) (id : ℕ) (device : Device) → find (λ d. d.id == id) devices ≡ Some device → HaveFew most devices → length device.in_flight ≤ most
+found_has_few most [] id device at few = cc
+found_has_few most (first ∷ others) id device at few = by (first.id == id) at (found_has_few most others id device)
   where
     by : (b : Bool) → cond b (Some first) (find (λ d. d.id == id) others) ≡ Some device
-        → (find (λ d. d.id == id) others ≡ Some device → HaveFew others → length device.in_flight ≤ 8) → length device.in_flight ≤ 8
-    by true found rest = let same : first ≡ device = cc in subst (λ (d : Device). length d.in_flight ≤ 8) same few.0
+        → (find (λ d. d.id == id) others ≡ Some device → HaveFew most others → length device.in_flight ≤ most) → length device.in_flight ≤ most
+    by true found rest = let same : first ≡ device = cc in subst (λ (d : Device). length d.in_flight ≤ most) same few.0
     by false found rest = rest found few.1
 
 -- the device `now` stands where the other stood, and has few too
-few-changed : (old new : State) (id : ℕ) (device now : Device) → device_of old id ≡ Some device → (length device.in_flight ≤ 8 → length now.in_flight ≤ 8)
-    → new.devices ≡ replaced_device old.devices device.id now → AreFew old.devices → AreFew new.devices
+few-changed : (old new : State) (id : ℕ) (device now : Device) → device_of old id ≡ Some device → (length device.in_flight ≤ old.limits.in_flight → length now.in_flight ≤ old.limits.in_flight)
+    → new.devices ≡ replaced_device old.devices device.id now → AreFew old.limits old.devices → AreFew old.limits new.devices
 few-changed old new id device now at also same few =
     let as_many = length-replaced old.devices device.id now in
-    let all : length old.devices ≤ 16 = few.0 in
-    subst AreFew (sym same)
-    (omega (arith, as_many, all), have_few-replaced old.devices device.id now (also (found_has_few old.devices id device at few.1)) few.1)
+    let all : length old.devices ≤ old.limits.devices = few.0 in
+    subst (AreFew old.limits) (sym same)
+    (omega (arith, as_many, all), have_few-replaced old.limits.in_flight old.devices device.id now (also (found_has_few old.limits.in_flight old.devices id device at few.1)) few.1)
 
 -- WHERE SOME HAVE LEFT
-have_few-left : (history : History) (devices : List Device) → HaveFew devices → HaveFew (map (device_once_confirmed history) devices)
-have_few-left history [] few = tt
-have_few-left history (device ∷ others) few = (few.0, have_few-left history others few.1)
+have_few-left : (most : ℕ) (history : History) (devices : List Device) → HaveFew most devices → HaveFew most (map (device_once_confirmed history) devices)
+have_few-left most history [] few = tt
+have_few-left most history (device ∷ others) few = (few.0, have_few-left most history others few.1)
 
-few-leaves : (old new : State) (history : History) → new.devices ≡ map (device_once_confirmed history) old.devices → AreFew old.devices → AreFew new.devices
+few-leaves : (old new : State) (history : History) → new.devices ≡ map (device_once_confirmed history) old.devices → AreFew old.limits old.devices → AreFew old.limits new.devices
 few-leaves old new history same few =
     let as_many = length-map old.devices (device_once_confirmed history) in
-    let all : length old.devices ≤ 16 = few.0 in
-    subst AreFew (sym same) (omega (arith, as_many, all), have_few-left history old.devices few.1)
+    let all : length old.devices ≤ old.limits.devices = few.0 in
+    subst (AreFew old.limits) (sym same) (omega (arith, as_many, all), have_few-left old.limits.in_flight history old.devices few.1)
 
 -- WHERE NONE IS CHANGED
-few-stays : (old new : State) → new ≡ old → AreFew old.devices → AreFew new.devices
-few-stays old new same few = subst (λ (s : State). AreFew s.devices) (sym same) few
+few-stays : (old new : State) → new ≡ old → AreFew old.limits old.devices → AreFew old.limits new.devices
+few-stays old new same few = subst (λ (s : State). AreFew old.limits s.devices) (sym same) few
 
-few-same : (old new : State) → new.devices ≡ old.devices → AreFew old.devices → AreFew new.devices
-few-same old new same few = subst AreFew (sym same) few
+few-same : (old new : State) → new.devices ≡ old.devices → AreFew old.limits old.devices → AreFew old.limits new.devices
+few-same old new same few = subst (AreFew old.limits) (sym same) few
 
 -- WHERE ONE IS ANSWERED: an access is accepted only of a device that has room for it
-few-accepted : (old new : State) (id : ℕ) (device : Device) (access : Access) (frame : ℕ) → device_of old id ≡ Some device → ¬ IsBusy device.in_flight
-    → new ≡ with_accepted old device access frame → AreFew old.devices → AreFew new.devices
+few-accepted : (old new : State) (id : ℕ) (device : Device) (access : Access) (frame : ℕ) → device_of old id ≡ Some device → ¬ IsBusy old.limits.in_flight device.in_flight
+    → new ≡ with_accepted old device access frame → AreFew old.limits old.devices → AreFew old.limits new.devices
 few-accepted old new id device access frame at idle same few =
     few-changed old new id device (record device { accepted = device.accepted + 1; in_flight = device.in_flight ++ entered ∷ [] }) at
     (λ its. room) (ap (λ (s : State). s.devices) same) few
@@ -134,16 +137,16 @@ few-accepted old new id device access frame at idle same few =
     entered : AcceptedAccess
     entered = record { access = access; frame = frame }
 
-    room : length (device.in_flight ++ entered ∷ []) ≤ 8
+    room : length (device.in_flight ++ entered ∷ []) ≤ old.limits.in_flight
     room =
         let one_more : length (device.in_flight ++ entered ∷ []) ≡ length device.in_flight + 1 = length-append device.in_flight (entered ∷ []) in
-        elim (cases_lt (length device.in_flight) 8) [
+        elim (cases_lt (length device.in_flight) old.limits.in_flight) [
           | inl below ↦ omega (arith, one_more, below)
           | inr many ↦ absurd (idle many)
         ]
 
 few-answer : (chosen : ℕ) (old new : State) (id : ℕ) (device : Device) (access : Access) (told : Outcome) → device_of old id ≡ Some device
-    → MayAnswer old device access chosen told → new ≡ state_after old device access chosen told → AreFew old.devices → AreFew new.devices
+    → MayAnswer old device access chosen told → new ≡ state_after old device access chosen told → AreFew old.limits old.devices → AreFew old.limits new.devices
 few-answer chosen old new id device access (outcome.Accepted number) at answer same few = few-accepted old new id device access chosen at answer.0.1 same few
 few-answer chosen old new id device access outcome.BadSpan at answer same few = few-stays old new same few
 few-answer chosen old new id device access outcome.Busy at answer same few = few-stays old new same few
@@ -151,7 +154,7 @@ few-answer chosen old new id device access (outcome.Fault cause) at answer same 
 few-answer chosen old new id device access _ at answer same few = absurd answer
 
 few-cached : (chosen : ℕ) (old new : State) (id : ℕ) (device : Device) (access : Access) (told : Outcome) → device_of old id ≡ Some device
-    → MayAnswerThroughCache old device access chosen told → new ≡ state_after_cached old device access chosen told → AreFew old.devices → AreFew new.devices
+    → MayAnswerThroughCache old device access chosen told → new ≡ state_after_cached old device access chosen told → AreFew old.limits old.devices → AreFew old.limits new.devices
 few-cached chosen old new id device access (outcome.Accepted number) at answer same few =
     few-accepted old new id device (at_frame chosen access) chosen at answer.0.1 same few
 few-cached chosen old new id device access outcome.BadSpan at answer same few = few-stays old new same few
@@ -160,14 +163,14 @@ few-cached chosen old new id device access outcome.Miss at answer same few = few
 few-cached chosen old new id device access (outcome.Fault cause) at answer same few = few-stays old new same few
 few-cached chosen old new id device access _ at answer same few = absurd answer
 
-few-requests : (chosen : ℕ) (old new : State) (id : ℕ) (access : Access) (told : Outcome) → Requests chosen old id access told new → AreFew old.devices → AreFew new.devices
+few-requests : (chosen : ℕ) (old new : State) (id : ℕ) (access : Access) (told : Outcome) → Requests chosen old id access told new → AreFew old.limits old.devices → AreFew old.limits new.devices
 few-requests chosen old new id access told step few = elim (act_cases sends_untranslated _ old id told new step) [
   | inl (why, refused, same) ↦ few-stays old new same few
   | inr (device, at, answer) ↦ few-answer chosen old new id device access told at answer.0 answer.1 few
 ]
 
 few-through_cache : (chosen : ℕ) (old new : State) (id : ℕ) (access : Access) (told : Outcome) → RequestsThroughCache chosen old id access told new
-    → AreFew old.devices → AreFew new.devices
+    → AreFew old.limits old.devices → AreFew old.limits new.devices
 few-through_cache chosen old new id access told step few = elim (act_cases sends_through_cache _ old id told new step) [
   | inl (why, refused, same) ↦ few-stays old new same few
   | inr (device, at, answer) ↦ few-cached chosen old new id device access told at answer.0 answer.1 few
@@ -175,17 +178,17 @@ few-through_cache chosen old new id access told step few = elim (act_cases sends
 
 -- a step of a block device
 few-answered : (chosen : ℕ) (old new : State) (id : ℕ) (device : Device) (access : Access) (told : Outcome) (b : Bool) → device_of old id ≡ Some device
-    → IsAnswered b old device access chosen told new → AreFew old.devices → AreFew new.devices
+    → IsAnswered b old device access chosen told new → AreFew old.limits old.devices → AreFew old.limits new.devices
 few-answered chosen old new id device access told false at answer few = few-answer chosen old new id device access told at answer.0 answer.1 few
 few-answered chosen old new id device access told true at answer few = few-cached chosen old new id device access told at answer.0 answer.1 few
 
-few-steps : (access : Access) (chosen : ℕ) (old new : State) (id : ℕ) (told : Outcome) → Steps access chosen old id told new → AreFew old.devices → AreFew new.devices
+few-steps : (access : Access) (chosen : ℕ) (old new : State) (id : ℕ) (told : Outcome) → Steps access chosen old id told new → AreFew old.limits old.devices → AreFew old.limits new.devices
 few-steps access chosen old new id told step few = elim (act_cases is_block_device _ old id told new step) [
   | inl (why, refused, same) ↦ few-stays old new same few
   | inr (device, at, takes) ↦ by device at told takes
 ]
   where
-    by : (device : Device) → device_of old id ≡ Some device → (told : Outcome) → TakesStep old device access chosen told new → AreFew new.devices
+    by : (device : Device) → device_of old id ≡ Some device → (told : Outcome) → TakesStep old device access chosen told new → AreFew old.limits new.devices
     by device at (outcome.Stepped step) takes = few-stays old new takes.1 few
     by device at (outcome.Accepted number) takes = few-answered chosen old new id device access (outcome.Accepted number) (has_cache device.kind) at takes.1 few
     by device at outcome.Busy takes = few-answered chosen old new id device access outcome.Busy (has_cache device.kind) at takes.1 few
@@ -193,13 +196,13 @@ few-steps access chosen old new id told step few = elim (act_cases is_block_devi
     by device at _ takes = absurd takes
 
 -- WHERE A DISK IS PUT IN
-few-inserts : (disk : ℕ) (old new : State) (id : ℕ) (told : Outcome) → InsertsDisk disk old id told new → AreFew old.devices → AreFew new.devices
+few-inserts : (disk : ℕ) (old new : State) (id : ℕ) (told : Outcome) → InsertsDisk disk old id told new → AreFew old.limits old.devices → AreFew old.limits new.devices
 few-inserts disk old new id told step few = elim (act_cases is_block_device _ old id told new step) [
   | inl (why, refused, same) ↦ few-stays old new same few
   | inr (device, at, inserts) ↦ by device at told inserts
 ]
   where
-    by : (device : Device) → device_of old id ≡ Some device → (told : Outcome) → Inserts disk old device told new → AreFew new.devices
+    by : (device : Device) → device_of old id ≡ Some device → (told : Outcome) → Inserts disk old device told new → AreFew old.limits new.devices
     by device at outcome.Done inserts =
         few-changed old new id device (record device { has_disk = true }) at (λ its. its) (ap (λ (s : State). s.devices) inserts.1) few
     by device at (outcome.Refused why) inserts = few-stays old new inserts.1 few
@@ -207,18 +210,18 @@ few-inserts disk old new id told step few = elim (act_cases is_block_device _ ol
 
 -- WHERE THE OLDEST ACCESS IS MADE
 few-made : (old new : State) (id : ℕ) (device : Device) → device_of old id ≡ Some device
-    → new.devices ≡ replaced_device old.devices device.id (record device { in_flight = drop 1 device.in_flight }) → AreFew old.devices → AreFew new.devices
+    → new.devices ≡ replaced_device old.devices device.id (record device { in_flight = drop 1 device.in_flight }) → AreFew old.limits old.devices → AreFew old.limits new.devices
 few-made old new id device at same few =
     let fewer = length-drop 1 device.in_flight in
     few-changed old new id device (record device { in_flight = drop 1 device.in_flight }) at (λ its. omega (arith, fewer, its)) same few
 
-few-commits : (old new : State) (id : ℕ) (told : Outcome) → Commits old id told new → AreFew old.devices → AreFew new.devices
+few-commits : (old new : State) (id : ℕ) (told : Outcome) → Commits old id told new → AreFew old.limits old.devices → AreFew old.limits new.devices
 few-commits old new id told step few = elim (act_cases is_any_kind _ old id told new step) [
   | inl (why, refused, same) ↦ few-stays old new same few
   | inr (device, at, makes) ↦ by device at told makes
 ]
   where
-    by : (device : Device) → device_of old id ≡ Some device → (told : Outcome) → Makes old device told new → AreFew new.devices
+    by : (device : Device) → device_of old id ≡ Some device → (told : Outcome) → Makes old device told new → AreFew old.limits new.devices
     by device at (outcome.Read bytes) makes =
         let made = some_case (slice_get device.in_flight 0) _ makes in few-made old new id device at (ap (λ (s : State). s.devices) made.2.1) few
     by device at (outcome.Wrote len) makes =
@@ -227,7 +230,7 @@ few-commits old new id told step few = elim (act_cases is_any_kind _ old id told
     by device at _ makes = absurd makes
 
 -- EACH STEP KEEPS THIS
-few-step : (old new : State) (event : Event) (told : Outcome) → Step old event told new → AreFew old.devices → AreFew new.devices
+few-step : (old new : State) (event : Event) (told : Outcome) → Step old event told new → AreFew old.limits old.devices → AreFew old.limits new.devices
 few-step old new (events.Plug id what) outcome.Done (choice, step) few = few-plugs old new id what step.0 (ap (λ (s : State). s.devices) step.1) few
 few-step old new (events.Plug id what) (outcome.Refused why) (choice, step) few = few-stays old new step.1 few
 few-step old new (events.Plug id what) _ (choice, step) few = absurd step
@@ -303,11 +306,12 @@ few-step old new (events.Free frame) (outcome.Refused why) (choice, step) few = 
 few-step old new (events.Free frame) _ (choice, step) few = absurd step
 
 -- and so does each run, from power-on
-few-run : (old new : State) (events : List Event) (outcomes : List Outcome) → Run old events outcomes new → AreFew old.devices → AreFew new.devices
-few-run old new [] [] run few = few-stays old new run few
+few-run : (old new : State) (events : List Event) (outcomes : List Outcome) → Run old events outcomes new → AreFew old.limits old.devices → AreFew new.limits new.devices
+few-run old new [] [] run few = subst (λ (s : State). AreFew s.limits s.devices) (sym run) few
 few-run old new [] (told ∷ outcomes) run few = absurd run
 few-run old new (event ∷ events) [] run few = absurd run
-few-run old new (event ∷ events) (told ∷ outcomes) (mid, step, run) few = few-run mid new events outcomes run (few-step old mid event told step few)
+few-run old new (event ∷ events) (told ∷ outcomes) (mid, step, run) few =
+    few-run mid new events outcomes run (subst (λ limits. AreFew limits mid.devices) (sym (limits-step old mid event told step)) (few-step old mid event told step few))
 
-pub few_if_reached : (state : State) → IsReached state → AreFew state.devices
-few_if_reached state (events, outcomes, (frames, levels, disks, run)) = few-run (opening frames levels disks) state events outcomes run (omega arith, tt)
+pub few_if_reached : (state : State) → IsReached state → AreFew state.limits state.devices
+few_if_reached state (events, outcomes, (limits, frames, levels, disks, run)) = few-run (opening limits frames levels disks) state events outcomes run (omega arith, tt)

@@ -16,6 +16,7 @@ use Rattle.iom_machine.specs.declared.outcome.CommandName.TheVariants as names
 use Rattle.iom_machine.specs.declared.outcome.Fetched.TheVariants as tells
 use Rattle.iom_machine.specs.declared.state.State.{State}
 use Rattle.iom_machine.specs.Laws.{IsReached}
+use Rattle.iom_machine.specs.PowerOn.{model_limits}
 use Rattle.iom_world_effects.specs.Commits.{CommitsAccess}
 use Rattle.iom_world_effects.specs.Deliveries.{DeliversMessage}
 use Rattle.iom_world_effects.specs.Does.{name_of_command, FetchesNext, PollsTickets}
@@ -108,7 +109,7 @@ abbrev pub PollsConfirmAll : Type 0
 PollsConfirmAll = (old new : Parts) (number : ℕ) (told : Outcome) → HasCaughtUp old number → IsSoundDriver old.driver → IsSoundDriver new.driver → old.driver.started ≡ true
     → PollsTickets old told new → new.driver.confirmed ≡ new.driver.given
 
--- EVERY STATE SETTLES. From each state that the ledger machine reaches there is an answer, and a state that settling may leave with it. Where a ticket is
+-- EVERY STATE SETTLES. From each state that the ledger machine reaches with the model's limits there is an answer, and a state that settling may leave with it. Where a ticket is
 -- unconfirmed this doesn't say which answer.
 abbrev pub EveryStateSettles : Type 0
-EveryStateSettles = (state : State) → IsReached state → (answer : Result ℕ Refusal) × (next : State) × Settles state answer next
+EveryStateSettles = (state : State) → state.limits ≡ model_limits → IsReached state → (answer : Result ℕ Refusal) × (next : State) × Settles state answer next

@@ -29,6 +29,7 @@ shows_still old new state memory flights devices driver agrees shows = record {
   all_earlier = rw (ap (λ (d : DriverState). d.confirmed) driver) shows.all_earlier;
   none_later = rw (ap (λ (d : DriverState). d.confirmed) driver) shows.none_later;
   levels = shows.levels ∙ sym (ap (λ (d : DriverState). d.levels) driver);
+  limits = shows.limits;
 }
 
 -- a call that leaves the driver as it was

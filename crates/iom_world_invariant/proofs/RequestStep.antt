@@ -27,6 +27,7 @@ use Rattle.iom_base.specs.declared.mode.Mode.{Mode}
 use Rattle.iom_base.specs.declared.mode.Mode.TheVariants.{First, Second, Both}
 use Rattle.iom_base.specs.declared.owner.Owner.TheVariants.{System}
 use Rattle.iom_machine.specs.declared.state.Device as machine
+use Rattle.iom_machine.specs.declared.state.Limits.{Limits}
 use Rattle.iom_machine.specs.declared.state.State.{State}
 use Rattle.iom_machine.specs.Devices.{replaced_device}
 use Rattle.iom_machine.specs.Machine.{Acts}
@@ -153,6 +154,7 @@ shows_where old new state frames driver devices flights shows = record {
   all_earlier = rw driver shows.all_earlier;
   none_later = rw driver shows.none_later;
   levels = rw driver shows.levels;
+  limits = shows.limits;
 }
 
 -- a frame that is nobody's isn't the fault queue's, and keeps its bytes where a fault is reported
@@ -175,6 +177,7 @@ shows_flights old new state memory driver devices flights shows = record {
   all_earlier = rw driver shows.all_earlier;
   none_later = rw driver shows.none_later;
   levels = rw driver shows.levels;
+  limits = shows.limits;
 }
 
 module _ (old new : Parts) (events id : ℕ) (sound : AreSound old events) (state : State) (shows : PartsShow old state)
@@ -193,11 +196,14 @@ module _ (old new : Parts) (events id : ℕ) (sound : AreSound old events) (stat
   long row at = ap (λ (l : List AcceptedAccess). length l) (in_flight_at rows is.device.id row (row_at row at)) ∙ length-map row.waiting (λ (flight : NumberedAccess). flight.accepted)
 
   -- with eight it is busy, and else it isn't
-  pub is_busy : IsFull (flights_of old.iommu) id → IsBusy (in_flight_of (flights_of old.iommu).rows is.device.id)
-  is_busy full = let least = full.full in let many = long full.row full.stands in omega (arith, least, many)
+  most : state.limits.in_flight ≡ in_flight_limit
+  most = ap (λ (limits : Limits). limits.in_flight) shows.limits
 
-  pub not_busy : (row : FlightRow) → row_of (flights_of old.iommu).rows id ≡ Some row → length row.waiting < in_flight_limit → ¬ IsBusy (in_flight_of (flights_of old.iommu).rows is.device.id)
-  not_busy row at room busy = let many = long row at in absurd (omega (arith, room, many, busy))
+  pub is_busy : IsFull (flights_of old.iommu) id → IsBusy state.limits.in_flight (in_flight_of (flights_of old.iommu).rows is.device.id)
+  is_busy full = let least = full.full in let many = long full.row full.stands in let eight = most in omega (arith, least, many, eight)
+
+  pub not_busy : (row : FlightRow) → row_of (flights_of old.iommu).rows id ≡ Some row → length row.waiting < in_flight_limit → ¬ IsBusy state.limits.in_flight (in_flight_of (flights_of old.iommu).rows is.device.id)
+  not_busy row at room busy = let many = long row at in let eight = most in absurd (omega (arith, room, many, busy, eight))
 
   -- an access is accepted: it has the next number among the device's, and is shown in flight
   pub accepted_shown : (access : Access) (frame number : ℕ) → new.memory ≡ old.memory → new.driver ≡ old.driver → new.devices ≡ old.devices
@@ -231,6 +237,7 @@ module _ (old new : Parts) (events id : ℕ) (sound : AreSound old events) (stat
           all_earlier = rw driver shows.all_earlier;
           none_later = rw driver shows.none_later;
           levels = rw driver shows.levels;
+          limits = shows.limits;
         },
       )
 

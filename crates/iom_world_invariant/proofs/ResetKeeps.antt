@@ -164,6 +164,7 @@ shows_reset old new id state is shows = subst (λ parts. PartsShow parts state) 
   all_earlier = shows.all_earlier;
   none_later = shows.none_later;
   levels = shows.levels;
+  limits = shows.limits;
 })
 
 -- THE STEP

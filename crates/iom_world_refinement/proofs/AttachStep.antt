@@ -201,6 +201,7 @@ shows_attached old new events id mode ats found sound there takes iommu devices 
       all_earlier = rw (ap (λ (x : DriverState). x.confirmed) takes.driver) shows.all_earlier;
       none_later = rw (ap (λ (x : DriverState). x.confirmed) takes.driver) shows.none_later;
       levels = shows.levels ∙ sym (ap (λ (x : DriverState). x.levels) takes.driver);
+      limits = shows.limits;
     }
 
 pub attach_step : (old new : Parts) (events id : ℕ) (mode : Mode) (ats : Bool) (told : Outcome) → AreSound old events → IsSoundDriver old.driver → AttachesDevice old id mode ats told new

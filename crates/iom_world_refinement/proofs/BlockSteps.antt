@@ -84,6 +84,7 @@ shows_disk old new id disk state shows is same =
       all_earlier = shows.all_earlier;
       none_later = shows.none_later;
       levels = shows.levels;
+      limits = shows.limits;
     })
 
 abbrev Inserted : (disk : ℕ) → State → Outcome → State → machine.Device → Type 0
@@ -176,13 +177,13 @@ status_step old new id status told (inr (inr (able, is_told, same))) state shows
 abbrev Taken : Access → ℕ → State → Outcome → State → machine.Device → Type 0
 Taken access frame state told next device = TakesStep state device access frame told next
 
-may_rest : (device : machine.Device) (access : Access) (step : BlockStep) → IsRest step → MayBe device access step
-may_rest device access Idle rest = tt
-may_rest device access Waiting rest = tt
-may_rest device access Asked rest = absurd rest
-may_rest device access (Chain fault) rest = tt
-may_rest device access (Finished head len) rest = tt
-may_rest device access Down rest = tt
+may_rest : (state : State) (device : machine.Device) (access : Access) (step : BlockStep) → IsRest step → MayBe state device access step
+may_rest state device access Idle rest = tt
+may_rest state device access Waiting rest = tt
+may_rest state device access Asked rest = absurd rest
+may_rest state device access (Chain fault) rest = tt
+may_rest state device access (Finished head len) rest = tt
+may_rest state device access Down rest = tt
 
 pub rest_step : (old new : Parts) (id : ℕ) (step : BlockStep) (told : Outcome) → IsRest step → Rests old id step told new → (state : State) → PartsShow old state
     → Steps no_access 0 state id told state × PartsShow new state
@@ -197,7 +198,7 @@ rest_step old new id step told rest (inr (inr (able, is_told, same))) state show
     let is = found_kind old id able.0 able.1 in (
       subst (λ t. Steps no_access 0 state id t state) (sym is_told)
           (acts_at is_block_device (Taken no_access 0 state (outcome.Stepped step) state) old state id (outcome.Stepped step) state shows.devices is (found_can old id able.0 true is able.1 able.2)
-          (may_rest (shown_device old.driver.devices (flights_of old.iommu).rows is.device) no_access step rest, refl)),
+          (may_rest state (shown_device old.driver.devices (flights_of old.iommu).rows is.device) no_access step rest, refl)),
       shows_same old new state same shows,
     )
 

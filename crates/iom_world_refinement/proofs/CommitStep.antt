@@ -94,6 +94,7 @@ module _ (old new : Parts) (events id : ℕ) (sound : AreSound old events) (driv
       all_earlier = rw (driver, ap (λ (s : State). s.history) same) shows.all_earlier;
       none_later = rw (driver, ap (λ (s : State). s.history) same) shows.none_later;
       levels = rw (driver, ap (λ (s : State). s.levels) same) shows.levels;
+      limits = ap (λ (s : State). s.limits) same ∙ shows.limits;
     }
 
     step_kind : (kind : AccessKind) → is.oldest.accepted.access.kind ≡ kind → (told : Outcome) → Performs kind old.memory is.oldest.accepted new.memory

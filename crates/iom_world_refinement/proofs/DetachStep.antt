@@ -104,6 +104,7 @@ shows_leaving old new events id ticket found sound sound_driver queues devices s
       all_earlier = rw (ap (λ (x : DriverState). x.confirmed) queues.driver) shows.all_earlier;
       none_later = rw (ap (λ (x : DriverState). x.confirmed) queues.driver) shows.none_later;
       levels = shows.levels ∙ sym (ap (λ (x : DriverState). x.levels) queues.driver);
+      limits = shows.limits;
     }
 
 -- the machine's devices once it has none: those of the world whose caches don't count
@@ -138,6 +139,7 @@ shows_left new devices id ticket found left state at shows =
       all_earlier = shows.all_earlier;
       none_later = shows.none_later;
       levels = shows.levels;
+      limits = shows.limits;
     }
 
 pub detach_step : (old new : Parts) (events id : ℕ) (told : Outcome) → AreSound old events → IsSoundDriver old.driver → DetachesDevice old id told new

@@ -73,5 +73,6 @@ fetch_step old new events told sound own does state shows =
         all_earlier = rw does.driver shows.all_earlier;
         none_later = rw does.driver shows.none_later;
         levels = rw does.driver shows.levels;
+        limits = shows.limits;
       },
     )

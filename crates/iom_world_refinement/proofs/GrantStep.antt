@@ -116,6 +116,7 @@ shows_granted old new id page frame rights many takes iommu devices state shows 
       all_earlier = rw (ap (λ (x : DriverState). x.confirmed) takes.driver) shows.all_earlier;
       none_later = rw (ap (λ (x : DriverState). x.confirmed) takes.driver) shows.none_later;
       levels = shows.levels ∙ sym (ap (λ (x : DriverState). x.levels) takes.driver);
+      limits = shows.limits;
     }
 
 -- the tables are free frames of the machine

@@ -47,6 +47,7 @@ shows_rest old new state memory driver flights devices shows = record {
   all_earlier = rw driver shows.all_earlier;
   none_later = rw driver shows.none_later;
   levels = rw driver shows.levels;
+  limits = shows.limits;
 }
 
 sends_state : (state : State) (fabric : List OnLink) (told : Outcome) → told ≡ sent_told fabric → Sends state told state
@@ -89,6 +90,7 @@ sends_step can old new id message told asks state shows = elim asks [
           all_earlier = shows.all_earlier;
           none_later = shows.none_later;
           levels = shows.levels;
+          limits = shows.limits;
         }),
       )
 ]
@@ -110,6 +112,7 @@ shows_fabric old new fabric state is shows = subst (λ parts. PartsShow parts st
   all_earlier = shows.all_earlier;
   none_later = shows.none_later;
   levels = shows.levels;
+  limits = shows.limits;
 })
 
 -- A MESSAGE IS LOST

@@ -144,6 +144,7 @@ shows_plugged old new id what none driver no_row row memory devices state shows 
       all_earlier = rw (ap (λ (x : DriverState). x.confirmed) driver) shows.all_earlier;
       none_later = rw (ap (λ (x : DriverState). x.confirmed) driver) shows.none_later;
       levels = shows.levels ∙ sym (ap (λ (x : DriverState). x.levels) driver);
+      limits = shows.limits;
     }
 
 -- the machine's reasons are the driven, and then that the disk isn't at hand
@@ -162,7 +163,7 @@ three_first false false false = refl
 reasons_first : (old : Parts) (events : ℕ) (state : State) (id : ℕ) (what : NewDevice) → AreSound old events → PartsShow old state
     → first_that_applies (refusals.plug_reasons state id what) ≡ then_missing (first_that_applies (why_not_plug old.driver id)) (is_missing state.disks (disk_of what))
 reasons_first old events state id what sound shows =
-    three_first (refusals.is_plugged state id) (nat_le 16 (length state.devices)) (is_missing state.disks (disk_of what))
+    three_first (refusals.is_plugged state id) (nat_le state.limits.devices (length state.devices)) (is_missing state.disks (disk_of what))
     ∙ ap (λ first. then_missing first (is_missing state.disks (disk_of what))) (plug_first old events state id sound shows)
 
 -- what the driver refuses the machine refuses, where the disk is at hand, or isn't looked at

@@ -229,6 +229,7 @@ shows_polled old new events state polled sound sound_driver iommu devices shows 
       none_later = rw (ap (λ (x : DriverState). x.confirmed) does_confirm.driver)
           (λ ticket above. none_after (d.confirmed + 1) polled.count ticket state.history (omega (arith, above)) (shows.none_later ticket (omega (arith, above))));
       levels = rw (ap (λ (x : DriverState). x.levels) does_confirm.driver) shows.levels;
+      limits = shows.limits;
     }
 
 -- and where none was confirmed
@@ -255,6 +256,7 @@ shows_none old new state polled sound iommu devices shows does_confirm none =
       all_earlier = rw (ap (λ (x : DriverState). x.confirmed) does_confirm.driver) (λ ticket above up_to. shows.all_earlier ticket above (omega (arith, up_to, same)));
       none_later = rw (ap (λ (x : DriverState). x.confirmed) does_confirm.driver) (λ ticket above. shows.none_later ticket (omega (arith, above, same)));
       levels = rw (ap (λ (x : DriverState). x.levels) does_confirm.driver) shows.levels;
+      limits = shows.limits;
     }
 
 -- what is told of so many tickets

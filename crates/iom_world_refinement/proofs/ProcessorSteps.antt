@@ -59,6 +59,7 @@ module _ (old : Parts) (state : State) (shows : PartsShow old state) where
           all_earlier = shows.all_earlier;
           none_later = shows.none_later;
           levels = shows.levels;
+          limits = shows.limits;
         }),
       )
   step_if_any events address bytes BadSpan memory sound stores =

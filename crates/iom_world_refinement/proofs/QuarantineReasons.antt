@@ -1,5 +1,5 @@
 -- Why the ledger machine refuses a quarantine: for the first of the driver's own reasons.
-use Rattle.std.proofs.Common.{◌≡◌, ◌||◌, ◌-◌, ◌∙◌, ℕ, Bool, true, false, not, [], ◌∷◌, Option, Some, None, MatchOption, nat_le, refl, sym, ap, subst}
+use Rattle.std.proofs.Common.{◌≡◌, ◌||◌, ◌-◌, ◌∙◌, ℕ, Bool, true, false, not, [], ◌∷◌, Option, Some, None, MatchOption, nat_le, refl, sym, subst}
 use Rattle.iom_driver.specs.declared.device.Attachment as owned
 use Rattle.iom_driver.specs.declared.device.Attachment.TheVariants as attached
 use Rattle.iom_driver.specs.Devices as as_known
@@ -21,7 +21,7 @@ use Rattle.iom_world_effects.specs.Devices.{shown_attachment}
 use Rattle.iom_world_effects.specs.Parts.{Parts}
 use Rattle.iom_world_effects.specs.Shows.{PartsShow}
 use Rattle.iom_world_effects.specs.Sound.{AreSound}
-use Rattle.iom_world_refinement.proofs.ReasonLemmas.{there_shown, how_shown, pending_shown}
+use Rattle.iom_world_refinement.proofs.ReasonLemmas.{there_shown, how_shown, many_shown}
 
 -- the first reason of the machine's, where the device is there or not, is attached so, and where as many tickets wait as may
 abbrev machine_first : Bool → Attachment → Bool → Option Refusal
@@ -75,9 +75,9 @@ quarantine_first : (parts : Parts) (events : ℕ) (state : State) (id : ℕ) →
     ≡ machine_first (has_device parts.driver.devices id) (shown_attachment (as_known.attachment_by_id parts.driver.devices id)) (nat_le pending_limit (parts.driver.given - parts.driver.confirmed))
 quarantine_first parts events state id sound shows =
     let d = parts.driver in
-    first_same (machine.is_plugged state id) (has_device d.devices id) (nat_le pending_limit (pending_tickets state)) (nat_le pending_limit (d.given - d.confirmed))
+    first_same (machine.is_plugged state id) (has_device d.devices id) (nat_le state.limits.pending (pending_tickets state)) (nat_le pending_limit (d.given - d.confirmed))
     (attachment_of state id) (shown_attachment (as_known.attachment_by_id d.devices id))
-    (there_shown parts events state id sound shows) (how_shown parts events state id sound shows) (ap (nat_le pending_limit) (pending_shown parts state shows))
+    (there_shown parts events state id sound shows) (how_shown parts events state id sound shows) (many_shown parts state shows)
 
 -- the driver's, where it is started
 started_first : (started there : Bool) (how : owned.Attachment) (many full used : Bool) (told : Option Refusal) → started ≡ true → driver_first started there how many full used ≡ told

@@ -117,6 +117,7 @@ module _ (old new : Parts) (events id ticket : ℕ) (found : declared.Device) (s
         all_earlier = rw (ap (λ (x : DriverState). x.confirmed) queues.driver) shows.all_earlier;
         none_later = rw (ap (λ (x : DriverState). x.confirmed) queues.driver) shows.none_later;
         levels = shows.levels ∙ sym (ap (λ (x : DriverState). x.levels) queues.driver);
+        limits = shows.limits;
       }
 
 pub quarantine_step : (old new : Parts) (events id : ℕ) (told : Outcome) → AreSound old events → IsSoundDriver old.driver → QuarantinesDevice old id told new

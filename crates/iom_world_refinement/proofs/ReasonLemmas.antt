@@ -30,6 +30,7 @@ use Rattle.iom_machine.specs.Tickets.{last_confirmed, pending_tickets}
 use Rattle.iom_machine.specs.declared.state.Attachment.{Attachment}
 use Rattle.iom_machine.specs.declared.state.Attachment.TheVariants.{Detached}
 use Rattle.iom_machine.specs.declared.state.Device as declared
+use Rattle.iom_machine.specs.declared.state.Limits.{Limits}
 use Rattle.iom_machine.specs.declared.state.State.{State}
 use Rattle.iom_table_frames.specs.Marks.{is_marked}
 use Rattle.iom_device.specs.declared.device.Device.{Device}
@@ -206,7 +207,7 @@ granting_tests state id page frame =
     ∷ []
 
 abbrev releasing_tests : State → ℕ → ℕ → List (Bool × Refusal)
-releasing_tests state id page = (not (is_held state id page), NotGranted) ∷ (nat_le pending_limit (pending_tickets state), TooManyPending) ∷ []
+releasing_tests state id page = (not (is_held state id page), NotGranted) ∷ (nat_le state.limits.pending (pending_tickets state), TooManyPending) ∷ []
 
 -- of a release and of a detach the driver has two reasons more, which the machine lets come where none of its own applies
 place_refused : (there : Bool) (how : owned.Attachment) (held many full used : Bool) (reason why : Refusal)
@@ -243,15 +244,22 @@ not_some b (Some x) same = rw same refl
 
 -- THE CALLS
 
+-- too many tickets are pending for the machine where they are for the driver
+pub many_shown : (parts : Parts) (state : State) → PartsShow parts state
+    → nat_le state.limits.pending (pending_tickets state) ≡ nat_le pending_limit (parts.driver.given - parts.driver.confirmed)
+many_shown parts state shows =
+    ap (λ (limits : Limits). nat_le limits.pending (pending_tickets state)) shows.limits ∙ ap (nat_le pending_limit) (pending_shown parts state shows)
+
 -- the driver's reasons against a plug are the machine's first two
 pub plug_first : (parts : Parts) (events : ℕ) (state : State) (id : ℕ) → AreSound parts events → PartsShow parts state
-    → first_that_applies ((machine.is_plugged state id, AlreadyPlugged) ∷ (nat_le 16 (length state.devices), TooManyDevices) ∷ []) ≡ first_that_applies (why_not_plug parts.driver id)
+    → first_that_applies ((machine.is_plugged state id, AlreadyPlugged) ∷ (nat_le state.limits.devices (length state.devices), TooManyDevices) ∷ []) ≡ first_that_applies (why_not_plug parts.driver id)
 plug_first parts events state id sound shows =
     let d = parts.driver in
     let rows = (flights_of parts.iommu).rows in
-    plug_tests (machine.is_plugged state id) (has_device d.devices id) (nat_le 16 (length state.devices)) (nat_le 16 (length d.devices))
+    plug_tests (machine.is_plugged state id) (has_device d.devices id) (nat_le state.limits.devices (length state.devices)) (nat_le 16 (length d.devices))
     (plugged_shown d.devices rows parts.devices state id sound.known.driver shows.devices)
-    (ap (nat_le 16) (ap (λ (ds : List declared.Device). length ds) shows.devices ∙ length-shown d.devices rows parts.devices ∙ sym (length-known d.devices parts.devices sound.known.driver)))
+    (ap (λ (limits : Limits). nat_le limits.devices (length state.devices)) shows.limits
+    ∙ ap (nat_le 16) (ap (λ (ds : List declared.Device). length ds) shows.devices ∙ length-shown d.devices rows parts.devices ∙ sym (length-known d.devices parts.devices sound.known.driver)))
 
 -- whether the device is there, and how it is attached
 pub there_shown : (parts : Parts) (events : ℕ) (state : State) (id : ℕ) → AreSound parts events → PartsShow parts state → machine.is_plugged state id ≡ has_device parts.driver.devices id
@@ -311,13 +319,13 @@ place_shown parts id test reason =
     ((test, reason) ∷ (nat_le pending_limit (d.given - d.confirmed), TooManyPending) ∷ [])
 
 place_first : (parts : Parts) (events : ℕ) (state : State) (id : ℕ) (test test' : Bool) (reason : Refusal) → AreSound parts events → PartsShow parts state → test ≡ test'
-    → machine_first (machine.is_plugged state id) (attachment_of state id) ((test, reason) ∷ (nat_le pending_limit (pending_tickets state), TooManyPending) ∷ []) ≡ place_shown parts id test' reason
+    → machine_first (machine.is_plugged state id) (attachment_of state id) ((test, reason) ∷ (nat_le state.limits.pending (pending_tickets state), TooManyPending) ∷ []) ≡ place_shown parts id test' reason
 place_first parts events state id test test' reason sound shows as_test =
     let d = parts.driver in
     place_same (machine.is_plugged state id) (has_device d.devices id) test test'
-    (nat_le pending_limit (pending_tickets state)) (nat_le pending_limit (d.given - d.confirmed)) (attachment_of state id) (as_known.attachment_by_id d.devices id) reason
+    (nat_le state.limits.pending (pending_tickets state)) (nat_le pending_limit (d.given - d.confirmed)) (attachment_of state id) (as_known.attachment_by_id d.devices id) reason
     (there_shown parts events state id sound shows) (how_shown parts events state id sound shows) as_test
-    (ap (nat_le pending_limit) (pending_shown parts state shows))
+    (many_shown parts state shows)
 
 release_first : (parts : Parts) (events : ℕ) (state : State) (id page : ℕ) → AreSound parts events → PartsShow parts state
     → first_that_applies (machine.release_reasons state id page) ≡ place_shown parts id (is_none (held_in parts.driver.ledger id page)) NotGranted

@@ -76,6 +76,7 @@ shows_released old new id page ticket many sound queues devices state shows =
       all_earlier = rw (ap (λ (x : DriverState). x.confirmed) queues.driver) shows.all_earlier;
       none_later = rw (ap (λ (x : DriverState). x.confirmed) queues.driver) shows.none_later;
       levels = shows.levels ∙ sym (ap (λ (x : DriverState). x.levels) queues.driver);
+      limits = shows.limits;
     }
 
 pub release_step : (old new : Parts) (events id page : ℕ) (told : Outcome) → AreSound old events → IsSoundDriver old.driver → ReleasesPage old id page told new

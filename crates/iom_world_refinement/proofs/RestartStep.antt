@@ -56,6 +56,7 @@ shows_restarted old new events sound own size queues devices state shows =
       all_earlier = rw (ap (λ (x : DriverState). x.confirmed) queues.driver) shows.all_earlier;
       none_later = rw (ap (λ (x : DriverState). x.confirmed) queues.driver) shows.none_later;
       levels = shows.levels ∙ sym (ap (λ (x : DriverState). x.levels) queues.driver);
+      limits = shows.limits;
     }
 
 pub restart_step : (old new : Parts) (events : ℕ) (told : Outcome) → AreSound old events → IsSoundDriver old.driver → length new.memory ≡ length old.memory

@@ -86,6 +86,7 @@ shows_revived old new events id found sound own admitted writes iommu devices st
       all_earlier = rw (ap (λ (x : DriverState). x.confirmed) writes.driver) shows.all_earlier;
       none_later = rw (ap (λ (x : DriverState). x.confirmed) writes.driver) shows.none_later;
       levels = shows.levels ∙ sym (ap (λ (x : DriverState). x.levels) writes.driver);
+      limits = shows.limits;
     }
   where
     nobodys : ◌≡◌ {A = Option (Option Owner)} (Some None) (Some (Some System)) → ⊥

@@ -22,7 +22,7 @@ use Rattle.iom_iommu.specs.OwnIommu.{Iommu}
 use Rattle.iom_iommu.specs.Parts.{translations_of, fence_snapshot_of, fence_snapshot_after, slots_after, IsAtPowerOn, mmio, registers_of, contexts_of, flights_of, frames_of, slots_of}
 use Rattle.iom_ledger.specs.Shown.{Agrees}
 use Rattle.iom_machine.specs.declared.state.Frame.{Frame}
-use Rattle.iom_machine.specs.PowerOn.{opening, empty_frame}
+use Rattle.iom_machine.specs.PowerOn.{model_limits, opening, empty_frame}
 use Rattle.iom_phys_mem.specs.Sizes.{IsMemorySize}
 use Rattle.iom_phys_mem.specs.Words.{zeroed, with_word, word_at}
 use Rattle.iom_phys_mem.proofs.Stores.{put_word, word_back}
@@ -105,7 +105,7 @@ four_marked n le =
     ∙ set_last_four bare None (Some System) n (omega arith)
 
 -- what the ledger machine sees of the frames at power-on
-pub shows_frames : (n levels : ℕ) (disks : List ℕ) → IsMemorySize n → ShowsFrames (replicate n zeroed) (opening_marks n) (opening n levels disks).frames
+pub shows_frames : (n levels : ℕ) (disks : List ℕ) → IsMemorySize n → ShowsFrames (replicate n zeroed) (opening_marks n) (opening model_limits n levels disks).frames
 shows_frames n levels disks size =
     let le : 64 ≤ n = size.0 in
     let long : length (replicate n zeroed) ≡ n = length-replicate n zeroed in
@@ -122,7 +122,7 @@ shows_frames n levels disks size =
     let two = shows_reserved memory memory one_mark _ (n - 3) System one (rw long (omega arith)) marked_1 (λ k ne. refl) refl in
     let three = shows_reserved memory memory two_marks _ (n - 2) System two (rw long (omega arith)) marked_2 (λ k ne. refl) refl in
     let four = shows_reserved memory memory three_marks _ (n - 1) System three (rw long (omega arith)) marked_3 (λ k ne. refl) refl in
-    subst (λ (marks : List (Option Owner)). ShowsFrames memory marks (opening n levels disks).frames) (four_marked n (omega arith)) four
+    subst (λ (marks : List (Option Owner)). ShowsFrames memory marks (opening model_limits n levels disks).frames) (four_marked n (omega arith)) four
 
 -- a frame of zeros, where a word of zero is stored at its beginning, and one that is put where it stands
 zero_stays : with_bytes zeroed 0 (little_bytes 4 0) ≡ zeroed
@@ -343,7 +343,7 @@ module _ (first_fence n levels : ℕ) (first next : DriverState) (before memory 
   pub driver_started : IsStartedDriver first_fence n levels next
   driver_started = (first, started.opening_driver, started.starts.driver)
 
-  pub shows_started : (disks : List ℕ) → PartsShow parts (opening n levels disks)
+  pub shows_started : (disks : List ℕ) → PartsShow parts (opening model_limits n levels disks)
   shows_started disks = record {
     ledger = agrees;
     frames = rw (memory_is, ap (λ (d : DriverState). d.marks) driver_is) (shows_frames n levels disks started.size);
@@ -353,4 +353,5 @@ module _ (first_fence n levels : ℕ) (first next : DriverState) (before memory 
     all_earlier = λ ticket above low. let none = confirmed_none in absurd (omega (arith, above, low, none));
     none_later = λ ticket later. refl;
     levels = rw (ap (λ (d : DriverState). d.levels) driver_is) refl;
+    limits = refl;
   }

@@ -6,7 +6,8 @@ use Rattle.iom_command_queue.specs.declared.entry.QueueEntry.TheVariants as stan
 use Rattle.iom_directory_build.specs.Pages.{HasPage, root_level}
 use Rattle.iom_directory_build.specs.Written.{without_context}
 use Rattle.iom_ledger.specs.History.{pending_limit}
-use Rattle.iom_ledger.specs.Shown.{pending_in, pages_listed}
+use Rattle.iom_ledger.specs.Shown.{pending_in, pending_room, pages_listed}
+use Rattle.iom_ledger.proofs.RoomLemmas.{has_room}
 use Rattle.iom_driver.specs.declared.device.Attachment.TheVariants.{Quarantined}
 use Rattle.iom_driver.specs.declared.device.Device.{Device}
 use Rattle.iom_driver.specs.Appends.{detach_commands, AppendsAll}
@@ -83,7 +84,8 @@ release_all-requires g c =
     let driver = c.args.self.now in
     let few : driver.given - driver.confirmed < pending_limit = c.in-Ok.ensures.may.few in
     let many = few_rise driver.confirmed driver.given (pending_in driver.ledger) driver.sound.tickets.pending driver.sound.tickets.ordered in
-    omega (arith, many, few)
+    let room : pending_limit ≤ pending_room driver.ledger = has_room driver.ledger in
+    omega (arith, many, few, room)
 
 pub invariant_of-self : goal.invariant_of-self
 invariant_of-self g c =

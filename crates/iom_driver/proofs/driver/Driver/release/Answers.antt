@@ -4,7 +4,8 @@ use Rattle.iom_base.specs.Modes.{size_in}
 use Rattle.iom_base.specs.Sizes.{levels_of, page_limit_of}
 use Rattle.iom_base.specs.declared.size.Size.TheVariants.{Sv48}
 use Rattle.iom_ledger.specs.History.{pending_limit}
-use Rattle.iom_ledger.specs.Shown.{pending_in}
+use Rattle.iom_ledger.specs.Shown.{pending_in, pending_room}
+use Rattle.iom_ledger.proofs.RoomLemmas.{has_room}
 use Rattle.iom_base.specs.declared.owner.Owner.{Owner}
 use Rattle.iom_base.specs.declared.owner.Owner.TheVariants.{System, OneDevice}
 use Rattle.iom_command_queue.specs.declared.entry.QueueEntry.{QueueEntry}
@@ -51,7 +52,8 @@ release-requires-clause-room g c =
     let driver = c.args.self.now in
     let few : driver.given - driver.confirmed < pending_limit = c.in-Ok.ensures.may.few in
     let many = few_rise driver.confirmed driver.given (pending_in driver.ledger) driver.sound.tickets.pending driver.sound.tickets.ordered in
-    omega (arith, many, few)
+    let room : pending_limit ≤ pending_room driver.ledger = has_room driver.ledger in
+    omega (arith, many, few, room)
 
 pub invariant_of-self : goal.invariant_of-self
 invariant_of-self g c =

@@ -1,4 +1,5 @@
-use Rattle.std.proofs.Common.{◌∙◌, ap, map}
+use Rattle.std.proofs.Common.{◌∙◌, ◌≤◌, ℕ, ap, map, subst, sym}
+use Rattle.iom_ledger.specs.History.{pending_limit}
 use Rattle.iom_ledger.specs.Rows.{row_at, held_of, released_of, is_named, ticket_of}
 use Rattle.iom_ledger.specs.Shown.{held_in, released_in, pending_in}
 use Rattle.iom_ledger.specs.Ring.{is_other, is_ascending}
@@ -14,7 +15,7 @@ invariant_of-self c = record {
   named = λ d a. ap (λ s. is_named s d a (ticket_of (row_at c.confirm_in.new.devices d a))) c.confirm_in.ensures.items ∙ AllNamed-confirmed c.args.self.now.devices c.confirm_in.new.devices c.args.self.now.pending.items c.args.ticket c.args.self.now.named c.confirm_in.ensures.rows d a;
   counted = c.confirm_in.ensures.counted;
   ordered = λ ascends. ap is_ascending c.confirm_in.ensures.items ∙ is_ascending-filter (is_other c.args.ticket) c.args.self.now.pending.items (c.args.self.now.ordered ascends);
-  room = c.confirm_in.ensures.capacity ∙ c.args.self.now.room;
+  room = subst (λ (n : ℕ). pending_limit ≤ n) (sym c.confirm_in.ensures.capacity) c.args.self.now.room;
 }
 
 pub returns-clause-confirmed : goal.returns-clause-confirmed
