@@ -106,6 +106,7 @@ fn append_told<D: Disk>(
     ensures text { out.new ≡ out.old ++ (event_text event.now ++ codes " => " ++ outcome_text outcome.now
         ++ behind_text (taken_below (is_taken_since before.now (platform_seen D.seen platform.now)) 4096) behind.now) ++ 10 ∷ [] }
     ensures says { IsEventLine (event_text event.now) event.now × SaysBehind behind.now }
+    ensures short { length out.new ≤ length out.old + TELL_ROOM }
 {
     append_answered(out, event, outcome);
     append_behind(out, platform, before, behind);
@@ -126,6 +127,7 @@ fn append_outcome<D: Disk>(
         ++ behind_text (taken_below (is_taken_since before.now (platform_seen D.seen platform.now)) 4096) (behind_of (platform_seen D.seen platform.now) event.now outcome.now)) ++ 10 ∷ []) }
     ensures says { OnOk result (IsEventLine (event_text event.now) event.now × SaysBehind (behind_of (platform_seen D.seen platform.now) event.now outcome.now)) }
     ensures kept { OnErr result (out.new ≡ out.old) }
+    ensures short { length out.new ≤ length out.old + TELL_ROOM }
     ensures fault { IfErr result (λ fault. fault ≡ TellFault.Unsayable → ¬ (IsSayable event.now × IsSayableBehind (behind_of (platform_seen D.seen platform.now) event.now outcome.now))) }
 {
     let Ok(behind) = behind_of(alloc, platform, event, outcome) else {
@@ -156,6 +158,7 @@ pub fn tell_event<D: Disk>(
     ensures says { OnOk result.1 (SaysLine (told_line (platform_seen D.seen platform.old) event.now result.0 (platform_seen D.seen platform.new))
         (told_said (platform_seen D.seen platform.old) event.now result.0 (platform_seen D.seen platform.new)) (taken_by (platform_seen D.seen platform.old) (platform_seen D.seen platform.new))) }
     ensures kept { OnErr result.1 (out.new ≡ out.old) }
+    ensures short { length out.new ≤ length out.old + TELL_ROOM }
     ensures fault { IfErr result.1 (λ fault. fault ≡ TellFault.Unsayable
         → ¬ (IsSayable event.now × IsSayableBehind (behind_of (platform_seen D.seen platform.new) event.now result.0))) }
 {

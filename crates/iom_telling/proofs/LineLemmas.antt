@@ -13,7 +13,6 @@ use Rattle.iom_machine.specs.declared.outcome.Outcome.{Outcome}
 use Rattle.iom_script.specs.declared.script.ScriptLine.{ScriptLine}
 use Rattle.iom_script.specs.declared.script.ScriptLine.TheVariants as says
 use Rattle.iom_settling.specs.Stages.{Settled}
-use Rattle.iom_tell.specs.Told.{told_line}
 use Rattle.iom_world.specs.Seen.{parts_of}
 use Rattle.iom_virtio_blk.specs.declared.disk.Disk.{Ghosts}
 use Rattle.iom_virtio_blk.specs.DiskStates.{DiskState}
@@ -26,9 +25,11 @@ use Rattle.iom_telling.proofs.TellingLemmas.{settled_told, told_more}
 -- AN EVENT is told
 pub event_told : {W D : Type 0} {d : Ghosts D} (contents : W → Option (List ℕ)) (seen : D → DiskState) (old new : Teller W D d) (event : Event) (outcome : Outcome)
     → TellerTakes contents seen old event outcome new → GoesByLine contents seen old (says.Event event) new
-event_told {W} contents seen old new event outcome (happens, goes) = λ (first : LineWriter W) (text : List ℕ) told.
-    let line : List ℕ = told_line (platform_seen seen old.platform) event outcome (platform_seen seen new.platform) ++ 10 ∷ [] in
-    (text ++ line, (outcome, (happens, refl)), told_more contents first old.lines new.lines text line old.fault new.fault told goes)
+event_told {W} contents seen old new event outcome takes = λ (first : LineWriter W) (text : List ℕ) told. (
+  text ++ takes.line,
+  (outcome, record { happens = takes.happens; line = takes.line; told = takes.told; text = refl; explains = takes.explains }),
+  told_more contents first old.lines new.lines text takes.line old.fault new.fault told takes.goes,
+)
 
 -- A SETTLING is told
 pub settling_told : {W D : Type 0} {d : Ghosts D} (contents : W → Option (List ℕ)) (seen : D → DiskState) (old new : Teller W D d) (answer : Result ℕ Refusal)
@@ -57,8 +58,8 @@ goes_more {W} contents seen old mid new lines i line so_far is lt goes = λ (fir
     let here = so_far first text told in
     let next = goes first here.0 here.2 in (
       next.0,
-      subst (λ (l : List ScriptLine). TellsLines (telling_of seen old.platform text) l (telling_of seen new.platform next.0)) (first_lines lines i line is lt)
-          (lines_more (telling_of seen old.platform text) (telling_of seen mid.platform here.0) (telling_of seen new.platform next.0) (take i lines) line here.1 next.1),
+      subst (λ (l : List ScriptLine). TellsLines (telling_of seen old text) l (telling_of seen new next.0)) (first_lines lines i line is lt)
+          (lines_more (telling_of seen old text) (telling_of seen mid here.0) (telling_of seen new next.0) (take i lines) line here.1 next.1),
       next.2,
     )
 
@@ -81,7 +82,7 @@ begins_part {W} contents seen old mid after lines fresh still goes same wrote = 
       (same.0 ∙ all.0.0, same.1 ∙ all.0.1),
       length lines,
       here.0,
-      subst (λ (l : List ScriptLine). TellsLines (telling_of seen old.platform text) l (telling_of seen mid.platform here.0)) (sym (take_all (length lines) lines (omega arith))) here.1,
+      subst (λ (l : List ScriptLine). TellsLines (telling_of seen old text) l (telling_of seen mid here.0)) (sym (take_all (length lines) lines (omega arith))) here.1,
       part-front _ _ here.0 (part_written contents first mid.lines (contents after.writer.now) here.0 empty all wrote),
     )
 
@@ -104,16 +105,16 @@ starts contents lines = ((refl, refl), [], Appends-nil (contents lines.writer.no
 
 -- the same without the teller; and the writer is the same
 pub run_writes : {W D : Type 0} {d : Ghosts D} (contents : W → Option (List ℕ)) (seen : D → DiskState) (old new : Teller W D d) (lines : List ScriptLine) → WritesAll contents seen old lines new
-    → KeepsWriter old.lines new.lines × WritesRun (platform_seen seen old.platform) old.lines.buffer lines (contents old.lines.writer.now) (contents new.lines.writer.now)
+    → KeepsWriter old.lines new.lines × WritesRun (platform_seen seen old.platform) old.explains old.lines.buffer lines (contents old.lines.writer.now) (contents new.lines.writer.now)
 run_writes contents seen old new lines all =
     let here = all (record old.lines { buffer = [] }) old.lines.buffer refl (starts contents old.lines) in
-    (here.0, (telling_of seen new.platform here.1, here.2, here.3))
+    (here.0, (telling_of seen new here.1, here.2, here.3))
 
 pub run_begins : {W D : Type 0} {d : Ghosts D} (contents : W → Option (List ℕ)) (seen : D → DiskState) (old new : Teller W D d) (lines : List ScriptLine) → BeginsAll contents seen old lines new
-    → KeepsWriter old.lines new.lines × BeginsRun (platform_seen seen old.platform) old.lines.buffer lines (contents old.lines.writer.now) (contents new.lines.writer.now)
+    → KeepsWriter old.lines new.lines × BeginsRun (platform_seen seen old.platform) old.explains old.lines.buffer lines (contents old.lines.writer.now) (contents new.lines.writer.now)
 run_begins contents seen old new lines all =
     let here = all (record old.lines { buffer = [] }) old.lines.buffer refl (starts contents old.lines) in
-    (here.0, (here.1, telling_of seen new.platform here.2, here.3, here.4))
+    (here.0, (here.1, telling_of seen new here.2, here.3, here.4))
 
 -- what is told by way of a writer, where the writer began and ended so
 pub told_by : {W : Type 0} (contents : W → Option (List ℕ)) (Tells : Option (List ℕ) → Option (List ℕ) → Type 0) (old start end new : W) → start ≡ old → end ≡ new

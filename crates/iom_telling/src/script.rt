@@ -128,6 +128,7 @@ fn lines_of<'a, W: Write, D: Disk>(teller: Teller<'a, W, D>) -> LineWriter<'a, W
         before: _,
         lines,
         fault: _,
+        explains: _,
         alloc: _,
     } = teller;
     lines
@@ -139,12 +140,13 @@ fn tell_run<W: Write, D: Disk>(
     platform: Platform<D>,
     before: FrameMarks,
     script: &[ScriptLine],
+    explains: bool,
     buffer: LineBuffer,
     writer: &mut W,
 ) -> Result<(), TellingFault>
     requires count { platform.world.hardware.events + 400 * length script.now < 2 ^ 64 }
-    ensures told { OnOk result (WritesRun (platform_seen D.seen platform) buffer script.now (W.contents writer.old) (W.contents writer.new)) }
-    ensures failed { OnErr result (BeginsRun (platform_seen D.seen platform) buffer script.now (W.contents writer.old) (W.contents writer.new)) }
+    ensures told { OnOk result (WritesRun (platform_seen D.seen platform) explains buffer script.now (W.contents writer.old) (W.contents writer.new)) }
+    ensures failed { OnErr result (BeginsRun (platform_seen D.seen platform) explains buffer script.now (W.contents writer.old) (W.contents writer.new)) }
 {
     let lines = LineWriter::new(buffer, writer, false);
     let mut teller = Teller {
@@ -152,6 +154,7 @@ fn tell_run<W: Write, D: Disk>(
         before,
         lines,
         fault: None,
+        explains,
         alloc,
     };
     let told = tell_all(&mut teller, script);
@@ -170,16 +173,18 @@ fn tell_run<W: Write, D: Disk>(
 }
 
 /// Tells the script, which is run with these disks, to the writer: the line of the world, and that of each event, with what came of
-/// it. Where something fails, what was written is a beginning of that, and perhaps nothing.
+/// it. With `explains`, notes stand behind an answer of which people ask why, each a line that begins with `# `; the other lines are the
+/// same as without. Where something fails, what was written is a beginning of that, and perhaps nothing.
 pub fn tell<W: Write, D: Disk>(
     alloc: Global,
     script: &Script,
+    explains: bool,
     disks: Vec<D>,
     writer: &mut W,
 ) -> Result<(), TellingFault>
     requires world { IfSome script.now.world IsWorldSize }
     requires few { length script.now.lines ≤ 1048576 }
-    ensures { TellsScript (states_of D.seen disks.items) script.now result (W.contents writer.old) (W.contents writer.new) }
+    ensures { TellsScript (states_of D.seen disks.items) explains script.now result (W.contents writer.old) (W.contents writer.new) }
 {
     let Some(size) = script.world else {
         return Ok(());
@@ -192,6 +197,7 @@ pub fn tell<W: Write, D: Disk>(
         platform,
         before,
         script.lines.as_slice(),
+        explains,
         buffer,
         writer,
     )

@@ -1,5 +1,5 @@
 // What tells events: a platform, and the lines on their way out.
-ghost use Rattle.std.specs.Prelude.{◌≡◌, ◌+◌, ◌<◌, ◌≤◌, ◌^◌, ◌++◌, ◌∷◌, [], length, OnOk, OnErr};
+ghost use Rattle.std.specs.Prelude.{◌≡◌, ◌+◌, ◌<◌, ◌≤◌, ◌^◌, [], length, OnOk, OnErr};
 ghost use Rattle.iom_line_writer.specs.Writing.{TakesText, FailsAt};
 ghost use Rattle.iom_platform.specs.Happens.{HappensHere};
 ghost use Rattle.iom_platform.specs.Seen.{platform_seen};
@@ -7,14 +7,15 @@ ghost use Rattle.iom_settling.specs.Stages.{brief};
 ghost use Rattle.iom_tell.specs.Told.{told_line};
 ghost use Rattle.iom_world.specs.Seen.{disks_of, parts_of};
 ghost use Rattle.iom_world_effects.proofs.DriverLemmas.{sound_driver};
-ghost use Rattle.iom_telling.specs.Tellers.{HasTold, TellerTakes};
+ghost use Rattle.iom_telling.specs.Tellers.{AddsIf, HasToldLine, TellerTakes};
 
 use crate::fault::{TellingFault, fault_of};
 use iom_base::DeviceId;
+use iom_explain::{NOTES_ROOM, append_notes, explain};
 use iom_line_writer::{LineWriter, WriteFault};
 use iom_machine::{Event, Fetched, Outcome};
 use iom_platform::Platform;
-use iom_script::BUFFER_SIZE;
+use iom_script::{BUFFER_SIZE, LineBuffer};
 use iom_settling::{TakesEvents, Told};
 use iom_tell::{FrameMarks, TELL_ROOM, tell_event};
 use iom_virtio_blk::Disk;
@@ -29,37 +30,60 @@ pub(crate) struct Teller<'a, W, D: Disk> {
     pub(crate) lines: LineWriter<'a, W>,
     /// What failed.
     pub(crate) fault: Option<TellingFault>,
+    /// Whether answers are explained.
+    pub(crate) explains: bool,
     pub(crate) alloc: Global,
 }
 
-/// Writes the lines out where there is no room for the longest that tells an event.
+/// Writes the lines out where there is no room for the longest that tells an event, and for notes behind it.
 fn make_room<W: Write>(lines: &mut LineWriter<'_, W>) -> Result<(), WriteFault>
-    ensures room { OnOk result (length lines.new.buffer + TELL_ROOM ≤ BUFFER_SIZE) }
+    ensures room { OnOk result (length lines.new.buffer + TELL_ROOM + NOTES_ROOM ≤ BUFFER_SIZE) }
     ensures taken { OnOk result (TakesText W.contents lines.old [] lines.new) }
     ensures failed { OnErr result (FailsAt W.contents lines.old [] lines.new) }
 {
-    if lines.buffer.as_slice().len() > BUFFER_SIZE - TELL_ROOM {
+    if lines.buffer.as_slice().len() > BUFFER_SIZE - TELL_ROOM - NOTES_ROOM {
         lines.write_out()?;
     }
     Ok(())
 }
 
-/// One event happens to the platform, and its line goes into the buffer, which has room for it. What failed, if something did, is noted.
+/// Where answers are explained, notes behind the answer that the event had of the platform, as it is now.
+fn add_notes<D: Disk>(
+    platform: &Platform<D>,
+    event: &Event,
+    outcome: &Outcome,
+    explains: bool,
+    out: &mut LineBuffer,
+)
+    requires { length out.old + NOTES_ROOM ≤ BUFFER_SIZE }
+    ensures { AddsIf explains out.old out.new }
+{
+    if explains {
+        append_notes(out, &explain(platform.world(), event, outcome));
+    }
+}
+
+/// One event happens to the platform, and its line goes into the buffer, which has room for it, and notes behind it, where answers are
+/// explained. What failed, if something did, is noted.
 fn tell_in_room<W: Write, D: Disk>(
     alloc: Global,
     platform: &mut Platform<D>,
     before: &mut FrameMarks,
     event: &Event,
     lines: &mut LineWriter<'_, W>,
+    explains: bool,
     fault: &mut Option<TellingFault>,
 ) -> Outcome
     requires count { platform.old.world.hardware.events + 1 < 2 ^ 64 }
-    requires room { length lines.old.buffer + TELL_ROOM ≤ BUFFER_SIZE }
+    requires room { length lines.old.buffer + TELL_ROOM + NOTES_ROOM ≤ BUFFER_SIZE }
     ensures happens { HappensHere (platform_seen D.seen platform.old) event.now result (platform_seen D.seen platform.new) }
-    ensures told { HasTold W.contents lines.old (told_line (platform_seen D.seen platform.old) event.now result (platform_seen D.seen platform.new) ++ 10 ∷ []) fault.new lines.new }
+    ensures told { HasToldLine W.contents lines.old explains (told_line (platform_seen D.seen platform.old) event.now result (platform_seen D.seen platform.new)) fault.new lines.new }
 {
     let told = tell_event(alloc, platform, before, event, &mut lines.buffer);
     *fault = fault_of(told.1);
+    if fault.is_none() {
+        add_notes(platform, event, &told.0, explains, &mut lines.buffer);
+    }
     told.0
 }
 
@@ -70,18 +94,19 @@ fn tell_one<W: Write, D: Disk>(
     before: &mut FrameMarks,
     event: &Event,
     lines: &mut LineWriter<'_, W>,
+    explains: bool,
     fault: &mut Option<TellingFault>,
 ) -> Outcome
     requires count { platform.old.world.hardware.events + 1 < 2 ^ 64 }
     ensures happens { HappensHere (platform_seen D.seen platform.old) event.now result (platform_seen D.seen platform.new) }
-    ensures told { HasTold W.contents lines.old (told_line (platform_seen D.seen platform.old) event.now result (platform_seen D.seen platform.new) ++ 10 ∷ []) fault.new lines.new }
+    ensures told { HasToldLine W.contents lines.old explains (told_line (platform_seen D.seen platform.old) event.now result (platform_seen D.seen platform.new)) fault.new lines.new }
 {
     match make_room(lines) {
         Err(WriteFault) => {
             *fault = Some(TellingFault::Writing);
             platform.step(event)
         }
-        Ok(()) => tell_in_room(alloc, platform, before, event, lines, fault),
+        Ok(()) => tell_in_room(alloc, platform, before, event, lines, explains, fault),
     }
 }
 
@@ -110,6 +135,7 @@ impl<W: Write, D: Disk> Teller<'_, W, D> {
                 &mut self.before,
                 event,
                 &mut self.lines,
+                self.explains,
                 &mut self.fault,
             ),
         }
@@ -124,11 +150,11 @@ impl<W: Write, D: Disk> TakesEvents for Teller<'_, W, D> {
 
     ghost happens = { TellerTakes W.contents D.seen };
 
-    ghost does = { λ old new event told happens. (disks_of old.platform.world, happens.0.0.does) };
+    ghost does = { λ old new event told happens. (disks_of old.platform.world, happens.happens.0.does) };
 
-    ghost commands = { λ old new event told happens. happens.0.0.commands };
+    ghost commands = { λ old new event told happens. happens.happens.0.commands };
 
-    ghost counts = { λ old new event told happens. happens.0.0.events };
+    ghost counts = { λ old new event told happens. happens.happens.0.events };
 
     ghost sound = { λ teller. teller.platform.world.sound };
 

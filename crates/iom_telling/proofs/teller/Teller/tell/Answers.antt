@@ -4,18 +4,27 @@ use Rattle.iom_platform.specs.Seen.{platform_seen}
 use Rattle.iom_tell.specs.Told.{told_line}
 use Rattle.iom_telling.specs.declared.fault.TellingFault.{TellingFault}
 use Rattle.iom_telling.specs.Tellers.{GoesOnTelling}
+use Rattle.iom_telling.proofs.TellingLemmas.{line_alone}
 use Rattle.iom_telling.proofs.teller.Teller.tell.Goals as goal
 
 pub returns-in-Some : goal.returns-in-Some
 returns-in-Some g c =
-    let line = told_line (platform_seen g.D.Disk.seen c.args.self.now.platform) c.args.event.now c.step.result (platform_seen g.D.Disk.seen c.step.new.self) in (
-      c.step.ensures,
-      subst (λ (f : Option TellingFault). GoesOnTelling g.W.Write.contents f c.args.self.now.lines (line ++ 10 ∷ []) c.args.self.now.fault c.args.self.now.lines) (sym c.in-Some.is) (c.in-Some.is, refl),
-    )
+    let line = told_line (platform_seen g.D.Disk.seen c.args.self.now.platform) c.args.event.now c.step.result (platform_seen g.D.Disk.seen c.step.new.self) in
+    record {
+      happens = c.step.ensures;
+      line = line ++ 10 ∷ [];
+      told = line_alone c.args.self.now.explains line;
+      goes = subst (λ (f : Option TellingFault). GoesOnTelling g.W.Write.contents f c.args.self.now.lines (line ++ 10 ∷ []) c.args.self.now.fault c.args.self.now.lines) (sym c.in-Some.is) (c.in-Some.is, refl);
+      explains = refl;
+    }
 
 pub returns-in-None : goal.returns-in-None
 returns-in-None g c =
-    let line = told_line (platform_seen g.D.Disk.seen c.args.self.now.platform) c.args.event.now c.tell_one.result (platform_seen g.D.Disk.seen c.tell_one.new.platform) in (
-      c.tell_one.ensures.happens,
-      subst (λ (f : Option TellingFault). GoesOnTelling g.W.Write.contents f c.args.self.now.lines (line ++ 10 ∷ []) c.tell_one.new.fault c.tell_one.new.lines) (sym c.in-None.is) c.tell_one.ensures.told,
-    )
+    let one = c.tell_one.ensures.told in
+    record {
+      happens = c.tell_one.ensures.happens;
+      line = one.text;
+      told = one.told;
+      goes = subst (λ (f : Option TellingFault). GoesOnTelling g.W.Write.contents f c.args.self.now.lines one.text c.tell_one.new.fault c.tell_one.new.lines) (sym c.in-None.is) one.has;
+      explains = refl;
+    }

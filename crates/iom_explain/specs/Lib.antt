@@ -1,0 +1,3 @@
+pub mod Waits
+pub mod Tickets
+pub mod Notes
