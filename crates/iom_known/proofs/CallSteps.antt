@@ -21,6 +21,7 @@ use Rattle.iom_known.proofs.StayLemmas.{any_choice, allowed_by_ids, same_ids}
 -- what is known, where the devices and the last ticket change
 abbrev pub with_devices : Known → List Device → ℕ → Known
 with_devices old devices ticket = record {
+  limits = old.limits;
   levels = old.levels;
   ledger = old.ledger;
   last_ticket = ticket;
@@ -34,6 +35,7 @@ with_devices old devices ticket = record {
 -- what is known, where the devices change, and the disks are those of the other
 abbrev pub with_disks_of : Known → Known → List Device → Known
 with_disks_of old left devices = record {
+  limits = old.limits;
   levels = old.levels;
   ledger = old.ledger;
   last_ticket = old.last_ticket;
@@ -101,6 +103,7 @@ revive_explained old past id place device devices is_true none is_place at d = r
 -- the grants, once something was released under the next ticket
 abbrev pub with_ledger : Known → Ledger → List Device → ℕ → Known
 with_ledger old ledger devices ticket = record {
+  limits = old.limits;
   levels = old.levels;
   ledger = ledger;
   last_ticket = ticket;

@@ -27,6 +27,7 @@ use Rattle.iom_known.proofs.StayLemmas.{any_choice, stays}
 -- what is known, where something else is believed of the frames
 abbrev pub with_frames : Known → List BelievedFrame → Known
 with_frames old frames = record {
+  limits = old.limits;
   levels = old.levels;
   ledger = old.ledger;
   last_ticket = old.last_ticket;

@@ -18,19 +18,19 @@ pub detach_same : (known : Known) (past : Past) (frames : List Frame) (id : ℕ)
     → first_that_applies (detach_reasons_by known id granted) ≡ first_that_applies (detach_reasons (known_state known past.history frames) id)
 detach_same known past frames id granted is e =
     ap (λ (g : Bool). first_that_applies (detach_reasons_by known id g)) e
-    ∙ ap (λ (n : ℕ). first_that_applies (attachment_reasons (bare known) id ((has_grants (known_state known past.history frames) id, StillGranted) ∷ ticket_reasons known.last_ticket n))) (sym is.confirmed)
+    ∙ ap (λ (n : ℕ). first_that_applies (attachment_reasons (bare known) id ((has_grants (known_state known past.history frames) id, StillGranted) ∷ ticket_reasons known.limits.pending known.last_ticket n))) (sym is.confirmed)
 
 pub release_same : (known : Known) (past : Past) (frames : List Frame) (id page : ℕ) (held : Bool) → IsTrueOf known past
     → held ≡ is_held (known_state known past.history frames) id page
     → first_that_applies (release_reasons_by known id held) ≡ first_that_applies (release_reasons (known_state known past.history frames) id page)
 release_same known past frames id page held is e =
     ap (λ (g : Bool). first_that_applies (release_reasons_by known id g)) e
-    ∙ ap (λ (n : ℕ). first_that_applies (attachment_reasons (bare known) id ((not (is_held (known_state known past.history frames) id page), NotGranted) ∷ ticket_reasons known.last_ticket n))) (sym is.confirmed)
+    ∙ ap (λ (n : ℕ). first_that_applies (attachment_reasons (bare known) id ((not (is_held (known_state known past.history frames) id page), NotGranted) ∷ ticket_reasons known.limits.pending known.last_ticket n))) (sym is.confirmed)
 
 pub quarantine_same : (known : Known) (past : Past) (frames : List Frame) (id : ℕ) → IsTrueOf known past
     → first_that_applies (quarantine_reasons_by known id) ≡ first_that_applies (quarantine_reasons (known_state known past.history frames) id)
 quarantine_same known past frames id is =
-    ap (λ (n : ℕ). first_that_applies (attachment_reasons (bare known) id (ticket_reasons known.last_ticket n))) (sym is.confirmed)
+    ap (λ (n : ℕ). first_that_applies (attachment_reasons (bare known) id (ticket_reasons known.limits.pending known.last_ticket n))) (sym is.confirmed)
 
 pub revive_same : (known : Known) (past : Past) (frames : List Frame) (id : ℕ) (reaching : Bool)
     → reaching ≡ may_still_reach past.history (attachment_of (bare known) id)

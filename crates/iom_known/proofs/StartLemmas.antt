@@ -14,6 +14,7 @@ use Rattle.iom_base.specs.declared.owner.Owner.{Owner}
 use Rattle.iom_base.specs.declared.owner.Owner.TheVariants.{System, OneDevice}
 use Rattle.iom_ledger.specs.Shown.{Agrees}
 use Rattle.iom_ledger.specs.declared.ledger.Ledger.{Ledger}
+use Rattle.iom_machine.specs.declared.state.Limits.{Limits}
 use Rattle.iom_machine.specs.PowerOn.{empty_frame, opening}
 use Rattle.iom_machine.specs.declared.state.Device.{Device}
 use Rattle.iom_machine.specs.declared.state.Frame.{Frame}
@@ -106,8 +107,8 @@ abbrev pub first_frame : Bool → Frame
 first_frame true = record { owner = Some System; bytes = replicate page_size 0 }
 first_frame false = empty_frame
 
-opening_frame : (n levels k : ℕ) → k < n → slice_get (opening n levels []).frames k ≡ Some (owned (list_any (nat_eq k) (last_four n)) System empty_frame)
-opening_frame n levels k low =
+opening_frame : (limits : Limits) (n levels k : ℕ) → k < n → slice_get (opening limits n levels []).frames k ≡ Some (owned (list_any (nat_eq k) (last_four n)) System empty_frame)
+opening_frame limits n levels k low =
     let found = element_at (replicate n empty_frame) k (subst (λ (m : ℕ). k < m) (sym (length-replicate n empty_frame)) low) in
     reserved_at System (last_four n) (replicate n empty_frame) k
     ∙ ap (option_map (owned (list_any (nat_eq k) (last_four n)) System)) (found.1 ∙ ap (λ (f : Frame). Some f) (sym (replicated n empty_frame found.0 k found.1)))
@@ -143,10 +144,10 @@ last_is n frame is =
     ((bytes_eq-Decides frame.bytes (replicate page_size 0)).0 (subst (λ (o : Option Owner). MayHaveBytes first_past n (frame_of_zeros 2) o frame.bytes) own is.bytes))
 
 -- the frames that are believed at first
-frames_are : (n levels : ℕ) (all : List Frame) → 4 ≤ n → length all ≡ length (believed_first n)
+frames_are : (limits : Limits) (n levels : ℕ) (all : List Frame) → 4 ≤ n → length all ≡ length (believed_first n)
     → ((k : ℕ) (b : BelievedFrame) (frame : Frame) → slice_get (believed_first n) k ≡ Some b → slice_get all k ≡ Some frame → IsAsBelieved [] first_past k b frame)
-    → all ≡ (opening n levels []).frames
-frames_are n levels all some size each = same_elements all (opening n levels []).frames (λ k. by k (nat_lt k n) refl)
+    → all ≡ (opening limits n levels []).frames
+frames_are limits n levels all some size each = same_elements all (opening limits n levels []).frames (λ k. by k (nat_lt k n) refl)
   where
     count : length (believed_first n) ≡ n
     count =
@@ -156,19 +157,19 @@ frames_are n levels all some size each = same_elements all (opening n levels [])
     past_end : {X : Type 0} (xs : List X) (k : ℕ) → length xs ≤ k → slice_get xs k ≡ None
     past_end xs k high = slice_get_past xs k high
 
-    opened : length (opening n levels []).frames ≡ n
+    opened : length (opening limits n levels []).frames ≡ n
     opened = length-reserved_for System (last_four n) (replicate n empty_frame) ∙ length-replicate n empty_frame
 
     here : (k : ℕ) (b : BelievedFrame) (frame : Frame) → k < n → slice_get (believed_first n) k ≡ Some b → slice_get all k ≡ Some frame
-        → ((k < n - 4) × (frame_of_zeros 1 ≡ b)) ⊎ ((n - 4 ≤ k) × (frame_of_zeros 2 ≡ b)) → slice_get all k ≡ slice_get (opening n levels []).frames k
+        → ((k < n - 4) × (frame_of_zeros 1 ≡ b)) ⊎ ((n - 4 ≤ k) × (frame_of_zeros 2 ≡ b)) → slice_get all k ≡ slice_get (opening limits n levels []).frames k
     here k b frame low at got (inl first) =
         let is = first_is k frame (subst (λ (x : BelievedFrame). IsAsBelieved [] first_past k x frame) (sym first.1) (each k b frame at got)) in
-        got ∙ ap (λ (f : Frame). Some f) is ∙ sym (opening_frame n levels k low ∙ ap (λ (c : Bool). Some (owned c System empty_frame)) (not_last n k first.0))
+        got ∙ ap (λ (f : Frame). Some f) is ∙ sym (opening_frame limits n levels k low ∙ ap (λ (c : Bool). Some (owned c System empty_frame)) (not_last n k first.0))
     here k b frame low at got (inr last) =
         let is = last_is k frame (subst (λ (x : BelievedFrame). IsAsBelieved [] first_past k x frame) (sym last.1) (each k b frame at got)) in
-        got ∙ ap (λ (f : Frame). Some f) is ∙ sym (opening_frame n levels k low ∙ ap (λ (c : Bool). Some (owned c System empty_frame)) (is_last n k some last.0 low))
+        got ∙ ap (λ (f : Frame). Some f) is ∙ sym (opening_frame limits n levels k low ∙ ap (λ (c : Bool). Some (owned c System empty_frame)) (is_last n k some last.0 low))
 
-    by : (k : ℕ) (c : Bool) → nat_lt k n ≡ c → slice_get all k ≡ slice_get (opening n levels []).frames k
+    by : (k : ℕ) (c : Bool) → nat_lt k n ≡ c → slice_get all k ≡ slice_get (opening limits n levels []).frames k
     by k true e =
         let low : k < n = ltb-true k n e in
         let b = element_at (believed_first n) k (subst (λ (m : ℕ). k < m) (sym count) low) in
@@ -176,32 +177,33 @@ frames_are n levels all some size each = same_elements all (opening n levels [])
         here k b.0 frame.0 low b.1 frame.1 (part_of (n - 4) 4 (frame_of_zeros 1) (frame_of_zeros 2) b.0 k b.1)
     by k false e =
         let high : n ≤ k = ltb-false k n e in
-        past_end all k (subst (λ (m : ℕ). m ≤ k) (sym (size ∙ count)) high) ∙ sym (past_end (opening n levels []).frames k (subst (λ (m : ℕ). m ≤ k) (sym opened) high))
+        past_end all k (subst (λ (m : ℕ). m ≤ k) (sym (size ∙ count)) high) ∙ sym (past_end (opening limits n levels []).frames k (subst (λ (m : ℕ). m ≤ k) (sym opened) high))
 
 -- the machine's own frames are believed
-opening_believed : (n levels : ℕ) → 4 ≤ n → (k : ℕ) (b : BelievedFrame) (frame : Frame) → slice_get (believed_first n) k ≡ Some b → slice_get (opening n levels []).frames k ≡ Some frame
+opening_believed : (limits : Limits) (n levels : ℕ) → 4 ≤ n → (k : ℕ) (b : BelievedFrame) (frame : Frame) → slice_get (believed_first n) k ≡ Some b → slice_get (opening limits n levels []).frames k ≡ Some frame
     → IsAsBelieved [] first_past k b frame
-opening_believed n levels some k b frame at got =
-    let opened : length (opening n levels []).frames ≡ n = length-reserved_for System (last_four n) (replicate n empty_frame) ∙ length-replicate n empty_frame in
-    by (subst (λ (m : ℕ). k < m) opened (slice_get_within (opening n levels []).frames k frame got)) (part_of (n - 4) 4 (frame_of_zeros 1) (frame_of_zeros 2) b k at)
+opening_believed limits n levels some k b frame at got =
+    let opened : length (opening limits n levels []).frames ≡ n = length-reserved_for System (last_four n) (replicate n empty_frame) ∙ length-replicate n empty_frame in
+    by (subst (λ (m : ℕ). k < m) opened (slice_get_within (opening limits n levels []).frames k frame got)) (part_of (n - 4) 4 (frame_of_zeros 1) (frame_of_zeros 2) b k at)
   where
     some_same : (v w : Frame) → ◌≡◌ {A = Option Frame} (Some v) (Some w) → v ≡ w
     some_same v w e = cc
 
     by : k < n → ((k < n - 4) × (frame_of_zeros 1 ≡ b)) ⊎ ((n - 4 ≤ k) × (frame_of_zeros 2 ≡ b)) → IsAsBelieved [] first_past k b frame
     by low (inl first) =
-        let is : empty_frame ≡ frame = some_same empty_frame frame (sym (opening_frame n levels k low ∙ ap (λ (c : Bool). Some (owned c System empty_frame)) (not_last n k first.0)) ∙ got) in
+        let is : empty_frame ≡ frame = some_same empty_frame frame (sym (opening_frame limits n levels k low ∙ ap (λ (c : Bool). Some (owned c System empty_frame)) (not_last n k first.0)) ∙ got) in
         subst (λ (x : BelievedFrame). IsAsBelieved [] first_past k x frame) first.1
         (subst (λ (f : Frame). IsAsBelieved [] first_past k (frame_of_zeros 1) f) is (record { owner = refl; bytes = inl refl }))
     by low (inr last) =
-        let is : first_frame true ≡ frame = some_same (first_frame true) frame (sym (opening_frame n levels k low ∙ ap (λ (c : Bool). Some (owned c System empty_frame)) (is_last n k some last.0 low)) ∙ got) in
+        let is : first_frame true ≡ frame = some_same (first_frame true) frame (sym (opening_frame limits n levels k low ∙ ap (λ (c : Bool). Some (owned c System empty_frame)) (is_last n k some last.0 low)) ∙ got) in
         subst (λ (x : BelievedFrame). IsAsBelieved [] first_past k x frame) last.1
         (subst (λ (f : Frame). IsAsBelieved [] first_past k (frame_of_zeros 2) f) is
         (record { owner = refl; bytes = (bytes_eq-Decides (replicate page_size 0) (replicate page_size 0)).1 refl }))
 
--- what is known at power-on, with the disks of the other
+-- what is known at power-on, with the limits and the disks of the other
 abbrev pub known_first : Known → Ledger → ℕ → Bool → List Device → List BelievedFrame → Known
 known_first first ledger levels exact devices frames = record {
+  limits = first.limits;
   levels = levels;
   ledger = ledger;
   last_ticket = 0;
@@ -213,7 +215,7 @@ known_first first ledger levels exact devices frames = record {
 }
 
 power_on_so : (first : Known) (ledger : Ledger) (n levels : ℕ) (disks : List ℕ) (exact : Bool) → 4 ≤ n → Agrees ledger [] → first.disks.items ≡ disks
-    → IsPowerOn (known_first first ledger levels exact [] (believed_first n)) n levels disks
+    → IsPowerOn (known_first first ledger levels exact [] (believed_first n)) first.limits n levels disks
 power_on_so first ledger n levels disks exact some agrees numbers = record {
   past = first_past;
   starts = refl;
@@ -228,12 +230,12 @@ power_on_so first ledger n levels disks exact some agrees numbers = record {
   };
   is_allowed = record {
     count = length-reserved_for System (last_four n) (replicate n empty_frame) ∙ length-replicate n empty_frame ∙ sym count;
-    each = opening_believed n levels some;
+    each = opening_believed first.limits n levels some;
   };
   is_opening = λ all allowed.
-      ap (λ (fs : List Frame). record { levels = levels; frames = fs; history = []; last_ticket = 0; devices = []; disks = first.disks.items })
-      (frames_are n levels all some allowed.count allowed.each)
-      ∙ ap (λ (ds : List ℕ). record { levels = levels; frames = (opening n levels []).frames; history = []; last_ticket = 0; devices = []; disks = ds }) numbers;
+      ap (λ (fs : List Frame). record { limits = first.limits; levels = levels; frames = fs; history = []; last_ticket = 0; devices = []; disks = first.disks.items })
+      (frames_are first.limits n levels all some allowed.count allowed.each)
+      ∙ ap (λ (ds : List ℕ). record { limits = first.limits; levels = levels; frames = (opening first.limits n levels []).frames; history = []; last_ticket = 0; devices = []; disks = ds }) numbers;
 }
   where
     none : (i : ℕ) → ◌≡◌ {A = Option ℕ} None (Some i) → ⊥
@@ -260,10 +262,10 @@ power_on_so first ledger n levels disks exact some agrees numbers = record {
 
 pub is_power_on : (first : Known) (ledger : Ledger) (n levels : ℕ) (disks : List ℕ) (exact : Bool) (devices : List Device) (frames : List BelievedFrame)
     → 4 ≤ n → Agrees ledger [] → devices ≡ [] → frames ≡ believed_first n → first.disks.items ≡ disks
-    → IsPowerOn (known_first first ledger levels exact devices frames) n levels disks
+    → IsPowerOn (known_first first ledger levels exact devices frames) first.limits n levels disks
 is_power_on first ledger n levels disks exact devices frames some agrees d f numbers =
-    subst (λ (ds : List Device). IsPowerOn (known_first first ledger levels exact ds frames) n levels disks) (sym d)
-    (subst (λ (fs : List BelievedFrame). IsPowerOn (known_first first ledger levels exact [] fs) n levels disks) (sym f)
+    subst (λ (ds : List Device). IsPowerOn (known_first first ledger levels exact ds frames) first.limits n levels disks) (sym d)
+    (subst (λ (fs : List BelievedFrame). IsPowerOn (known_first first ledger levels exact [] fs) first.limits n levels disks) (sym f)
     (power_on_so first ledger n levels disks exact some agrees numbers))
 
 -- where each frame has a possible owner, some frames are allowed

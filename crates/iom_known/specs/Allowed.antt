@@ -78,6 +78,7 @@ pub record AreAllowed (known : Known) (past : Past) (frames : List Frame) : Type
 -- the state that is known, with this history and these frames
 abbrev pub known_state : Known → History → List Frame → State
 known_state known history frames = record {
+  limits = known.limits;
   levels = known.levels;
   frames = frames;
   history = history;

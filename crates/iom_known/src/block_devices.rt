@@ -7,6 +7,7 @@ ghost use Rattle.iom_base.specs.DeviceKinds.{has_cache};
 ghost use Rattle.iom_machine.specs.Requests.{IsForwarded};
 ghost use Rattle.iom_machine.specs.declared.state.Device.{Device};
 ghost use Rattle.iom_known.specs.Allowed.{Past, IsTrueOf};
+ghost use Rattle.iom_known.specs.Reasons.{bare};
 ghost use Rattle.iom_known.specs.Steps.{IsLedBack};
 
 use crate::asking::{answer, answer_through_cache};
@@ -18,24 +19,24 @@ use iom_machine::{BlockStep, Device, Outcome};
 use std::alloc::AllocError;
 
 /// Whether the device may ask for a translation, that it may have this access.
-fn may_ask(device: &Device, access: &Access) -> bool
+fn may_ask(known: &Known, device: &Device, access: &Access) -> bool
     ensures { IsTrue result
-        ↔ ((has_cache device.now.kind ≡ true) × IsForwarded device.now.in_flight access.now.address access.now.len) }
+        ↔ ((has_cache device.now.kind ≡ true) × IsForwarded known.now.limits.in_flight device.now.in_flight access.now.address access.now.len) }
 {
     if !device.kind.has_cache() {
         return false;
     }
-    is_forwarded(device, access)
+    is_forwarded(known, device, access)
 }
 
 /// Whether a step of the device may be this one, which begins no access.
-fn may_be(device: &Device, access: &Access, step: BlockStep) -> bool
-    ensures { IsTrue result ↔ MayBe device.now access.now step }
+fn may_be(known: &Known, device: &Device, access: &Access, step: BlockStep) -> bool
+    ensures { IsTrue result ↔ MayBe (bare known.now) device.now access.now step }
 {
     match step {
         BlockStep::Idle => true,
         BlockStep::Waiting => true,
-        BlockStep::Asked => may_ask(device, access),
+        BlockStep::Asked => may_ask(known, device, access),
         BlockStep::Chain(_) => true,
         BlockStep::Finished { .. } => true,
         BlockStep::Down => true,
@@ -111,7 +112,7 @@ fn take_step(
     match outcome {
         Outcome::Stepped(step) => {
             let device = &known.devices.as_slice()[place];
-            Ok(may_be(device, &access, *step))
+            Ok(may_be(known, device, &access, *step))
         }
         Outcome::Accepted(_) => begin(known, place, access, outcome, frame),
         Outcome::Busy => begin(known, place, access, outcome, frame),
@@ -124,6 +125,7 @@ impl Known {
     ghost use Rattle.std.specs.Prelude.{IsTrue, IfOk};
     ghost use Rattle.iom_machine.specs.Machine.{Steps};
     ghost use Rattle.iom_known.specs.Allowed.{Past, IsTrueOf};
+    ghost use Rattle.iom_known.specs.Reasons.{bare};
     ghost use Rattle.iom_known.specs.Steps.{IsLedBack};
 
     /// A step of a block device that asks for this access, or would. Where it is accepted, that is on this frame.

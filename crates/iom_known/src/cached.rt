@@ -50,9 +50,9 @@ pub fn may_fault_translated(known: &Known, device: &Device, cause: Cause) -> boo
 
 fn faults_translated(known: &Known, device: &Device, access: &Access, cause: Cause) -> bool
     ensures { IsTrue result
-        → IsForwarded device.now.in_flight access.now.address access.now.len × MayFaultTranslated (bare known.now) device.now cause }
+        → IsForwarded known.now.limits.in_flight device.now.in_flight access.now.address access.now.len × MayFaultTranslated (bare known.now) device.now cause }
 {
-    if !is_forwarded(device, access) {
+    if !is_forwarded(known, device, access) {
         return false;
     }
     may_fault_translated(known, device, cause)
@@ -69,7 +69,7 @@ pub fn may_answer_translated(
 {
     match outcome {
         Outcome::BadSpan => !is_within_page(access),
-        Outcome::Busy => answers_busy(device, access),
+        Outcome::Busy => answers_busy(known, device, access),
         Outcome::Fault(cause) => faults_translated(known, device, access, *cause),
         _ => false,
     }
@@ -109,10 +109,10 @@ pub fn may_go_through(known: &Known, device: &Device, access: &Access, frame: u3
 
 fn goes_through(known: &Known, device: &Device, access: &Access, frame: u32, number: u64) -> bool
     ensures { IsTrue result → (past : Past) (frames : List Frame) → IsTrueOf known.now past
-        → IsForwarded device.now.in_flight access.now.address access.now.len
+        → IsForwarded known.now.limits.in_flight device.now.in_flight access.now.address access.now.len
         × MayGoThrough device.now.attachment (known_state known.now past.history frames) device.now.id access.now frame × (number ≡ device.now.accepted + 1) }
 {
-    if !is_forwarded(device, access) {
+    if !is_forwarded(known, device, access) {
         return false;
     }
     if !is_next(device, number) {
@@ -123,9 +123,9 @@ fn goes_through(known: &Known, device: &Device, access: &Access, frame: u32, num
 
 fn finds_no_context(known: &Known, device: &Device, access: &Access, cause: Cause) -> bool
     ensures { IsTrue result
-        → IsForwarded device.now.in_flight access.now.address access.now.len × MayFindNoContext (bare known.now) device.now cause }
+        → IsForwarded known.now.limits.in_flight device.now.in_flight access.now.address access.now.len × MayFindNoContext (bare known.now) device.now cause }
 {
-    if !is_forwarded(device, access) {
+    if !is_forwarded(known, device, access) {
         return false;
     }
     may_find_no_context(known, device, cause)
@@ -144,8 +144,8 @@ pub fn may_answer_cached(
 {
     match outcome {
         Outcome::BadSpan => !is_within_page(access),
-        Outcome::Busy => answers_busy(device, access),
-        Outcome::Miss => is_forwarded(device, access),
+        Outcome::Busy => answers_busy(known, device, access),
+        Outcome::Miss => is_forwarded(known, device, access),
         Outcome::Accepted(number) => goes_through(known, device, access, frame, *number),
         Outcome::Fault(cause) => finds_no_context(known, device, access, *cause),
         _ => false,

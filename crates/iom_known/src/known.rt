@@ -4,13 +4,14 @@ ghost use Rattle.iom_known.specs.Starts.{frame_of_zeros};
 use crate::frames::{BelievedFrame, ONLY_NOBODY, ONLY_SYSTEM};
 use iom_base::{MAX_DEVICES, Sequence};
 use iom_ledger::Ledger;
-use iom_machine::Device;
+use iom_machine::{Device, Limits};
 use std::alloc::{AllocError, Global};
 
 /// What is known of the machine's state after the lines so far, but for the frames of accesses that a guest's
 /// tables chose: all of it, but for whose frames are.
 #[derive(Drop)]
 pub struct Known {
+    pub limits: Limits,
     pub levels: u8,
     /// The grants. The history that it agrees with is nowhere stored.
     pub ledger: Ledger,
@@ -66,21 +67,24 @@ impl Known {
     ghost use Rattle.iom_ledger.specs.History.{confirms};
     ghost use Rattle.iom_known.specs.Allowed.{Past, IsTrueOf};
 
-    /// What is known at power-on, with so many frames and levels of the device directory, and disks of these numbers.
+    /// What is known at power-on, with these limits, so many frames and levels of the device directory, and disks of
+    /// these numbers.
     pub fn power_on(
         alloc: Global,
+        limits: Limits,
         frames: u32,
         levels: u8,
         disks: &[u64],
     ) -> Result<Known, AllocError>
         requires { 4 ≤ frames }
-        ensures { IfOk result (λ known. IsPowerOn known frames levels disks.now) }
+        ensures { IfOk result (λ known. IsPowerOn known limits frames levels disks.now) }
     {
         let numbers = numbers_of(alloc, disks)?;
         let all = frames_at_first(alloc, frames)?;
         let devices = Sequence::with_capacity(alloc, MAX_DEVICES)?;
         let ledger = Ledger::new(alloc, frames)?;
         Ok(Known {
+            limits,
             levels,
             ledger,
             last_ticket: 0,

@@ -14,8 +14,7 @@ ghost use Rattle.iom_known.specs.Allowed.{Past, IsTrueOf, known_state};
 use crate::devices::{attachment_in, device_with};
 use crate::disks::is_missing;
 use crate::known::Known;
-use iom_base::{DeviceId, MAX_DEVICES, NewDevice, Refusal};
-use iom_ledger::MAX_PENDING;
+use iom_base::{DeviceId, NewDevice, Refusal};
 use iom_machine::Attachment;
 
 /// Whether the device is plugged in.
@@ -131,7 +130,7 @@ pub fn plug_refusal(known: &Known, id: DeviceId, what: NewDevice) -> Option<Refu
 {
     if plugged(known, id) {
         Some(Refusal::AlreadyPlugged)
-    } else if known.devices.as_slice().len() >= MAX_DEVICES {
+    } else if known.devices.as_slice().len() as u64 >= known.limits.devices {
         Some(Refusal::TooManyDevices)
     } else if is_missing(&known.disks, what.disk()) {
         Some(Refusal::BadMedium)
@@ -168,7 +167,7 @@ fn detach_refusal_by(known: &Known, id: DeviceId, granted: bool) -> Option<Refus
         Some(Refusal::Quarantined)
     } else if granted {
         Some(Refusal::StillGranted)
-    } else if pending(known) >= MAX_PENDING as u32 {
+    } else if u64::from(pending(known)) >= known.limits.pending {
         Some(Refusal::TooManyPending)
     } else {
         None
@@ -268,7 +267,7 @@ fn release_refusal_by(known: &Known, id: DeviceId, is_held: bool) -> Option<Refu
         Some(Refusal::Quarantined)
     } else if !is_held {
         Some(Refusal::NotGranted)
-    } else if pending(known) >= MAX_PENDING as u32 {
+    } else if u64::from(pending(known)) >= known.limits.pending {
         Some(Refusal::TooManyPending)
     } else {
         None
@@ -293,7 +292,7 @@ fn quarantine_refusal_by(known: &Known, id: DeviceId) -> Option<Refusal>
         Some(Refusal::NotAttached)
     } else if quarantined(attachment) {
         Some(Refusal::Quarantined)
-    } else if pending(known) >= MAX_PENDING as u32 {
+    } else if u64::from(pending(known)) >= known.limits.pending {
         Some(Refusal::TooManyPending)
     } else {
         None

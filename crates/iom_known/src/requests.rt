@@ -12,7 +12,7 @@ ghost use Rattle.iom_known.specs.Reasons.{bare};
 use crate::known::Known;
 use crate::reach::{holds, holds_none, lingers, lingers_somewhere, may};
 use crate::reasons::too_wide;
-use iom_base::{Access, AccessKind, Cause, DeviceId, MAX_IN_FLIGHT, Mode, Refusal, Span};
+use iom_base::{Access, AccessKind, Cause, DeviceId, Mode, Refusal, Span};
 use iom_machine::{Attachment, Device, Outcome};
 
 /// Whether a device that isn't plugged in is answered so.
@@ -41,29 +41,29 @@ pub fn is_within_page(access: &Access) -> bool
     Span::new(access.address, access.len).is_some()
 }
 
-fn is_busy(device: &Device) -> bool
-    ensures { IsTrue result ↔ IsBusy device.now.in_flight }
+fn is_busy(known: &Known, device: &Device) -> bool
+    ensures { IsTrue result ↔ IsBusy known.now.limits.in_flight device.now.in_flight }
 {
-    device.in_flight.as_slice().len() >= MAX_IN_FLIGHT
+    device.in_flight.as_slice().len() as u64 >= known.limits.in_flight
 }
 
 /// Whether the request comes before the IOMMU.
-pub fn is_forwarded(device: &Device, access: &Access) -> bool
-    ensures { IsTrue result ↔ IsForwarded device.now.in_flight access.now.address access.now.len }
+pub fn is_forwarded(known: &Known, device: &Device, access: &Access) -> bool
+    ensures { IsTrue result ↔ IsForwarded known.now.limits.in_flight device.now.in_flight access.now.address access.now.len }
 {
     if !is_within_page(access) {
         return false;
     }
-    !is_busy(device)
+    !is_busy(known, device)
 }
 
-pub fn answers_busy(device: &Device, access: &Access) -> bool
-    ensures { IsTrue result ↔ (IsWithinPage access.now × IsBusy device.now.in_flight) }
+pub fn answers_busy(known: &Known, device: &Device, access: &Access) -> bool
+    ensures { IsTrue result ↔ (IsWithinPage access.now × IsBusy known.now.limits.in_flight device.now.in_flight) }
 {
     if !is_within_page(access) {
         return false;
     }
-    is_busy(device)
+    is_busy(known, device)
 }
 
 /// Whether the number is that of the device's next accepted access.
@@ -234,10 +234,10 @@ pub fn may_fault(known: &Known, device: &Device, access: &Access, cause: Cause) 
 
 fn accepts(known: &Known, device: &Device, access: &Access, frame: u32, number: u64) -> bool
     ensures { IsTrue result → (past : Past) (frames : List Frame) → IsTrueOf known.now past
-        → IsForwarded device.now.in_flight access.now.address access.now.len
+        → IsForwarded known.now.limits.in_flight device.now.in_flight access.now.address access.now.len
         × MayAccept device.now.attachment (known_state known.now past.history frames) device.now.id access.now frame × (number ≡ device.now.accepted + 1) }
 {
-    if !is_forwarded(device, access) {
+    if !is_forwarded(known, device, access) {
         return false;
     }
     if !is_next(device, number) {
@@ -248,10 +248,10 @@ fn accepts(known: &Known, device: &Device, access: &Access, frame: u32, number: 
 
 fn faults(known: &Known, device: &Device, access: &Access, cause: Cause) -> bool
     ensures { IsTrue result → (past : Past) (frames : List Frame) → IsTrueOf known.now past
-        → IsForwarded device.now.in_flight access.now.address access.now.len
+        → IsForwarded known.now.limits.in_flight device.now.in_flight access.now.address access.now.len
         × MayFault device.now.attachment (known_state known.now past.history frames) device.now.id access.now cause }
 {
-    if !is_forwarded(device, access) {
+    if !is_forwarded(known, device, access) {
         return false;
     }
     may_fault(known, device, access, cause)
@@ -270,7 +270,7 @@ pub fn may_answer(
 {
     match outcome {
         Outcome::BadSpan => !is_within_page(access),
-        Outcome::Busy => answers_busy(device, access),
+        Outcome::Busy => answers_busy(known, device, access),
         Outcome::Accepted(number) => accepts(known, device, access, frame, *number),
         Outcome::Fault(cause) => faults(known, device, access, *cause),
         _ => false,

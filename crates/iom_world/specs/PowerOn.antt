@@ -1,6 +1,6 @@
 -- A world at power-on, whole: the machine's state that it shows, and what the machine doesn't see.
 use Rattle.std.specs.Prelude.{◌≡◌, ℕ, List, [], replicate}
-use Rattle.iom_machine.specs.PowerOn.{opening}
+use Rattle.iom_machine.specs.PowerOn.{model_limits, opening}
 use Rattle.iom_phys_mem.specs.Words.{zeroed}
 use Rattle.iom_world_effects.specs.PowerOn.{IsStartedDriver, IsStartedIommu}
 use Rattle.iom_driver.specs.Seen.{state_of}
@@ -12,7 +12,7 @@ use Rattle.iom_world.specs.Shows.{Shows}
 -- used up: it shows the machine at power-on; each byte of memory is zero, those of the system's frames too; its IOMMU was at power-on, and its driver was
 -- new, and the driver started both, from that fence; no device is plugged in, no command waits, no message is under way, and no event was counted
 pub record WorldBeginsFrom (first_fence frames levels : ℕ) (disks : List ℕ) (world : World) : Type 0 where
-  pub shows : Shows world (opening frames levels disks)
+  pub shows : Shows world (opening model_limits frames levels disks)
   pub memory : world.hardware.memory ≡ replicate frames zeroed
   pub iommu : IsStartedIommu frames levels world.hardware.iommu
   pub driver : IsStartedDriver first_fence frames levels (state_of world.driver)

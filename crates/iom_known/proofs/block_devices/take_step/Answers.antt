@@ -4,6 +4,7 @@ use Rattle.iom_machine.specs.Judging.{StandsAt}
 use Rattle.iom_machine.specs.declared.state.Device.{Device}
 use Rattle.iom_machine.proofs.StepLemmas.{read_again}
 use Rattle.iom_known.specs.Allowed.{Past, IsTrueOf, known_state}
+use Rattle.iom_known.specs.Reasons.{bare}
 use Rattle.iom_known.specs.Steps.{IsLedBack}
 use Rattle.iom_known.proofs.AskedSteps.{if_ok_as}
 use Rattle.iom_known.proofs.BlockSteps.{takes_led}
@@ -17,7 +18,7 @@ returns-in-Stepped c told device at own past is =
     let same = read_again old.devices c.args.place device c.index-as_slice-place.result at (rw c.as_slice.ensures at c.index-as_slice-place.is) in
     led_stays old (λ before after. TakesStep before device c.args.access c.args.frame c.args.outcome.now after) past is
     (λ frames. rw c.in-Stepped.is (
-      subst (λ (d : Device). MayBe d c.args.access c.in-Stepped.step) (sym same) (c.may_be.ensures.0 told),
+      subst (λ (d : Device). MayBe (bare old) d c.args.access c.in-Stepped.step) (sym same) (c.may_be.ensures.0 told),
       same_state (known_state old past.history frames),
     ))
 

@@ -6,6 +6,7 @@ use Rattle.iom_known.proofs.known.Known.power_on.Goals as goal
 pub returns : goal.returns
 returns c =
     let first : Known = record {
+      limits = c.args.limits;
       levels = c.args.levels;
       ledger = c.in_ok-ledger.ledger;
       last_ticket = 0;

@@ -6,7 +6,7 @@ use Rattle.iom_machine.specs.Machine.{RequestsTranslated}
 use Rattle.iom_machine.specs.declared.state.Device.{Device}
 use Rattle.iom_machine.specs.declared.state.State.{State}
 use Rattle.iom_known.specs.Allowed.{known_state}
-use Rattle.iom_known.proofs.RequestSteps.{able_step, absent_step, led_stays, unable_step}
+use Rattle.iom_known.proofs.RequestSteps.{absent_step, led_stays, unable_step}
 use Rattle.iom_known.proofs.known.Known.request_translated.Goals as goal
 
 pub returns-in_default : goal.returns-in_default
