@@ -4,4 +4,5 @@ pub mod Steps
 pub mod Positions
 pub mod Roots
 pub mod Directories
+pub mod NextLoads
 pub mod Laws

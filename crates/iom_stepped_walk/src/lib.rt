@@ -13,6 +13,7 @@ mod faults;
 mod frames;
 mod guest;
 pub mod laws;
+mod next;
 mod place;
 mod roots;
 mod tables;
@@ -21,6 +22,7 @@ mod whole;
 pub use directory::{DirectoryWalk, Locating};
 pub use frames::GuestFrames;
 pub use guest::{Both, GuestEntry, GuestPage};
+pub use next::{EntryLoad, Table};
 pub use place::Place;
 pub use tables::{Asked, Progress, TableWalk};
 pub use whole::{
