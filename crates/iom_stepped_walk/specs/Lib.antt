@@ -5,4 +5,5 @@ pub mod Positions
 pub mod Roots
 pub mod Directories
 pub mod NextLoads
+pub mod Flaws
 pub mod Laws

@@ -10,6 +10,7 @@
 
 mod directory;
 mod faults;
+mod flaw;
 mod frames;
 mod guest;
 pub mod laws;
@@ -20,6 +21,7 @@ mod tables;
 mod whole;
 
 pub use directory::{DirectoryWalk, Locating};
+pub use flaw::Flaw;
 pub use frames::GuestFrames;
 pub use guest::{Both, GuestEntry, GuestPage};
 pub use next::{EntryLoad, Table};
