@@ -1,6 +1,7 @@
 -- The load that ends the walk is its last.
 use Rattle.std.proofs.Common.{length, Ok, Err, sym, ap, ◌∙◌}
 use Rattle.iom_stepped_walk.proofs.FinishLemmas.{table_left, table_within}
+use Rattle.iom_stepped_walk.specs.Flaws.{asks_of, flaw_of, level_of}
 use Rattle.iom_stepped_walk.specs.Positions.{rest_of}
 use Rattle.iom_stepped_walk.specs.declared.tables.Progress.TheVariants.{GoesOn}
 use Rattle.iom_walk_loads.specs.Loads.{Ends}
@@ -28,6 +29,7 @@ returns-in-Ended-Err g c =
       stands = (c.loop-made._made, stands);
       next = c.next_load-load.ensures;
       ends = ends;
+      wrong = c.flaw-flaw.ensures ∙ ap (flaw_of (asks_of c.loop-made.walk) (level_of c.loop-made.walk)) c.entry_at.ensures;
     }
 
 pub loop-made-preserved : goal.loop-made-preserved
