@@ -4,4 +4,6 @@ pub mod Steps
 pub mod Positions
 pub mod Roots
 pub mod Directories
+pub mod NextLoads
+pub mod Flaws
 pub mod Laws

@@ -5,8 +5,9 @@ ghost use Rattle.iom_device_dir.specs.Located.{loaded_context};
 ghost use Rattle.iom_device_dir.specs.Paths.{ddi, context_place, context_words_at};
 ghost use Rattle.iom_walk_loads.specs.Directory.{locating};
 
+use crate::next::{EntryLoad, Table};
 use iom_base::{Cause, DeviceId, ENTRY_SIZE, PAGE_SIZE, Ppn};
-use iom_device_dir::{Context, NonLeafEntry, fits_directory, locate};
+use iom_device_dir::{CONTEXT_SIZE, Context, NonLeafEntry, fits_directory, locate};
 use iom_phys_mem::Bytes;
 use iom_registers::{DirectoryMode, DirectoryPointer};
 
@@ -33,6 +34,7 @@ pub enum Locating {
 
 impl DirectoryWalk {
     ghost use Rattle.iom_stepped_walk.specs.Directories.{still_locating, IsOneLoadOf};
+    ghost use Rattle.iom_stepped_walk.specs.NextLoads.{LocatesNext};
 
     /// The walk to the context of a device, by `ddtp`, whose mode isn't Bare: then there is no directory. It makes no
     /// load yet: where the mode is Off, or the id is too wide for the directory, none at all.
@@ -76,6 +78,26 @@ impl DirectoryWalk {
             ppn: self.page.number(),
         };
         locate(memory, page, self.id % (1 << 7))
+    }
+
+    /// The load that the walk makes next.
+    pub fn next_load(self) -> EntryLoad
+        ensures { LocatesNext self result }
+    {
+        let page = PAGE_SIZE * self.page.number();
+        let index = self.index();
+        if self.level == 0 {
+            return EntryLoad {
+                table: Table::Contexts,
+                index: index as u16,
+                address: page + CONTEXT_SIZE as u64 * index,
+            };
+        }
+        EntryLoad {
+            table: Table::Directory { level: self.level },
+            index: index as u16,
+            address: page + ENTRY_SIZE * index,
+        }
     }
 
     /// Makes one load more, of an entry of 8 bytes or, in a page of level 0, of a context of 32, from memory as it is

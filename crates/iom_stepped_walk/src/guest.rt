@@ -63,7 +63,7 @@ impl GuestEntry {
     ghost use Rattle.iom_stepped_walk.specs.Positions.{entry_index, address_of, NamesBelow};
 
     /// The index in the table of the address for which the walk is made.
-    fn index(self, address: u64) -> u16
+    pub(crate) fn index(self, address: u64) -> u16
         ensures value { result ≡ entry_index self address }
         ensures small { result < table_entries }
     {
@@ -71,7 +71,7 @@ impl GuestEntry {
     }
 
     /// The guest physical address of the entry.
-    fn guest_address(self, address: u64) -> u64
+    pub(crate) fn guest_address(self, address: u64) -> u64
         ensures { result ≡ address_of self address }
     {
         PAGE_SIZE * self.table.number() + ENTRY_SIZE * u64::from(self.index(address))
@@ -90,6 +90,17 @@ impl GuestEntry {
             level: self.level - 1,
             loaded: self.loaded.with(frame),
         })
+    }
+}
+
+impl GuestPage {
+    ghost use Rattle.iom_stage_walk.specs.Both.{guest_address};
+
+    /// The guest physical address in the page of the address for which the walk is made.
+    pub(crate) fn guest_address(self, address: u64) -> u64
+        ensures { result ≡ guest_address self.number address }
+    {
+        PAGE_SIZE * self.number + address % PAGE_SIZE
     }
 }
 

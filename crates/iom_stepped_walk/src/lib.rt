@@ -10,17 +10,21 @@
 
 mod directory;
 mod faults;
+mod flaw;
 mod frames;
 mod guest;
 pub mod laws;
+mod next;
 mod place;
 mod roots;
 mod tables;
 mod whole;
 
 pub use directory::{DirectoryWalk, Locating};
+pub use flaw::Flaw;
 pub use frames::GuestFrames;
 pub use guest::{Both, GuestEntry, GuestPage};
+pub use next::{EntryLoad, Table};
 pub use place::Place;
 pub use tables::{Asked, Progress, TableWalk};
 pub use whole::{

@@ -34,7 +34,7 @@ pub(crate) enum Step {
 }
 
 /// How many pages an entry of a table of this level spans.
-fn span_of(level: u32) -> u64
+pub(crate) fn span_of(level: u32) -> u64
     requires { level < 4 }
     ensures span { result ≡ table_entries ^ level }
     ensures positive { 0 < result }

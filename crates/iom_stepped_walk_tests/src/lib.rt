@@ -1,12 +1,15 @@
-//! Walks made load by load: the public functions of `iom_stepped_walk`.
+//! Walks made load by load: the public functions of `iom_stepped_walk` and `iom_walk_stops`.
 //!
 //! The crate has tests alone, and nothing stands on it. `vectors` has translations that independent implementations
-//! confirmed; `changes` has walks in tables that change between two of their loads.
+//! confirmed; `changes` has walks in tables that change between two of their loads;
+//! `stops` has the entries at which walks stop.
 #![tactic(auto)]
 
 #[cfg(test)]
 mod changes;
 #[cfg(test)]
 mod expect;
+#[cfg(test)]
+mod stops;
 #[cfg(test)]
 mod vectors;

@@ -1,0 +1,2 @@
+pub mod LoadLemmas
+pub mod FewLemmas
