@@ -12,7 +12,10 @@ pub(crate) fn note_owner(notes: &mut Notes, world: &World, frame: u32) {
     };
     let mut note = Note::new();
     let _ = match owner {
-        Owner::System => write!(note, "frame {frame} is the driver's own: a queue, the completion word or a page of the device directory"),
+        Owner::System => write!(
+            note,
+            "frame {frame} is the driver's own: a queue, the completion word or a page of the device directory"
+        ),
         Owner::OneDevice(device) => write!(note, "frame {frame} is a table of {device:06x}"),
     };
     notes.push(note);

@@ -60,7 +60,13 @@ fn is_waited_for(kind: AccessKind, pr: bool, pw: bool) -> bool
 }
 
 /// The device's oldest access, where it was accepted up to this number and a fence with PR and PW waits for its kind.
-fn awaited_of(hardware: &Hardware, device: DeviceId, pr: bool, pw: bool, before: u64) -> Option<AwaitedAccess>
+fn awaited_of(
+    hardware: &Hardware,
+    device: DeviceId,
+    pr: bool,
+    pw: bool,
+    before: u64,
+) -> Option<AwaitedAccess>
     ensures { IfSome result (IsAwaited hardware.now pr pw before) }
 {
     let iommu = &hardware.iommu;
@@ -152,9 +158,15 @@ pub(crate) fn written(name: CommandName) -> &'static str {
 impl fmt::Display for HeadWait {
     fn fmt<W: fmt::Write>(&self, f: &mut fmt::Formatter<W>) -> fmt::Result {
         match *self {
-            HeadWait::Stopped => write!(f, "command processing is stopped until the driver restarts"),
+            HeadWait::Stopped => write!(
+                f,
+                "command processing is stopped until the driver restarts"
+            ),
             HeadWait::Empty => write!(f, "no command waits"),
-            HeadWait::Unreadable => write!(f, "no command stands there, and a fetch stops the processing"),
+            HeadWait::Unreadable => write!(
+                f,
+                "no command stands there, and a fetch stops the processing"
+            ),
             HeadWait::Request { device, serial } => write!(
                 f,
                 "the fence waits until {device:06x} is done with invalidation request {serial}"

@@ -7,14 +7,26 @@ use iom_world::World;
 use std::fmt::Write;
 
 /// Notes that the device holds the frame at the page; or that the frame lingers there, and what its ticket waits for.
-pub(crate) fn note_reach(notes: &mut Notes, world: &World, device: DeviceId, frame: u32, reach: Reach) {
+pub(crate) fn note_reach(
+    notes: &mut Notes,
+    world: &World,
+    device: DeviceId,
+    frame: u32,
+    reach: Reach,
+) {
     let mut note = Note::new();
     let page = reach.page;
     let _ = match reach.ticket {
         None => write!(note, "frame {frame}: {device:06x} holds it at page {page}"),
         Some(ticket) => match ticket_wait(world, ticket) {
-            None => write!(note, "frame {frame} lingers for {device:06x} at page {page} under ticket {ticket}"),
-            Some(wait) => write!(note, "frame {frame} lingers for {device:06x} at page {page} under ticket {ticket}: {wait}"),
+            None => write!(
+                note,
+                "frame {frame} lingers for {device:06x} at page {page} under ticket {ticket}"
+            ),
+            Some(wait) => write!(
+                note,
+                "frame {frame} lingers for {device:06x} at page {page} under ticket {ticket}: {wait}"
+            ),
         },
     };
     notes.push(note);
@@ -54,4 +66,18 @@ pub(crate) fn note_ticket(notes: &mut Notes, world: &World, ticket: u32) {
         let _ = write!(note, "ticket {ticket}: {wait}");
         notes.push(note);
     }
+}
+
+/// Notes the ticket under which the device was cut off or leaves, and what it waits for.
+pub(crate) fn note_parting(notes: &mut Notes, world: &World, device: DeviceId) {
+    let Some(ticket) = world.driver().parting_ticket(device) else {
+        return;
+    };
+    let mut note = Note::new();
+    let _ = write!(
+        note,
+        "{device:06x} was cut off or detached under ticket {ticket}"
+    );
+    notes.push(note);
+    note_ticket(notes, world, ticket);
 }

@@ -2,7 +2,7 @@
 use crate::frames::note_owner;
 use crate::head::head_wait;
 use crate::notes::{Note, Notes};
-use crate::pages::{note_page, note_ticket};
+use crate::pages::{note_page, note_parting, note_ticket};
 use iom_base::{DeviceId, Refusal};
 use iom_machine::Event;
 use iom_world::World;
@@ -12,28 +12,35 @@ use std::fmt::Write;
 fn remedy(refusal: Refusal) -> &'static str {
     match refusal {
         Refusal::NoSuchDevice => "no device has this id: plug it in first",
-        Refusal::AlreadyAttached => "the device is attached, or not yet gone: detach it and wait for its ticket; revive one that was cut off",
+        Refusal::AlreadyAttached =>
+            "the device is attached, or not yet gone: detach it and wait for its ticket; revive one that was cut off",
         Refusal::NotAttached => "the device isn't attached: attach it first",
-        Refusal::NotTrusted => "only a device that obeys invalidations may have ATS: attach it without",
+        Refusal::NotTrusted =>
+            "only a device that obeys invalidations may have ATS: attach it without",
         Refusal::FrameOutOfRange => "memory has no such frame",
         Refusal::FrameReserved => "a frame that is reserved isn't granted: choose one that is free",
-        Refusal::IovaOutOfRange => "the page is beyond the lower half of the addresses that the device's tables translate",
+        Refusal::IovaOutOfRange =>
+            "the page is beyond the lower half of the addresses that the device's tables translate",
         Refusal::IovaBusy => "release what is held at the page first, and wait for its ticket",
         Refusal::NotGranted => "nothing is held at the page",
-        Refusal::NoFrames => "no frame is left for a table: release pages or detach a device, and wait for the ticket",
+        Refusal::NoFrames =>
+            "no frame is left for a table: release pages or detach a device, and wait for the ticket",
         Refusal::QueueFull => "the command queue has no room: let the IOMMU fetch first",
-        Refusal::TooManyPending => "256 tickets aren't confirmed: let the IOMMU fetch, and poll first",
+        Refusal::TooManyPending =>
+            "256 tickets aren't confirmed: let the IOMMU fetch, and poll first",
         Refusal::Quarantined => "the device is cut off: revive it first",
         Refusal::NumbersUsedUp => "no number is left for a fence",
         Refusal::Memory => "memory was refused",
-        Refusal::StillGranted => "release what the device holds first, and wait until nothing of it lingers",
+        Refusal::StillGranted =>
+            "release what the device holds first, and wait until nothing of it lingers",
         Refusal::IdTooWide => "the device directory of this world names no id as wide as this",
         Refusal::TooManyDevices => "16 devices are plugged in",
         Refusal::NotStarted => "the driver isn't started",
         Refusal::AlreadyPlugged => "a device with this id is plugged in",
         Refusal::WrongKind => "a device of this kind doesn't do that",
         Refusal::BadMedium => "there is no such disk, or a device has it",
-        Refusal::BadQueue => "a queue has 2, 4 or so on up to 256 descriptors, and its parts are aligned",
+        Refusal::BadQueue =>
+            "a queue has 2, 4 or so on up to 256 descriptors, and its parts are aligned",
     }
 }
 
@@ -60,17 +67,6 @@ fn page_of(event: &Event) -> Option<u64> {
     }
 }
 
-/// Notes the ticket under which the device was cut off or leaves, and what it waits for.
-fn note_parting(notes: &mut Notes, world: &World, device: DeviceId) {
-    let Some(ticket) = world.driver().parting_ticket(device) else {
-        return;
-    };
-    let mut note = Note::new();
-    let _ = write!(note, "{device:06x} was cut off or detached under ticket {ticket}");
-    notes.push(note);
-    note_ticket(notes, world, ticket);
-}
-
 /// Notes the first page at which the device still holds something, or something lingers.
 fn note_first_page(notes: &mut Notes, world: &World, device: DeviceId) {
     if let Some(page) = world.driver().ledger().page_at(device, 0) {
@@ -79,7 +75,13 @@ fn note_first_page(notes: &mut Notes, world: &World, device: DeviceId) {
 }
 
 /// Notes what the state says of a refusal that is about a device.
-fn note_device(notes: &mut Notes, world: &World, event: &Event, device: DeviceId, refusal: Refusal) {
+fn note_device(
+    notes: &mut Notes,
+    world: &World,
+    event: &Event,
+    device: DeviceId,
+    refusal: Refusal,
+) {
     match refusal {
         Refusal::AlreadyAttached | Refusal::NotAttached | Refusal::Quarantined => {
             note_parting(notes, world, device);

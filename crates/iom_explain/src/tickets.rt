@@ -35,9 +35,14 @@ fn stores_at(world: &World, fence: u32, place: u32) -> bool
 {
     let hardware = world.hardware();
     match CommandRing::at(&hardware.memory, hardware.iommu.registers(), place) {
-        Some(QueueEntry::Command(Command::IofenceC {
-            store: Some(store), ..
-        })) => store.data == fence,
+        Some(
+            QueueEntry::Command(
+                Command::IofenceC {
+                    store: Some(store),
+                    ..
+                },
+            ),
+        ) => store.data == fence,
         _ => false,
     }
 }
@@ -63,12 +68,7 @@ pub fn ticket_wait(world: &World, ticket: u32) -> Option<TicketWait>
     if is_done(world, fence) {
         return Some(TicketWait::NextPoll);
     }
-    if !world
-        .hardware()
-        .iommu
-        .registers()
-        .is_processing_commands()
-    {
+    if !world.hardware().iommu.registers().is_processing_commands() {
         return Some(TicketWait::Restart);
     }
     let before = place_of(world, fence)?;

@@ -105,7 +105,7 @@ takes_told contents seen first old new (event ∷ events) (outcome ∷ outcomes)
     let later = takes_told contents seen first mid new events outcomes (text ++ takes.line)
     (told_more contents first old.lines mid.lines text takes.line old.fault mid.fault told takes.goes) rest in
     let one : TellsOne (telling_of seen old text) event outcome (telling_of seen mid (text ++ takes.line)) =
-      record { happens = takes.happens; line = takes.line; told = takes.told; text = refl; explains = takes.explains } in
+    record { happens = takes.happens; line = takes.line; told = takes.told; text = refl; explains = takes.explains } in
     (later.0, (telling_of seen mid (text ++ takes.line), one, later.1), later.2)
 
 -- A SETTLING

@@ -1,5 +1,6 @@
-//! `iommu-tell [--help | --version | FILE]` runs the script in the file, or on standard input, and writes it as a trace: each line
-//! with its answer, and with what that doesn't show. The repository's `docs/LANGUAGE.md` says how a script is written, and
+//! `iommu-tell [--help | --version | [--explain] [FILE]]` runs the script in the file, or on standard input, and writes it as a trace: each line
+//! with its answer, and with what that doesn't show. With `--explain`, lines that begin with `# ` stand behind answers of which
+//! people ask why; the others are the same. The repository's `docs/LANGUAGE.md` says how a script is written, and
 //! `docs/JUDGE.md` how a trace is.
 //!
 //! The exit status is 0 where it was told, 1 where reading, writing or memory failed, 2 where a line isn't in the grammar, and
@@ -29,19 +30,21 @@ const BAD_COMMAND_LINE: u8 = 3;
 /// The name of standard input, where it is what can't be read.
 const INPUT: &str = "standard input";
 
-const USAGE: &str = "iommu-tell [--help | --version | FILE]";
+const USAGE: &str = "iommu-tell [--help | --version | [--explain] [FILE]]";
 
 const HELP: &str = "\
-iommu-tell [--help | --version | FILE]
+iommu-tell [--help | --version | [--explain] [FILE]]
 
 Runs the script in the file, or on standard input, and writes it as a trace, which iommu-judge judges: each line with its
 answer, and with what that doesn't show. A line `settle` is written as the events that it stands for.
 
+  --explain  writes lines that begin with `# ` behind answers of which people ask why: who holds a frame that isn't free, what a
+             ticket or a fence waits for, what has to be done before a refused call, where the walk of a fault stops
   --help     prints this
   --version  prints the version
 ";
 
-const VERSION: &str = "iommu-tell 1.0\n";
+const VERSION: &str = "iommu-tell 1.1\n";
 
 /// The words of the command line, after the program's name.
 fn words_of(rt: &HostRuntime) -> io::Result<Vec<String>> {
@@ -78,14 +81,14 @@ fn print(rt: &HostRuntime, text: &str) -> u8 {
 }
 
 /// Tells the script that was read of what has this name, and gives the exit status.
-fn tell_script(rt: &HostRuntime, name: &str, script: &Script) -> u8
+fn tell_script(rt: &HostRuntime, name: &str, script: &Script, explains: bool) -> u8
     requires world { IfSome script.now.world IsWorldSize }
     requires few { length script.now.lines ≤ 1048576 }
 {
     let Ok(disks) = program_disks(rt.alloc()) else {
         return complain(rt, name, "out of memory", FAILED);
     };
-    match tell(rt.alloc(), script, disks, &mut rt.stdout()) {
+    match tell(rt.alloc(), script, explains, disks, &mut rt.stdout()) {
         Ok(()) => 0,
         Err(TellingFault::Writing) => complain(rt, "standard output", "writing failed", FAILED),
         Err(fault) => {
@@ -117,9 +120,9 @@ fn complain_of_line(rt: &HostRuntime, name: &str, bytes: &[u8], number: u64) {
 }
 
 /// Tells the script that the bytes say, which were read of what has this name, and gives the exit status.
-fn tell_bytes(rt: &HostRuntime, name: &str, bytes: &[u8]) -> u8 {
+fn tell_bytes(rt: &HostRuntime, name: &str, bytes: &[u8], explains: bool) -> u8 {
     match parse(rt.alloc(), bytes) {
-        Ok(script) => tell_script(rt, name, &script),
+        Ok(script) => tell_script(rt, name, &script, explains),
         Err(ScriptFault::Line(number)) => {
             complain_of_line(rt, name, bytes, number);
             NOT_IN_GRAMMAR
@@ -129,27 +132,27 @@ fn tell_bytes(rt: &HostRuntime, name: &str, bytes: &[u8]) -> u8 {
 }
 
 /// Tells the script that the reader has, and gives the exit status.
-fn tell_read<R: Read>(rt: &HostRuntime, name: &str, reader: &mut R) -> u8 {
+fn tell_read<R: Read>(rt: &HostRuntime, name: &str, reader: &mut R, explains: bool) -> u8 {
     match read_script(rt.alloc(), reader) {
-        Ok(bytes) => tell_bytes(rt, name, &bytes),
+        Ok(bytes) => tell_bytes(rt, name, &bytes, explains),
         Err(ReadFault::Reading) => complain(rt, name, "reading failed", FAILED),
         Err(ReadFault::Memory) => complain(rt, name, "out of memory", FAILED),
     }
 }
 
 /// Tells the script on standard input. Where that is a terminal, nobody wrote one there: what is wanted is said.
-fn tell_input(rt: &HostRuntime) -> u8 {
+fn tell_input(rt: &HostRuntime, explains: bool) -> u8 {
     if rt.stdin().is_terminal() {
         let _ = eprintln!(rt; "{USAGE}");
         return BAD_COMMAND_LINE;
     }
-    tell_read(rt, INPUT, &mut rt.stdin())
+    tell_read(rt, INPUT, &mut rt.stdin(), explains)
 }
 
 /// Tells the script in the file.
-fn tell_file(rt: &HostRuntime, file: &str) -> u8 {
+fn tell_file(rt: &HostRuntime, file: &str, explains: bool) -> u8 {
     match fs::open(rt, file) {
-        Ok(mut opened) => tell_read(rt, file, &mut opened),
+        Ok(mut opened) => tell_read(rt, file, &mut opened, explains),
         Err(error) => complain(rt, file, cause_of(&error), FAILED),
     }
 }
@@ -165,14 +168,16 @@ fn is_file(word: &str) -> bool {
 /// Does what the words ask for, and gives the exit status.
 fn run(rt: &HostRuntime, words: &[String]) -> u8 {
     match words {
-        [] => tell_input(rt),
+        [] => tell_input(rt, false),
         [word] if word.as_str() == "--help" => print(rt, HELP),
         [word] if word.as_str() == "--version" => print(rt, VERSION),
-        [file] if is_file(file) => tell_file(rt, file),
+        [word] if word.as_str() == "--explain" => tell_input(rt, true),
+        [file] if is_file(file) => tell_file(rt, file, false),
+        [word, file] if word.as_str() == "--explain" && is_file(file) => tell_file(rt, file, true),
         _ => complain(
             rt,
             "command line",
-            "it isn't [--help | --version | FILE]",
+            "it isn't [--help | --version | [--explain] [FILE]]",
             BAD_COMMAND_LINE,
         ),
     }

@@ -12,7 +12,7 @@ returns-in-Err-clause-told g c =
       text = line ++ 10 ∷ [];
       told = line_alone c.args.explains line;
       has = begins_longer g.W.Write.contents c.args.lines.now c.make_room.new.lines [] (line ++ 10 ∷ [])
-        (fails_begins g.W.Write.contents c.args.lines.now c.make_room.new.lines [] c.in-Err.ensures.failed);
+          (fails_begins g.W.Write.contents c.args.lines.now c.make_room.new.lines [] c.in-Err.ensures.failed);
     }
 
 pub returns-in-Ok-clause-told : goal.returns-in-Ok-clause-told
@@ -22,5 +22,5 @@ returns-in-Ok-clause-told g c =
       text = one.text;
       told = one.told;
       has = told_more g.W.Write.contents c.args.lines.now c.make_room.new.lines c.tell_in_room.new.lines [] one.text
-        None c.tell_in_room.new.fault c.in-Ok.ensures.taken one.has;
+          None c.tell_in_room.new.fault c.in-Ok.ensures.taken one.has;
     }
