@@ -49,11 +49,11 @@ fault_too (Quarantined ticket mode ats) old flights id access cause may = may
 fault_too (Leaving ticket mode ats) old flights id access cause may = may
 
 -- as many in flight make a device busy, or let it ask
-busy_too : (now chosen : List AcceptedAccess) → length chosen ≡ length now → IsBusy now → IsBusy chosen
-busy_too now chosen many busy = rw many busy
+busy_too : (most : ℕ) (now chosen : List AcceptedAccess) → length chosen ≡ length now → IsBusy most now → IsBusy most chosen
+busy_too most now chosen many busy = rw many busy
 
-forwarded_too : (now chosen : List AcceptedAccess) (address len : ℕ) → length chosen ≡ length now → IsForwarded now address len → IsForwarded chosen address len
-forwarded_too now chosen address len many forwarded = rw many forwarded
+forwarded_too : (most : ℕ) (now chosen : List AcceptedAccess) (address len : ℕ) → length chosen ≡ length now → IsForwarded most now address len → IsForwarded most chosen address len
+forwarded_too most now chosen address len many forwarded = rw many forwarded
 
 -- what a request may be answered that isn't accepted
 pub requests_fly : (doubts : List Doubt) (flights : List (List AcceptedAccess)) (frame : ℕ) (old : State) (id : ℕ) (access : Access) (outcome : Outcome) (new : State)
@@ -64,10 +64,10 @@ requests_fly doubts flights frame old id access outcomes.BadSpan new other fly s
     led_acts doubts sends_untranslated (λ s d. MayAnswer s d access frame outcomes.BadSpan) old flights new id outcomes.BadSpan fly (λ d f many may. may) step
 requests_fly doubts flights frame old id access outcomes.Busy new other fly step =
     led_acts doubts sends_untranslated (λ s d. MayAnswer s d access frame outcomes.Busy) old flights new id outcomes.Busy fly
-    (λ d f many may. (may.0, busy_too d.in_flight f many may.1)) step
+    (λ d f many may. (may.0, busy_too old.limits.in_flight d.in_flight f many may.1)) step
 requests_fly doubts flights frame old id access (outcomes.Fault cause) new other fly step =
     led_acts doubts sends_untranslated (λ s d. MayAnswer s d access frame (outcomes.Fault cause)) old flights new id (outcomes.Fault cause) fly
-    (λ d f many may. (forwarded_too d.in_flight f access.address access.len many may.0, fault_too d.attachment old flights d.id access cause may.1)) step
+    (λ d f many may. (forwarded_too old.limits.in_flight d.in_flight f access.address access.len many may.0, fault_too d.attachment old flights d.id access cause may.1)) step
 requests_fly doubts flights frame old id access _ new other fly step =
     led_acts doubts sends_untranslated (λ s d. ⊥) old flights new id _ fly (λ d f many may. may) step
 
@@ -79,13 +79,13 @@ cached_fly doubts flights frame old id access outcomes.BadSpan new other fly ste
     led_acts doubts sends_through_cache (λ s d. MayAnswerThroughCache s d access frame outcomes.BadSpan) old flights new id outcomes.BadSpan fly (λ d f many may. may) step
 cached_fly doubts flights frame old id access outcomes.Busy new other fly step =
     led_acts doubts sends_through_cache (λ s d. MayAnswerThroughCache s d access frame outcomes.Busy) old flights new id outcomes.Busy fly
-    (λ d f many may. (may.0, busy_too d.in_flight f many may.1)) step
+    (λ d f many may. (may.0, busy_too old.limits.in_flight d.in_flight f many may.1)) step
 cached_fly doubts flights frame old id access outcomes.Miss new other fly step =
     led_acts doubts sends_through_cache (λ s d. MayAnswerThroughCache s d access frame outcomes.Miss) old flights new id outcomes.Miss fly
-    (λ d f many may. forwarded_too d.in_flight f access.address access.len many may) step
+    (λ d f many may. forwarded_too old.limits.in_flight d.in_flight f access.address access.len many may) step
 cached_fly doubts flights frame old id access (outcomes.Fault cause) new other fly step =
     led_acts doubts sends_through_cache (λ s d. MayAnswerThroughCache s d access frame (outcomes.Fault cause)) old flights new id (outcomes.Fault cause) fly
-    (λ d f many may. (forwarded_too d.in_flight f access.address access.len many may.0, may.1)) step
+    (λ d f many may. (forwarded_too old.limits.in_flight d.in_flight f access.address access.len many may.0, may.1)) step
 cached_fly doubts flights frame old id access _ new other fly step =
     led_acts doubts sends_through_cache (λ s d. ⊥) old flights new id _ fly (λ d f many may. may) step
 
@@ -97,8 +97,8 @@ translated_fly doubts flights old id access outcome new fly step =
     by : (outcome : Outcome) (d : Device) (f : List AcceptedAccess) → length f ≡ length d.in_flight → MayAnswerTranslated old d access outcome
         → MayAnswerTranslated (flown flights old) (record d { in_flight = f }) access outcome
     by outcomes.BadSpan d f many may = may
-    by outcomes.Busy d f many may = (may.0, busy_too d.in_flight f many may.1)
-    by (outcomes.Fault cause) d f many may = (forwarded_too d.in_flight f access.address access.len many may.0, may.1)
+    by outcomes.Busy d f many may = (may.0, busy_too old.limits.in_flight d.in_flight f many may.1)
+    by (outcomes.Fault cause) d f many may = (forwarded_too old.limits.in_flight d.in_flight f access.address access.len many may.0, may.1)
     by _ d f many may = absurd may
 
 -- a message may be sent, or lost
@@ -153,22 +153,22 @@ answered_too : (cached : Bool) (flights : List (List AcceptedAccess)) (old : Sta
 answered_too cached flights old device chosen access frame (outcomes.Accepted number) new other many answers = absurd (other number refl)
 answered_too false flights old device chosen access frame outcomes.BadSpan new other many answers = (answers.1, (answers.0, refl))
 answered_too false flights old device chosen access frame outcomes.Busy new other many answers =
-    (answers.1, ((answers.0.0, busy_too device.in_flight chosen many answers.0.1), refl))
+    (answers.1, ((answers.0.0, busy_too old.limits.in_flight device.in_flight chosen many answers.0.1), refl))
 answered_too false flights old device chosen access frame (outcomes.Fault cause) new other many answers =
-    (answers.1, ((forwarded_too device.in_flight chosen access.address access.len many answers.0.0, fault_too device.attachment old flights device.id access cause answers.0.1), refl))
+    (answers.1, ((forwarded_too old.limits.in_flight device.in_flight chosen access.address access.len many answers.0.0, fault_too device.attachment old flights device.id access cause answers.0.1), refl))
 answered_too false flights old device chosen access frame _ new other many answers = absurd answers.0
 answered_too true flights old device chosen access frame outcomes.BadSpan new other many answers = (answers.1, (answers.0, refl))
 answered_too true flights old device chosen access frame outcomes.Busy new other many answers =
-    (answers.1, ((answers.0.0, busy_too device.in_flight chosen many answers.0.1), refl))
+    (answers.1, ((answers.0.0, busy_too old.limits.in_flight device.in_flight chosen many answers.0.1), refl))
 answered_too true flights old device chosen access frame outcomes.Miss new other many answers =
-    (answers.1, (forwarded_too device.in_flight chosen access.address access.len many answers.0, refl))
+    (answers.1, (forwarded_too old.limits.in_flight device.in_flight chosen access.address access.len many answers.0, refl))
 answered_too true flights old device chosen access frame (outcomes.Fault cause) new other many answers =
-    (answers.1, ((forwarded_too device.in_flight chosen access.address access.len many answers.0.0, answers.0.1), refl))
+    (answers.1, ((forwarded_too old.limits.in_flight device.in_flight chosen access.address access.len many answers.0.0, answers.0.1), refl))
 answered_too true flights old device chosen access frame _ new other many answers = absurd answers.0
 
 step_too : (flights : List (List AcceptedAccess)) (old : State) (device : Device) (chosen : List AcceptedAccess) (access : Access) (step : BlockStep)
-    → length chosen ≡ length device.in_flight → MayBe device access step → MayBe (record device { in_flight = chosen }) access step
-step_too flights old device chosen access steps.Asked many may = (may.0, forwarded_too device.in_flight chosen access.address access.len many may.1)
+    → length chosen ≡ length device.in_flight → MayBe old device access step → MayBe (flown flights old) (record device { in_flight = chosen }) access step
+step_too flights old device chosen access steps.Asked many may = (may.0, forwarded_too old.limits.in_flight device.in_flight chosen access.address access.len many may.1)
 step_too flights old device chosen access steps.Idle many may = may
 step_too flights old device chosen access steps.Waiting many may = may
 step_too flights old device chosen access (steps.Chain fault) many may = may

@@ -41,6 +41,7 @@ plugs_fly doubts flights old id what outcomes.Done new fly step =
         subst (λ rs. NoneApplies rs) (sym (same_plug_reasons doubts old flew.0 id what flew.1)) step.0,
         ap (λ (s : State). flown flights s) step.1
             ∙ ap (λ (ds : List Device). record {
+              limits = old.limits;
               levels = old.levels;
               frames = old.frames;
               history = old.history;

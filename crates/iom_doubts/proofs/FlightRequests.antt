@@ -66,7 +66,7 @@ accepted_flies old new state flights id device sent frame after own at only is f
       more,
       subst (λ (i : ℕ). find (λ (d : Device). d.id == i) (with_flights more.before state.devices) ≡ Some (record device { in_flight = more.front })) (sym its) more.found,
       ap (λ (s : State). flown flights s) is
-          ∙ ap (λ (ds : List Device). record { levels = state.levels; frames = state.frames; history = state.history; last_ticket = state.last_ticket; devices = ds; disks = state.disks })
+          ∙ ap (λ (ds : List Device). record { limits = state.limits; levels = state.levels; frames = state.frames; history = state.history; last_ticket = state.last_ticket; devices = ds; disks = state.disks })
           more.replaced,
     )
 
@@ -98,28 +98,28 @@ abbrev pub Accepts : List Doubt → State → List (List AcceptedAccess) → Sta
 Accepts old state flights after IsStep =
     (before : List (List AcceptedAccess)) × MayFly old state.devices before × ((frame : ℕ) × IsStep frame (flown before state) (flown flights after))
 
-pub forwarded_too : (now chosen : List AcceptedAccess) (address len : ℕ) → length chosen ≡ length now → IsForwarded now address len → IsForwarded chosen address len
-forwarded_too now chosen address len many forwarded = rw many forwarded
+pub forwarded_too : (most : ℕ) (now chosen : List AcceptedAccess) (address len : ℕ) → length chosen ≡ length now → IsForwarded most now address len → IsForwarded most chosen address len
+forwarded_too most now chosen address len many forwarded = rw many forwarded
 
 accepts_on : (state : State) (before : List (List AcceptedAccess)) (id frame number : ℕ) (device : Device) (front : List AcceptedAccess) (access : Access) (last : AcceptedAccess) (after : State)
     → device_of (flown before state) id ≡ Some (record device { in_flight = front }) → sends_untranslated device.kind ≡ true → length front ≡ length device.in_flight
-    → IsForwarded device.in_flight access.address access.len → MayAccept device.attachment state device.id access frame → number ≡ device.accepted + 1
+    → IsForwarded state.limits.in_flight device.in_flight access.address access.len → MayAccept device.attachment state device.id access frame → number ≡ device.accepted + 1
     → last ≡ record { access = access; frame = frame } → after ≡ with_device (flown before state) (with_one_more device front last)
     → Requests frame (flown before state) id access (Accepted number) after
 accepts_on state before id frame number device front access last after found can many forwarded may next is_last is =
     rw (found, can) (
-      (forwarded_too device.in_flight front access.address access.len many forwarded, accept_too device.attachment state before device.id access frame may, next),
+      (forwarded_too state.limits.in_flight device.in_flight front access.address access.len many forwarded, accept_too device.attachment state before device.id access frame may, next),
       is ∙ ap (λ (l : AcceptedAccess). with_device (flown before state) (with_one_more device front l)) is_last,
     )
 
 passes_on : (state : State) (before : List (List AcceptedAccess)) (id frame number : ℕ) (device : Device) (front : List AcceptedAccess) (access : Access) (last : AcceptedAccess) (after : State)
     → device_of (flown before state) id ≡ Some (record device { in_flight = front }) → sends_through_cache device.kind ≡ true → length front ≡ length device.in_flight
-    → IsForwarded device.in_flight access.address access.len → MayGoThrough device.attachment state device.id access frame → number ≡ device.accepted + 1
+    → IsForwarded state.limits.in_flight device.in_flight access.address access.len → MayGoThrough device.attachment state device.id access frame → number ≡ device.accepted + 1
     → last ≡ record { access = at_frame frame access; frame = frame } → after ≡ with_device (flown before state) (with_one_more device front last)
     → RequestsThroughCache frame (flown before state) id access (Accepted number) after
 passes_on state before id frame number device front access last after found can many forwarded may next is_last is =
     rw (found, can) (
-      (forwarded_too device.in_flight front access.address access.len many forwarded, pass_too device.attachment state before device.id access frame may, next),
+      (forwarded_too state.limits.in_flight device.in_flight front access.address access.len many forwarded, pass_too device.attachment state before device.id access frame may, next),
       is ∙ ap (λ (l : AcceptedAccess). with_device (flown before state) (with_one_more device front l)) is_last,
     )
 

@@ -146,6 +146,7 @@ led_acts doubts can P old flights new id outcome fly able acts =
 -- a state whose devices change so, among other things
 abbrev pub changed_state : State → Device → List Frame → History → ℕ → List ℕ → State
 changed_state state now frames history ticket disks = record {
+  limits = state.limits;
   levels = state.levels;
   frames = frames;
   history = history;
@@ -188,7 +189,7 @@ changes_too doubts old flights new id device now frames history ticket disks at 
           chosen,
           found,
           ap (λ (s : State). flown flights s) is
-              ∙ ap (λ (ds : List Device). record { levels = old.levels; frames = frames; history = history; last_ticket = ticket; devices = ds; disks = disks })
+              ∙ ap (λ (ds : List Device). record { limits = old.limits; levels = old.levels; frames = frames; history = history; last_ticket = ticket; devices = ds; disks = disks })
               (changed_among doubts old.devices flights now.id device now chosen flew
               (subst (λ (i : ℕ). find (λ (d : Device). d.id == i) (with_flights flights old.devices) ≡ Some (record device { in_flight = chosen })) its found)),
         )

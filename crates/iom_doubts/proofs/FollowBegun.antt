@@ -118,7 +118,7 @@ record StartsAs (is_cached : Bool) (attachment : Attachment) (state : State) (id
   pub is : last ≡ sent is_cached frame wanted
 
 answered : (c : Bool) (state after : State) (device : Device) (access : Access) (frame number : ℕ) → IsAnswered c state device access frame (Accepted number) after
-    → IsForwarded device.in_flight access.address access.len × Opens c device.attachment state device.id access frame × (number ≡ device.accepted + 1)
+    → IsForwarded state.limits.in_flight device.in_flight access.address access.len × Opens c device.attachment state device.id access frame × (number ≡ device.accepted + 1)
     × (after ≡ with_accepted state device (sent c frame access).access frame)
 answered false state after device access frame number does = (does.0.0, does.0.1, does.0.2, does.1)
 answered true state after device access frame number does = (does.0.0, does.0.1, does.0.2, does.1)
@@ -131,7 +131,7 @@ same_frame true frame access = refl
 starts_on : (c : Bool) (state : State) (before : List (List AcceptedAccess)) (id number : ℕ) (device : Device) (front : List AcceptedAccess) (last : AcceptedAccess) (after : State)
     → (starts : StartsAs c device.attachment state device.id last)
     → device_of (flown before state) id ≡ Some (record device { in_flight = front }) → is_block_device device.kind ≡ true → has_cache device.kind ≡ c
-    → length front ≡ length device.in_flight → (IsBusy device.in_flight → ⊥) → number ≡ device.accepted + 1
+    → length front ≡ length device.in_flight → (IsBusy state.limits.in_flight device.in_flight → ⊥) → number ≡ device.accepted + 1
     → after ≡ with_device (flown before state) (with_one_more device front last)
     → Steps starts.wanted starts.frame (flown before state) id (Accepted number) after
 starts_on false state before id number device front last after starts found can cached many idle next is =
@@ -139,7 +139,7 @@ starts_on false state before id number device front last after starts found can 
       starts.may,
       (
         (
-          forwarded_too device.in_flight front starts.wanted.address starts.wanted.len many (starts.may.0, idle),
+          forwarded_too state.limits.in_flight device.in_flight front starts.wanted.address starts.wanted.len many (starts.may.0, idle),
           accept_too device.attachment state before device.id starts.wanted starts.frame starts.opens,
           next,
         ),
@@ -151,7 +151,7 @@ starts_on true state before id number device front last after starts found can c
       starts.may,
       (
         (
-          forwarded_too device.in_flight front starts.wanted.address starts.wanted.len many (starts.may.0, idle),
+          forwarded_too state.limits.in_flight device.in_flight front starts.wanted.address starts.wanted.len many (starts.may.0, idle),
           pass_too device.attachment state before device.id starts.wanted starts.frame starts.opens,
           next,
         ),

@@ -100,6 +100,7 @@ commit_stays old new before now id outcome past commits among explained = record
 -- what is known, where other devices are known, and it is as exact as is said
 abbrev with_others : Known → List Device → Bool → Known
 with_others old devices exact = record {
+  limits = old.limits;
   levels = old.levels;
   ledger = old.ledger;
   last_ticket = old.last_ticket;

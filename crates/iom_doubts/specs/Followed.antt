@@ -103,6 +103,7 @@ pub record IsPutOn (old : Known) (doubts : List Doubt) (id : ℕ) (new : Known) 
   pub oldest : device.in_flight ≡ made ∷ later
   pub may : MayBeOther doubts device.id (device.accepted - length later) made moved
   pub put : new ≡ record {
+    limits = old.limits;
     levels = old.levels;
     ledger = old.ledger;
     last_ticket = old.last_ticket;

@@ -4,7 +4,7 @@ use crate::choices::Choices;
 use crate::expect::expect;
 use crate::notes::{Note, come_often};
 use crate::run::{Plan, Run};
-use iom_machine::power_on;
+use iom_machine::{Limits, power_on};
 use iom_machine_judge::judge;
 use std::alloc::{AllocError, Global};
 use std::process::Abort;
@@ -13,7 +13,7 @@ use std::test::Fail;
 /// How many of the steps the judge finds lawful, and the list of the messages under way too, up to the first that
 /// isn't so.
 fn lawful(alloc: Global, run: &Run) -> Result<usize, AllocError> {
-    let mut state = power_on(alloc, 64, run.levels, &[])?;
+    let mut state = power_on(alloc, Limits::of_model(), 64, run.levels, &[])?;
     let mut choices = Choices::new(alloc);
     for (number, step) in run.steps.iter().enumerate() {
         if state.frames.as_slice().len() > 64 || !step.agrees {

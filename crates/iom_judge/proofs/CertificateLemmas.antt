@@ -13,6 +13,7 @@ use Rattle.iom_script.specs.declared.script.WorldSize.{WorldSize}
 use Rattle.iom_script.specs.Grammar.{is_spoken, spoken, bytes_of_lines}
 use Rattle.iom_script.specs.Words.{IsWithout}
 use Rattle.iom_known.specs.Allowed.{Past, IsTrueOf, known_state}
+use Rattle.iom_machine.specs.PowerOn.{model_limits}
 use Rattle.iom_known.specs.Starts.{IsPowerOn, SomeAreAllowed}
 use Rattle.iom_trace_lines.specs.Taken.{AreLines, BufferHolds, HasTaken}
 use Rattle.iom_trace_lines.specs.TraceLines.{Said, SaysLine, Nothing, World, Step}
@@ -68,7 +69,7 @@ nothing_said certain belief lines line says before told =
 
 -- after one that says how large the world is
 pub world_said : (was is : Bool) (old new : Option Belief) (lines : List (List ℕ)) (line tables : List ℕ) (size : WorldSize) → is_spoken line ≡ true
-    → SaysLine line (World size) tables → old ≡ None → is ≡ was → IsSomeAnd new (λ belief. IsPowerOn belief.known size.frames size.levels four_disks × (belief.doubts.all.items ≡ []))
+    → SaysLine line (World size) tables → old ≡ None → is ≡ was → IsSomeAnd new (λ belief. IsPowerOn belief.known model_limits size.frames size.levels four_disks × (belief.doubts.all.items ≡ []))
     → CertifyIf was old lines → CertifyIf is new (lines ++ line ∷ [])
 world_said was is (Some belief) new lines line tables size spoken_line says never same starts before told = absurd cc
 world_said was is None None lines line tables size spoken_line says none same starts before told = absurd starts
@@ -114,7 +115,7 @@ of_run belief size lines by possible =
       say = by.say;
       last = known_state known certified.past.history some.0;
       run = run;
-      reclaims = reclaims (opening_of size) by.events by.outcomes (known_state known certified.past.history some.0) ([], [], (size.frames, size.levels, four_disks, refl)) run;
+      reclaims = reclaims (opening_of size) by.events by.outcomes (known_state known certified.past.history some.0) ([], [], (model_limits, size.frames, size.levels, four_disks, refl)) run;
     }
 
 -- what is certified after a step was so before it

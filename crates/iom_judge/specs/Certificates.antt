@@ -5,7 +5,7 @@ use Rattle.iom_machine.specs.declared.event.Event.{Event}
 use Rattle.iom_machine.specs.declared.outcome.Outcome.{Outcome}
 use Rattle.iom_machine.specs.declared.state.State.{State}
 use Rattle.iom_machine.specs.Machine.{Run}
-use Rattle.iom_machine.specs.PowerOn.{opening}
+use Rattle.iom_machine.specs.PowerOn.{model_limits, opening}
 use Rattle.iom_machine.specs.Reclaim.{Reclaims}
 use Rattle.iom_script.specs.declared.script.WorldSize.{WorldSize}
 use Rattle.iom_script.specs.Grammar.{spoken, bytes_of_lines}
@@ -41,7 +41,7 @@ four_disks = 0 ∷ 1 ∷ 2 ∷ 3 ∷ []
 
 -- power-on of a world of this size
 abbrev pub opening_of : WorldSize → State
-opening_of size = opening size.frames size.levels four_disks
+opening_of size = opening model_limits size.frames size.levels four_disks
 
 -- the line says that this came of the event, with or without what that doesn't show
 abbrev pub SaysStep : List ℕ → Event → Outcome → Type 0

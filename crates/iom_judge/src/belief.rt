@@ -4,6 +4,7 @@ ghost use Rattle.iom_machine.specs.declared.event.Event.{Event};
 ghost use Rattle.iom_machine.specs.declared.event.Event.TheVariants as events;
 ghost use Rattle.iom_known.specs.Allowed.{Past, IsTrueOf};
 ghost use Rattle.iom_known.specs.Asked.{IsAskedInWay};
+ghost use Rattle.iom_machine.specs.PowerOn.{model_limits};
 ghost use Rattle.iom_known.specs.Starts.{IsPowerOn};
 ghost use Rattle.iom_known.specs.Steps.{IsExplained};
 ghost use Rattle.iom_judge.specs.Certificates.{four_disks};
@@ -26,7 +27,7 @@ use iom_known::owners::may_be_nobodys;
 use iom_known::reach::frame_at;
 use iom_known_acts::polls::{begin_poll, end_poll, poll};
 use iom_known_acts::{Untaken, act};
-use iom_machine::{Event, Outcome};
+use iom_machine::{Event, Limits, Outcome};
 use iom_reasons::{Facts, Notes, Subject};
 use iom_trace_lines::CAUSES;
 use std::alloc::{AllocError, Global};
@@ -104,10 +105,10 @@ impl Belief {
     /// What is believed at power-on.
     pub(crate) fn power_on(alloc: Global, frames: u32, levels: u8) -> Result<Belief, AllocError>
         requires { 4 ≤ frames }
-        ensures { IfOk result (λ belief. IsPowerOn belief.known frames levels four_disks × (belief.doubts.all.items ≡ [])) }
+        ensures { IfOk result (λ belief. IsPowerOn belief.known model_limits frames levels four_disks × (belief.doubts.all.items ≡ [])) }
     {
         Ok(Belief {
-            known: Known::power_on(alloc, frames, levels, &DISKS)?,
+            known: Known::power_on(alloc, Limits::of_model(), frames, levels, &DISKS)?,
             doubts: Doubts::new(alloc),
             memory: Memory::new(alloc),
             notes: Notes::new(alloc),

@@ -2,6 +2,7 @@
 ghost use Rattle.std.specs.Prelude.{◌≡◌, ◌↔◌, ◌+◌, ◌-◌, ◌^◌, ◌++◌, ◌∷◌, ◌&&◌, [], ℕ, List, Option, None, IfOk, IfSome, IsSomeAnd, IsTrue, MatchOption, OnOk, min, nat_lt, if◌then◌else◌};
 ghost use Rattle.iom_trace_lines.specs.TraceLines.{said_of};
 ghost use Rattle.iom_known.specs.Allowed.{Past, IsTrueOf};
+ghost use Rattle.iom_machine.specs.PowerOn.{model_limits};
 ghost use Rattle.iom_known.specs.Starts.{IsPowerOn, SomeAreAllowed};
 ghost use Rattle.iom_trace_lines.specs.Taken.{AreLines};
 ghost use Rattle.iom_judge.specs.Certificates.{four_disks, IsRefusal, IsSoOf, SaysStep, uncertified_line};
@@ -72,7 +73,7 @@ impl Judge {
         ensures counts { (self.new.line ≡ self.old.line) × (self.new.last_followed ≡ self.old.last_followed) }
         ensures begun { IfOk result (λ found. MatchOption found
             ((self.old.belief ≡ None) × (self.new.is_certified ≡ self.old.is_certified)
-            × IsSomeAnd self.new.belief (λ belief. IsPowerOn belief.known size.frames size.levels four_disks × (belief.doubts.all.items ≡ [])))
+            × IsSomeAnd self.new.belief (λ belief. IsPowerOn belief.known model_limits size.frames size.levels four_disks × (belief.doubts.all.items ≡ [])))
             IsRefusal) }
     {
         if self.belief.is_some() || size.frames < 4 || size.frames > 4096 || size.levels > 3 {

@@ -47,6 +47,7 @@ use Rattle.iom_known.proofs.StayLemmas.{any_choice, stays}
 -- what is known, where something else is known of the devices and of the frames
 abbrev pub with_both : Known → List Device → List BelievedFrame → Known
 with_both old devices frames = record {
+  limits = old.limits;
   levels = old.levels;
   ledger = old.ledger;
   last_ticket = old.last_ticket;

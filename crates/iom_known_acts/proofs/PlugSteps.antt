@@ -124,12 +124,11 @@ pub plugged_as : (id : ℕ) (what : NewDevice) (kind : DeviceKind) (has_disk : B
 plugged_as id what kind has_disk flights k h f = rw (k, h, f) refl
 
 pub plug_explained : (old left : Known) (past : Past) (id : ℕ) (what : NewDevice) (devices : List Device) → IsTrueOf old past → NoneApplies (plug_reasons (bare old) id what)
-    → devices ≡ old.devices ++ plugged_device id what ∷ [] → left.disks.items ≡ without_disk (disk_of what) old.disks.items
+    → length old.devices < device_limit → devices ≡ old.devices ++ plugged_device id what ∷ [] → left.disks.items ≡ without_disk (disk_of what) old.disks.items
     → IsExplained old (with_disks_of old left devices) (Plug id what) Done past
-plug_explained old left past id what devices is none d fewer =
-    let parts = plug_parts (is_plugged (bare old) id) (nat_le device_limit (length old.devices)) (is_missing old.disks.items (disk_of what)) none in
+plug_explained old left past id what devices is none some_room d fewer =
+    let parts = plug_parts (is_plugged (bare old) id) (nat_le old.limits.devices (length old.devices)) (is_missing old.disks.items (disk_of what)) none in
     let absent = not_found (find (λ (x : Device). x.id == id) old.devices) parts.0 in
-    let some_room : length old.devices < device_limit = leb-false device_limit (length old.devices) parts.1 in
     let more : ids_of devices ≡ ids_of old.devices ++ id ∷ [] = ap ids_of d ∙ ids_more old.devices (plugged_device id what) in
     let room : length (ids_of old.devices) < device_limit = subst (λ (n : ℕ). n < device_limit) (sym (length-ids old.devices)) some_room in record {
       after = past;

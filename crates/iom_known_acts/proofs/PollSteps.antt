@@ -151,6 +151,7 @@ given_now known past new k frame now (b, there, it, got, was) at = was.1 ∙ sam
 -- what is known, once those that have left are detached and their frames are given back
 abbrev pub once_left_known : Known → List Device → List BelievedFrame → Bool → Known
 once_left_known old devices frames exact = record {
+  limits = old.limits;
   levels = old.levels;
   ledger = old.ledger;
   last_ticket = old.last_ticket;

@@ -42,6 +42,7 @@ use Rattle.iom_known_acts.proofs.Takings.{IsTaking, has_bit_at, no_bit, not_true
 -- what is known, with other grants, devices and beliefs of frames
 abbrev pub become : Known → Ledger → List Device → List BelievedFrame → Known
 become old ledger devices frames = record {
+  limits = old.limits;
   levels = old.levels;
   ledger = ledger;
   last_ticket = old.last_ticket;

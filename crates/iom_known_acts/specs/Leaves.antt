@@ -66,6 +66,7 @@ pub record AreGivenBack (HasLeft : ℕ → Type 0) (old new : List BelievedFrame
 -- what is known, with other grants, where the tickets up to this one are confirmed
 abbrev pub with_confirmed_up_to : Known → Ledger → ℕ → Known
 with_confirmed_up_to old ledger last = record {
+  limits = old.limits;
   levels = old.levels;
   ledger = ledger;
   last_ticket = old.last_ticket;

@@ -55,6 +55,7 @@ pub record AreTaken (IsNew May : ℕ → Type 0) (old new : List BelievedFrame) 
 -- what is known, where something else is believed of the frames
 abbrev pub with_belief : Known → List BelievedFrame → Bool → Known
 with_belief old frames is_exact = record {
+  limits = old.limits;
   levels = old.levels;
   ledger = old.ledger;
   last_ticket = old.last_ticket;

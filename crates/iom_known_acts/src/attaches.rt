@@ -1,5 +1,6 @@
 // Plugs and attaches.
-ghost use Rattle.std.specs.Prelude.{IsTrue, IfOk};
+ghost use Rattle.std.specs.Prelude.{◌↔◌, ◌<◌, IsTrue, IfOk, length};
+ghost use Rattle.iom_base.specs.Sizes.{device_limit};
 ghost use Rattle.iom_machine.specs.declared.event.Event.TheVariants.{Plug, Attach};
 ghost use Rattle.iom_machine.specs.declared.outcome.Outcome.TheVariants.{Done, Refused};
 ghost use Rattle.iom_known.specs.Allowed.{Past, IsTrueOf};
@@ -16,6 +17,14 @@ use iom_known::reasons::{attach_refusal, is_memory, plug_refusal, refuses, tells
 use iom_machine::{Attachment, Device, Outcome};
 use std::alloc::{AllocError, Global};
 
+/// Whether there is a place for a device more. Sixteen have one each, whatever the limits are: whose a frame may be is
+/// noted by places.
+fn has_place(known: &Known) -> bool
+    ensures { IsTrue result ↔ (length known.now.devices < device_limit) }
+{
+    known.devices.as_slice().len() < MAX_DEVICES
+}
+
 /// A plug that is done. Its disk, if it has one, is put into no other device.
 fn plug_done(
     alloc: Global,
@@ -27,6 +36,9 @@ fn plug_done(
         → IsExplained known.old known.new (Plug id what) Done past) }
 {
     if plug_refusal(known, id, what).is_some() {
+        return Ok(false);
+    }
+    if !has_place(known) {
         return Ok(false);
     }
     known.devices.push(Device {

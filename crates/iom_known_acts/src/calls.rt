@@ -1,5 +1,5 @@
 // The driver's calls that take no frames.
-ghost use Rattle.std.specs.Prelude.{◌≡◌, ◌↔◌, ◌+◌, ◌<◌, IsTrue};
+ghost use Rattle.std.specs.Prelude.{◌≡◌, ◌↔◌, ◌+◌, ◌<◌, IsTrue, IfOk};
 ghost use Rattle.iom_machine.specs.declared.event.Event.TheVariants.{Detach, Release, Quarantine, Revive};
 ghost use Rattle.iom_machine.specs.declared.outcome.Outcome.TheVariants.{Done, Ticket};
 ghost use Rattle.iom_machine.specs.Refusals.{MayFindNoPlace};
@@ -12,8 +12,8 @@ use iom_known::devices::{attach_again, cut_off, place_of, start_leaving};
 use iom_known::reasons::{
     detach_refusal, quarantine_refusal, refuses, release_refusal, revive_refusal,
 };
-use iom_ledger::MAX_PENDING;
 use iom_machine::Outcome;
+use std::alloc::AllocError;
 
 fn may_find_no_place(why: Refusal) -> bool
     ensures { IsTrue result ↔ MayFindNoPlace why }
@@ -65,79 +65,89 @@ pub(crate) fn detach(known: &mut Known, id: DeviceId, outcome: &Outcome) -> bool
 }
 
 /// A release under the ticket.
-fn release_under(known: &mut Known, id: DeviceId, page: u64, ticket: u32) -> bool
-    ensures { IsTrue result → (past : Past) → IsTrueOf known.old past
-        → IsExplained known.old known.new (Release id page) (Ticket ticket) past }
+fn release_under(
+    known: &mut Known,
+    id: DeviceId,
+    page: u64,
+    ticket: u32,
+) -> Result<bool, AllocError>
+    ensures { IfOk result (λ done. IsTrue done → (past : Past) → IsTrueOf known.old past
+        → IsExplained known.old known.new (Release id page) (Ticket ticket) past) }
 {
     if release_refusal(known, id, page).is_some() {
-        return false;
+        return Ok(false);
     }
     if !is_next_ticket(known, ticket) {
-        return false;
+        return Ok(false);
     }
     if known.ledger.holds(id, page).is_none() {
-        return false;
+        return Ok(false);
     }
-    if known.ledger.pending() >= MAX_PENDING {
-        return false;
-    }
+    known.ledger.make_room()?;
     known.ledger.release(id, page, ticket);
     known.last_ticket = ticket;
-    true
+    Ok(true)
 }
 
 /// A release.
-pub(crate) fn release(known: &mut Known, id: DeviceId, page: u64, outcome: &Outcome) -> bool
-    ensures { IsTrue result → (past : Past) → IsTrueOf known.old past
-        → IsExplained known.old known.new (Release id page) outcome.now past }
+pub(crate) fn release(
+    known: &mut Known,
+    id: DeviceId,
+    page: u64,
+    outcome: &Outcome,
+) -> Result<bool, AllocError>
+    ensures { IfOk result (λ may. IsTrue may → (past : Past) → IsTrueOf known.old past
+        → IsExplained known.old known.new (Release id page) outcome.now past) }
 {
     match outcome {
         Outcome::Ticket(ticket) => release_under(known, id, page, *ticket),
         Outcome::Refused(why) => {
-            refuses(
+            Ok(refuses(
                 release_refusal(known, id, page),
                 may_find_no_place(*why),
                 *why,
-            )
+            ))
         }
-        _ => false,
+        _ => Ok(false),
     }
 }
 
 /// A quarantine under the ticket.
-fn quarantine_under(known: &mut Known, id: DeviceId, ticket: u32) -> bool
-    ensures { IsTrue result → (past : Past) → IsTrueOf known.old past
-        → IsExplained known.old known.new (Quarantine id) (Ticket ticket) past }
+fn quarantine_under(known: &mut Known, id: DeviceId, ticket: u32) -> Result<bool, AllocError>
+    ensures { IfOk result (λ done. IsTrue done → (past : Past) → IsTrueOf known.old past
+        → IsExplained known.old known.new (Quarantine id) (Ticket ticket) past) }
 {
     let Some(place) = place_of(known.devices.as_slice(), id) else {
-        return false;
+        return Ok(false);
     };
     if quarantine_refusal(known, id).is_some() {
-        return false;
+        return Ok(false);
     }
     if !is_next_ticket(known, ticket) {
-        return false;
+        return Ok(false);
     }
-    if known.ledger.pending() >= MAX_PENDING {
-        return false;
-    }
+    known.ledger.make_room()?;
     known.ledger.release_all(id, ticket);
     cut_off(&mut known.devices, place, ticket);
     known.last_ticket = ticket;
-    true
+    Ok(true)
 }
 
 /// A quarantine.
-pub(crate) fn quarantine(known: &mut Known, id: DeviceId, outcome: &Outcome) -> bool
-    ensures { IsTrue result → (past : Past) → IsTrueOf known.old past
-        → IsExplained known.old known.new (Quarantine id) outcome.now past }
+pub(crate) fn quarantine(
+    known: &mut Known,
+    id: DeviceId,
+    outcome: &Outcome,
+) -> Result<bool, AllocError>
+    ensures { IfOk result (λ may. IsTrue may → (past : Past) → IsTrueOf known.old past
+        → IsExplained known.old known.new (Quarantine id) outcome.now past) }
 {
     match outcome {
         Outcome::Ticket(ticket) => quarantine_under(known, id, *ticket),
         Outcome::Refused(why) => {
-            refuses(quarantine_refusal(known, id), may_find_no_place(*why), *why)
+            Ok(refuses(quarantine_refusal(known, id), may_find_no_place(*why), *why))
         }
-        _ => false,
+        _ => Ok(false),
     }
 }
 

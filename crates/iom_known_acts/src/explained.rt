@@ -48,6 +48,8 @@ pub fn act(
         Event::Attach { device, mode, ats } => {
             Ok(attach(known, *device, *mode, *ats, outcome, tables))
         }
+        Event::Release { device, page } => release(known, *device, *page, outcome),
+        Event::Quarantine { device } => quarantine(known, *device, outcome),
         Event::Poll => Ok(poll(alloc, known, outcome)),
         Event::Commit { device } => commit(alloc, known, *device, outcome),
         Event::Poke { address, bytes } => poke(alloc, known, *address, bytes.as_slice(), outcome),
@@ -67,8 +69,6 @@ fn act_alone(
 {
     match event {
         Event::Detach { device } => detach(known, *device, outcome),
-        Event::Release { device, page } => release(known, *device, *page, outcome),
-        Event::Quarantine { device } => quarantine(known, *device, outcome),
         Event::Revive { device } => revive(known, *device, outcome),
         Event::Restart => restarts(known, outcome),
         Event::Fetch => fetches(known, outcome),

@@ -5,7 +5,7 @@ use iom_base::{
     Size,
 };
 use iom_fabric::{PageNumber, Translation};
-use iom_machine::{BlockStep, Choice, Event, FaultRecord, Fetched, Outcome, power_on};
+use iom_machine::{BlockStep, Choice, Event, FaultRecord, Fetched, Limits, Outcome, power_on};
 use iom_machine_judge::{Line, Verdict, judge_run};
 use std::alloc::Global;
 use std::process::Abort;
@@ -425,7 +425,10 @@ const DISKS: [u64; 4] = [0, 1, 2, 3];
 
 /// The first of the lines that may not come, in a world of 64 frames, one directory level and four disks.
 pub(crate) fn judged(rt: &impl Abort, alloc: Global, lines: &[Line]) -> Option<usize> {
-    let opening = power_on(alloc, 64, 1, &DISKS).expect(rt, "memory for a world");
+    let opening = power_on(alloc, Limits::of_model(), 64, 1, &DISKS).expect(
+        rt,
+        "memory for a world",
+    );
     let verdict = judge_run(alloc, opening, lines).expect(rt, "memory for the judge");
     match verdict {
         Verdict::Lawful(_) => None,

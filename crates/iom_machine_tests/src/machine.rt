@@ -1,7 +1,9 @@
 use crate::expect::expect;
 use crate::lines::{Comes, Does, Run, are_judged, line_of};
 use iom_base::{Cause, GrantRights, Refusal};
-use iom_machine::{CommandName, Fetched, grants_are_at_pages, power_on, reclaim_theorem};
+use iom_machine::{
+    CommandName, Fetched, Limits, grants_are_at_pages, limits_stay, power_on, reclaim_theorem,
+};
 use iom_machine_judge::{Line, judge, lawful_runs_have_choices};
 use std::alloc::Global;
 use std::process::Abort;
@@ -495,7 +497,7 @@ fn runs_are_judged(rt: HostRuntime) {
 
 /// How many devices there are once the line has come, the first after power-on.
 fn devices_after(rt: &impl Abort, alloc: Global, line: &Line) -> usize {
-    let opening = power_on(alloc, 64, 1, &[]).expect(rt, "memory for a world");
+    let opening = power_on(alloc, Limits::of_model(), 64, 1, &[]).expect(rt, "memory for a world");
     let step = judge(alloc, opening, &line.event, &line.outcome, &line.choice);
     let state = step.expect(rt, "memory for the judge");
     state.expect(rt, "a lawful step").devices.as_slice().len()
@@ -512,6 +514,7 @@ fn one_step_is_judged(rt: HostRuntime) {
 #[test]
 fn the_laws_can_be_called(_rt: HostRuntime) {
     grants_are_at_pages();
+    limits_stay();
     reclaim_theorem();
     lawful_runs_have_choices();
 }

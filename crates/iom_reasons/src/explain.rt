@@ -5,8 +5,7 @@ use crate::releases::Release;
 use crate::subject::Subject;
 use crate::words::Words;
 use iom_base::{
-    AcceptedAccess, Access, AccessKind, Cause, DeviceId, MAX_IN_FLIGHT, PAGE_SIZE, Refusal, Rights,
-    Sequence, Span,
+    AcceptedAccess, Access, AccessKind, Cause, DeviceId, PAGE_SIZE, Refusal, Rights, Sequence, Span,
 };
 use iom_known::devices::device_with;
 use iom_known::owners::{is_unreached, may_be_nobodys, may_be_somebodys};
@@ -227,6 +226,7 @@ fn is_on(pair: Option<(u32, Rights)>, frame: u64) -> bool {
 
 /// What a request is answered before its page is looked at, and why.
 fn first_answer(
+    known: &Known,
     way: Way,
     device: &Device,
     address: u64,
@@ -242,8 +242,8 @@ fn first_answer(
             "its bytes are none or too many, or leave their page",
             "badspan",
         ))
-    } else if device.in_flight.as_slice().len() >= MAX_IN_FLIGHT {
-        Some(("eight of its accesses are in flight", "busy"))
+    } else if device.in_flight.as_slice().len() as u64 >= known.limits.in_flight {
+        Some(("as many of its accesses are in flight as may be", "busy"))
     } else {
         None
     }
@@ -385,7 +385,7 @@ impl Facts<'_> {
         let Some(device) = device_with(self.known.devices.as_slice(), device) else {
             return self.say_absent(words, device);
         };
-        if let Some((fact, answer)) = first_answer(way, device, address, len) {
+        if let Some((fact, answer)) = first_answer(self.known, way, device, address, len) {
             words.say(fact)?;
             return words.could(answer);
         }

@@ -36,7 +36,7 @@ use Rattle.iom_machine.specs.Machine.{Step, Acts, Requests, RequestsTranslated, 
 use Rattle.iom_machine.specs.BlockDevices.{Inserts, with_disk, MaySet, IsStatus, TakesStep}
 use Rattle.iom_base.specs.Disks.{is_among, without_disk}
 use Rattle.iom_machine.specs.Messages.{Sends}
-use Rattle.iom_machine.specs.PowerOn.{opening}
+use Rattle.iom_machine.specs.PowerOn.{model_limits, opening}
 use Rattle.iom_base.specs.declared.device_kind.DeviceKind.{DeviceKind}
 use Rattle.iom_base.specs.declared.device_kind.NewDevice.{NewDevice}
 use Rattle.iom_base.specs.Refusals.{first_that_applies, IsRefusedBy}
@@ -46,6 +46,7 @@ use Rattle.iom_machine.specs.Requests.{cause_without_context, HoldsFor, HoldsNon
 use Rattle.iom_machine.specs.ThroughCache.{MayAnswerThroughCache, state_after_cached}
 use Rattle.iom_machine.specs.Translated.{MayAnswerTranslated}
 use Rattle.iom_machine.proofs.HeadlineLemmas.{commits_are_answered}
+use Rattle.iom_machine.proofs.LimitLemmas.{limits-run}
 use Rattle.iom_machine.proofs.ProcessorLemmas.{poke_is_answered, peek_is_answered, free_is_answered}
 use Rattle.iom_world_refinement.proofs.EventLemmas.{no_access, no_choice, frame_chosen}
 use Rattle.iom_virtqueue.specs.declared.layout.Layout.{Layout}
@@ -171,7 +172,7 @@ same_right : (frame other : ℕ) (rights others : Rights) → ◌≡◌ {A = Opt
 same_right frame other rights others same = ap (λ (o : Option Pair). (unwrap_or o (frame, rights)).1) same
 
 -- what is held is accepted where its right allows the access, and else nothing allows it
-held_reply : (state : State) (device : Device) (access : Access) → IsForwarded device.in_flight access.address access.len
+held_reply : (state : State) (device : Device) (access : Access) → IsForwarded state.limits.in_flight device.in_flight access.address access.len
     → ((frame : ℕ) → HoldsFor state.history device.id access frame → HasReply state device access)
     → (HoldsNoneFor state.history device.id access → HasReply state device access) → HasReply state device access
 held_reply state device access forwarded accepts faults = held (held_at state.history device.id (page_of access)) refl
@@ -187,11 +188,11 @@ held_reply state device access forwarded accepts faults = held (held_at state.hi
     held (Some (frame, rights)) holds = by frame rights holds (allows rights access.kind) refl
 
 -- no context is found
-without_context : (state : State) (device : Device) (access : Access) → IsForwarded device.in_flight access.address access.len
+without_context : (state : State) (device : Device) (access : Access) → IsForwarded state.limits.in_flight device.in_flight access.address access.len
     → MayFault device.attachment state device.id access (cause_without_context state device.id) → HasReply state device access
 without_context state device access forwarded may = (0, Fault (cause_without_context state device.id), (forwarded, may))
 
-forwarded_reply : (state : State) (device : Device) (access : Access) → IsForwarded device.in_flight access.address access.len → (attachment : Attachment) → device.attachment ≡ attachment
+forwarded_reply : (state : State) (device : Device) (access : Access) → IsForwarded state.limits.in_flight device.in_flight access.address access.len → (attachment : Attachment) → device.attachment ≡ attachment
     → HasReply state device access
 forwarded_reply state device access forwarded Detached is =
     without_context state device access forwarded (subst (λ a. MayFault a state device.id access (cause_without_context state device.id)) (sym is) refl)
@@ -211,15 +212,15 @@ forwarded_reply state device access forwarded (Leaving ticket mode ats) is =
     without_context state device access forwarded (subst (λ a. MayFault a state device.id access (cause_without_context state device.id)) (sym is) (inl refl))
 
 -- an access leaves its page, or is one too many, or is forwarded
-reply_by : (MayCome : ℕ → Outcome → Type 0) (device : Device) (access : Access) → (¬ IsWithinPage access → MayCome 0 BadSpan)
-    → (IsWithinPage access → IsBusy device.in_flight → MayCome 0 Busy) → (IsForwarded device.in_flight access.address access.len → Reply MayCome) → Reply MayCome
-reply_by MayCome device access bad busy forwarded =
+reply_by : (most : ℕ) (MayCome : ℕ → Outcome → Type 0) (device : Device) (access : Access) → (¬ IsWithinPage access → MayCome 0 BadSpan)
+    → (IsWithinPage access → IsBusy most device.in_flight → MayCome 0 Busy) → (IsForwarded most device.in_flight access.address access.len → Reply MayCome) → Reply MayCome
+reply_by most MayCome device access bad busy forwarded =
     elim (cases_lt access.len 1) [
       | inl empty ↦ (0, BadSpan, bad (λ within. let some : 1 ≤ access.len = within.0 in omega arith))
       | inr some ↦ elim (cases_lt 4096 (access.address % 4096 + access.len)) [
         | inl past ↦ (0, BadSpan, bad (λ within. let fits : access.address % 4096 + access.len ≤ 4096 = within.1 in omega arith))
-        | inr fits ↦ elim (cases_lt (length device.in_flight) 8) [
-          | inl room ↦ forwarded ((some, fits), λ full. let many : 8 ≤ length device.in_flight = full in omega arith)
+        | inr fits ↦ elim (cases_lt (length device.in_flight) most) [
+          | inl room ↦ forwarded ((some, fits), λ full. let many : most ≤ length device.in_flight = full in omega arith)
           | inr full ↦ (0, Busy, busy (some, fits) full)
         ]
       ]
@@ -227,19 +228,19 @@ reply_by MayCome device access bad busy forwarded =
 
 reply : (state : State) (device : Device) (access : Access) → HasReply state device access
 reply state device access =
-    reply_by (MayAnswer state device access) device access (λ bad. bad) (λ within busy. (within, busy))
+    reply_by state.limits.in_flight (MayAnswer state device access) device access (λ bad. bad) (λ within busy. (within, busy))
     (λ forwarded. forwarded_reply state device access forwarded device.attachment refl)
 
 -- what is translated already is never let through
 translated_reply : (state : State) (device : Device) (access : Access) → Reply (λ frame. MayAnswerTranslated state device access)
 translated_reply state device access =
-    reply_by (λ frame. MayAnswerTranslated state device access) device access (λ bad. bad) (λ within busy. (within, busy))
+    reply_by state.limits.in_flight (λ frame. MayAnswerTranslated state device access) device access (λ bad. bad) (λ within busy. (within, busy))
     (λ forwarded. (0, Fault TransactionTypeDisallowed, (forwarded, inl refl)))
 
 -- a cache need not have anything
 cached_reply : (state : State) (device : Device) (access : Access) → Reply (MayAnswerThroughCache state device access)
 cached_reply state device access =
-    reply_by (MayAnswerThroughCache state device access) device access (λ bad. bad) (λ within busy. (within, busy)) (λ forwarded. (0, Miss, forwarded))
+    reply_by state.limits.in_flight (MayAnswerThroughCache state device access) device access (λ bad. bad) (λ within busy. (within, busy)) (λ forwarded. (0, Miss, forwarded))
 
 -- an answer and a state that may come, with the frame
 abbrev Comes : (ℕ → Outcome → State → Type 0) → Type 0
@@ -377,22 +378,32 @@ is_answered state (events.Poke address bytes) reached = let told = poke_is_answe
 is_answered state (events.Peek address len) reached = let told = peek_is_answered state address len reached in (told.0, told.1, (no_choice, told.2))
 is_answered state (events.Free frame) reached = let told = free_is_answered state frame in (told.0, told.1, (no_choice, told.2))
 
+-- the state is reached with the model's limits
+abbrev pub IsModels : State → Type 0
+IsModels state = IsReached state × (state.limits ≡ model_limits)
+
 -- and so is every line
-line_is_answered : (state : State) (line : ScriptLine) → IsReached state → (answer : Answer) × (new : State) × LineLeads state line answer new
-line_is_answered state (says.Event event) reached = let told = is_answered state event reached in (inl told.0, told.1, told.2)
-line_is_answered state says.Settle reached = let told = can_settle state reached in (inr told.0, told.1, told.2)
+line_is_answered : (state : State) (line : ScriptLine) → IsModels state → (answer : Answer) × (new : State) × LineLeads state line answer new
+line_is_answered state (says.Event event) (reached, model) = let told = is_answered state event reached in (inl told.0, told.1, told.2)
+line_is_answered state says.Settle (reached, model) = let told = can_settle state model reached in (inr told.0, told.1, told.2)
 
 -- a state that is reached, after events
-reached-ran : (old new : State) → IsReached old → Ran old new → IsReached new
-reached-ran old new (events, outcomes, (frames, levels, disks, run)) ran =
-    (events ++ ran.events, outcomes ++ ran.outcomes, (frames, levels, disks, run_after (opening frames levels disks) old new events ran.events outcomes ran.outcomes run ran.run))
+reached-ran : (old new : State) → IsModels old → Ran old new → IsModels new
+reached-ran old new ((events, outcomes, (limits, frames, levels, disks, run)), model) ran = (
+  (
+    events ++ ran.events,
+    outcomes ++ ran.outcomes,
+    (limits, frames, levels, disks, run_after (opening limits frames levels disks) old new events ran.events outcomes ran.outcomes run ran.run),
+  ),
+  limits-run old new ran.events ran.outcomes ran.run ∙ model,
+)
 
 -- a run, and the counts beside its answers
 abbrev pub CountedRun : State → List ScriptLine → List Answer → List (Option Trace) → State → Type 0
 CountedRun state lines answers traces last = (run : LineRun state lines answers last) × AreTraces state lines answers traces last run
 
 -- every list of lines has a run, with counts or without
-has_run : (counts : Bool) (state : State) (lines : List ScriptLine) → IsReached state
+has_run : (counts : Bool) (state : State) (lines : List ScriptLine) → IsModels state
     → (answers : List Answer) × (traces : List (Option Trace)) × (last : State) × CountedRun state lines answers traces last × AreThere counts traces
 has_run counts state [] reached = ([], [], state, (refl, tt), All-nil (λ (trace : Option Trace). is_some trace ≡ counts))
 has_run counts state (line ∷ lines) reached =
@@ -420,7 +431,7 @@ run-append old mid new (line ∷ lines) later (answer ∷ answers) told (trace �
 
 -- each run over some lines, from a state that is reached, goes on over later ones
 pub goes_on : (counts : Bool) (old mid : State) (lines later : List ScriptLine) (answers : List Answer) (traces : List (Option Trace))
-    → IsReached old → CountedRun old lines answers traces mid
+    → IsModels old → CountedRun old lines answers traces mid
     → (told : List Answer) × (more : List (Option Trace)) × (last : State)
     × CountedRun old (lines ++ later) (answers ++ told) (traces ++ more) last × AreThere counts more
 goes_on counts old mid lines later answers traces reached ran =

@@ -7,6 +7,7 @@ use Rattle.iom_machine.specs.declared.outcome.Outcome.TheVariants.{Done}
 use Rattle.iom_machine.specs.declared.outcome.Trace.{Trace}
 use Rattle.iom_machine.specs.declared.state.State.{State}
 use Rattle.iom_machine.specs.Laws.{IsReached}
+use Rattle.iom_machine.specs.PowerOn.{model_limits}
 use Rattle.iom_machine.specs.Traces.{IsTrace}
 use Rattle.iom_machine.proofs.ReclaimLemmas.{reclaims}
 use Rattle.iom_platform.specs.PowerOn.{BeginsAt}
@@ -29,7 +30,7 @@ use Rattle.iom_runner.proofs.ToldLemmas.{traces_as_many, text_more}
 
 -- power-on is reached, by no events
 power_on_is_reached : (setting : Setting) (size : WorldSize) → IsReached (power_on setting size)
-power_on_is_reached setting size = ([], [], (size.frames, size.levels, map disk_number_of (numbered 0 setting.disks), refl))
+power_on_is_reached setting size = ([], [], (model_limits, size.frames, size.levels, map disk_number_of (numbered 0 setting.disks), refl))
 
 -- the sentences of the headline hold of every run from power-on
 run_reclaims : (setting : Setting) (size : WorldSize) (lines : List ScriptLine) (answers : List Answer) (last : State) (run : LineRun (power_on setting size) lines answers last)
@@ -57,7 +58,7 @@ tells_more : (setting : Setting) (size : WorldSize) (lines : List ScriptLine) (c
     → CountedRun (power_on setting size) (take count lines) answers traces last → is_some first ≡ setting.counts → AreThere setting.counts traces → IfSome first (IsTrace (power_on setting size))
     → AppendsFront old new (run_text first answers traces) → BeginsRun setting size lines old new
 tells_more setting size lines count answers first traces last old new ran first_there there counted front =
-    let rest = goes_on setting.counts (power_on setting size) last (take count lines) (drop count lines) answers traces (power_on_is_reached setting size) ran in
+    let rest = goes_on setting.counts (power_on setting size) last (take count lines) (drop count lines) answers traces (power_on_is_reached setting size, refl) ran in
     let whole : CountedRun (power_on setting size) lines (answers ++ rest.0) (traces ++ rest.1) rest.2 =
     subst (λ (ls : List ScriptLine). CountedRun (power_on setting size) ls (answers ++ rest.0) (traces ++ rest.1) rest.2) (take-append-drop count lines) rest.3 in
     let all : AreThere setting.counts (first ∷ traces ++ rest.1) =

@@ -5,7 +5,7 @@ use Rattle.std.proofs.Common.{inl, inr}
 use Rattle.iom_machine.specs.declared.outcome.Outcome.TheVariants.{Done}
 use Rattle.iom_machine.specs.declared.outcome.Trace.{Trace}
 use Rattle.iom_machine.specs.declared.state.State.{State}
-use Rattle.iom_machine.specs.PowerOn.{opening}
+use Rattle.iom_machine.specs.PowerOn.{model_limits, opening}
 use Rattle.iom_machine.specs.Traces.{IsTrace}
 use Rattle.iom_platform.specs.Numbered.{numbered, disk_number_of}
 use Rattle.iom_script.specs.declared.script.Script.{Script}
@@ -22,7 +22,7 @@ pub record Setting : Type 0 where
 
 -- the state at power-on
 abbrev pub power_on : Setting → WorldSize → State
-power_on setting size = opening size.frames size.levels (map disk_number_of (numbered 0 setting.disks))
+power_on setting size = opening model_limits size.frames size.levels (map disk_number_of (numbered 0 setting.disks))
 
 -- the line of an answer, with that of its counts, where there are any
 abbrev pub told_answer : Answer → Option Trace → List ℕ

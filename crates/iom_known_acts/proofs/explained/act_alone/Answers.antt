@@ -46,12 +46,6 @@ returns-in-Status c told past is =
 pub returns-in-Detach : goal.returns-in-Detach
 returns-in-Detach c = rw c.in-Detach.is c.detach.ensures
 
-pub returns-in-Release : goal.returns-in-Release
-returns-in-Release c = rw c.in-Release.is c.release.ensures
-
-pub returns-in-Quarantine : goal.returns-in-Quarantine
-returns-in-Quarantine c = rw c.in-Quarantine.is c.quarantine.ensures
-
 pub returns-in-Revive : goal.returns-in-Revive
 returns-in-Revive c = rw c.in-Revive.is c.revive.ensures
 
