@@ -10,6 +10,7 @@ use std::fmt;
 use std::fmt::Write;
 
 /// An entry that was loaded, as it is named.
+#[derive(Clone, Copy)]
 struct Loaded(EntryLoad);
 
 impl fmt::Display for Loaded {
@@ -60,6 +61,7 @@ fn wrong_in_directory(cause: Cause) -> &'static str {
 }
 
 /// An untranslated request, as it is explained.
+#[derive(Clone, Copy)]
 struct Untranslated(WhyFault);
 
 impl fmt::Display for Untranslated {
@@ -94,6 +96,7 @@ impl fmt::Display for Untranslated {
 }
 
 /// A request that says that it is translated, as it is explained.
+#[derive(Clone, Copy)]
 struct Translated(WhyTranslated);
 
 impl fmt::Display for Translated {
@@ -146,6 +149,15 @@ fn note_translated(notes: &mut Notes, world: &World, device: DeviceId, address: 
     note_parting(notes, world, device);
 }
 
+/// Notes why an access through the device's own cache stops at the IOMMU: it goes there as a request that says that it is translated, and
+/// what stops it is no matter of its address.
+fn note_through_cache(notes: &mut Notes, world: &World, device: DeviceId) {
+    match why_translated(world.hardware(), device, 0) {
+        WhyTranslated::OutsideMemory | WhyTranslated::Passes { .. } => {}
+        _ => note_translated(notes, world, device, 0),
+    }
+}
+
 /// Notes where the way of the request stops; and that its device was cut off or is leaving, where that is so.
 pub(crate) fn note_fault(notes: &mut Notes, world: &World, event: &Event) {
     match event {
@@ -170,6 +182,9 @@ pub(crate) fn note_fault(notes: &mut Notes, world: &World, event: &Event) {
             ..
         } => {
             note_translated(notes, world, *device, *address);
+        }
+        Event::ReadThroughCache { device, .. } | Event::WriteThroughCache { device, .. } => {
+            note_through_cache(notes, world, *device);
         }
         _ => {}
     }
