@@ -11,10 +11,11 @@
 mod progress;
 
 use iom_judge::{Verdict, judge_trace};
+use iom_programs::{INPUT, cause_of, is_file, why_no_words, words_of};
 use progress::Watched;
-use std::io::{self, ErrorKind, IsTerminal, Read, Write};
+use std::fs;
+use std::io::{self, IsTerminal, Read, Write};
 use std::process::ExitCode;
-use std::{env, fs};
 
 const LAWFUL: u8 = 0;
 
@@ -27,9 +28,6 @@ const BAD_COMMAND_LINE: u8 = 3;
 const FAILED: u8 = 4;
 
 const NOT_CERTIFIED: u8 = 5;
-
-/// The name of standard input, where it is what can't be read.
-const INPUT: &str = "standard input";
 
 const USAGE: &str = "iommu-judge [--help | --version | FILE]";
 
@@ -45,30 +43,10 @@ reason.
 
 const VERSION: &str = "iommu-judge 1.0\n";
 
-/// The words of the command line, after the program's name.
-fn words_of(rt: &HostRuntime) -> io::Result<Vec<String>> {
-    let mut words = Vec::new(rt.alloc());
-    for word in env::args(rt)?.skip(1) {
-        words.push(word)?;
-    }
-    Ok(words)
-}
-
 /// Tells on standard error what goes wrong with what has this name.
 fn complain(rt: &HostRuntime, name: &str, text: &str, status: u8) -> u8 {
-    let _ = eprintln!(rt; "iommu-judge: {name}: {text}");
+    iom_programs::complain(rt, "iommu-judge", name, text);
     status
-}
-
-/// Why what has this name can't be read.
-fn cause_of(error: &io::Error) -> &'static str {
-    match error.kind() {
-        ErrorKind::NotFound => "no such file",
-        ErrorKind::PermissionDenied => "permission denied",
-        ErrorKind::IsADirectory => "it is a directory",
-        ErrorKind::OutOfMemory => "out of memory",
-        _ => "reading failed",
-    }
 }
 
 /// Prints what is found, and gives the exit status.
@@ -101,14 +79,6 @@ fn end(rt: &HostRuntime, name: &str, found: io::Result<Verdict>) -> u8 {
             Ok(status) => status,
             Err(_) => complain(rt, "standard output", "writing failed", FAILED),
         },
-    }
-}
-
-/// Whether the word can name a file: it isn't empty, and doesn't begin with `-`.
-fn is_file(word: &str) -> bool {
-    match word.as_bytes() {
-        [] => false,
-        [first, ..] => *first != b'-',
     }
 }
 
@@ -163,10 +133,10 @@ fn run(rt: &HostRuntime, words: &[String]) -> u8 {
 fn main(rt: HostRuntime) -> ExitCode {
     let status = match words_of(&rt) {
         Ok(words) => run(&rt, &words),
-        Err(error) if error.kind() == ErrorKind::OutOfMemory => {
-            complain(&rt, "command line", "out of memory", FAILED)
-        }
-        Err(_) => complain(&rt, "command line", "it isn't text", BAD_COMMAND_LINE),
+        Err(error) => match why_no_words(&error) {
+            None => complain(&rt, "command line", "it isn't text", BAD_COMMAND_LINE),
+            Some(why) => complain(&rt, "command line", why, FAILED),
+        },
     };
     ExitCode::from(status)
 }

@@ -14,13 +14,11 @@ use crate::arguments::{ArgumentsFault, Choice, Request, read_words};
 use crate::ending::Ending;
 use crate::progress::Progress;
 use iom_litmus_runner::{Answer, Asked, Finding, TestFault, answer_test};
+use iom_programs::{INPUT, cause_of, why_no_words, words_of};
 use std::alloc::Global;
-use std::io::{self, ErrorKind, Read, Write};
+use std::fs;
+use std::io::{self, Read, Write};
 use std::process::ExitCode;
-use std::{env, fs};
-
-/// The name of standard input, where it is what can't be read.
-const INPUT: &str = "standard input";
 
 const HELP: &str = "\
 iommu-litmus [--max N] [--output FILE] [--dot FILE] [--quiet] [FILE ..]
@@ -41,30 +39,10 @@ const LARGEST_BLOCK: usize = 16 << 20;
 
 const VERSION: &str = "iommu-litmus 1.0\n";
 
-/// The words of the command line, after the program's name.
-fn words_of(rt: &HostRuntime) -> io::Result<Vec<String>> {
-    let mut words = Vec::new(rt.alloc());
-    for word in env::args(rt)?.skip(1) {
-        words.push(word)?;
-    }
-    Ok(words)
-}
-
 /// Tells on standard error what goes wrong with what has this name.
 fn complain(rt: &HostRuntime, name: &str, text: &str, ending: Ending) -> Ending {
-    let _ = eprintln!(rt; "iommu-litmus: {name}: {text}");
+    iom_programs::complain(rt, "iommu-litmus", name, text);
     ending
-}
-
-/// Why what has this name can't be read.
-fn cause_of(error: &io::Error) -> &'static str {
-    match error.kind() {
-        ErrorKind::NotFound => "no such file",
-        ErrorKind::PermissionDenied => "permission denied",
-        ErrorKind::IsADirectory => "it is a directory",
-        ErrorKind::OutOfMemory => "out of memory",
-        _ => "reading failed",
-    }
 }
 
 /// Writes the bytes to standard output.
@@ -208,10 +186,10 @@ fn run(rt: &HostRuntime, words: &[String]) -> Ending {
 fn main(rt: HostRuntime) -> ExitCode {
     let ending = match words_of(&rt) {
         Ok(words) => run(&rt, &words),
-        Err(error) if error.kind() == ErrorKind::OutOfMemory => {
-            complain(&rt, "command line", "out of memory", Ending::Failed)
-        }
-        Err(_) => complain(&rt, "command line", "it isn't text", Ending::BadCommandLine),
+        Err(error) => match why_no_words(&error) {
+            None => complain(&rt, "command line", "it isn't text", Ending::BadCommandLine),
+            Some(why) => complain(&rt, "command line", why, Ending::Failed),
+        },
     };
     ExitCode::from(ending.status())
 }

@@ -11,18 +11,16 @@ mod arguments;
 
 use crate::arguments::{ArgumentsFault, Request, read_words};
 use iom_picture::{Choice, Reading, draw, read_trace};
-use std::io::{self, ErrorKind, Write};
+use iom_programs::{INPUT, cause_of, why_no_words, words_of};
+use std::fs;
+use std::io::{self, Write};
 use std::process::ExitCode;
-use std::{env, fs};
 
 const FAILED: u8 = 1;
 
 const NOT_IN_GRAMMAR: u8 = 2;
 
 const BAD_COMMAND_LINE: u8 = 3;
-
-/// The name of standard input, where it is what can't be read.
-const INPUT: &str = "standard input";
 
 const HELP: &str = "\
 iommu-picture [--from N] [--to N] [--frame F] [--device ID] [FILE]
@@ -39,30 +37,10 @@ Draws the trace in the file, or on standard input, and writes one SVG to standar
 
 const VERSION: &str = "iommu-picture 1.0\n";
 
-/// The words of the command line, after the program's name.
-fn words_of(rt: &HostRuntime) -> io::Result<Vec<String>> {
-    let mut words = Vec::new(rt.alloc());
-    for word in env::args(rt)?.skip(1) {
-        words.push(word)?;
-    }
-    Ok(words)
-}
-
 /// Tells on standard error what goes wrong with what has this name.
 fn complain(rt: &HostRuntime, name: &str, text: &str, status: u8) -> u8 {
-    let _ = eprintln!(rt; "iommu-picture: {name}: {text}");
+    iom_programs::complain(rt, "iommu-picture", name, text);
     status
-}
-
-/// Why what has this name can't be read.
-fn cause_of(error: &io::Error) -> &'static str {
-    match error.kind() {
-        ErrorKind::NotFound => "no such file",
-        ErrorKind::PermissionDenied => "permission denied",
-        ErrorKind::IsADirectory => "it is a directory",
-        ErrorKind::OutOfMemory => "out of memory",
-        _ => "reading failed",
-    }
 }
 
 /// Writes the bytes, and gives the exit status.
@@ -120,10 +98,10 @@ fn run(rt: &HostRuntime, words: &[String]) -> u8 {
 fn main(rt: HostRuntime) -> ExitCode {
     let status = match words_of(&rt) {
         Ok(words) => run(&rt, &words),
-        Err(error) if error.kind() == ErrorKind::OutOfMemory => {
-            complain(&rt, "command line", "out of memory", FAILED)
-        }
-        Err(_) => complain(&rt, "command line", "it isn't text", BAD_COMMAND_LINE),
+        Err(error) => match why_no_words(&error) {
+            None => complain(&rt, "command line", "it isn't text", BAD_COMMAND_LINE),
+            Some(why) => complain(&rt, "command line", why, FAILED),
+        },
     };
     ExitCode::from(status)
 }

@@ -13,22 +13,20 @@ ghost use Rattle.iom_script.specs.Grammar.{IsWorldSize};
 mod bad_line;
 
 use bad_line::explain;
+use iom_programs::{INPUT, cause_of, is_file, why_no_words, words_of};
 use iom_runner::program_disks;
 use iom_script::{Script, ScriptFault, is_spoken, parse};
 use iom_script_reading::{ReadFault, read_script};
 use iom_telling::{TellingFault, tell};
-use std::io::{self, ErrorKind, IsTerminal, Read, Write};
+use std::io::{IsTerminal, Read, Write};
 use std::process::ExitCode;
-use std::{env, fs, str};
+use std::{fs, str};
 
 const FAILED: u8 = 1;
 
 const NOT_IN_GRAMMAR: u8 = 2;
 
 const BAD_COMMAND_LINE: u8 = 3;
-
-/// The name of standard input, where it is what can't be read.
-const INPUT: &str = "standard input";
 
 const USAGE: &str = "iommu-tell [--help | --version | [--explain] [FILE]]";
 
@@ -46,30 +44,10 @@ answer, and with what that doesn't show. A line `settle` is written as the event
 
 const VERSION: &str = "iommu-tell 1.1\n";
 
-/// The words of the command line, after the program's name.
-fn words_of(rt: &HostRuntime) -> io::Result<Vec<String>> {
-    let mut words = Vec::new(rt.alloc());
-    for word in env::args(rt)?.skip(1) {
-        words.push(word)?;
-    }
-    Ok(words)
-}
-
 /// Tells on standard error what goes wrong with what has this name.
 fn complain(rt: &HostRuntime, name: &str, text: &str, status: u8) -> u8 {
-    let _ = eprintln!(rt; "iommu-tell: {name}: {text}");
+    iom_programs::complain(rt, "iommu-tell", name, text);
     status
-}
-
-/// Why what has this name can't be read.
-fn cause_of(error: &io::Error) -> &'static str {
-    match error.kind() {
-        ErrorKind::NotFound => "no such file",
-        ErrorKind::PermissionDenied => "permission denied",
-        ErrorKind::IsADirectory => "it is a directory",
-        ErrorKind::OutOfMemory => "out of memory",
-        _ => "reading failed",
-    }
 }
 
 /// Writes the text, and gives the exit status.
@@ -157,14 +135,6 @@ fn tell_file(rt: &HostRuntime, file: &str, explains: bool) -> u8 {
     }
 }
 
-/// Whether the word can name a file: it isn't empty, and doesn't begin with `-`.
-fn is_file(word: &str) -> bool {
-    match word.as_bytes() {
-        [] => false,
-        [first, ..] => *first != b'-',
-    }
-}
-
 /// Does what the words ask for, and gives the exit status.
 fn run(rt: &HostRuntime, words: &[String]) -> u8 {
     match words {
@@ -186,10 +156,10 @@ fn run(rt: &HostRuntime, words: &[String]) -> u8 {
 fn main(rt: HostRuntime) -> ExitCode {
     let status = match words_of(&rt) {
         Ok(words) => run(&rt, &words),
-        Err(error) if error.kind() == ErrorKind::OutOfMemory => {
-            complain(&rt, "command line", "out of memory", FAILED)
-        }
-        Err(_) => complain(&rt, "command line", "it isn't text", BAD_COMMAND_LINE),
+        Err(error) => match why_no_words(&error) {
+            None => complain(&rt, "command line", "it isn't text", BAD_COMMAND_LINE),
+            Some(why) => complain(&rt, "command line", why, FAILED),
+        },
     };
     ExitCode::from(status)
 }
