@@ -1,8 +1,8 @@
 // The lines' numbers, the grid, and the lines' words.
 use crate::layout::Layout;
 use crate::scale::Scale;
-use crate::svg::Svg;
 use crate::symbol::Symbol;
+use iom_svg::Svg;
 use iom_timeline::{LineText, MarkKind, Timeline};
 use std::alloc::AllocError;
 

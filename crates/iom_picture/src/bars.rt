@@ -1,9 +1,9 @@
 // The bars of held and lingering pages, and of what keeps their frames from being free.
 use crate::layout::Layout;
 use crate::rows::{BAR, THIN};
-use crate::svg::Svg;
 use crate::symbol::Symbol;
 use iom_base::GrantRights;
+use iom_svg::Svg;
 use iom_timeline::{NEVER, PageCopy, Period, Place, Stay, Timeline};
 use std::alloc::AllocError;
 

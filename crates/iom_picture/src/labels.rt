@@ -1,7 +1,7 @@
 // The names of the rows.
 use crate::layout::Layout;
 use crate::rows::Row;
-use crate::svg::Svg;
+use iom_svg::Svg;
 use iom_timeline::Timeline;
 use std::alloc::AllocError;
 

@@ -5,8 +5,8 @@ use crate::axis::POLL_LINE;
 use crate::layout::Layout;
 use crate::marks::append_sign;
 use crate::rows::{BAR, THIN};
-use crate::svg::Svg;
 use crate::symbol::{SYMBOLS, Symbol};
+use iom_svg::Svg;
 use std::alloc::AllocError;
 
 /// The room of an entry.

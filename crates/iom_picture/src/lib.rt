@@ -4,14 +4,13 @@
 //! `iom_timeline` finds in them; [`draw`] draws it, from left to right: solid bars for pages that are held, hatched ones for
 //! pages that linger, thin ones below for what keeps the frame from being free, and symbols for what happened at single lines.
 //!
-//! The layer above may rely on this: all text of the trace that stands in the picture was appended by [`append_escaped`],
-//! which leaves no byte of it that the picture's own markup could be taken for. Words, places and colours are tested only.
+//! All text of the trace that stands in the picture was appended by [`iom_svg::append_escaped`], which leaves no byte of it that
+//! the picture's own markup could be taken for. Words, places and colours are tested only.
 #![tactic(auto)]
 
 mod axis;
 mod bars;
 mod choice;
-mod escapes;
 mod folds;
 mod labels;
 mod layout;
@@ -23,10 +22,8 @@ mod reading;
 mod rows;
 mod scale;
 mod spans;
-mod svg;
 mod symbol;
 
 pub use choice::Choice;
-pub use escapes::append_escaped;
 pub use picture::draw;
 pub use reading::{Reading, read_trace};

@@ -1,9 +1,9 @@
 // The signs of what happened at single lines.
 use crate::bars::append_place;
 use crate::layout::Layout;
-use crate::svg::Svg;
 use crate::symbol::Symbol;
 use iom_base::AccessKind;
+use iom_svg::Svg;
 use iom_timeline::{Mark, MarkKind, Timeline};
 use std::alloc::AllocError;
 

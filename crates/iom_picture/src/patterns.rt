@@ -1,5 +1,5 @@
 // The patterns of bars that aren't solid.
-use crate::svg::Svg;
+use iom_svg::Svg;
 use std::alloc::AllocError;
 
 /// A pattern of this size: a ground of one colour, with a stripe of another.

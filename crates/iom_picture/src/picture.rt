@@ -8,7 +8,7 @@ use crate::legend::{append_legend, height_of_legend};
 use crate::marks::append_marks;
 use crate::patterns::append_patterns;
 use crate::spans::{append_cuts, append_waits};
-use crate::svg::Svg;
+use iom_svg::Svg;
 use iom_timeline::Timeline;
 use std::alloc::{AllocError, Global};
 

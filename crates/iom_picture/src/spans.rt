@@ -2,8 +2,8 @@
 use crate::bars::{Bar, append_bar};
 use crate::layout::Layout;
 use crate::rows::THIN;
-use crate::svg::Svg;
 use crate::symbol::Symbol;
+use iom_svg::Svg;
 use iom_timeline::{CutOff, Place, Timeline};
 use std::alloc::AllocError;
 

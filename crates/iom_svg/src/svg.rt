@@ -6,41 +6,43 @@ use std::alloc::{AllocError, Global};
 
 /// An SVG that grows.
 #[derive(Drop)]
-pub(crate) struct Svg {
-    pub(crate) bytes: Vec<u8>,
+pub struct Svg {
+    bytes: Vec<u8>,
 }
 
 impl Svg {
-    pub(crate) fn new(alloc: Global) -> Svg {
+    /// An empty one.
+    pub fn new(alloc: Global) -> Svg {
         Svg {
             bytes: Vec::new(alloc),
         }
     }
 
     /// All of it.
-    pub(crate) fn into_bytes(self) -> Vec<u8> {
+    pub fn into_bytes(self) -> Vec<u8> {
         let Svg { bytes } = self;
         bytes
     }
 
     /// Markup of the picture's own.
-    pub(crate) fn markup(&mut self, text: &str) -> Result<(), AllocError> {
+    pub fn markup(&mut self, text: &str) -> Result<(), AllocError> {
         self.bytes.extend_from_slice(text.as_bytes())
     }
 
     /// Text of the trace.
-    pub(crate) fn text(&mut self, text: &[u8]) -> Result<(), AllocError> {
+    pub fn text(&mut self, text: &[u8]) -> Result<(), AllocError> {
         append_escaped(&mut self.bytes, text)
     }
 
-    pub(crate) fn number(&mut self, number: u64) -> Result<(), AllocError> {
+    /// A number in decimal.
+    pub fn number(&mut self, number: u64) -> Result<(), AllocError> {
         let mut buffer = Buffer::new();
         self.bytes
             .extend_from_slice(buffer.format(number).as_bytes())
     }
 
     /// A device in six hexadecimal digits.
-    pub(crate) fn device(&mut self, id: DeviceId) -> Result<(), AllocError> {
+    pub fn device(&mut self, id: DeviceId) -> Result<(), AllocError> {
         for place in 0..6u32 {
             let digit = (id >> (20 - 4 * place)) & 15;
             let letter = b"0123456789abcdef"
@@ -53,7 +55,7 @@ impl Svg {
     }
 
     /// An attribute that is a number.
-    pub(crate) fn attribute(&mut self, name: &str, value: u64) -> Result<(), AllocError> {
+    pub fn attribute(&mut self, name: &str, value: u64) -> Result<(), AllocError> {
         self.markup(" ")?;
         self.markup(name)?;
         self.markup("=\"")?;
@@ -62,7 +64,7 @@ impl Svg {
     }
 
     /// A rectangle with the fill, up to what ends its first tag.
-    pub(crate) fn rectangle(
+    pub fn rectangle(
         &mut self,
         left: u64,
         top: u64,
@@ -81,12 +83,7 @@ impl Svg {
     }
 
     /// A line between two points.
-    pub(crate) fn line(
-        &mut self,
-        from: (u64, u64),
-        to: (u64, u64),
-        look: &str,
-    ) -> Result<(), AllocError> {
+    pub fn line(&mut self, from: (u64, u64), to: (u64, u64), look: &str) -> Result<(), AllocError> {
         self.markup("<path d=\"M")?;
         self.number(from.0)?;
         self.markup(" ")?;
@@ -101,12 +98,7 @@ impl Svg {
     }
 
     /// The first tag of a text at the place.
-    pub(crate) fn begin_text(
-        &mut self,
-        left: u64,
-        base: u64,
-        look: &str,
-    ) -> Result<(), AllocError> {
+    pub fn begin_text(&mut self, left: u64, base: u64, look: &str) -> Result<(), AllocError> {
         self.markup("<text")?;
         self.attribute("x", left)?;
         self.attribute("y", base)?;

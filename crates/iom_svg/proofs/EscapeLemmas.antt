@@ -3,7 +3,7 @@ use Rattle.std.proofs.Common.{◌≡◌, ◌∙◌, ℕ, Bool, true, false, not,
 use Rattle.std.specs.Prelude.{codes}
 use Rattle.std.specs.List.{list_all}
 use Rattle.std.proofs.lemmas.List.Folds.{list_all-append}
-use Rattle.iom_picture.specs.Escapes.{escape_of, escaped, is_plain}
+use Rattle.iom_svg.specs.Escapes.{escape_of, escaped, is_plain}
 
 -- what stands for a byte, by what it is
 abbrev chosen : Bool → Bool → Bool → Bool → Bool → Bool → ℕ → List ℕ

@@ -1,7 +1,7 @@
 // The text of a trace, as it may stand in a picture.
 ghost use Rattle.std.specs.Prelude.{◌≡◌, ◌++◌, OnOk, true};
 ghost use Rattle.std.specs.List.{list_all};
-ghost use Rattle.iom_picture.specs.Escapes.{escape_of, escaped, is_plain};
+ghost use Rattle.iom_svg.specs.Escapes.{escape_of, escaped, is_plain};
 
 use std::alloc::AllocError;
 

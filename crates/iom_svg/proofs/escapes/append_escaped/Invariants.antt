@@ -1,6 +1,6 @@
 use Rattle.std.proofs.Common.{◌≡◌, ◌++◌, take}
-use Rattle.iom_picture.specs.Escapes.{escaped}
-use Rattle.iom_picture.proofs.escapes.append_escaped.Given as goal
+use Rattle.iom_svg.specs.Escapes.{escaped}
+use Rattle.iom_svg.proofs.escapes.append_escaped.Given as goal
 
 -- what stands for the bytes so far was appended
 abbrev pub invariant-loop-byte : goal.invariant-loop-byte
