@@ -134,7 +134,7 @@ fn append_ticket(
 ) -> Result<(), AllocError> {
     let (left, width) = layout.scale.bar(period);
     let room = ticket_width(ticket);
-    if width < room || layout.scale.step < room.saturating_add(8) {
+    if width < room || layout.scale.step < room.saturating_add(7) {
         return Ok(());
     }
     svg.rectangle(

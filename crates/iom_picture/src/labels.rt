@@ -48,7 +48,7 @@ fn append_devices(svg: &mut Svg, layout: &Layout) -> Result<(), AllocError> {
         svg.line((OUTER, top), (end, top), "stroke=\"#cccccc\"")?;
         svg.begin_text(OUTER, base_of(*row), "")?;
         svg.device(*id)?;
-        svg.markup(" at other pages</text>\n")?;
+        svg.markup(" elsewhere</text>\n")?;
     }
     Ok(())
 }

@@ -230,6 +230,11 @@ impl Layout {
         }
     }
 
+    /// Whether the frame has rows of its own.
+    pub(crate) fn has_row_of_frame(&self, frame: u64) -> bool {
+        self.frames.get(&frame).is_some()
+    }
+
     /// The row of what is at the place: of a frame without one the driver's.
     pub(crate) fn row(&self, place: Place) -> Option<Row> {
         match place {

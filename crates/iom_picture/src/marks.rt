@@ -4,7 +4,7 @@ use crate::layout::Layout;
 use crate::symbol::Symbol;
 use iom_base::AccessKind;
 use iom_svg::Svg;
-use iom_timeline::{Mark, MarkKind, Timeline};
+use iom_timeline::{Mark, MarkKind, Place, Timeline};
 use std::alloc::AllocError;
 
 /// A circle in the middle.
@@ -137,6 +137,44 @@ fn append_words(svg: &mut Svg, kind: MarkKind) -> Result<(), AllocError> {
     }
 }
 
+/// Words beside a sign, where columns are wide.
+fn append_beside(
+    svg: &mut Svg,
+    layout: &Layout,
+    x: u64,
+    y: u64,
+    letter: &str,
+    number: u64,
+) -> Result<(), AllocError> {
+    if !layout.scale.is_wide() {
+        return Ok(());
+    }
+    svg.begin_text(x.saturating_add(7), y.saturating_add(4), " font-size=\"9\"")?;
+    svg.markup(letter)?;
+    svg.number(number)?;
+    svg.markup("</text>")
+}
+
+/// What a sign of the driver's row is about: the frame, where that has no row of its own; or the ticket that a poll confirms, where it is
+/// one.
+fn append_subject(
+    svg: &mut Svg,
+    layout: &Layout,
+    mark: &Mark,
+    x: u64,
+    y: u64,
+) -> Result<(), AllocError> {
+    match (mark.place, mark.kind) {
+        (Place::Frame(frame), _) if !layout.has_row_of_frame(frame) => {
+            append_beside(svg, layout, x, y, "", frame)
+        }
+        (Place::Driver, MarkKind::Confirmed { first, last }) if first == last => {
+            append_beside(svg, layout, x, y, "T", u64::from(first))
+        }
+        _ => Ok(()),
+    }
+}
+
 fn append_mark(
     svg: &mut Svg,
     layout: &Layout,
@@ -153,12 +191,9 @@ fn append_mark(
     svg.markup(": ")?;
     append_words(svg, mark.kind)?;
     svg.markup("</title>")?;
-    append_sign(
-        svg,
-        Symbol::of_mark(mark.kind),
-        layout.scale.middle(mark.line),
-        row.middle(),
-    )?;
+    let (x, y) = (layout.scale.middle(mark.line), row.middle());
+    append_sign(svg, Symbol::of_mark(mark.kind), x, y)?;
+    append_subject(svg, layout, mark, x, y)?;
     svg.markup("</g>\n")
 }
 
