@@ -10,6 +10,8 @@ mod expect;
 #[cfg(test)]
 mod machine;
 #[cfg(test)]
+mod reasons;
+#[cfg(test)]
 mod runs;
 #[cfg(test)]
 mod setup;

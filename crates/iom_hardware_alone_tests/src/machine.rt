@@ -11,6 +11,7 @@ use crate::expect::expect;
 use crate::setup::{Answer, BASE_VALUE, CQB, CQCSR, FRAMES, RING, did, fetched_as, width_at};
 use iom_base::{AccessKind, DeviceKind, NewDevice, Refusal};
 use iom_fabric::{PageNumber, Repeat};
+use iom_fault_reasons::{WhyFault, WhyTranslated, why_fault, why_translated};
 use iom_hardware::laws::software_keeps_sound;
 use iom_hardware::{CacheReply, Delivered, Hardware, NoPlace, Sender};
 use iom_iommu::{Fetched, Reply};
@@ -58,6 +59,9 @@ pub(crate) enum Act<'a> {
     Drop(u64, bool),
     Repeat(u64, Repeat),
     Messages(usize),
+    /// What stops an access of the device to an address now, or that nothing does; also of a translated request.
+    Why(u32, u64, AccessKind, WhyFault),
+    WhyTranslated(u32, u64, WhyTranslated),
 }
 
 /// The hardware.
@@ -305,6 +309,19 @@ impl Machine {
             Act::Makes(id, frame, offset, bytes) => self.makes(rt, id, frame, offset, bytes),
             Act::MakesNone(id, expected) => self.makes_none(rt, id, expected),
             Act::Busy(expected) => expect(rt, self.hardware.first_busy() == expected),
+            _ => self.explains(rt, act),
+        }
+    }
+
+    /// Takes an act that asks why.
+    fn explains(&self, rt: &impl Abort, act: Act) {
+        match act {
+            Act::Why(id, address, kind, expected) => {
+                expect(rt, why_fault(&self.hardware, id, address, kind) == expected);
+            }
+            Act::WhyTranslated(id, address, expected) => {
+                expect(rt, why_translated(&self.hardware, id, address) == expected);
+            }
             _ => expect(rt, false),
         }
     }
