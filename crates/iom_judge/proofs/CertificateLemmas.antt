@@ -13,10 +13,11 @@ use Rattle.iom_script.specs.declared.script.WorldSize.{WorldSize}
 use Rattle.iom_script.specs.Grammar.{is_spoken, spoken, bytes_of_lines}
 use Rattle.iom_script.specs.Words.{IsWithout}
 use Rattle.iom_known.specs.Allowed.{Past, IsTrueOf, known_state}
-use Rattle.iom_machine.specs.PowerOn.{model_limits}
 use Rattle.iom_known.specs.Starts.{IsPowerOn, SomeAreAllowed}
 use Rattle.iom_trace_lines.specs.Taken.{AreLines, BufferHolds, HasTaken}
 use Rattle.iom_trace_lines.specs.TraceLines.{Said, SaysLine, Nothing, World, Step}
+use Rattle.iom_trace_lines.specs.WorldLimits.{limits_of}
+use Rattle.iom_trace_lines.specs.declared.trace.WorldLimits.{WorldLimits}
 use Rattle.iom_judge.specs.Certificates.{four_disks, opening_of, SaysStep, SaySteps, AreOfRun, AreLawfulLines, IsLawfulBefore, IsLawfulTrace, IsRefusal, IsSoOf}
 use Rattle.iom_judge.specs.Certified.{IsCertifiedBy, Certify, CertifyIf, BeliefFollows, GoesOn, HasJudged, HasTakenAll, HasTakenBut}
 use Rattle.iom_judge.specs.declared.belief.Belief.{Belief}
@@ -50,14 +51,15 @@ certify_more : (old new : Belief) (lines : List (List ℕ)) (line : List ℕ) (e
     → Certify (Some old) lines → SaysStep line event outcome → BeliefFollows old new event outcome
     → Certify (Some new) (lines ++ line ∷ [])
 certify_more old new [] line event outcome never step follows = absurd never
-certify_more old new (first ∷ rest) line event outcome (size, says, by) step follows = (
+certify_more old new (first ∷ rest) line event outcome (size, limits, says, by) step follows = (
   size,
+  limits,
   says,
   record {
     events = by.events ++ event ∷ [];
     outcomes = by.outcomes ++ outcome ∷ [];
     say = steps_more rest line by.events by.outcomes event outcome by.say step;
-    certified = certified_on old.known old.doubts.all.items new.known new.doubts.all.items size by.events by.outcomes event outcome by.certified follows;
+    certified = certified_on old.known old.doubts.all.items new.known new.doubts.all.items size limits by.events by.outcomes event outcome by.certified follows;
   },
 )
 
@@ -68,23 +70,24 @@ nothing_said certain belief lines line says before told =
     subst (λ (l : List (List ℕ)). Certify belief l) (sym (spoken_same lines line says)) (before told)
 
 -- after one that says how large the world is
-pub world_said : (was is : Bool) (old new : Option Belief) (lines : List (List ℕ)) (line tables : List ℕ) (size : WorldSize) → is_spoken line ≡ true
-    → SaysLine line (World size) tables → old ≡ None → is ≡ was → IsSomeAnd new (λ belief. IsPowerOn belief.known model_limits size.frames size.levels four_disks × (belief.doubts.all.items ≡ []))
+pub world_said : (was is : Bool) (old new : Option Belief) (lines : List (List ℕ)) (line tables : List ℕ) (size : WorldSize) (limits : WorldLimits) → is_spoken line ≡ true
+    → SaysLine line (World size limits) tables → old ≡ None → is ≡ was → IsSomeAnd new (λ belief. IsPowerOn belief.known (limits_of limits) size.frames size.levels four_disks × (belief.doubts.all.items ≡ []))
     → CertifyIf was old lines → CertifyIf is new (lines ++ line ∷ [])
-world_said was is (Some belief) new lines line tables size spoken_line says never same starts before told = absurd cc
-world_said was is None None lines line tables size spoken_line says none same starts before told = absurd starts
-world_said was is None (Some belief) lines line tables size spoken_line says none same starts before told =
+world_said was is (Some belief) new lines line tables size limits spoken_line says never same starts before told = absurd cc
+world_said was is None None lines line tables size limits spoken_line says none same starts before told = absurd starts
+world_said was is None (Some belief) lines line tables size limits spoken_line says none same starts before told =
     subst (λ (l : List (List ℕ)). Certify (Some belief) l) (sym (spoken_more lines line spoken_line)) (first (spoken lines) (before (subst IsTrue same told)))
   where
     first : (ls : List (List ℕ)) → Certify None ls → Certify (Some belief) (ls ++ line ∷ [])
     first [] none = (
       size,
+      limits,
       says,
       record {
         events = [];
         outcomes = [];
         say = tt;
-        certified = certified_settled belief.known belief.doubts.all.items size [] [] (none_of_none belief.doubts.all.items starts.1)
+        certified = certified_settled belief.known belief.doubts.all.items size limits [] [] (none_of_none belief.doubts.all.items starts.1)
             (record { past = starts.0.past; is_true = starts.0.is_true; runs = starts.0.is_opening });
       },
     )
@@ -103,11 +106,11 @@ step_said was is (Some old) (Some new) lines line tables event outcome has_table
     (certify_more old new (spoken lines) line event outcome (before so.0) (has_tables, on, began, tables, says) so.1)
 
 -- what is certified, where some state is allowed, is of a run
-of_run : (belief : Belief) (size : WorldSize) (lines : List (List ℕ)) → IsCertifiedBy belief size lines → ((past : Past) → IsTrueOf belief.known past → SomeAreAllowed belief.known past)
-    → AreOfRun size lines
-of_run belief size lines by possible =
+of_run : (belief : Belief) (size : WorldSize) (limits : WorldLimits) (lines : List (List ℕ)) → IsCertifiedBy belief size limits lines → ((past : Past) → IsTrueOf belief.known past → SomeAreAllowed belief.known past)
+    → AreOfRun size limits lines
+of_run belief size limits lines by possible =
     let known = belief.known in
-    let certified = certified_anyway known belief.doubts.all.items size by.events by.outcomes by.certified in
+    let certified = certified_anyway known belief.doubts.all.items size limits by.events by.outcomes by.certified in
     let some = possible certified.past certified.is_true in
     let run = certified.runs some.0 some.1 in record {
       events = by.events;
@@ -115,7 +118,7 @@ of_run belief size lines by possible =
       say = by.say;
       last = known_state known certified.past.history some.0;
       run = run;
-      reclaims = reclaims (opening_of size) by.events by.outcomes (known_state known certified.past.history some.0) ([], [], (model_limits, size.frames, size.levels, four_disks, refl)) run;
+      reclaims = reclaims (opening_of size limits) by.events by.outcomes (known_state known certified.past.history some.0) ([], [], (limits_of limits, size.frames, size.levels, four_disks, refl)) run;
     }
 
 -- what is certified after a step was so before it
@@ -131,7 +134,7 @@ pub lawful_lines : (belief : Option Belief) (lines : List (List ℕ)) → Certif
 lawful_lines None [] told so = tt
 lawful_lines None (l ∷ ls) never so = absurd never
 lawful_lines (Some b) [] never so = absurd never
-lawful_lines (Some b) (l ∷ ls) (size, says, it) so = (size, says, of_run b size ls it so)
+lawful_lines (Some b) (l ∷ ls) (size, limits, says, it) so = (size, limits, says, of_run b size limits ls it so)
 
 -- one line more is counted
 counted_more : (old most : ℕ) (lines : List (List ℕ)) (line : List ℕ) → old ≡ min (length lines) most → min (old + 1) most ≡ min (length (lines ++ line ∷ [])) most

@@ -5,13 +5,15 @@ use Rattle.iom_machine.specs.declared.event.Event.{Event}
 use Rattle.iom_machine.specs.declared.outcome.Outcome.{Outcome}
 use Rattle.iom_machine.specs.declared.state.State.{State}
 use Rattle.iom_machine.specs.Machine.{Run}
-use Rattle.iom_machine.specs.PowerOn.{model_limits, opening}
+use Rattle.iom_machine.specs.PowerOn.{opening}
 use Rattle.iom_machine.specs.Reclaim.{Reclaims}
 use Rattle.iom_script.specs.declared.script.WorldSize.{WorldSize}
 use Rattle.iom_script.specs.Grammar.{spoken, bytes_of_lines}
 use Rattle.iom_script.specs.Words.{IsWithout}
 use Rattle.iom_trace_lines.specs.Taken.{AreLines}
 use Rattle.iom_trace_lines.specs.TraceLines.{SaysLine, World, Step}
+use Rattle.iom_trace_lines.specs.WorldLimits.{limits_of}
+use Rattle.iom_trace_lines.specs.declared.trace.WorldLimits.{WorldLimits}
 use Rattle.iom_judge.specs.declared.verdict.Verdict.{Verdict}
 use Rattle.iom_judge.specs.declared.verdict.Verdict.TheVariants.{Lawful, Uncertified, Unlawful, Undecided, Bad}
 
@@ -39,9 +41,9 @@ IsRefusal verdict = (is_lawful verdict ≡ false) × (uncertified_line verdict �
 abbrev pub four_disks : List ℕ
 four_disks = 0 ∷ 1 ∷ 2 ∷ 3 ∷ []
 
--- power-on of a world of this size
-abbrev pub opening_of : WorldSize → State
-opening_of size = opening model_limits size.frames size.levels four_disks
+-- power-on of a world of this size, with these limits
+abbrev pub opening_of : WorldSize → WorldLimits → State
+opening_of size limits = opening (limits_of limits) size.frames size.levels four_disks
 
 -- the line says that this came of the event, with or without what that doesn't show
 abbrev pub SaysStep : List ℕ → Event → Outcome → Type 0
@@ -54,19 +56,19 @@ SaySteps [] [] [] = ⊤
 SaySteps (line ∷ lines) (event ∷ events) (outcome ∷ outcomes) = SaysStep line event outcome × SaySteps lines events outcomes
 SaySteps _ _ _ = ⊥
 
--- The lines are those of a run of the machine from power-on of a world of this size, and the sentences of the headline hold of it.
-pub record AreOfRun (size : WorldSize) (lines : List (List ℕ)) : Type 0 where
+-- The lines are those of a run of the machine from power-on of a world of this size, with these limits, and the sentences of the headline hold of it.
+pub record AreOfRun (size : WorldSize) (limits : WorldLimits) (lines : List (List ℕ)) : Type 0 where
   pub events : List Event
   pub outcomes : List Outcome
   pub say : SaySteps lines events outcomes
   pub last : State
-  pub run : Run (opening_of size) events outcomes last
-  pub reclaims : Reclaims (opening_of size) events outcomes last run
+  pub run : Run (opening_of size limits) events outcomes last
+  pub reclaims : Reclaims (opening_of size limits) events outcomes last run
 
--- Lines that all say something are lawful: none of them, or one that says how large the world is, and then those of a run.
+-- Lines that all say something are lawful: none of them, or one that says how large the world is and which limits it has, and then those of a run.
 abbrev pub AreLawfulLines : List (List ℕ) → Type 0
 AreLawfulLines [] = ⊤
-AreLawfulLines (line ∷ lines) = (size : WorldSize) × SaysLine line (World size) [] × AreOfRun size lines
+AreLawfulLines (line ∷ lines) = (size : WorldSize) × (limits : WorldLimits) × SaysLine line (World size limits) [] × AreOfRun size limits lines
 
 -- The text is lines, each ended by its line feed, and those that say something are lawful.
 pub record IsLawfulTrace (text : List ℕ) : Type 0 where

@@ -12,6 +12,7 @@ use Rattle.iom_known.specs.Allowed.{Past, IsTrueOf, AreAllowed, known_state}
 use Rattle.iom_known.specs.declared.known.Known.{Known}
 use Rattle.iom_trace_lines.specs.Taken.{HasTaken}
 use Rattle.iom_trace_lines.specs.TraceLines.{Said, SaysLine, Nothing, World}
+use Rattle.iom_trace_lines.specs.declared.trace.WorldLimits.{WorldLimits}
 use Rattle.iom_judge.specs.Certificates.{opening_of, SaySteps, AreLawfulLines}
 use Rattle.iom_doubts.specs.Doubted.{MayFly, flown}
 use Rattle.iom_doubts.specs.Followed.{IsFollowed, StepsBy}
@@ -21,31 +22,31 @@ use Rattle.iom_judge.specs.declared.judging.Judge.{Judge}
 
 -- There is a past that is true of what is known, and with that each state that is allowed, with all in flight as it is known, is one to which the machine runs from power-on by these events with
 -- these outcomes.
-pub record IsCertified (known : Known) (size : WorldSize) (events : List Event) (outcomes : List Outcome) : Type 0 where
+pub record IsCertified (known : Known) (size : WorldSize) (limits : WorldLimits) (events : List Event) (outcomes : List Outcome) : Type 0 where
   pub past : Past
   pub is_true : IsTrueOf known past
   pub runs : (frames : List Frame) → AreAllowed known past frames
-      → Run (opening_of size) events outcomes (known_state known past.history frames)
+      → Run (opening_of size limits) events outcomes (known_state known past.history frames)
 
 -- There is a past that is true of what is known, and with that each state that is allowed, whatever frames the accesses in doubt are on, is one to which the
 -- machine runs from power-on by these events with these outcomes.
-pub record IsCertifiedWith (known : Known) (doubts : List Doubt) (size : WorldSize) (events : List Event) (outcomes : List Outcome) : Type 0 where
+pub record IsCertifiedWith (known : Known) (doubts : List Doubt) (size : WorldSize) (limits : WorldLimits) (events : List Event) (outcomes : List Outcome) : Type 0 where
   pub past : Past
   pub is_true : IsTrueOf known past
   pub runs : (flights : List (List AcceptedAccess)) (frames : List Frame) → MayFly doubts known.devices flights → AreAllowed known past frames
-      → Run (opening_of size) events outcomes (flown flights (known_state known past.history frames))
+      → Run (opening_of size limits) events outcomes (flown flights (known_state known past.history frames))
 
 -- what is believed is certified by what the lines say
-pub record IsCertifiedBy (belief : Belief) (size : WorldSize) (lines : List (List ℕ)) : Type 0 where
+pub record IsCertifiedBy (belief : Belief) (size : WorldSize) (limits : WorldLimits) (lines : List (List ℕ)) : Type 0 where
   pub events : List Event
   pub outcomes : List Outcome
   pub say : SaySteps lines events outcomes
-  pub certified : IsCertifiedWith belief.known belief.doubts.all.items size events outcomes
+  pub certified : IsCertifiedWith belief.known belief.doubts.all.items size limits events outcomes
 
--- Lines that all say something certify what is believed: none of them, where that is nothing yet, or one that says how large the world is, and then others.
+-- Lines that all say something certify what is believed: none of them, where that is nothing yet, or one that says how large the world is and which limits it has, and then others.
 abbrev pub Certify : Option Belief → List (List ℕ) → Type 0
 Certify None [] = ⊤
-Certify (Some belief) (line ∷ lines) = (size : WorldSize) × SaysLine line (World size) [] × IsCertifiedBy belief size lines
+Certify (Some belief) (line ∷ lines) = (size : WorldSize) × (limits : WorldLimits) × SaysLine line (World size limits) [] × IsCertifiedBy belief size limits lines
 Certify _ _ = ⊥
 
 -- What is certified is so by the lines.

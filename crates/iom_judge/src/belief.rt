@@ -4,7 +4,6 @@ ghost use Rattle.iom_machine.specs.declared.event.Event.{Event};
 ghost use Rattle.iom_machine.specs.declared.event.Event.TheVariants as events;
 ghost use Rattle.iom_known.specs.Allowed.{Past, IsTrueOf};
 ghost use Rattle.iom_known.specs.Asked.{IsAskedInWay};
-ghost use Rattle.iom_machine.specs.PowerOn.{model_limits};
 ghost use Rattle.iom_known.specs.Starts.{IsPowerOn};
 ghost use Rattle.iom_known.specs.Steps.{IsExplained};
 ghost use Rattle.iom_judge.specs.Certificates.{four_disks};
@@ -28,7 +27,7 @@ use iom_known::reach::frame_at;
 use iom_known_acts::polls::{begin_poll, end_poll, poll};
 use iom_known_acts::{Untaken, act};
 use iom_machine::{Event, Limits, Outcome};
-use iom_reasons::{Facts, Notes, Subject};
+use iom_reasons::{Facts, Notes, Subject, lacks_place};
 use iom_trace_lines::CAUSES;
 use std::alloc::{AllocError, Global};
 
@@ -102,13 +101,18 @@ fn first_frame(known: &Known, asked: &Asked, flight: &Flight) -> u32 {
 }
 
 impl Belief {
-    /// What is believed at power-on.
-    pub(crate) fn power_on(alloc: Global, frames: u32, levels: u8) -> Result<Belief, AllocError>
+    /// What is believed at power-on, with these limits.
+    pub(crate) fn power_on(
+        alloc: Global,
+        limits: Limits,
+        frames: u32,
+        levels: u8,
+    ) -> Result<Belief, AllocError>
         requires { 4 ≤ frames }
-        ensures { IfOk result (λ belief. IsPowerOn belief.known model_limits frames levels four_disks × (belief.doubts.all.items ≡ [])) }
+        ensures { IfOk result (λ belief. IsPowerOn belief.known limits frames levels four_disks × (belief.doubts.all.items ≡ [])) }
     {
         Ok(Belief {
-            known: Known::power_on(alloc, Limits::of_model(), frames, levels, &DISKS)?,
+            known: Known::power_on(alloc, limits, frames, levels, &DISKS)?,
             doubts: Doubts::new(alloc),
             memory: Memory::new(alloc),
             notes: Notes::new(alloc),
@@ -125,6 +129,9 @@ impl Belief {
 
     /// Whether what may not come of what the line is about can't come: nothing was left out of what that depends on.
     pub(crate) fn decides(&self, subject: Subject) -> bool {
+        if lacks_place(&self.known, subject) {
+            return false;
+        }
         if subject.is_about_frames() && !self.is_exact() {
             return false;
         }

@@ -2,7 +2,7 @@
 ghost use Rattle.std.specs.Prelude.{◌≡◌, ◌↔◌, ◌+◌, ◌-◌, ◌^◌, ◌++◌, ◌∷◌, ◌&&◌, [], ℕ, List, Option, None, IfOk, IfSome, IsSomeAnd, IsTrue, MatchOption, OnOk, min, nat_lt, if◌then◌else◌};
 ghost use Rattle.iom_trace_lines.specs.TraceLines.{said_of};
 ghost use Rattle.iom_known.specs.Allowed.{Past, IsTrueOf};
-ghost use Rattle.iom_machine.specs.PowerOn.{model_limits};
+ghost use Rattle.iom_trace_lines.specs.WorldLimits.{limits_of};
 ghost use Rattle.iom_known.specs.Starts.{IsPowerOn, SomeAreAllowed};
 ghost use Rattle.iom_trace_lines.specs.Taken.{AreLines};
 ghost use Rattle.iom_judge.specs.Certificates.{four_disks, IsRefusal, IsSoOf, SaysStep, uncertified_line};
@@ -16,7 +16,7 @@ use iom_doubts::unseen::SeenWrite;
 use iom_machine::{Event, Outcome};
 use iom_reasons::Subject;
 use iom_script::{LineBuffer, WorldSize};
-use iom_trace_lines::{KeptOutcomes, Lines, NextLine, TraceLine, read_line};
+use iom_trace_lines::{KeptOutcomes, Lines, NextLine, TraceLine, WorldLimits, read_line};
 use std::alloc::Global;
 use std::io::{self, ErrorKind, Read};
 
@@ -68,18 +68,19 @@ impl Judge {
         }
     }
 
-    /// The world has this size.
-    fn begin(&mut self, size: WorldSize) -> io::Result<Option<Verdict>>
+    /// The world has this size, and its machine these limits.
+    fn begin(&mut self, size: WorldSize, limits: WorldLimits) -> io::Result<Option<Verdict>>
         ensures counts { (self.new.line ≡ self.old.line) × (self.new.last_followed ≡ self.old.last_followed) }
         ensures begun { IfOk result (λ found. MatchOption found
             ((self.old.belief ≡ None) × (self.new.is_certified ≡ self.old.is_certified)
-            × IsSomeAnd self.new.belief (λ belief. IsPowerOn belief.known model_limits size.frames size.levels four_disks × (belief.doubts.all.items ≡ [])))
+            × IsSomeAnd self.new.belief (λ belief. IsPowerOn belief.known (limits_of limits) size.frames size.levels four_disks × (belief.doubts.all.items ≡ [])))
             IsRefusal) }
     {
         if self.belief.is_some() || size.frames < 4 || size.frames > 4096 || size.levels > 3 {
             return Ok(Some(Verdict::Bad { line: self.line }));
         }
-        let belief = Belief::power_on(self.alloc, size.frames as u32, size.levels as u8)?;
+        let (frames, levels) = (size.frames as u32, size.levels as u8);
+        let belief = Belief::power_on(self.alloc, limits.to_limits(), frames, levels)?;
         self.belief = Some(belief);
         Ok(None)
     }
@@ -134,7 +135,7 @@ impl Judge {
         match said {
             TraceLine::Nothing => Ok(None),
             TraceLine::Bad => Ok(Some(Verdict::Bad { line: self.line })),
-            TraceLine::World(size) => self.begin(*size),
+            TraceLine::World(size, limits) => self.begin(*size, *limits),
             TraceLine::Step {
                 event,
                 outcome,

@@ -51,7 +51,7 @@ impl Desk {
                 Ok(true)
             }
             TraceLine::Bad => Ok(false),
-            TraceLine::World(_) => {
+            TraceLine::World(_, _) => {
                 self.has_world = true;
                 follower.begin(line)?;
                 Ok(true)

@@ -1,11 +1,13 @@
 // Why a line isn't lawful, in words: what the machine knows of the place, and which answers could have come.
 use crate::messages::Sent;
 use crate::notes::Notes;
+use crate::places::lacks_place;
 use crate::releases::Release;
 use crate::subject::Subject;
 use crate::words::Words;
 use iom_base::{
-    AcceptedAccess, Access, AccessKind, Cause, DeviceId, PAGE_SIZE, Refusal, Rights, Sequence, Span,
+    AcceptedAccess, Access, AccessKind, Cause, DeviceId, MAX_DEVICES, PAGE_SIZE, Refusal, Rights,
+    Sequence, Span,
 };
 use iom_known::devices::device_with;
 use iom_known::owners::{is_unreached, may_be_nobodys, may_be_somebodys};
@@ -631,6 +633,11 @@ impl Facts<'_> {
     /// The same of the other calls.
     fn say_call(&self, words: &mut Words, subject: Subject) -> Result<(), AllocError> {
         let known = self.known;
+        if lacks_place(known, subject) {
+            words.say(&format!(in words.alloc;
+                "no more than {MAX_DEVICES} devices are followed"
+            )?)?;
+        }
         match subject {
             Subject::Plug { device, new } => self.could_call(
                 words,

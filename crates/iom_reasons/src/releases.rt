@@ -80,7 +80,9 @@ impl Releases {
     pub fn confirm(&mut self, last: u32, line: u64) {
         for ticket in self.confirmed.saturating_add(1)..last.saturating_add(1) {
             if let Some(release) = self.kept.get_mut(place_of(ticket)) {
-                release.confirmed = Some(line);
+                if release.ticket == ticket {
+                    release.confirmed = Some(line);
+                }
             }
         }
         self.confirmed = last;

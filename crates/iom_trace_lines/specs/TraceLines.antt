@@ -12,13 +12,15 @@ use Rattle.iom_script.specs.Grammar.{IsEventLine, IsWorldLine, is_spoken}
 use Rattle.iom_script.specs.Lines.{line_of}
 use Rattle.iom_script.specs.Words.{◌␣◌, IsNumber}
 use Rattle.iom_script.specs.declared.script.WorldSize.{WorldSize}
+use Rattle.iom_trace_lines.specs.WorldLimits.{limits_text}
 use Rattle.iom_trace_lines.specs.declared.trace.TraceLine.{TraceLine}
 use Rattle.iom_trace_lines.specs.declared.trace.TraceLine.TheVariants as lines
+use Rattle.iom_trace_lines.specs.declared.trace.WorldLimits.{WorldLimits}
 
--- What a line says: nothing, how large the world is, that this came of an event, with what is shown behind that, or what isn't in the grammar.
+-- What a line says: nothing, how large the world is and how much its machine allows, that this came of an event, with what is shown behind that, or what isn't in the grammar.
 pub data Said : Type 0 where
   Nothing : Said
-  World : WorldSize → Said
+  World : WorldSize → WorldLimits → Said
   Step : Event → Outcome → Bool → Option ℕ → Option Access → Said
   Bad : Said
 
@@ -85,13 +87,13 @@ SaysWhat line event outcome has_tables on (Some access) tables = ShowsAccess lin
 -- The line, without its line feed, says this. The frames of its tables stand beside.
 abbrev pub SaysLine : List ℕ → Said → List ℕ → Type 0
 SaysLine line Nothing tables = is_spoken line ≡ false
-SaysLine line (World size) tables = (said : List ℕ) × IsWorldLine said size × (line ≡ said ++ codes " => ok")
+SaysLine line (World size limits) tables = (said : List ℕ) × IsWorldLine said size × (line ≡ said ++ limits_text limits ++ codes " => ok")
 SaysLine line (Step event outcome has_tables on began) tables = SaysWhat line event outcome has_tables on began tables
 SaysLine line Bad tables = ⊤
 
 -- what was read of a line, with the outcome in the place that is lent
 abbrev pub said_of : TraceLine → Said
 said_of lines.Nothing = Nothing
-said_of (lines.World size) = World size
+said_of (lines.World size limits) = World size limits
 said_of (lines.Step event outcome has_tables on began) = Step event outcome.now has_tables on began
 said_of lines.Bad = Bad

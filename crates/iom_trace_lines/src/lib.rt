@@ -18,5 +18,5 @@ pub use kept::{CAUSES, KeptOutcomes};
 pub use line::read_line;
 pub use outcomes::read_outcome;
 pub use reading::Lines;
-pub use trace::{NextLine, TraceLine};
+pub use trace::{NextLine, TraceLine, WorldLimits};
 pub use zipping::trace_of;

@@ -5,11 +5,12 @@ ghost use Rattle.iom_machine.specs.declared.event.Event.TheVariants as events;
 ghost use Rattle.iom_machine.specs.declared.outcome.Outcome.TheVariants as outcomes;
 ghost use Rattle.iom_script.specs.Grammar.{IsEventLine, is_spoken};
 ghost use Rattle.iom_script.specs.Words.{◌␣◌, IsNumber};
+ghost use Rattle.iom_trace_lines.specs.WorldLimits.{limits_text};
 ghost use Rattle.iom_trace_lines.specs.TraceLines.{EventAsksFor, frames_text, is_accepted, takes_frames, tables_text, on_text, TraceMayShow, said_of, SaysLine, Nothing, Step, Bad};
 
 use crate::kept::KeptOutcomes;
 use crate::outcomes::read_outcome;
-use crate::trace::{Behind, TraceLine};
+use crate::trace::{Behind, TraceLine, WorldLimits};
 use crate::words::short_number_of;
 use iom_base::{Access, AccessKind, DeviceId, Sequence};
 use iom_machine::{Event, Outcome};
@@ -265,6 +266,19 @@ fn handoff(kept: &mut KeptOutcomes, frame: u32) -> TraceLine<'_>
     }
 }
 
+/// The part of the line that says how large the world is, and the limits that what stands behind it says. None where that
+/// is more than a word.
+fn cut_limits(said: &[u8]) -> Option<(&[u8], WorldLimits)>
+    ensures { IfSome result (λ parts. said.now ≡ parts.0.now ++ limits_text parts.1) }
+{
+    let (size, behind) = cut(said, b" unlimited", 1);
+    match behind {
+        None => Some((size, WorldLimits::OfModel)),
+        Some([]) => Some((size, WorldLimits::Unlimited)),
+        Some(_) => None,
+    }
+}
+
 /// What a line says that should be that of the world.
 fn read_world(said: &[u8], answer: &[u8]) -> TraceLine<'static>
     ensures { (tables : List ℕ) → SaysLine (said.now ++ codes " => " ++ answer.now) (said_of result) tables }
@@ -272,9 +286,12 @@ fn read_world(said: &[u8], answer: &[u8]) -> TraceLine<'static>
     if !is_word(answer, b"ok") {
         return TraceLine::Bad;
     }
-    match world_of(said) {
+    let Some((sized, limits)) = cut_limits(said) else {
+        return TraceLine::Bad;
+    };
+    match world_of(sized) {
         None => TraceLine::Bad,
-        Some(size) => TraceLine::World(size),
+        Some(size) => TraceLine::World(size, limits),
     }
 }
 

@@ -1,15 +1,43 @@
 // A line of a trace.
 use iom_base::Access;
-use iom_machine::{Event, Outcome};
+use iom_machine::{Event, Limits, Outcome};
 use iom_script::WorldSize;
+
+/// How much a trace lets its machine allow at a time.
+#[derive(Clone, Copy, PartialEq, Eq, Debug)]
+pub enum WorldLimits {
+    /// What the model's driver, its devices and its IOMMU have room for.
+    OfModel,
+    /// As much as can be counted.
+    Unlimited,
+}
+
+impl WorldLimits {
+    ghost use Rattle.std.specs.Prelude.{◌≡◌};
+    ghost use Rattle.iom_trace_lines.specs.WorldLimits.{limits_of};
+
+    /// The limits of that machine.
+    pub fn to_limits(self) -> Limits
+        ensures { result ≡ limits_of self }
+    {
+        match self {
+            WorldLimits::OfModel => Limits::of_model(),
+            WorldLimits::Unlimited => Limits {
+                pending: u64::MAX,
+                in_flight: u64::MAX,
+                devices: u64::MAX,
+            },
+        }
+    }
+}
 
 /// What a line of a trace says.
 #[derive(Drop)]
 pub enum TraceLine<'a> {
     /// It is empty, or begins with `#`.
     Nothing,
-    /// The world has this size.
-    World(WorldSize),
+    /// The world has this size, and its machine these limits.
+    World(WorldSize, WorldLimits),
     /// This came of the event; and the frame on which it was accepted, or the access that a step began, where that is
     /// shown. The frames that were taken for tables, where they are shown, stand in the list that was lent.
     Step {

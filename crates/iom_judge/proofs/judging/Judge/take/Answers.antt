@@ -16,11 +16,12 @@ pub returns-in-World-clause-taken : goal.returns-in-World-clause-taken
 returns-in-World-clause-taken c line lines read before =
     let old = c.args.self.now in
     let size = c.in-World.size in
-    let is : IsReadOf line (World size) c.args.tables.now =
+    let limits = c.in-World.limits in
+    let is : IsReadOf line (World size limits) c.args.tables.now =
     subst (λ (t : TraceLine). IsReadOf line (said_of t) c.args.tables.now) c.in-World.is read in
     if_it_goes_on c.begin.result _ _
     (λ went. taken_more old c.begin.new.self lines line before (c.begin.ensures.counts.0 ∙ c.saturating_add-self.ensures) c.begin.ensures.counts.1 (subst IsTrue went.1)
-    (world_said old.is_certified _ old.belief _ lines line c.args.tables.now size (is.1 (λ e. cc)) is.0 went.0 went.1 went.2 before.certified))
+    (world_said old.is_certified _ old.belief _ lines line c.args.tables.now size limits (is.1 (λ e. cc)) is.0 went.0 went.1 went.2 before.certified))
     c.begin.ensures.begun
 
 pub returns-in-Step-clause-taken : goal.returns-in-Step-clause-taken
