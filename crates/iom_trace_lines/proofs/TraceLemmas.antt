@@ -10,10 +10,13 @@ use Rattle.iom_machine.specs.declared.event.Event.{Event}
 use Rattle.iom_machine.specs.declared.event.Event.TheVariants as events
 use Rattle.iom_machine.specs.declared.outcome.Outcome.{Outcome}
 use Rattle.iom_machine.specs.declared.outcome.Outcome.TheVariants as outcomes
-use Rattle.iom_script.specs.Grammar.{IsEventLine}
+use Rattle.iom_script.specs.Grammar.{IsEventLine, IsWorldLine}
 use Rattle.iom_script.specs.Lines.{line_of}
 use Rattle.iom_script.specs.Words.{◌␣◌, IsNumber}
-use Rattle.iom_trace_lines.specs.TraceLines.{EventAsksFor, frames_text, is_accepted, tables_text, on_text, TraceMayShow, SaysLine, Step}
+use Rattle.iom_script.specs.declared.script.WorldSize.{WorldSize}
+use Rattle.iom_trace_lines.specs.TraceLines.{EventAsksFor, frames_text, is_accepted, tables_text, on_text, TraceMayShow, SaysLine, World, Step}
+use Rattle.iom_trace_lines.specs.WorldLimits.{limits_text}
+use Rattle.iom_trace_lines.specs.declared.trace.WorldLimits.{WorldLimits}
 
 -- one frame more, with a space before it
 pub frame_more : (text so_far words word behind : List ℕ) (frames : List ℕ) (frame : ℕ) → text ≡ frames_text frames ++ so_far → so_far ≡ codes " " ++ words → words ≡ word ++ behind → IsNumber word frame
@@ -94,3 +97,12 @@ pub frame_handed : (said word : List ℕ) (result : Option ℕ) → said ≡ cod
     → IfSome result (λ frame. (named : List ℕ) × IsNumber named frame × (said ≡ codes "handoff" ␣ named))
 frame_handed said word None is number = tt
 frame_handed said word (Some frame) is number = (word, number, is)
+
+-- how large the world is, with the word that says its limits behind
+pub world_says : (said sized answer : List ℕ) (size : WorldSize) (limits : WorldLimits) (tables : List ℕ) → said ≡ sized ++ limits_text limits → IsWorldLine sized size → answer ≡ codes "ok"
+    → SaysLine (said ++ codes " => " ++ answer) (World size limits) tables
+world_says said sized answer size limits tables cut says ok = (
+  sized,
+  says,
+  ap (λ (l : List ℕ). said ++ codes " => " ++ l) ok ∙ append_assoc said (codes " => ") (codes "ok") ∙ ap (λ (l : List ℕ). l ++ codes " => ok") cut,
+)

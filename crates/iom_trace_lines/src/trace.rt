@@ -4,7 +4,7 @@ use iom_machine::{Event, Limits, Outcome};
 use iom_script::WorldSize;
 
 /// How much a trace lets its machine allow at a time.
-#[derive(Clone, Copy, PartialEq, Eq, Debug)]
+#[derive(Clone, Copy)]
 pub enum WorldLimits {
     /// What the model's driver, its devices and its IOMMU have room for.
     OfModel,

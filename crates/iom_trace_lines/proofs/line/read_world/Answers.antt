@@ -1,10 +1,8 @@
-use Rattle.std.proofs.Common.{◌++◌, ◌∙◌, ℕ, List, append_assoc, ap, refl}
-use Rattle.std.specs.Prelude.{codes}
+use Rattle.std.proofs.Common.{refl}
+use Rattle.iom_trace_lines.proofs.TraceLemmas.{world_says}
 use Rattle.iom_trace_lines.proofs.line.read_world.Goals as goal
 
-pub returns-in-Some-1 : goal.returns-in-Some-1
-returns-in-Some-1 c tables = (
-  c.args.said.now,
-  (c.in-Some.ensures c.in-Some.size).0 refl,
-  ap (λ (l : List ℕ). c.args.said.now ++ codes " => " ++ l) (c.is_word.ensures.0 c.if-not-is_word.false) ∙ append_assoc c.args.said.now (codes " => ") (codes "ok"),
-)
+pub returns-in-Some-world_of : goal.returns-in-Some-world_of
+returns-in-Some-world_of c tables =
+    world_says c.args.said.now c.in-Some.sized.now c.args.answer.now c.in-Some-world_of.size c.in-Some.limits tables c.in-Some.ensures
+    ((c.in-Some-world_of.ensures c.in-Some-world_of.size).0 refl) (c.is_word.ensures.0 c.if-not-is_word.false)
