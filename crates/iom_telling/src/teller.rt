@@ -81,8 +81,9 @@ fn tell_in_room<W: Write, D: Disk>(
 {
     let told = tell_event(alloc, platform, before, event, &mut lines.buffer);
     *fault = fault_of(told.1);
-    if fault.is_none() {
-        add_notes(platform, event, &told.0, explains, &mut lines.buffer);
+    match fault {
+        None => add_notes(platform, event, &told.0, explains, &mut lines.buffer),
+        Some(_) => {}
     }
     told.0
 }
