@@ -1,2 +1,5 @@
 pub mod Serving
 pub mod Standing
+pub mod Whole
+pub mod Answers
+pub mod Laws

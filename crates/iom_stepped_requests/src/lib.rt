@@ -9,6 +9,7 @@
 #![tactic(auto)]
 
 mod beginning;
+pub mod laws;
 mod load;
 mod request;
 mod tables;
