@@ -75,11 +75,12 @@ unless_within n frames None rest within = within
 pub requests_end : RequestsEnd
 requests_end frames ddtp context cached request =
     let way = way_to_context ddtp context request.device in
-    let anew = locating ddtp request.device in
-    (unless_within 27 frames (without_directory ddtp.mode) (in_directory frames false cached request way)
-    (directory_within 27 3 frames false cached request way (omega arith) (way_within ddtp context request.device)),
-    unless_within 27 frames (without_directory ddtp.mode) (in_directory frames true (λ key. None) request anew)
-    (directory_within 27 3 frames true (λ key. None) request anew (omega arith) (locating_ends ddtp request.device)))
+    let anew = locating ddtp request.device in (
+      unless_within 27 frames (without_directory ddtp.mode) (in_directory frames false cached request way)
+          (directory_within 27 3 frames false cached request way (omega arith) (way_within ddtp context request.device)),
+      unless_within 27 frames (without_directory ddtp.mode) (in_directory frames true (λ key. None) request anew)
+          (directory_within 27 3 frames true (λ key. None) request anew (omega arith) (locating_ends ddtp request.device)),
+    )
 
 -- what a load leaves of the way to the context
 one_less : (n frames : ℕ) (anew : Bool) (cached : Translations) (request : Request) (walk : Walk (Result Context Cause))

@@ -91,7 +91,7 @@ loads_are_of_the_walk m cached (InTables request context translated walk) = tabl
 
 -- All loads from one memory.
 
-made_then : {A B : Type 0} (m : List (List ℕ)) (walk : Walk A) (next : A → Walk B) → made_from m (followed walk next) ≡ made_from m (next (made_from m walk))
+pub made_then : {A B : Type 0} (m : List (List ℕ)) (walk : Walk A) (next : A → Walk B) → made_from m (followed walk next) ≡ made_from m (next (made_from m walk))
 made_then m (Ends answer) next = refl
 made_then m (ReadsEntry address rest) next = made_then m (rest (word_at entry_size m address)) next
 made_then m (ReadsContext address rest) next = made_then m (rest (loaded_context (context_words_at m address))) next
@@ -172,13 +172,17 @@ unless : (m : List (List ℕ)) (cached : Translations) (request : Request) (with
 unless m cached request (Some other) rest found answer whole = flip other answer
 unless m cached request None rest found answer whole = whole
 
-pub requests_are_whole : RequestsAreWhole
-requests_are_whole m ddtp context cached request answer =
+pub begun_made : (m : List (List ℕ)) (ddtp : DirectoryPointer) (context : Option Context) (cached : Translations) (request : Request)
+    → made_from m (walk_on (length m) cached (in_directory (length m) false cached request (way_to_context ddtp context request.device)))
+    ≡ made_from m (context_walk (length m) false cached request (context_of m ddtp context request.device))
+begun_made m ddtp context cached request =
     let way = way_to_context ddtp context request.device in
     let next = context_walk (length m) false cached request in
+    ap (made_from m) (directory_on (length m) false cached request way) ∙ made_then m way next ∙ ap (λ f. made_from m (next f)) (way_is m ddtp context request.device)
+
+pub requests_are_whole : RequestsAreWhole
+requests_are_whole m ddtp context cached request answer =
     let found = context_of m ddtp context request.device in
-    let rest = in_directory (length m) false cached request way in
-    let made : made_from m (walk_on (length m) cached rest) ≡ made_from m (next found) =
-        ap (made_from m) (directory_on (length m) false cached request way) ∙ made_then m way next ∙ ap (λ f. made_from m (next f)) (way_is m ddtp context request.device) in
-    unless m cached request (without_directory ddtp.mode) rest found answer
-    (subst (λ r. (r ≡ answer) ↔ AnswersByContext m cached request found answer) (sym made) (by_context_whole m cached request found answer))
+    unless m cached request (without_directory ddtp.mode) (in_directory (length m) false cached request (way_to_context ddtp context request.device)) found answer
+    (subst (λ r. (r ≡ answer) ↔ AnswersByContext m cached request found answer) (sym (begun_made m ddtp context cached request))
+    (by_context_whole m cached request found answer))
