@@ -1,5 +1,5 @@
 -- How many loads a request makes at most.
-use Rattle.std.proofs.Common.{◌≡◌, ℕ, zero, suc, ◌+◌, ◌≤◌, Bool, true, false, List, length, Option, None, Some, Result, Ok, Err, if◌then◌else◌, sym, subst, arith}
+use Rattle.std.proofs.Common.{ℕ, zero, suc, ◌+◌, ◌≤◌, Bool, true, false, length, Option, None, Some, Result, Ok, Err, if◌then◌else◌, sym, subst, arith}
 use Rattle.iom_base.specs.declared.cause.Cause.{Cause}
 use Rattle.iom_device_dir.specs.Paths.{fits_directory}
 use Rattle.iom_device_dir.specs.declared.context.Context.{Context}
@@ -19,7 +19,7 @@ use Rattle.iom_walk_stops.specs.declared.stages.Stages.{Stages}
 use Rattle.iom_stepped_requests.proofs.WholeLemmas.{directory_after, located_on, tables_load}
 use Rattle.iom_stepped_requests.specs.Laws.{LoadsTakeAway, RequestsEnd}
 use Rattle.iom_stepped_requests.specs.Serving.{Remaining, answer_of, in_directory, looked_up, served_or, way_to_context, without_directory}
-use Rattle.iom_stepped_requests.specs.Whole.{ServedWithin, context_walk, stages_walk, tables_walk, followed, walk_on}
+use Rattle.iom_stepped_requests.specs.Whole.{ServedWithin, context_walk, stages_walk, tables_walk, followed}
 use Rattle.iom_stepped_requests.specs.declared.request.Answer.{Answer}
 use Rattle.iom_stepped_requests.specs.declared.request.Request.{Request}
 use Rattle.iom_stepped_requests.specs.declared.walk.RequestWalk.TheVariants.{InDirectory, InTables}

@@ -30,8 +30,7 @@ use Rattle.iom_stepped_requests.specs.Answers.{context_of}
 use Rattle.iom_stepped_requests.specs.Keeping.{Keeping, context_found, context_to_keep, keeping, kept_by_context, kept_by_stages, page_reached, told_by_stages, translation_to_keep, with_kept}
 use Rattle.iom_stepped_requests.specs.Laws.{LoadsKeepOfTheRun, RunsKeep}
 use Rattle.iom_stepped_requests.specs.Serving.{Remaining, answer_of, by_located, by_stages, in_directory, in_tables, kept_in_directory, kept_in_tables, looked_up, served_or, space_of, way_to_context, without_directory}
-use Rattle.iom_stepped_requests.specs.Whole.{context_walk, stages_walk, tables_walk, walk_on}
-use Rattle.iom_stepped_requests.specs.declared.request.Answer.{Answer}
+use Rattle.iom_stepped_requests.specs.Whole.{context_walk, stages_walk, walk_on}
 use Rattle.iom_stepped_requests.specs.declared.request.Answer.TheVariants.{AsItIs, Faults}
 use Rattle.iom_stepped_requests.specs.declared.request.Request.{Request}
 use Rattle.iom_stepped_requests.specs.declared.walk.RequestWalk.TheVariants.{InDirectory, InTables}
