@@ -73,7 +73,7 @@ impl Stages {
     }
 
     /// The walk of their tables, which has made no load yet.
-    pub(crate) fn begin(self, address: u64, kind: AccessKind) -> Progress
+    pub fn begin(self, address: u64, kind: AccessKind) -> Progress
         ensures { (frames : ℕ) → remains frames result ≡ walk_of frames self address kind }
     {
         match self {

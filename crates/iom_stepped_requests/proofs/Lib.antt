@@ -1,0 +1,4 @@
+pub mod WholeLemmas
+pub mod BoundLemmas
+pub mod FirstLemmas
+pub mod KeepingLemmas
