@@ -82,6 +82,9 @@ fn grant(ledger: &mut Ledger, device: DeviceId, page: u64, frame: u32, rights: R
 
 /// Releases what is held at the page.
 fn release(ledger: &mut Ledger, device: DeviceId, page: u64, ticket: u32) -> bool {
+    let Ok(()) = ledger.make_room() else {
+        return false;
+    };
     if ledger.holds(device, page).is_none() || ledger.pending() >= MAX_PENDING {
         return false;
     }
@@ -90,6 +93,9 @@ fn release(ledger: &mut Ledger, device: DeviceId, page: u64, ticket: u32) -> boo
 }
 
 fn release_all(ledger: &mut Ledger, device: DeviceId, ticket: u32) -> bool {
+    let Ok(()) = ledger.make_room() else {
+        return false;
+    };
     if ledger.pending() >= MAX_PENDING {
         return false;
     }
