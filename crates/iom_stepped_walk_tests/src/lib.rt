@@ -1,14 +1,16 @@
-//! Walks made load by load: the public functions of `iom_stepped_walk` and `iom_walk_stops`.
+//! Walks made load by load: the public functions of `iom_stepped_walk`, `iom_walk_stops` and `iom_stepped_requests`.
 //!
 //! The crate has tests alone, and nothing stands on it. `vectors` has translations that independent implementations
 //! confirmed; `changes` has walks in tables that change between two of their loads;
-//! `stops` has the entries at which walks stop.
+//! `stops` has the entries at which walks stop; `requests` has requests of a device over the caches.
 #![tactic(auto)]
 
 #[cfg(test)]
 mod changes;
 #[cfg(test)]
 mod expect;
+#[cfg(test)]
+mod requests;
 #[cfg(test)]
 mod stops;
 #[cfg(test)]
