@@ -35,11 +35,6 @@ impl Notes {
     pub fn push(&mut self, note: Note) {
         let _ = self.notes.try_push(note);
     }
-
-    /// Whether there is room for another.
-    pub fn has_room(&self) -> bool {
-        !self.notes.is_full()
-    }
 }
 
 /// Appends one line, where it is one.
