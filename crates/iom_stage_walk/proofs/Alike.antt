@@ -1,12 +1,12 @@
 -- Two memories that are alike on the entries, or on the frames, of a path.
-use Rattle.std.proofs.Common.{◌≡◌, ◌*◌, ◌/◌, ◌∙◌, inl, inr, ℕ, List, [], ◌∷◌, slice_get, refl, sym, ap, subst, arith}
+use Rattle.std.proofs.Common.{◌≡◌, ◌*◌, ◌/◌, ◌∙◌, inl, inr, ℕ, List, [], ◌∷◌, length, slice_get, refl, sym, ap, subst, arith}
 use Rattle.std.specs.List.{All}
 use Rattle.std.proofs.lemmas.List.Elements.{All-head, All-tail}
 use Rattle.iom_base.specs.declared.access.AccessKind.{AccessKind}
 use Rattle.iom_base.specs.declared.cause.Cause.{Cause}
 use Rattle.iom_base.specs.declared.rights.Rights.{Rights}
 use Rattle.iom_stage_walk.specs.Entries.{Entries, entries, slot}
-use Rattle.iom_stage_walk.specs.Paths.{Reaches, StopsAs}
+use Rattle.iom_stage_walk.specs.Paths.{Reaches, level_at, leaf_level, StopsAs}
 use Rattle.iom_stage_walk.specs.Through.{after_pointer, through}
 use Rattle.iom_stage_walk.specs.declared.entry.Entry.{Entry}
 use Rattle.iom_stage_walk.specs.declared.entry.Entry.TheVariants.{Outside, Invalid, Pointer, Leaf}
@@ -54,6 +54,19 @@ alike_through old new table [] u = refl
 alike_through old new table (i ∷ is) u =
     ap (λ x. slot table i / 512 ∷ after_pointer x (λ next. through new next is)) u.0
     ∙ ap (λ rest. slot table i / 512 ∷ rest) (through_entry old new (old (slot table i)) is u.1 (λ next v. alike_through old new next is v))
+
+level_entry : (old new : Entries) (x : Entry) (is : List ℕ) → ((next : ℕ) → x ≡ Pointer next → Alike old new next is) → ((next : ℕ) → Alike old new next is → leaf_level new next is ≡ leaf_level old next is)
+    → level_at x (length is) (λ next. leaf_level new next is) ≡ level_at x (length is) (λ next. leaf_level old next is)
+level_entry old new Outside is u go = refl
+level_entry old new Invalid is u go = refl
+level_entry old new (Pointer next) is u go = go next (u next refl)
+level_entry old new (Leaf base rights) is u go = refl
+
+pub alike_level : (old new : Entries) (table : ℕ) (is : List ℕ) → Alike old new table is → leaf_level new table is ≡ leaf_level old table is
+alike_level old new table [] u = refl
+alike_level old new table (i ∷ is) u =
+    ap (λ x. level_at x (length is) (λ next. leaf_level new next is)) u.0
+    ∙ level_entry old new (old (slot table i)) is u.1 (λ next v. alike_level old new next is v)
 
 -- an entry is read from its own frame alone
 pub same_entry : (old new : List (List ℕ)) (s : ℕ) → slice_get new (s / 512) ≡ slice_get old (s / 512) → entries new s ≡ entries old s

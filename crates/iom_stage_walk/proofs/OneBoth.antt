@@ -1,5 +1,5 @@
 -- A translation in both stages ends in one way.
-use Rattle.std.proofs.Common.{◌≡◌, ◌/◌, ◌%◌, ◌*◌, ◌+◌, ◌∙◌, ℕ, inl, inr, true, false, List, [], ◌∷◌, sym, ap, subst, arith}
+use Rattle.std.proofs.Common.{◌≡◌, ◌/◌, ◌%◌, ◌*◌, ◌+◌, ◌-◌, ◌∙◌, ℕ, length, inl, inr, true, false, List, [], ◌∷◌, sym, ap, subst, arith}
 use Rattle.iom_base.specs.declared.access.AccessKind.{AccessKind}
 use Rattle.iom_base.specs.declared.access.AccessKind.TheVariants.{Read}
 use Rattle.iom_base.specs.declared.rights.Rights.{Rights}
@@ -105,6 +105,7 @@ module _ (levels levels' : ℕ) (frames : List (List ℕ)) (first second address
       let place = one_place levels' frames second (4096 * p.page + address % 4096) kind kind' a.frame b.frame p.given' q.given' p.leads (subst (λ n. LeadsTo levels' frames second (4096 * n + address % 4096) kind' b.frame q.given') (sym guest.1) q.leads) in
       same_walked a b place.0
       (p.rights ∙ ap (λ n. rights_of_both n p.given') guest.2 ∙ ap (λ n. rights_of_both q.given n) place.1 ∙ sym q.rights)
+      (p.level ∙ ap (λ fs. levels - length fs) guest.0 ∙ sym q.level)
       (p.guest_frames ∙ ap (λ n. padded 4 n) guest.0 ∙ sym q.guest_frames)
 
   pub both_or_stops : (kind : AccessKind) (a : Walked) (f : WalkFault) → ReachesBoth levels levels' frames first second address kind a → StopsBoth levels levels' frames first second address kind f → ⊥

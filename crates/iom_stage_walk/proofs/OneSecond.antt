@@ -33,4 +33,4 @@ module _ (levels : ℕ) (frames : List (List ℕ)) (root address : ℕ) where
   pub one_walked_second : (kind kind' : AccessKind) (a b : Walked) → ReachesSecond levels frames root address kind a → ReachesSecond levels frames root address kind' b → a ≡ b
   one_walked_second kind kind' a b p q =
       let same = one_place kind kind' a.frame b.frame a.rights b.rights p.leads q.leads in
-      same_walked a b same.0 same.1 (p.no_guest ∙ sym q.no_guest)
+      same_walked a b same.0 same.1 (p.level ∙ sym q.level) (p.no_guest ∙ sym q.no_guest)

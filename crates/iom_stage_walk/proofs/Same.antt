@@ -1,5 +1,5 @@
 -- Memories that are alike on the frames of the path of an address.
-use Rattle.std.proofs.Common.{◌≡◌, ◌+◌, ◌*◌, ◌/◌, ◌^◌, ◌<◌, inl, inr, ℕ, List, length}
+use Rattle.std.proofs.Common.{◌≡◌, ◌+◌, ◌*◌, ◌/◌, ◌^◌, ◌<◌, ◌∙◌, inl, inr, ℕ, List, length, sym}
 use Rattle.iom_base.specs.Causes.{page_fault_of, guest_page_fault_of}
 use Rattle.iom_base.specs.Tables.{access_fault_of}
 use Rattle.iom_base.specs.declared.access.AccessKind.{AccessKind}
@@ -9,7 +9,7 @@ use Rattle.iom_stage_walk.specs.Paths.{path_of, first_widths, StopsIn, IsCanonic
 use Rattle.iom_stage_walk.specs.Second.{second_widths, ReachesSecond, StopsSecond}
 use Rattle.iom_stage_walk.specs.declared.walked.Walked.{Walked}
 use Rattle.iom_stage_walk.specs.declared.walked.WalkFault.{WalkFault}
-use Rattle.iom_stage_walk.proofs.Alike.{Alike, alike_reaches, alike_stops}
+use Rattle.iom_stage_walk.proofs.Alike.{Alike, alike_reaches, alike_level, alike_stops}
 
 stops_in_too : (IsLawful : Type 0) (old new : List (List ℕ)) (kind : AccessKind) (page access : Cause) (root : ℕ) (is : List ℕ) (cause : Cause) → length new ≡ length old → Alike (entries old) (entries new) root is
     → StopsIn IsLawful old kind page access root is cause → StopsIn IsLawful new kind page access root is cause
@@ -25,6 +25,7 @@ module _ (levels : ℕ) (old new : List (List ℕ)) (root address : ℕ) (size :
         canonical = h.canonical;
         path = alike_reaches (entries old) (entries new) root (path_of (first_widths levels) (address / 4096)) kind walked.frame walked.rights alike h.path;
         inside = rw size h.inside;
+        level = h.level ∙ sym (alike_level (entries old) (entries new) root (path_of (first_widths levels) (address / 4096)) alike);
         no_guest = h.no_guest;
       }
 
@@ -45,6 +46,7 @@ module _ (levels : ℕ) (old new : List (List ℕ)) (root address : ℕ) (size :
           path = alike_reaches (entries old) (entries new) root (path_of (second_widths levels) (address / 4096)) kind walked.frame walked.rights alike h.leads.path;
           inside = rw size h.leads.inside;
         };
+        level = h.level ∙ sym (alike_level (entries old) (entries new) root (path_of (second_widths levels) (address / 4096)) alike);
         no_guest = h.no_guest;
       }
 

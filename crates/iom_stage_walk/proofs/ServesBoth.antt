@@ -26,10 +26,10 @@ module _ (levels : ℕ) (frames : List (List ℕ)) (root address : ℕ) where
   pub second_writes : (walked : Walked) → ReachesSecond levels frames root address Write walked → ReachesSecond levels frames root address Read walked × (allows walked.rights Write ≡ true)
   second_writes walked h =
       let writes = leads_allows Write walked.frame walked.rights h.leads in
-      (record { leads = leads_serves Write Read walked.frame walked.rights h.leads (allows-Read walked.rights Write writes); no_guest = h.no_guest }, writes)
+      (record { leads = leads_serves Write Read walked.frame walked.rights h.leads (allows-Read walked.rights Write writes); level = h.level; no_guest = h.no_guest }, writes)
 
   pub second_reads : (walked : Walked) → ReachesSecond levels frames root address Read walked → allows walked.rights Write ≡ true → ReachesSecond levels frames root address Write walked
-  second_reads walked h writes = record { leads = leads_serves Read Write walked.frame walked.rights h.leads writes; no_guest = h.no_guest }
+  second_reads walked h writes = record { leads = leads_serves Read Write walked.frame walked.rights h.leads writes; level = h.level; no_guest = h.no_guest }
 
 guest_allows : (levels : ℕ) (frames : List (List ℕ)) (second : ℕ) (kind : AccessKind) (table : ℕ) (is fs : List ℕ) (p : ℕ) (u : Rights) → ReachesGuest levels frames second kind table is fs p u → allows u kind ≡ true
 guest_allows levels frames second kind table [] fs p u h = absurd h
@@ -91,6 +91,7 @@ module _ (levels levels' : ℕ) (frames : List (List ℕ)) (first second address
           given' = h.given';
           leads = leads_serves levels' frames second (4096 * h.page + address % 4096) Write Read walked.frame h.given' h.leads (allows-Read h.given' Write final);
           rights = h.rights;
+          level = h.level;
           guest_frames = h.guest_frames;
         },
         ap (λ u. allows u Write) h.rights ∙ both_write (allows h.given Write) (allows h.given' Write) guest final,
@@ -109,6 +110,7 @@ module _ (levels levels' : ℕ) (frames : List (List ℕ)) (first second address
         given' = h.given';
         leads = leads_serves levels' frames second (4096 * h.page + address % 4096) Read Write walked.frame h.given' h.leads two.1;
         rights = h.rights;
+        level = h.level;
         guest_frames = h.guest_frames;
       }
 

@@ -5,7 +5,7 @@ use Rattle.iom_base.specs.declared.access.AccessKind.{AccessKind}
 use Rattle.iom_base.specs.declared.cause.Cause.{Cause}
 use Rattle.iom_base.specs.declared.rights.Rights.{Rights}
 use Rattle.iom_stage_walk.specs.Entries.{Entries, slot}
-use Rattle.iom_stage_walk.specs.Paths.{IsLawfulLeaf, IsUnlawfulLeaf, Reaches, StopsAs}
+use Rattle.iom_stage_walk.specs.Paths.{IsLawfulLeaf, IsUnlawfulLeaf, Reaches, leaf_level, StopsAs}
 use Rattle.iom_stage_walk.specs.declared.entry.Entry.TheVariants.{Outside, Invalid, Pointer, Leaf}
 
 -- the rest from index k on begins with index k
@@ -19,6 +19,13 @@ tail_is is n = take_all (length is - n) (drop n is) (omega (arith, length-drop n
 module _ (e : Entries) (kind : AccessKind) (page access : Cause) (table k d : ℕ) (is : List ℕ) (lt : k < length is) where
   pub reaches_down : (next frame : ℕ) (given : Rights) → Pointer next ≡ e (slot table (get_or is k d)) → Reaches e kind next (drop (k + 1) is) frame given → Reaches e kind table (drop k is) frame given
   reaches_down next frame given at h = rw (rest_is is k d lt) (inl (next, sym at, h))
+
+  pub level_down : (next : ℕ) → Pointer next ≡ e (slot table (get_or is k d)) → leaf_level e table (drop k is) ≡ leaf_level e next (drop (k + 1) is)
+  level_down next at = rw (rest_is is k d lt, sym at) refl
+
+  pub level_leaf : (base : ℕ) (rights : Rights) → Leaf base rights ≡ e (slot table (get_or is k d))
+      → leaf_level e table (drop k is) ≡ length (take (length is - (k + 1)) (drop (k + 1) is))
+  level_leaf base rights at = rw (rest_is is k d lt, sym at, tail_is is (k + 1)) refl
 
   pub stops_down : (next : ℕ) (cause : Cause) → Pointer next ≡ e (slot table (get_or is k d)) → StopsAs e kind page access next (drop (k + 1) is) cause → StopsAs e kind page access table (drop k is) cause
   stops_down next cause at h = rw (rest_is is k d lt) (inl (next, sym at, h))

@@ -1,7 +1,7 @@
 -- Both stages of a translation (RISC-V Privileged Architecture, hypervisor extension, "Two-Stage Address Translation"):
 -- the first stage's tables, and the page that it gives, stand at guest physical addresses, which the second stage leads
 -- to memory. `levels` are those of the first stage, `levels'` those of the second.
-use Rattle.std.specs.Prelude.{◌≡◌, ℕ, ◌+◌, ◌-◌, ◌*◌, ◌%◌, ◌&&◌, ◌⊎◌, true, false, List, [], ◌∷◌, replicate, Option, Some, None, if◌then◌else◌}
+use Rattle.std.specs.Prelude.{◌≡◌, ℕ, ◌+◌, ◌-◌, ◌*◌, ◌%◌, ◌&&◌, ◌⊎◌, true, false, List, [], ◌∷◌, length, replicate, Option, Some, None, if◌then◌else◌}
 use Rattle.iom_base.specs.Causes.{page_fault_of}
 use Rattle.iom_base.specs.Rights.{allows, r, rw}
 use Rattle.iom_base.specs.Sizes.{page_size}
@@ -74,7 +74,8 @@ abbrev pub guest_address : ℕ → ℕ → ℕ
 guest_address page address = page_size * page + address % page_size
 
 -- a translation in both stages reaches a frame: the path of the address in the guest's tables reaches a page, and the
--- second stage leads the access from there to the frame
+-- second stage leads the access from there to the frame. The leaf is the guest's: below it are the levels of which no
+-- entry is read
 pub record ReachesBoth (levels levels' : ℕ) (frames : List (List ℕ)) (first second address : ℕ) (kind : AccessKind)
     (walked : Walked) : Type 0 where
   pub canonical : IsCanonical levels address
@@ -85,6 +86,7 @@ pub record ReachesBoth (levels levels' : ℕ) (frames : List (List ℕ)) (first 
   pub given' : Rights
   pub leads : LeadsTo levels' frames second (guest_address page address) kind walked.frame given'
   pub rights : walked.rights ≡ rights_of_both given given'
+  pub level : walked.level ≡ levels - length loaded
   pub guest_frames : walked.guest_frames ≡ padded 4 loaded
 
 -- it stops with a fault: the first stage's page fault, where the high bits of the address aren't lawful; the fault with

@@ -9,6 +9,7 @@ use Rattle.iom_base.specs.declared.access.AccessKind.{AccessKind}
 use Rattle.iom_base.specs.declared.cause.Cause.{Cause}
 use Rattle.iom_base.specs.declared.rights.Rights.{Rights}
 use Rattle.iom_stage_walk.specs.Entries.{Entries, entries, slot}
+use Rattle.iom_stage_walk.specs.declared.entry.Entry.{Entry}
 use Rattle.iom_stage_walk.specs.declared.entry.Entry.TheVariants.{Outside, Invalid, Pointer, Leaf}
 use Rattle.iom_stage_walk.specs.declared.walked.Walked.{Walked}
 use Rattle.iom_stage_walk.specs.declared.walked.WalkFault.{WalkFault}
@@ -40,6 +41,18 @@ Reaches e kind table (i ∷ below) frame given =
     ((next : ℕ) × (e (slot table i) ≡ Pointer next) × Reaches e kind next below frame given)
     ⊎ ((base : ℕ) × (rights : Rights) × (e (slot table i) ≡ Leaf base rights)
     × IsLawfulLeaf kind base rights below frame given)
+
+-- how many levels are below an entry: none is where it names the next table, whose leaf has its own
+abbrev pub level_at : Entry → ℕ → (ℕ → ℕ) → ℕ
+level_at Outside below follow = below
+level_at Invalid below follow = below
+level_at (Pointer next) below follow = follow next
+level_at (Leaf base rights) below follow = below
+
+-- the level of the leaf to which the indices lead from the table: how many indices are below it
+abbrev pub leaf_level : Entries → ℕ → List ℕ → ℕ
+leaf_level e table [] = 0
+leaf_level e table (i ∷ below) = level_at (e (slot table i)) (length below) (λ next. leaf_level e next below)
 
 -- the leaf isn't lawful: a misaligned superpage, or its rights lack the kind of access
 abbrev pub IsUnlawfulLeaf : AccessKind → ℕ → Rights → List ℕ → Type 0
@@ -89,6 +102,7 @@ pub record ReachesFirst (levels : ℕ) (frames : List (List ℕ)) (root address 
   pub canonical : IsCanonical levels address
   pub path : Reaches (entries frames) kind root (first_path levels address) walked.frame walked.rights
   pub inside : IsInMemory frames walked.frame
+  pub level : walked.level ≡ leaf_level (entries frames) root (first_path levels address)
   pub no_guest : walked.guest_frames ≡ replicate 4 None
 
 -- in one stage, a first or a second, the path along an address's indices stops with the cause: the stage's page fault,

@@ -9,7 +9,7 @@ use Rattle.iom_base.specs.declared.cause.Cause.{Cause}
 use Rattle.iom_base.specs.declared.cause.Cause.TheVariants.{ReadGuestPageFault, WriteGuestPageFault}
 use Rattle.iom_base.specs.declared.rights.Rights.{Rights}
 use Rattle.iom_stage_walk.specs.Entries.{entries}
-use Rattle.iom_stage_walk.specs.Paths.{Reaches, StopsIn, path_of, IsInMemory}
+use Rattle.iom_stage_walk.specs.Paths.{Reaches, leaf_level, StopsIn, path_of, IsInMemory}
 use Rattle.iom_stage_walk.specs.declared.walked.Walked.{Walked}
 use Rattle.iom_stage_walk.specs.declared.walked.WalkFault.{WalkFault}
 
@@ -62,6 +62,7 @@ LeadsToFault levels frames root address kind original implicit fault =
 pub record ReachesSecond (levels : ℕ) (frames : List (List ℕ)) (root address : ℕ) (kind : AccessKind)
     (walked : Walked) : Type 0 where
   pub leads : LeadsTo levels frames root address kind walked.frame walked.rights
+  pub level : walked.level ≡ leaf_level (entries frames) root (second_path levels address)
   pub no_guest : walked.guest_frames ≡ replicate 4 None
 
 -- it stops with the fault

@@ -1,4 +1,4 @@
-ghost use Rattle.std.specs.Prelude.{◌≡◌, ◌≢◌, ◌↔◌, ℕ, ◌/◌, ◌^◌, ◌<◌, ◌≤◌, List, true, false, IfOk, IfErr, Ok, Err, length, slice_index, EachIndex};
+ghost use Rattle.std.specs.Prelude.{◌≡◌, ◌≢◌, ◌↔◌, ℕ, ◌-◌, ◌/◌, ◌^◌, ◌<◌, ◌≤◌, List, true, false, IfOk, IfErr, Ok, Err, length, slice_index, EachIndex};
 ghost use Rattle.iom_base.specs.Causes.{page_fault_of};
 ghost use Rattle.iom_base.specs.Sizes.{page_size, levels_of};
 ghost use Rattle.iom_base.specs.Tables.{table_entries};
@@ -25,12 +25,13 @@ struct Loaded {
     entry: Entry,
 }
 
-/// The leaf of a path through a guest's tables: the guest physical page, what the first stage allows, and the frames
-/// from which the entries were read.
+/// The leaf of a path through a guest's tables: the guest physical page, what the first stage allows, how many levels
+/// are below it, and the frames from which the entries were read.
 #[derive(Clone, Copy)]
 struct GuestReached {
     page: u64,
     rights: Rights,
+    level: u8,
     frames: [Option<u32>; 4],
 }
 
@@ -88,6 +89,7 @@ fn walk_guest<B: Bytes>(
     requires small { EachIndex indices.now (λ k. slice_index indices.now k < table_entries) }
     requires short { length indices.now ≤ 4 }
     ensures ok { IfOk result (λ leaf. (loaded : List ℕ) × (leaf.frames ≡ padded 4 loaded)
+        × (leaf.level ≡ length indices.now - length loaded)
         × ReachesGuest (levels_of size) (B.frames_of memory.now) second kind root indices.now loaded leaf.page leaf.rights) }
     ensures page { IfOk result (λ leaf. leaf.page < 2 ^ 45) }
     ensures err { IfErr result (StopsGuest (levels_of size) (B.frames_of memory.now) second kind root indices.now) }
@@ -104,6 +106,7 @@ fn walk_guest<B: Bytes>(
                     Some(leaf) => Ok(GuestReached {
                         page: leaf.frame,
                         rights: leaf.rights,
+                        level: leaf.level,
                         frames,
                     }),
                     None => Err(first_fault(kind)),
@@ -137,7 +140,7 @@ fn final_access<B: Bytes>(
     kind: AccessKind,
 ) -> Result<Walked, WalkFault>
     requires { leaf.page < 2 ^ 45 }
-    ensures ok { IfOk result (λ walked. (walked.guest_frames ≡ leaf.frames) × ((own : Rights)
+    ensures ok { IfOk result (λ walked. (walked.guest_frames ≡ leaf.frames) × (walked.level ≡ leaf.level) × ((own : Rights)
         × (walked.rights ≡ rights_of_both leaf.rights own)
         × LeadsTo (levels_of size) (B.frames_of memory.now) second (guest_address leaf.page address) kind walked.frame own)) }
     ensures err { IfErr result
@@ -149,6 +152,7 @@ fn final_access<B: Bytes>(
         Ok(led) => Ok(Walked {
             frame: led.frame,
             rights: both_rights(leaf.rights, led.rights),
+            level: leaf.level,
             guest_frames,
         }),
         Err(cause) => Err(report(cause, guest, false)),

@@ -1,7 +1,8 @@
 ghost use Rattle.std.specs.Prelude.{◌≡◌, ◌↔◌, ◌-◌, ◌/◌, ◌≤◌, IsTrue, false, IfOk, IfErr, Ok, Err, length, drop};
 ghost use Rattle.iom_base.specs.Sizes.{page_size, levels_of};
-ghost use Rattle.iom_stage_walk.specs.Paths.{path_of};
-ghost use Rattle.iom_stage_walk.specs.Second.{second_widths, IsGuestPhysical, LeadsTo, LeadsNowhere, LeadsToFault, reported, ReachesSecond, StopsSecond};
+ghost use Rattle.iom_stage_walk.specs.Entries.{entries};
+ghost use Rattle.iom_stage_walk.specs.Paths.{path_of, leaf_level};
+ghost use Rattle.iom_stage_walk.specs.Second.{second_widths, second_path, IsGuestPhysical, LeadsTo, LeadsNowhere, LeadsToFault, reported, ReachesSecond, StopsSecond};
 ghost use Rattle.iom_stage_walk.specs.declared.walked.Walked.{Walked};
 ghost use Rattle.iom_stage_walk.specs.declared.walked.WalkFault.{WalkFault};
 
@@ -18,6 +19,8 @@ const ROOT_ENTRIES: u64 = 4 * TABLE_ENTRIES;
 pub(crate) struct Led {
     pub(crate) frame: u32,
     pub(crate) rights: Rights,
+    /// How many levels are below its leaf.
+    pub(crate) level: u8,
 }
 
 /// What is reported of a fault at a guest physical address: a guest page fault tells the address.
@@ -59,6 +62,7 @@ fn lead_levels<B: Bytes>(
     requires short { length indices.now ≤ 4 }
     requires path { indices.now ≡ path_of (second_widths (length indices.now)) (address / page_size) }
     ensures ok { IfOk result (λ led. LeadsTo (length indices.now) (B.frames_of memory.now) root address kind led.frame led.rights) }
+    ensures level { IfOk result (λ led. led.level ≡ leaf_level (entries (B.frames_of memory.now)) root (second_path (length indices.now) address)) }
     ensures err { IfErr result (LeadsNowhere (length indices.now) (B.frames_of memory.now) root address kind original) }
 {
     let faults = Faults {
@@ -75,6 +79,7 @@ fn lead_levels<B: Bytes>(
     Ok(Led {
         frame: leaf.frame as u32,
         rights: leaf.rights,
+        level: leaf.level,
     })
 }
 
@@ -113,6 +118,7 @@ pub(crate) fn lead<B: Bytes>(
     original: AccessKind,
 ) -> Result<Led, Cause>
     ensures ok { IfOk result (λ led. LeadsTo (levels_of size) (B.frames_of memory.now) root address kind led.frame led.rights) }
+    ensures level { IfOk result (λ led. led.level ≡ leaf_level (entries (B.frames_of memory.now)) root (second_path (levels_of size) address)) }
     ensures err { IfErr result (LeadsNowhere (levels_of size) (B.frames_of memory.now) root address kind original) }
 {
     let all = second_indices(size, address / PAGE_SIZE);
@@ -140,6 +146,7 @@ pub fn walk_second<B: Bytes>(
         Ok(led) => Ok(Walked {
             frame: led.frame,
             rights: led.rights,
+            level: led.level,
             guest_frames: [None; 4],
         }),
         Err(cause) => Err(report(cause, address, false)),

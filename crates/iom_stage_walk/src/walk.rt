@@ -3,7 +3,7 @@ ghost use Rattle.std.specs.Prelude.{slice_index, EachIndex, true, false};
 ghost use Rattle.iom_base.specs.Rights.{allows};
 ghost use Rattle.iom_base.specs.Sizes.{page_size, levels_of};
 ghost use Rattle.iom_stage_walk.specs.Entries.{entries};
-ghost use Rattle.iom_stage_walk.specs.Paths.{pages_spanned, page_in, IsLawfulLeaf, IsUnlawfulLeaf, Reaches, StopsAs, StopsAt, path_of};
+ghost use Rattle.iom_stage_walk.specs.Paths.{pages_spanned, page_in, IsLawfulLeaf, IsUnlawfulLeaf, Reaches, leaf_level, StopsAs, StopsAt, path_of};
 ghost use Rattle.iom_stage_walk.specs.Paths.{first_widths, IsCanonical, ReachesFirst, StopsFirst};
 ghost use Rattle.iom_stage_walk.specs.declared.walked.Walked.{Walked};
 ghost use Rattle.iom_stage_walk.specs.declared.walked.WalkFault.{WalkFault};
@@ -27,6 +27,8 @@ pub(crate) const SPAN_OF_THREE: u64 = SPAN_OF_TWO * TABLE_ENTRIES;
 pub(crate) struct Reached {
     pub(crate) frame: u64,
     pub(crate) rights: Rights,
+    /// How many levels are below it.
+    pub(crate) level: u8,
 }
 
 /// How many pages a leaf spans above these indices, and which of them they name.
@@ -60,6 +62,7 @@ pub(crate) fn judge_leaf(
     requires short { length below.now ≤ 3 }
     ensures some { IfSome result (λ leaf. IsLawfulLeaf kind base rights below.now leaf.frame leaf.rights) }
     ensures fits { IfSome result (λ leaf. leaf.frame < 2 ^ 45) }
+    ensures level { IfSome result (λ leaf. leaf.level ≡ length below.now) }
     ensures none { IfNone result (IsUnlawfulLeaf kind base rights below.now) }
 {
     let (pages, inside) = page_below(below);
@@ -69,6 +72,7 @@ pub(crate) fn judge_leaf(
     Some(Reached {
         frame: base + inside,
         rights,
+        level: below.len() as u8,
     })
 }
 
@@ -92,6 +96,7 @@ pub(crate) fn walk<B: Bytes>(
 ) -> Result<Reached, Cause>
     requires { length indices.now ≤ 4 }
     ensures ok { IfOk result (λ leaf. Reaches (entries (B.frames_of memory.now)) kind root indices.now leaf.frame leaf.rights) }
+    ensures level { IfOk result (λ leaf. leaf.level ≡ leaf_level (entries (B.frames_of memory.now)) root indices.now) }
     ensures err { IfErr result (StopsAs (entries (B.frames_of memory.now)) kind faults.page faults.access root indices.now) }
 {
     let mut table = root;
@@ -148,6 +153,7 @@ fn walk_levels<B: Bytes>(
     Ok(Walked {
         frame: leaf.frame as u32,
         rights: leaf.rights,
+        level: leaf.level,
         guest_frames: [None; 4],
     })
 }

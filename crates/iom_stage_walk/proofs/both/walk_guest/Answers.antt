@@ -1,5 +1,5 @@
 -- The loop that goes down the guest's levels keeps where the path leads, and the frames that were read.
-use Rattle.std.proofs.Common.{◌≡◌, ◌+◌, ◌<◌, [], ◌∷◌, ◌++◌, length, arith, append_assoc, length-append}
+use Rattle.std.proofs.Common.{◌≡◌, ◌+◌, ◌-◌, ◌<◌, [], ◌∷◌, ◌++◌, length, drop, arith, append_assoc, length-append, length-drop, length-take}
 use Rattle.std.proofs.lemmas.Result.{err_from_is_err_and}
 use Rattle.iom_base.specs.Sizes.{levels_of}
 use Rattle.iom_stage_walk.proofs.GuestSteps.{guest_down, guest_stops_down, guest_leaf, guest_unlawful, guest_invalid, guest_unread}
@@ -18,6 +18,7 @@ returns-in-Some-clause-ok g c =
     let few : c.loop-k.k < 4 = omega arith in (
       so_far ++ c.in_ok-loaded.loaded.frame ∷ [],
       padded_next 4 c.loop-k.k so_far c.in_ok-loaded.loaded.frame c.loop-k.frames c.loop-k.invariant.loaded.1 few c.loop-k.invariant.loaded.2,
+      omega (arith, c.in-Some.ensures.level, length-take (length c.args.indices.now - (c.loop-k.k + 1)) (drop (c.loop-k.k + 1) c.args.indices.now), length-drop (c.loop-k.k + 1) c.args.indices.now, length-append so_far (c.in_ok-loaded.loaded.frame ∷ []), c.loop-k.invariant.loaded.1),
       c.loop-k.invariant.loaded.3 _ _ _
           (guest_leaf (levels_of c.args.size) (g.B.Bytes.frames_of c.args.memory.now) c.args.second c.args.kind c.loop-k.table c.loop-k.k 0 c.args.indices.now c.loop-k-test.true c.in-Leaf.base c.in-Leaf.rights c.in_ok-loaded.loaded.frame c.in_ok-loaded.loaded.entry c.in-Some.leaf.frame c.in-Some.leaf.rights c.in_ok-loaded.ensures.ok c.in-Leaf.is c.in-Some.ensures.some),
     )
