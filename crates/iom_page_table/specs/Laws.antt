@@ -8,7 +8,7 @@ use Rattle.iom_base.specs.Sizes.{page_size, levels_of}
 use Rattle.iom_base.specs.declared.access.AccessKind.{AccessKind}
 use Rattle.iom_phys_mem.specs.Words.{zeroed}
 use Rattle.iom_stage_walk.specs.Entries.{entries}
-use Rattle.iom_stage_walk.specs.Paths.{ReachesFirst, StopsFirst, IsInMemory}
+use Rattle.iom_stage_walk.specs.Paths.{ReachesFirst, leaf_level, first_path, StopsFirst, IsInMemory}
 use Rattle.iom_stage_walk.specs.Through.{first_through}
 use Rattle.iom_stage_walk.specs.declared.walked.Walked.{Walked}
 use Rattle.iom_page_table.specs.Leaves.{leaf_of}
@@ -16,12 +16,14 @@ use Rattle.iom_page_table.specs.FirstTables.{IsRoot, HasTable, KeepsOutside}
 use Rattle.iom_page_table.specs.Trees.{shape_of, InShape, IsTableAt}
 use Rattle.iom_page_table.specs.declared.leaf.PageLeaf.{PageLeaf}
 
--- the walk of an address reaches exactly the leaf of its page, where that allows the access and its frame lies in memory
+-- the walk of an address reaches exactly the leaf of its page, where that allows the access and its frame lies in memory;
+-- and it tells the level of that leaf
 abbrev pub WalkReachesLeaf : Type 0
 WalkReachesLeaf = (size : Size) (frames : List (List ℕ)) (root address : ℕ) (kind : AccessKind) (walked : Walked)
     → ReachesFirst (levels_of size) frames root address kind walked
     ↔ ((leaf_of (levels_of size) frames root (address / page_size) ≡ Some record { frame = walked.frame; rights = walked.rights })
-    × (allows walked.rights kind ≡ true) × IsInMemory frames walked.frame × (walked.guest_frames ≡ replicate 4 None))
+    × (allows walked.rights kind ≡ true) × IsInMemory frames walked.frame × (walked.guest_frames ≡ replicate 4 None)
+    × (walked.level ≡ leaf_level (entries frames) root (first_path (levels_of size) address)))
 
 -- the walk of an address loads its entries from the root's tables alone
 abbrev pub WalkThroughTables : Type 0
