@@ -27,23 +27,9 @@ use Rattle.iom_walk_loads.specs.Laws.{LocatingEnds, WalksEnd}
 use Rattle.iom_walk_loads.specs.Loads.{Ends, EndsWithin, Walk}
 use Rattle.iom_walk_loads.specs.Tables.{InBoth, at_entry, at_guest_entry, down, faulted, guest_down, guest_load, inside, is_canonical, is_lawful, lead, page_walk, reached, second_walk, unreached, unread}
 use Rattle.iom_walk_loads.proofs.LoadLemmas.{within_le}
+use Rattle.iom_walk_loads.proofs.PathLemmas.{first_length, second_length}
 
--- as many indices as levels
-path_length : (widths : List ℕ) (page : ℕ) → length (path_of widths page) ≡ length widths
-path_length [] page = refl
-path_length (width ∷ widths) page = ap suc (path_length widths page)
-
-first_length : (levels address : ℕ) → length (first_path levels address) ≡ levels
-first_length levels address = path_length (first_widths levels) (address / 4096) ∙ length-replicate {A = ℕ} levels 512
-
-second_length : (levels address : ℕ) → length (second_path levels address) ≡ levels
-second_length levels address = path_length (second_widths levels) (address / 4096) ∙ widths levels
-  where
-    widths : (n : ℕ) → length (second_widths n) ≡ n
-    widths zero = refl
-    widths (suc n) = ap suc (length-replicate {A = ℕ} n 512)
-
-down_within : {A : Type 0} (kind : AccessKind) (page access : Cause) (found : ℕ → Rights → Walk A) (stopped : Cause → Walk A) (n : ℕ) → ((f : ℕ) (r : Rights) → EndsWithin n (found f r)) → ((c : Cause) → EndsWithin n (stopped c))
+down_within : {A : Type 0} (kind : AccessKind) (page access : Cause) (found : ℕ → Rights → ℕ → Walk A) (stopped : Cause → Walk A) (n : ℕ) → ((f : ℕ) (r : Rights) (l : ℕ) → EndsWithin n (found f r l)) → ((c : Cause) → EndsWithin n (stopped c))
     → (m table : ℕ) (is : List ℕ) → length is + n ≤ m → EndsWithin m (down kind page access found stopped table is)
 down_within kind page access found stopped n ok err m table [] le = within_le n m (stopped page) (omega (arith, le)) (err page)
 down_within kind page access found stopped n ok err zero table (i ∷ below) le = absurd (omega (arith, le))
@@ -52,8 +38,8 @@ down_within kind page access found stopped n ok err (suc m) table (i ∷ below) 
     low : n ≤ m
     low = omega (arith, le)
 
-    leaf : (base : ℕ) (rights : Rights) (b : Bool) → EndsWithin m (if b then found (base + page_in below) rights else stopped page)
-    leaf base rights true = within_le n m (found (base + page_in below) rights) low (ok (base + page_in below) rights)
+    leaf : (base : ℕ) (rights : Rights) (b : Bool) → EndsWithin m (if b then found (base + page_in below) rights (length below) else stopped page)
+    leaf base rights true = within_le n m (found (base + page_in below) rights (length below)) low (ok (base + page_in below) rights (length below))
     leaf base rights false = within_le n m (stopped page) low (err page)
 
     by : (x : Entry) → ((next : ℕ) → EndsWithin m (down kind page access found stopped next below))
@@ -63,15 +49,15 @@ down_within kind page access found stopped n ok err (suc m) table (i ∷ below) 
     by (Pointer next) follow = follow next
     by (Leaf base rights) follow = leaf base rights (is_lawful kind base rights below)
 
-inside_within : {A : Type 0} (frames n : ℕ) (found : ℕ → Rights → Walk A) (outside : Walk A) → ((f : ℕ) (r : Rights) → EndsWithin n (found f r)) → EndsWithin n outside
-    → (f : ℕ) (r : Rights) → EndsWithin n (inside frames found outside f r)
-inside_within frames n found outside ok err f r = by (nat_lt f frames)
+inside_within : {A : Type 0} (frames n : ℕ) (found : ℕ → Rights → ℕ → Walk A) (outside : Walk A) → ((f : ℕ) (r : Rights) (l : ℕ) → EndsWithin n (found f r l)) → EndsWithin n outside
+    → (f : ℕ) (r : Rights) (l : ℕ) → EndsWithin n (inside frames found outside f r l)
+inside_within frames n found outside ok err f r l = by (nat_lt f frames)
   where
-    by : (b : Bool) → EndsWithin n (if b then found f r else outside)
-    by true = ok f r
+    by : (b : Bool) → EndsWithin n (if b then found f r l else outside)
+    by true = ok f r l
     by false = err
 
-lead_within : {A : Type 0} (frames levels root : ℕ) (kind original : AccessKind) (found : ℕ → Rights → Walk A) (stopped : Cause → Walk A) (n : ℕ) → ((f : ℕ) (r : Rights) → EndsWithin n (found f r)) → ((c : Cause) → EndsWithin n (stopped c))
+lead_within : {A : Type 0} (frames levels root : ℕ) (kind original : AccessKind) (found : ℕ → Rights → ℕ → Walk A) (stopped : Cause → Walk A) (n : ℕ) → ((f : ℕ) (r : Rights) (l : ℕ) → EndsWithin n (found f r l)) → ((c : Cause) → EndsWithin n (stopped c))
     → (m address : ℕ) → levels + n ≤ m → EndsWithin m (lead frames levels root kind original found stopped address)
 lead_within frames levels root kind original found stopped n ok err m address le = by (nat_lt address (2 ^ (9 * levels + 14)))
   where
@@ -99,21 +85,21 @@ guest_loads_are levels (i ∷ is) =
     let more = suc-mul (length is) (levels + 1) in
     omega (arith, rest, more)
 
-page_within : (w : InBoth) (loaded : List ℕ) (page : ℕ) (given : Rights) → EndsWithin w.levels' (page_walk w loaded page given)
-page_within w loaded page given =
-    lead_within w.frames w.levels' w.second w.kind w.kind (reached w loaded given) (unreached w page) 0 (λ f r. tt) (λ c. tt) w.levels' (guest_address page w.address) (omega arith)
+page_within : (w : InBoth) (loaded : List ℕ) (page : ℕ) (given : Rights) (level : ℕ) → EndsWithin w.levels' (page_walk w loaded page given level)
+page_within w loaded page given level =
+    lead_within w.frames w.levels' w.second w.kind w.kind (reached w loaded given level) (unreached w page) 0 (λ f r l. tt) (λ c. tt) w.levels' (guest_address page w.address) (omega arith)
 
 guest_within : (w : InBoth) (so_far : List ℕ) (m table : ℕ) (is : List ℕ) → guest_loads w.levels' is + w.levels' ≤ m → EndsWithin m (guest_down w so_far table is)
 guest_within w so_far m table [] le = tt
 guest_within w so_far m table (i ∷ below) le =
     lead_within w.frames w.levels' w.second Read w.kind
-    (λ frame rights. guest_load w so_far table i below (λ next. guest_down w (so_far ++ frame ∷ []) next below) frame)
+    (λ frame rights level. guest_load w so_far table i below (λ next. guest_down w (so_far ++ frame ∷ []) next below) frame)
     (unread w table i) (suc (guest_loads w.levels' below + w.levels'))
-    (λ frame rights given. by frame (entry_read given) (λ next. guest_within w (so_far ++ frame ∷ []) (guest_loads w.levels' below + w.levels') next below (omega arith)))
+    (λ frame rights level given. by frame (entry_read given) (λ next. guest_within w (so_far ++ frame ∷ []) (guest_loads w.levels' below + w.levels') next below (omega arith)))
     (λ cause. tt) m (entry_address (slot table i)) (omega (arith, le))
   where
-    leaf : (frame base : ℕ) (rights : Rights) (b : Bool) → EndsWithin (guest_loads w.levels' below + w.levels') (if b then page_walk w (so_far ++ frame ∷ []) (base + page_in below) rights else faulted w)
-    leaf frame base rights true = within_le w.levels' (guest_loads w.levels' below + w.levels') (page_walk w (so_far ++ frame ∷ []) (base + page_in below) rights) (omega arith) (page_within w (so_far ++ frame ∷ []) (base + page_in below) rights)
+    leaf : (frame base : ℕ) (rights : Rights) (b : Bool) → EndsWithin (guest_loads w.levels' below + w.levels') (if b then page_walk w (so_far ++ frame ∷ []) (base + page_in below) rights (length below) else faulted w)
+    leaf frame base rights true = within_le w.levels' (guest_loads w.levels' below + w.levels') (page_walk w (so_far ++ frame ∷ []) (base + page_in below) rights (length below)) (omega arith) (page_within w (so_far ++ frame ∷ []) (base + page_in below) rights (length below))
     leaf frame base rights false = tt
 
     by : (frame : ℕ) (x : Entry) → ((next : ℕ) → EndsWithin (guest_loads w.levels' below + w.levels') (guest_down w (so_far ++ frame ∷ []) next below))
@@ -126,8 +112,8 @@ guest_within w so_far m table (i ∷ below) le =
 pub walks_end : WalksEnd
 walks_end frames levels levels' first second address kind = (one_stage (is_canonical levels address), second_stage, both_stages (is_canonical levels address))
   where
-    found : ℕ → Rights → Walk (Result Walked WalkFault)
-    found f r = Ends (Ok (record { frame = f; rights = r; guest_frames = replicate 4 None }))
+    found : ℕ → Rights → ℕ → Walk (Result Walked WalkFault)
+    found f r l = Ends (Ok (record { frame = f; rights = r; level = l; guest_frames = replicate 4 None }))
 
     outside : Walk (Result Walked WalkFault)
     outside = Ends (Err (plain (access_fault_of kind)))
@@ -138,11 +124,11 @@ walks_end frames levels levels' first second address kind = (one_stage (is_canon
     one_stage : (b : Bool) → EndsWithin levels (if b then down kind (page_fault_of kind) (access_fault_of kind) (inside frames found outside) stopped first (first_path levels address) else stopped (page_fault_of kind))
     one_stage true =
         let long = first_length levels address in
-        down_within kind (page_fault_of kind) (access_fault_of kind) (inside frames found outside) stopped 0 (inside_within frames 0 found outside (λ f r. tt) tt) (λ c. tt) levels first (first_path levels address) (omega (arith, long))
+        down_within kind (page_fault_of kind) (access_fault_of kind) (inside frames found outside) stopped 0 (inside_within frames 0 found outside (λ f r l. tt) tt) (λ c. tt) levels first (first_path levels address) (omega (arith, long))
     one_stage false = tt
 
     second_stage : EndsWithin levels' (second_walk frames levels' second address kind)
-    second_stage = lead_within frames levels' second kind kind found (λ cause. Ends (Err (reported cause address false))) 0 (λ f r. tt) (λ c. tt) levels' address (omega arith)
+    second_stage = lead_within frames levels' second kind kind found (λ cause. Ends (Err (reported cause address false))) 0 (λ f r l. tt) (λ c. tt) levels' address (omega arith)
 
     w : InBoth
     w = record { frames = frames; levels' = levels'; second = second; address = address; kind = kind }

@@ -1,5 +1,5 @@
 -- A walk through a guest's tables, made from one memory.
-use Rattle.std.proofs.Common.{◌≡◌, ℕ, ◌+◌, ◌%◌, ◌<◌, inl, inr, Bool, true, false, List, [], ◌∷◌, ◌++◌, length, Result, Err, if◌then◌else◌, refl, sym, subst, arith, append_assoc}
+use Rattle.std.proofs.Common.{◌≡◌, ℕ, ◌+◌, ◌-◌, ◌%◌, ◌<◌, inl, inr, Bool, true, false, List, [], ◌∷◌, ◌++◌, length, Result, Err, if◌then◌else◌, refl, sym, subst, arith, append_assoc}
 use Rattle.iom_base.specs.Causes.{page_fault_of}
 use Rattle.iom_base.specs.declared.access.AccessKind.{AccessKind}
 use Rattle.iom_base.specs.declared.access.AccessKind.TheVariants.{Read}
@@ -23,13 +23,13 @@ For m levels second address kind = record { frames = length m; levels' = levels;
 
 pub guest_made : (m : List (List ℕ)) (levels second address : ℕ) (kind : AccessKind) (P : Result Walked WalkFault → Type 0) (so_far : List ℕ) (table : ℕ) (is : List ℕ)
     → ((loaded : List ℕ) (page : ℕ) (given : Rights) → ReachesGuest levels m second kind table is loaded page given
-    → P (made_from m (page_walk (For m levels second address kind) (so_far ++ loaded) page given)))
+    → P (made_from m (page_walk (For m levels second address kind) (so_far ++ loaded) page given (length is - length loaded))))
     → ((fault : WalkFault) → StopsGuest levels m second kind table is fault → P (made_from m (Ends (Err fault))))
     → P (made_from m (guest_down (For m levels second address kind) so_far table is))
 guest_made m levels second address kind P so_far table [] ok err = err (plain (page_fault_of kind)) refl
 guest_made m levels second address kind P so_far table (i ∷ below) ok err =
     lead_made m levels second Read kind P
-    (λ frame rights. guest_load w so_far table i below (λ next. guest_down w (so_far ++ frame ∷ []) next below) frame)
+    (λ frame rights level. guest_load w so_far table i below (λ next. guest_down w (so_far ++ frame ∷ []) next below) frame)
     (unread w table i) (entry_address (slot table i))
     (λ frame rights leads.
     subst (λ x. P (made_from m (at_guest_entry w (so_far ++ frame ∷ []) below (λ next. guest_down w (so_far ++ frame ∷ []) next below) x))) (entries_are m (slot frame (slot table i % 512)))
@@ -39,16 +39,23 @@ guest_made m levels second address kind P so_far table (i ∷ below) ok err =
     w : InBoth
     w = For m levels second address kind
 
+    below_leaf : (frame : ℕ) → length (i ∷ below) - length (frame ∷ []) ≡ length below
+    below_leaf frame = omega arith
+
+    levels_left : (frame : ℕ) (loaded : List ℕ) → length (i ∷ below) - length (frame ∷ loaded) ≡ length below - length loaded
+    levels_left frame loaded = omega arith
+
     leaf : (frame base : ℕ) (rights : Rights) → IsReadFrom levels m second (slot table i) frame (Leaf base rights) → (b : Bool) → is_lawful kind base rights below ≡ b
-        → P (made_from m (if b then page_walk w (so_far ++ frame ∷ []) (base + page_in below) rights else faulted w))
+        → P (made_from m (if b then page_walk w (so_far ++ frame ∷ []) (base + page_in below) rights (length below) else faulted w))
     leaf frame base rights read true is =
-        ok (frame ∷ []) (base + page_in below) rights (frame, Leaf base rights, read, inr (base, rights, refl, refl, lawful_leaf kind base rights below is))
+        subst (λ level. P (made_from m (page_walk w (so_far ++ frame ∷ []) (base + page_in below) rights level))) (below_leaf frame)
+        (ok (frame ∷ []) (base + page_in below) rights (frame, Leaf base rights, read, inr (base, rights, refl, refl, lawful_leaf kind base rights below is)))
     leaf frame base rights read false is =
         err (plain (page_fault_of kind)) (inr (frame, Leaf base rights, read, inr (inr (base, rights, refl, unlawful_leaf kind base rights below is), refl)))
 
     by : (frame : ℕ) (rights : Rights) → LeadsTo levels m second (entry_address (slot table i)) Read frame rights → (x : Entry) → entries m (slot frame (slot table i % 512)) ≡ x
         → ((next : ℕ) → ((loaded : List ℕ) (page : ℕ) (given : Rights) → ReachesGuest levels m second kind next below loaded page given
-        → P (made_from m (page_walk w ((so_far ++ frame ∷ []) ++ loaded) page given)))
+        → P (made_from m (page_walk w ((so_far ++ frame ∷ []) ++ loaded) page given (length below - length loaded))))
         → ((fault : WalkFault) → StopsGuest levels m second kind next below fault → P (made_from m (Ends (Err fault))))
         → P (made_from m (guest_down w (so_far ++ frame ∷ []) next below)))
         → P (made_from m (at_guest_entry w (so_far ++ frame ∷ []) below (λ next. guest_down w (so_far ++ frame ∷ []) next below) x))
@@ -57,7 +64,8 @@ guest_made m levels second address kind P so_far table (i ∷ below) ok err =
         absurd (entry_inside m frame (slot table i % 512) leads.inside small at)
     by frame rights leads Invalid at follow = err (plain (page_fault_of kind)) (inr (frame, Invalid, (rights, leads, sym at), inr (inl refl, refl)))
     by frame rights leads (Pointer next) at follow =
-        follow next (λ loaded page given guest. subst (λ all. P (made_from m (page_walk w all page given))) (sym (append_assoc so_far (frame ∷ []) loaded))
-        (ok (frame ∷ loaded) page given (frame, Pointer next, (rights, leads, sym at), inl (next, loaded, refl, refl, guest))))
+        follow next (λ loaded page given guest. subst (λ all. P (made_from m (page_walk w all page given (length below - length loaded)))) (sym (append_assoc so_far (frame ∷ []) loaded))
+        (subst (λ level. P (made_from m (page_walk w (so_far ++ frame ∷ loaded) page given level))) (levels_left frame loaded)
+        (ok (frame ∷ loaded) page given (frame, Pointer next, (rights, leads, sym at), inl (next, loaded, refl, refl, guest)))))
         (λ fault stops. err fault (inr (frame, Pointer next, (rights, leads, sym at), inl (next, refl, stops))))
     by frame rights leads (Leaf base given) at follow = leaf frame base given (rights, leads, sym at) (is_lawful kind base given below) refl

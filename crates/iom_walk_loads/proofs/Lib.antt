@@ -1,4 +1,5 @@
 pub mod LoadLemmas
+pub mod PathLemmas
 pub mod TableLemmas
 pub mod GuestLemmas
 pub mod WholeLemmas

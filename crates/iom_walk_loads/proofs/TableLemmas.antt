@@ -1,5 +1,5 @@
 -- A walk in one stage, made from one memory.
-use Rattle.std.proofs.Common.{◌≡◌, ℕ, suc, ◌+◌, ◌*◌, ◌%◌, ◌^◌, ◌<◌, inl, inr, Bool, true, false, ◌==◌, ◌||◌, nat_lt, nat_le, List, [], ◌∷◌, length, if◌then◌else◌, refl, subst, arith}
+use Rattle.std.proofs.Common.{◌≡◌, ℕ, suc, ◌+◌, ◌*◌, ◌%◌, ◌^◌, ◌<◌, inl, inr, Bool, true, false, ◌==◌, ◌||◌, nat_lt, nat_le, List, [], ◌∷◌, length, if◌then◌else◌, refl, ap, subst, arith}
 use Rattle.std.proofs.lemmas.Bool.{eqb-true, eqb-false, and_parts, and_cases, or_parts, leb-true, leb-false}
 use Rattle.iom_base.specs.Causes.{guest_page_fault_of}
 use Rattle.iom_base.specs.Tables.{access_fault_of}
@@ -9,7 +9,7 @@ use Rattle.iom_base.specs.declared.cause.Cause.{Cause}
 use Rattle.iom_base.specs.declared.rights.Rights.{Rights}
 use Rattle.iom_phys_mem.specs.Words.{word_at}
 use Rattle.iom_stage_walk.specs.Entries.{entries, entry_read, slot}
-use Rattle.iom_stage_walk.specs.Paths.{IsCanonical, IsLawfulLeaf, IsUnlawfulLeaf, Reaches, StopsAs, page_in, pages_spanned}
+use Rattle.iom_stage_walk.specs.Paths.{IsCanonical, IsLawfulLeaf, IsUnlawfulLeaf, Reaches, StopsAs, leaf_level, level_at, page_in, pages_spanned}
 use Rattle.iom_stage_walk.specs.Second.{LeadsNowhere, LeadsTo, second_path}
 use Rattle.iom_stage_walk.specs.declared.entry.Entry.{Entry}
 use Rattle.iom_stage_walk.specs.declared.entry.Entry.TheVariants.{Invalid, Leaf, Outside, Pointer}
@@ -33,8 +33,8 @@ unlawful_leaf kind base rights below is = elim (and_cases (base % pages_spanned 
 ]
 
 -- Down the tables: what is true wherever the path reaches, and wherever it stops, is true of the walk's end.
-pub down_made : {A : Type 0} (m : List (List ℕ)) (kind : AccessKind) (page access : Cause) (P : A → Type 0) (found : ℕ → Rights → Walk A) (stopped : Cause → Walk A) (table : ℕ) (is : List ℕ)
-    → ((f : ℕ) (r : Rights) → Reaches (entries m) kind table is f r → P (made_from m (found f r)))
+pub down_made : {A : Type 0} (m : List (List ℕ)) (kind : AccessKind) (page access : Cause) (P : A → Type 0) (found : ℕ → Rights → ℕ → Walk A) (stopped : Cause → Walk A) (table : ℕ) (is : List ℕ)
+    → ((f : ℕ) (r : Rights) → Reaches (entries m) kind table is f r → P (made_from m (found f r (leaf_level (entries m) table is))))
     → ((c : Cause) → StopsAs (entries m) kind page access table is c → P (made_from m (stopped c)))
     → P (made_from m (down kind page access found stopped table is))
 down_made m kind page access P found stopped table [] ok err = err page refl
@@ -42,30 +42,34 @@ down_made m kind page access P found stopped table (i ∷ below) ok err =
     subst (λ x. P (made_from m (at_entry kind page access found stopped below (λ next. down kind page access found stopped next below) x))) (entries_are m (slot table i))
     (by (entries m (slot table i)) refl (λ next. down_made m kind page access P found stopped next below))
   where
+    own_level : (x : Entry) → entries m (slot table i) ≡ x → leaf_level (entries m) table (i ∷ below) ≡ level_at x (length below) (λ next. leaf_level (entries m) next below)
+    own_level x at = ap (λ y. level_at y (length below) (λ next. leaf_level (entries m) next below)) at
+
     leaf : (base : ℕ) (rights : Rights) → entries m (slot table i) ≡ Leaf base rights → (b : Bool) → is_lawful kind base rights below ≡ b
-        → P (made_from m (if b then found (base + page_in below) rights else stopped page))
-    leaf base rights at true is = ok (base + page_in below) rights (inr (base, rights, at, lawful_leaf kind base rights below is))
+        → P (made_from m (if b then found (base + page_in below) rights (length below) else stopped page))
+    leaf base rights at true is =
+        subst (λ l. P (made_from m (found (base + page_in below) rights l))) (own_level (Leaf base rights) at) (ok (base + page_in below) rights (inr (base, rights, at, lawful_leaf kind base rights below is)))
     leaf base rights at false is = err page (inr (inr (inr (base, rights, at, refl, unlawful_leaf kind base rights below is))))
 
     by : (x : Entry) → entries m (slot table i) ≡ x
-        → ((next : ℕ) → ((f : ℕ) (r : Rights) → Reaches (entries m) kind next below f r → P (made_from m (found f r)))
+        → ((next : ℕ) → ((f : ℕ) (r : Rights) → Reaches (entries m) kind next below f r → P (made_from m (found f r (leaf_level (entries m) next below))))
         → ((c : Cause) → StopsAs (entries m) kind page access next below c → P (made_from m (stopped c)))
         → P (made_from m (down kind page access found stopped next below)))
         → P (made_from m (at_entry kind page access found stopped below (λ next. down kind page access found stopped next below) x))
     by Outside at follow = err access (inr (inl (at, refl)))
     by Invalid at follow = err page (inr (inr (inl (at, refl))))
-    by (Pointer next) at follow = follow next (λ f r reaches. ok f r (inl (next, at, reaches))) (λ c stops. err c (inl (next, at, stops)))
+    by (Pointer next) at follow = follow next (λ f r reaches. subst (λ l. P (made_from m (found f r l))) (own_level (Pointer next) at) (ok f r (inl (next, at, reaches)))) (λ c stops. err c (inl (next, at, stops)))
     by (Leaf base rights) at follow = leaf base rights at (is_lawful kind base rights below) refl
 
 -- Through the second stage.
-pub lead_made : {A : Type 0} (m : List (List ℕ)) (levels root : ℕ) (kind original : AccessKind) (P : A → Type 0) (found : ℕ → Rights → Walk A) (stopped : Cause → Walk A) (address : ℕ)
-    → ((f : ℕ) (r : Rights) → LeadsTo levels m root address kind f r → P (made_from m (found f r)))
+pub lead_made : {A : Type 0} (m : List (List ℕ)) (levels root : ℕ) (kind original : AccessKind) (P : A → Type 0) (found : ℕ → Rights → ℕ → Walk A) (stopped : Cause → Walk A) (address : ℕ)
+    → ((f : ℕ) (r : Rights) → LeadsTo levels m root address kind f r → P (made_from m (found f r (leaf_level (entries m) root (second_path levels address)))))
     → ((c : Cause) → LeadsNowhere levels m root address kind original c → P (made_from m (stopped c)))
     → P (made_from m (lead (length m) levels root kind original found stopped address))
 lead_made m levels root kind original P found stopped address ok err = by (nat_lt address (2 ^ (9 * levels + 14))) refl
   where
     frame : (f : ℕ) (r : Rights) → address < 2 ^ (9 * levels + 14) → Reaches (entries m) kind root (second_path levels address) f r → (b : Bool) → nat_lt f (length m) ≡ b
-        → P (made_from m (if b then found f r else stopped (access_fault_of original)))
+        → P (made_from m (if b then found f r (leaf_level (entries m) root (second_path levels address)) else stopped (access_fault_of original)))
     frame f r small path true is = ok f r (record { guest_physical = small; path = path; inside = leb-true (suc f) (length m) is })
     frame f r small path false is =
         let past = leb-false (suc f) (length m) is in

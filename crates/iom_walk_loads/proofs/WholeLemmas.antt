@@ -1,5 +1,5 @@
 -- A walk all of whose loads are made from one memory is a whole walk.
-use Rattle.std.proofs.Common.{◌≡◌, ◌↔◌, ℕ, zero, suc, inl, inr, Bool, true, false, nat_lt, List, [], length, replicate, None, Result, Ok, Err, if◌then◌else◌, refl, arith}
+use Rattle.std.proofs.Common.{◌≡◌, ◌↔◌, ℕ, zero, suc, ◌-◌, inl, inr, Bool, true, false, nat_lt, List, [], length, replicate, None, Result, Ok, Err, if◌then◌else◌, refl, ap, arith}
 use Rattle.std.proofs.lemmas.Bool.{leb-true, leb-false}
 use Rattle.iom_base.specs.Causes.{page_fault_of}
 use Rattle.iom_base.specs.Tables.{access_fault_of}
@@ -18,7 +18,7 @@ use Rattle.iom_stage_walk.proofs.Exact.{one_fault, one_walked, reached_not_stopp
 use Rattle.iom_stage_walk.proofs.OneSecond.{leads_or_faults, one_fault_leading, one_walked_second}
 use Rattle.iom_stage_walk.proofs.OneBoth.{both_or_stops, one_fault_both, one_walked_both}
 use Rattle.iom_stage_walk.specs.Entries.{entries}
-use Rattle.iom_stage_walk.specs.Paths.{IsCanonical, Reaches, ReachesFirst, StopsFirst, first_path}
+use Rattle.iom_stage_walk.specs.Paths.{IsCanonical, Reaches, ReachesFirst, StopsFirst, first_path, leaf_level}
 use Rattle.iom_stage_walk.specs.Second.{ReachesSecond, StopsSecond, reported}
 use Rattle.iom_stage_walk.specs.Both.{ReachesBoth, StopsBoth, guest_address, plain}
 use Rattle.iom_stage_walk.specs.declared.walked.Walked.{Walked}
@@ -28,6 +28,7 @@ use Rattle.iom_walk_loads.specs.Laws.{BothIsWhole, FirstIsWhole, LocatingIsWhole
 use Rattle.iom_walk_loads.specs.Loads.{Ends, Walk, made_from}
 use Rattle.iom_walk_loads.specs.Tables.{both_walk, down, first_walk, guest_down, inside, is_canonical, reached, second_walk, unreached}
 use Rattle.iom_walk_loads.proofs.TableLemmas.{canonical, down_made, lead_made, not_canonical}
+use Rattle.iom_walk_loads.proofs.PathLemmas.{first_length}
 use Rattle.iom_walk_loads.proofs.GuestLemmas.{For, guest_made}
 
 -- the end meets the one or the other
@@ -50,15 +51,15 @@ MeetsFirst m levels root address kind = Meets (ReachesFirst levels m root addres
 first_met : (m : List (List ℕ)) (levels root address : ℕ) (kind : AccessKind) → MeetsFirst m levels root address kind (made_from m (first_walk (length m) levels root address kind))
 first_met m levels root address kind = by (is_canonical levels address) refl
   where
-    found : ℕ → Rights → Walk (Result Walked WalkFault)
-    found f r = Ends (Ok (record { frame = f; rights = r; guest_frames = replicate 4 None }))
+    found : ℕ → Rights → ℕ → Walk (Result Walked WalkFault)
+    found f r l = Ends (Ok (record { frame = f; rights = r; level = l; guest_frames = replicate 4 None }))
 
     outside : Walk (Result Walked WalkFault)
     outside = Ends (Err (plain (access_fault_of kind)))
 
     frame : (f : ℕ) (r : Rights) → IsCanonical levels address → Reaches (entries m) kind root (first_path levels address) f r → (b : Bool) → nat_lt f (length m) ≡ b
-        → MeetsFirst m levels root address kind (made_from m (if b then found f r else outside))
-    frame f r lawful path true is = record { canonical = lawful; path = path; inside = leb-true (suc f) (length m) is; no_guest = refl }
+        → MeetsFirst m levels root address kind (made_from m (if b then found f r (leaf_level (entries m) root (first_path levels address)) else outside))
+    frame f r lawful path true is = record { canonical = lawful; path = path; inside = leb-true (suc f) (length m) is; level = refl; no_guest = refl }
     frame f r lawful path false is =
         let past = leb-false (suc f) (length m) is in
         record { cause = inr (inr (lawful, (f, r, path, omega (arith, past), refl))); no_guest_address = refl; explicit = refl }
@@ -87,9 +88,9 @@ MeetsSecond m levels root address kind = Meets (ReachesSecond levels m root addr
 
 second_met : (m : List (List ℕ)) (levels root address : ℕ) (kind : AccessKind) → MeetsSecond m levels root address kind (made_from m (second_walk (length m) levels root address kind))
 second_met m levels root address kind =
-    lead_made m levels root kind kind (MeetsSecond m levels root address kind) (λ f r. Ends (Ok (record { frame = f; rights = r; guest_frames = replicate 4 None })))
+    lead_made m levels root kind kind (MeetsSecond m levels root address kind) (λ f r l. Ends (Ok (record { frame = f; rights = r; level = l; guest_frames = replicate 4 None })))
     (λ cause. Ends (Err (reported cause address false))) address
-    (λ f r leads. record { leads = leads; no_guest = refl })
+    (λ f r leads. record { leads = leads; level = refl; no_guest = refl })
     (λ c nowhere. (c, nowhere, refl))
 
 pub second_is_whole : SecondIsWhole
@@ -115,8 +116,8 @@ both_met m levels levels' first second address kind = by (is_canonical levels ad
         let lawful = canonical levels address is in
         guest_made m levels' second address kind (MeetsBoth m levels levels' first second address kind) [] first (first_path levels address)
         (λ loaded page given guest. lead_made m levels' second kind kind (MeetsBoth m levels levels' first second address kind)
-        (reached (For m levels' second address kind) loaded given) (unreached (For m levels' second address kind) page) (guest_address page address)
-        (λ f r leads. record { canonical = lawful; page = page; given = given; loaded = loaded; guest = guest; given' = r; leads = leads; rights = refl; guest_frames = refl })
+        (reached (For m levels' second address kind) loaded given (length (first_path levels address) - length loaded)) (unreached (For m levels' second address kind) page) (guest_address page address)
+        (λ f r leads. record { canonical = lawful; page = page; given = given; loaded = loaded; guest = guest; given' = r; leads = leads; rights = refl; level = ap (λ n. n - length loaded) (first_length levels address); guest_frames = refl })
         (λ c none. inr (inr (lawful, (page, given, loaded, guest, (c, none, refl))))))
         (λ fault stops. inr (inl (lawful, stops)))
     by false is = inl (not_canonical levels address is, refl)

@@ -1,7 +1,7 @@
 -- The walks of a first stage, of a second, and of both, load by load, for any number of levels (RISC-V Privileged Architecture: "Sv39" and "Sv48", by the virtual
 -- address translation process of section 12.3.2; hypervisor extension, section 15.5, "Two-Stage Address Translation", and 15.5.1, "Guest Physical Address
 -- Translation", for Sv39x4 and Sv48x4). `frames` is how many frames memory has: a frame that is reached lies in memory, or the walk ends with an access fault.
-use Rattle.std.specs.Prelude.{ℕ, ◌+◌, ◌*◌, ◌%◌, ◌^◌, nat_lt, nat_le, Bool, true, false, ◌&&◌, ◌||◌, ◌==◌, List, [], ◌∷◌, ◌++◌, replicate, None, Result, Ok, Err, if◌then◌else◌}
+use Rattle.std.specs.Prelude.{ℕ, ◌+◌, ◌*◌, ◌%◌, ◌^◌, nat_lt, nat_le, Bool, true, false, ◌&&◌, ◌||◌, ◌==◌, List, [], ◌∷◌, ◌++◌, length, replicate, None, Result, Ok, Err, if◌then◌else◌}
 use Rattle.iom_base.specs.Causes.{page_fault_of, guest_page_fault_of}
 use Rattle.iom_base.specs.Rights.{allows}
 use Rattle.iom_base.specs.Tables.{access_fault_of, entry_size, table_entries}
@@ -24,25 +24,26 @@ use Rattle.iom_walk_loads.specs.Loads.{Walk, Ends, ReadsEntry}
 abbrev pub is_lawful : AccessKind → ℕ → Rights → List ℕ → Bool
 is_lawful kind base rights below = (base % pages_spanned below == 0) && allows rights kind
 
--- what remains after an entry of a table, with these indices below it: the table that it names is followed, or a frame is found, or the walk stops (section 12.3.2).
+-- what remains after an entry of a table, with these indices below it: the table that it names is followed, or a frame is found, by a leaf with so many levels below
+-- it, or the walk stops (section 12.3.2).
 -- `page` and `access` are what the access calls its faults in these tables
-abbrev pub at_entry : {A : Type 0} → AccessKind → Cause → Cause → (ℕ → Rights → Walk A) → (Cause → Walk A) → List ℕ → (ℕ → Walk A) → Entry → Walk A
+abbrev pub at_entry : {A : Type 0} → AccessKind → Cause → Cause → (ℕ → Rights → ℕ → Walk A) → (Cause → Walk A) → List ℕ → (ℕ → Walk A) → Entry → Walk A
 at_entry kind page access found stopped below follow Outside = stopped access
 at_entry kind page access found stopped below follow Invalid = stopped page
 at_entry kind page access found stopped below follow (Pointer next) = follow next
 at_entry kind page access found stopped below follow (Leaf base rights) =
-    if is_lawful kind base rights below then found (base + page_in below) rights else stopped page
+    if is_lawful kind base rights below then found (base + page_in below) rights (length below) else stopped page
 
 -- down the tables from this one, along the indices, one load a level (section 12.3.2). A pointer at the last level leaves no index for the table that it names
-abbrev pub down : {A : Type 0} → AccessKind → Cause → Cause → (ℕ → Rights → Walk A) → (Cause → Walk A) → ℕ → List ℕ → Walk A
+abbrev pub down : {A : Type 0} → AccessKind → Cause → Cause → (ℕ → Rights → ℕ → Walk A) → (Cause → Walk A) → ℕ → List ℕ → Walk A
 down kind page access found stopped table [] = stopped page
 down kind page access found stopped table (i ∷ below) =
     ReadsEntry (entry_size * slot table i)
     (λ given. at_entry kind page access found stopped below (λ next. down kind page access found stopped next below) (entry_read given))
 
 -- the frame that is found lies in a memory of so many
-abbrev pub inside : {A : Type 0} → ℕ → (ℕ → Rights → Walk A) → Walk A → ℕ → Rights → Walk A
-inside frames found outside frame rights = if nat_lt frame frames then found frame rights else outside
+abbrev pub inside : {A : Type 0} → ℕ → (ℕ → Rights → ℕ → Walk A) → Walk A → ℕ → Rights → ℕ → Walk A
+inside frames found outside frame rights level = if nat_lt frame frames then found frame rights level else outside
 
 -- the bits of an address above those that a first stage translates equal the highest that it does ("Sv39" and "Sv48")
 abbrev pub is_canonical : ℕ → ℕ → Bool
@@ -52,7 +53,7 @@ is_canonical levels address = nat_lt address (2 ^ (9 * levels + 11)) || nat_le (
 abbrev pub first_rest : ℕ → AccessKind → ℕ → List ℕ → Walk (Result Walked WalkFault)
 first_rest frames kind table left =
     down kind (page_fault_of kind) (access_fault_of kind)
-    (inside frames (λ frame rights. Ends (Ok (record { frame = frame; rights = rights; guest_frames = replicate 4 None }))) (Ends (Err (plain (access_fault_of kind)))))
+    (inside frames (λ frame rights level. Ends (Ok (record { frame = frame; rights = rights; level = level; guest_frames = replicate 4 None }))) (Ends (Err (plain (access_fault_of kind)))))
     (λ cause. Ends (Err (plain cause))) table left
 
 -- A FIRST STAGE alone ("Sv39" and "Sv48"): of an address that isn't canonical no load is made
@@ -61,12 +62,12 @@ first_walk frames levels root address kind =
     if is_canonical levels address then first_rest frames kind root (first_path levels address) else Ends (Err (plain (page_fault_of kind)))
 
 -- from a table of the second stage along the indices: to a frame, or it stops, with faults that are numbered by the original access (section 15.5.1)
-abbrev pub lead_rest : {A : Type 0} → ℕ → AccessKind → AccessKind → (ℕ → Rights → Walk A) → (Cause → Walk A) → ℕ → List ℕ → Walk A
+abbrev pub lead_rest : {A : Type 0} → ℕ → AccessKind → AccessKind → (ℕ → Rights → ℕ → Walk A) → (Cause → Walk A) → ℕ → List ℕ → Walk A
 lead_rest frames kind original found stopped table left =
     down kind (guest_page_fault_of original) (access_fault_of original) (inside frames found (stopped (access_fault_of original))) stopped table left
 
 -- from a guest physical address, whose bits above those that the stage translates have to be zero (section 15.5.1)
-abbrev pub lead : {A : Type 0} → ℕ → ℕ → ℕ → AccessKind → AccessKind → (ℕ → Rights → Walk A) → (Cause → Walk A) → ℕ → Walk A
+abbrev pub lead : {A : Type 0} → ℕ → ℕ → ℕ → AccessKind → AccessKind → (ℕ → Rights → ℕ → Walk A) → (Cause → Walk A) → ℕ → Walk A
 lead frames levels root kind original found stopped address =
     if nat_lt address (2 ^ (9 * levels + 14)) then lead_rest frames kind original found stopped root (second_path levels address) else stopped (guest_page_fault_of original)
 
@@ -74,14 +75,14 @@ lead frames levels root kind original found stopped address =
 abbrev pub second_rest : ℕ → AccessKind → ℕ → ℕ → List ℕ → Walk (Result Walked WalkFault)
 second_rest frames kind address table left =
     lead_rest frames kind kind
-    (λ frame rights. Ends (Ok (record { frame = frame; rights = rights; guest_frames = replicate 4 None })))
+    (λ frame rights level. Ends (Ok (record { frame = frame; rights = rights; level = level; guest_frames = replicate 4 None })))
     (λ cause. Ends (Err (reported cause address false))) table left
 
 -- A SECOND STAGE alone (section 15.5.1)
 abbrev pub second_walk : ℕ → ℕ → ℕ → ℕ → AccessKind → Walk (Result Walked WalkFault)
 second_walk frames levels root address kind =
     lead frames levels root kind kind
-    (λ frame rights. Ends (Ok (record { frame = frame; rights = rights; guest_frames = replicate 4 None })))
+    (λ frame rights level. Ends (Ok (record { frame = frame; rights = rights; level = level; guest_frames = replicate 4 None })))
     (λ cause. Ends (Err (reported cause address false))) address
 
 -- what a walk in both stages is for: in a memory of so many frames, through a second stage of so many levels with this root, an access of this kind to the
@@ -97,24 +98,25 @@ pub record InBoth : Type 0 where
 abbrev pub faulted : InBoth → Walk (Result Walked WalkFault)
 faulted w = Ends (Err (plain (page_fault_of w.kind)))
 
--- the second stage has led to the page's frame; the frames from which the guest's entries were loaded are told too
-abbrev pub reached : InBoth → List ℕ → Rights → ℕ → Rights → Walk (Result Walked WalkFault)
-reached w loaded given frame rights = Ends (Ok (record { frame = frame; rights = rights_of_both given rights; guest_frames = padded 4 loaded }))
+-- the second stage has led to the page's frame, by a leaf of its own level; the level of the guest's leaf and the frames from which the guest's entries were loaded are
+-- told too
+abbrev pub reached : InBoth → List ℕ → Rights → ℕ → ℕ → Rights → ℕ → Walk (Result Walked WalkFault)
+reached w loaded given level frame rights level' = Ends (Ok (record { frame = frame; rights = rights_of_both given rights; level = level; guest_frames = padded 4 loaded }))
 
 -- it leads nowhere for the page
 abbrev pub unreached : InBoth → ℕ → Cause → Walk (Result Walked WalkFault)
 unreached w page cause = Ends (Err (reported cause (guest_address page w.address) false))
 
--- to the page that the guest's tables give, with its right there
-abbrev pub page_walk : InBoth → List ℕ → ℕ → Rights → Walk (Result Walked WalkFault)
-page_walk w loaded page given = lead w.frames w.levels' w.second w.kind w.kind (reached w loaded given) (unreached w page) (guest_address page w.address)
+-- to the page that the guest's tables give, with its right there, by a leaf of this level
+abbrev pub page_walk : InBoth → List ℕ → ℕ → Rights → ℕ → Walk (Result Walked WalkFault)
+page_walk w loaded page given level = lead w.frames w.levels' w.second w.kind w.kind (reached w loaded given level) (unreached w page) (guest_address page w.address)
 
 -- what remains after an entry of a guest's table, with these indices below it
 abbrev pub at_guest_entry : InBoth → List ℕ → List ℕ → (ℕ → Walk (Result Walked WalkFault)) → Entry → Walk (Result Walked WalkFault)
 at_guest_entry w loaded below follow Outside = Ends (Err (plain (access_fault_of w.kind)))
 at_guest_entry w loaded below follow Invalid = faulted w
 at_guest_entry w loaded below follow (Pointer next) = follow next
-at_guest_entry w loaded below follow (Leaf base rights) = if is_lawful w.kind base rights below then page_walk w loaded (base + page_in below) rights else faulted w
+at_guest_entry w loaded below follow (Leaf base rights) = if is_lawful w.kind base rights below then page_walk w loaded (base + page_in below) rights (length below) else faulted w
 
 -- the entry at an index of the guest's table is loaded from the frame
 abbrev pub guest_load : InBoth → List ℕ → ℕ → ℕ → List ℕ → (ℕ → Walk (Result Walked WalkFault)) → ℕ → Walk (Result Walked WalkFault)
@@ -130,7 +132,7 @@ abbrev pub guest_down : InBoth → List ℕ → ℕ → List ℕ → Walk (Resul
 guest_down w loaded table [] = faulted w
 guest_down w loaded table (i ∷ below) =
     lead w.frames w.levels' w.second Read w.kind
-    (λ frame rights. guest_load w loaded table i below (λ next. guest_down w (loaded ++ frame ∷ []) next below) frame)
+    (λ frame rights level. guest_load w loaded table i below (λ next. guest_down w (loaded ++ frame ∷ []) next below) frame)
     (unread w table i) (entry_address (slot table i))
 
 -- BOTH STAGES (section 15.5)
