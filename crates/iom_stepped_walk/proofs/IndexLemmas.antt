@@ -1,12 +1,17 @@
 -- The indices of a page, level by level.
-use Rattle.std.proofs.Common.{◌≡◌, ◌≢◌, ℕ, zero, suc, ◌+◌, ◌-◌, ◌*◌, ◌/◌, ◌%◌, ◌^◌, ◌<◌, ◌==◌, ◌&&◌, Bool, true, false, List, ◌∷◌, None, Some, if◌then◌else◌, refl, sym, ap, ◌∙◌, subst, arith, eq-eqb}
+use Rattle.std.proofs.Common.{◌≡◌, ◌≢◌, ℕ, zero, suc, ◌+◌, ◌-◌, ◌*◌, ◌/◌, ◌%◌, ◌^◌, ◌<◌, ◌==◌, ◌&&◌, Bool, true, false, List, ◌∷◌, length, None, Some, if◌then◌else◌, refl, sym, ap, ◌∙◌, subst, arith, eq-eqb}
 use Rattle.std.proofs.lemmas.Bool.{ne_eqb}
 use Rattle.std.proofs.lemmas.List.{length-replicate}
 use Rattle.iom_base.specs.Rights.{allows}
 use Rattle.iom_base.specs.declared.access.AccessKind.{AccessKind}
 use Rattle.iom_base.specs.declared.rights.Rights.{Rights}
-use Rattle.iom_stage_walk.specs.Paths.{page_in, pages_spanned}
+use Rattle.iom_stage_walk.specs.Paths.{first_widths, page_in, pages_spanned}
+use Rattle.iom_walk_loads.proofs.PathLemmas.{path_length}
 use Rattle.iom_stepped_walk.specs.Indices.{indices_below, indices_from, page_by}
+
+-- as many indices as levels
+pub below_length : (level page : ℕ) → length (indices_below level page) ≡ level
+below_length level page = path_length (first_widths level) page ∙ length-replicate {A = ℕ} level 512
 
 -- how many pages an entry of this level spans
 pub span_is : (level page : ℕ) → level < 4 → pages_spanned (indices_below level page) ≡ 512 ^ level

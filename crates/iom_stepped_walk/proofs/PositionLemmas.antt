@@ -38,20 +38,20 @@ reported_access Read address implicit = refl
 reported_access Write address implicit = refl
 
 -- what follows where the second stage leads to an entry of a guest's table
-abbrev pub entry_led : ℕ → Both → GuestEntry → ℕ → Rights → Walk TableAnswer
-entry_led frames both entry frame rights = entry_rest (in_both frames both) entry frame
+abbrev pub entry_led : ℕ → Both → GuestEntry → ℕ → Rights → ℕ → Walk TableAnswer
+entry_led frames both entry frame rights level = entry_rest (in_both frames both) entry frame
 
 -- where it doesn't
 abbrev pub entry_unread : ℕ → Both → GuestEntry → Cause → Walk TableAnswer
 entry_unread frames both entry = unread (in_both frames both) entry.table.number (entry_index entry both.asked.address)
 
 -- a walk that has ended at a frame
-abbrev pub ended_ok : ℕ → Rights → List (Option ℕ) → Walk TableAnswer
-ended_ok frame rights guest_frames = Ends (Ok (record { frame = frame; rights = rights; guest_frames = guest_frames }))
+abbrev pub ended_ok : ℕ → Rights → ℕ → List (Option ℕ) → Walk TableAnswer
+ended_ok frame rights level guest_frames = Ends (Ok (record { frame = frame; rights = rights; level = level; guest_frames = guest_frames }))
 
 -- what follows where a stage alone leads to a frame
-abbrev pub one_found : ℕ → Rights → Walk TableAnswer
-one_found frame rights = Ends (Ok (record { frame = frame; rights = rights; guest_frames = replicate 4 None }))
+abbrev pub one_found : ℕ → Rights → ℕ → Walk TableAnswer
+one_found frame rights level = Ends (Ok (record { frame = frame; rights = rights; level = level; guest_frames = replicate 4 None }))
 
 -- where a first stage doesn't
 abbrev pub first_stopped : Cause → Walk TableAnswer
@@ -91,11 +91,11 @@ to_entry_is frames both entry guest begun is begins =
 -- to the page that a guest's tables give
 pub to_page_is : (frames : ℕ) (both : Both) (page : GuestPage) (begun : Option Place)
     → BeginsSecond both.size both.second (guest_address page.number both.asked.address) begun
-    → lead_from frames both.asked.kind both.asked.kind (reached (in_both frames both) (told page.loaded.frames) page.rights) (unreached (in_both frames both) page.number)
+    → lead_from frames both.asked.kind both.asked.kind (reached (in_both frames both) (told page.loaded.frames) page.rights page.level) (unreached (in_both frames both) page.number)
     (guest_address page.number both.asked.address) begun
-    ≡ page_walk (in_both frames both) (told page.loaded.frames) page.number page.rights
+    ≡ page_walk (in_both frames both) (told page.loaded.frames) page.number page.rights page.level
 to_page_is frames both page begun begins =
-    sym (begins frames both.asked.kind both.asked.kind (reached (in_both frames both) (told page.loaded.frames) page.rights) (unreached (in_both frames both) page.number))
+    sym (begins frames both.asked.kind both.asked.kind (reached (in_both frames both) (told page.loaded.frames) page.rights page.level) (unreached (in_both frames both) page.number))
 
 -- one load on the way to an entry of a guest's table
 pub toward_entry_is : (m : List (List ℕ)) (both : Both) (entry : GuestEntry) (place : Place) (guest : ℕ) (step : Step) → guest ≡ address_of entry both.asked.address
@@ -111,11 +111,11 @@ toward_entry_is m both entry place guest step is makes =
 pub toward_page_is : (m : List (List ℕ)) (both : Both) (page : GuestPage) (place : Place) (step : Step)
     → Makes m both.asked.kind place (guest_address page.number both.asked.address / 4096) step
     → resumed (length m) both.asked.kind (guest_address page.number both.asked.address / 4096) (guest_page_fault_of both.asked.kind) (access_fault_of both.asked.kind)
-    (reached (in_both (length m) both) (told page.loaded.frames) page.rights) (unreached (in_both (length m) both) page.number) step
+    (reached (in_both (length m) both) (told page.loaded.frames) page.rights page.level) (unreached (in_both (length m) both) page.number) step
     ≡ after_load m (rest_of (length m) (ToGuestPage both page place))
 toward_page_is m both page place step makes =
     sym (makes (guest_page_fault_of both.asked.kind) (access_fault_of both.asked.kind)
-    (reached (in_both (length m) both) (told page.loaded.frames) page.rights) (unreached (in_both (length m) both) page.number))
+    (reached (in_both (length m) both) (told page.loaded.frames) page.rights page.level) (unreached (in_both (length m) both) page.number))
 
 -- what follows an entry of a guest's table
 abbrev pub down_from : InBoth → GuestEntry → ℕ → ℕ → Walk TableAnswer

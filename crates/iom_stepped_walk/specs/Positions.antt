@@ -59,12 +59,12 @@ abbrev pub rest_of : ℕ → TableWalk → Walk (Result Walked WalkFault)
 rest_of frames (InFirstStage asked place) = first_rest frames asked.kind place.table.number (indices_of place asked.address)
 rest_of frames (InSecondStage asked place) = second_rest frames asked.kind asked.address place.table.number (indices_of place asked.address)
 rest_of frames (ToGuestEntry both entry place) =
-    lead_rest frames Read both.asked.kind (λ frame rights. entry_rest (in_both frames both) entry frame)
+    lead_rest frames Read both.asked.kind (λ frame rights level. entry_rest (in_both frames both) entry frame)
     (unread (in_both frames both) entry.table.number (entry_index entry both.asked.address))
     place.table.number (indices_of place (address_of entry both.asked.address))
 rest_of frames (InGuestTable both entry frame) = entry_rest (in_both frames both) entry frame
 rest_of frames (ToGuestPage both page place) =
-    lead_rest frames both.asked.kind both.asked.kind (reached (in_both frames both) (told page.loaded.frames) page.rights)
+    lead_rest frames both.asked.kind both.asked.kind (reached (in_both frames both) (told page.loaded.frames) page.rights page.level)
     (unreached (in_both frames both) page.number)
     place.table.number (indices_of place (guest_address page.number both.asked.address))
 

@@ -22,11 +22,11 @@ BeginsFirst size root address (Some place) =
     × (place.level + 1 ≡ levels_of size) × (indices_of place address ≡ first_path (levels_of size) address)
 
 -- what remains of the way through a second stage from its root, whatever follows
-abbrev pub lead_from : ℕ → AccessKind → AccessKind → (ℕ → Rights → Walk TableAnswer) → (Cause → Walk TableAnswer) → ℕ → Option Place → Walk TableAnswer
+abbrev pub lead_from : ℕ → AccessKind → AccessKind → (ℕ → Rights → ℕ → Walk TableAnswer) → (Cause → Walk TableAnswer) → ℕ → Option Place → Walk TableAnswer
 lead_from frames kind original found stopped address None = stopped (guest_page_fault_of original)
 lead_from frames kind original found stopped address (Some place) = lead_rest frames kind original found stopped place.table.number (indices_of place address)
 
 -- a second stage begins there to translate the guest physical address
 abbrev pub BeginsSecond : Size → Ppn → ℕ → Option Place → Type 0
-BeginsSecond size root address begun = (frames : ℕ) (kind original : AccessKind) (found : ℕ → Rights → Walk TableAnswer) (stopped : Cause → Walk TableAnswer)
+BeginsSecond size root address begun = (frames : ℕ) (kind original : AccessKind) (found : ℕ → Rights → ℕ → Walk TableAnswer) (stopped : Cause → Walk TableAnswer)
     → lead frames (levels_of size) root.number kind original found stopped address ≡ lead_from frames kind original found stopped address begun

@@ -19,31 +19,31 @@ TableAnswer = Result Walked WalkFault
 
 -- what remains of a walk along these indices from a table, in a memory of so many frames: `fault` is the stage's page fault, `access` the access fault, `found` what
 -- follows where a frame of memory is reached, `stopped` where the walk of the stage stops
-abbrev pub along : ℕ → AccessKind → Cause → Cause → (ℕ → Rights → Walk TableAnswer) → (Cause → Walk TableAnswer) → ℕ → List ℕ → Walk TableAnswer
+abbrev pub along : ℕ → AccessKind → Cause → Cause → (ℕ → Rights → ℕ → Walk TableAnswer) → (Cause → Walk TableAnswer) → ℕ → List ℕ → Walk TableAnswer
 along frames kind fault access found stopped table left = down kind fault access (inside frames found (stopped access)) stopped table left
 
 -- what remains of it after this step, on the way to the page
-abbrev pub resumed : ℕ → AccessKind → ℕ → Cause → Cause → (ℕ → Rights → Walk TableAnswer) → (Cause → Walk TableAnswer) → Step → Walk TableAnswer
+abbrev pub resumed : ℕ → AccessKind → ℕ → Cause → Cause → (ℕ → Rights → ℕ → Walk TableAnswer) → (Cause → Walk TableAnswer) → Step → Walk TableAnswer
 resumed frames kind page fault access found stopped (Follow place) =
     along frames kind fault access found stopped place.table.number (indices_from place.is_wide place.level page)
-resumed frames kind page fault access found stopped (Found frame rights) = found frame rights
+resumed frames kind page fault access found stopped (Found frame rights level) = found frame rights level
 resumed frames kind page fault access found stopped NoPage = stopped fault
 resumed frames kind page fault access found stopped Outside = stopped access
 
 -- ONE LOAD of this memory, of the entry of the page in the table in hand, makes this step: whatever a walk does where it is through with the stage
 abbrev pub Makes : List (List ℕ) → AccessKind → Place → ℕ → Step → Type 0
-Makes memory kind place page step = (fault access : Cause) (found : ℕ → Rights → Walk TableAnswer) (stopped : Cause → Walk TableAnswer)
+Makes memory kind place page step = (fault access : Cause) (found : ℕ → Rights → ℕ → Walk TableAnswer) (stopped : Cause → Walk TableAnswer)
     → after_load memory (along (length memory) kind fault access found stopped place.table.number (indices_from place.is_wide place.level page))
     ≡ resumed (length memory) kind page fault access found stopped step
 
 -- the entry of the page in the table in hand makes this step
 abbrev pub GoesOnBy : ℕ → AccessKind → Place → ℕ → Entry → Step → Type 0
-GoesOnBy frames kind place page entry step = (fault access : Cause) (found : ℕ → Rights → Walk TableAnswer) (stopped : Cause → Walk TableAnswer)
+GoesOnBy frames kind place page entry step = (fault access : Cause) (found : ℕ → Rights → ℕ → Walk TableAnswer) (stopped : Cause → Walk TableAnswer)
     → at_entry kind fault access (inside frames found (stopped access)) stopped (indices_below place.level page)
     (λ next. along frames kind fault access found stopped next (indices_below place.level page)) entry
     ≡ resumed frames kind page fault access found stopped step
 
 -- a pointer there to the table does
 abbrev pub FollowsBy : Place → ℕ → Step → Type 0
-FollowsBy place next step = (frames : ℕ) (kind : AccessKind) (page : ℕ) (fault access : Cause) (found : ℕ → Rights → Walk TableAnswer) (stopped : Cause → Walk TableAnswer)
+FollowsBy place next step = (frames : ℕ) (kind : AccessKind) (page : ℕ) (fault access : Cause) (found : ℕ → Rights → ℕ → Walk TableAnswer) (stopped : Cause → Walk TableAnswer)
     → along frames kind fault access found stopped next (indices_below place.level page) ≡ resumed frames kind page fault access found stopped step

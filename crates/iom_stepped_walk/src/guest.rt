@@ -43,6 +43,8 @@ pub struct GuestPage {
     pub(crate) number: u64,
     /// What the first stage allows there.
     pub(crate) rights: Rights,
+    /// How many levels are below the first stage's leaf.
+    pub(crate) level: u8,
     /// The frames from which the entries of the guest's tables were loaded.
     pub(crate) loaded: GuestFrames,
     ghost in_range: { number < 2 ^ 45 },
@@ -134,7 +136,7 @@ impl Both {
     /// To the page that the guest's tables give.
     fn to_page(self, page: GuestPage) -> Progress
         ensures { (frames : ℕ) → remains frames result
-            ≡ page_walk (in_both frames self) (told page.loaded.frames) page.number page.rights }
+            ≡ page_walk (in_both frames self) (told page.loaded.frames) page.number page.rights page.level }
     {
         let guest = PAGE_SIZE * page.number + self.asked.address % PAGE_SIZE;
         match second_root(self.size, self.second, guest) {
@@ -185,6 +187,7 @@ impl Both {
                     Some(number) => self.to_page(GuestPage {
                         number,
                         rights,
+                        level: entry.level as u8,
                         loaded: entry.loaded.with(frame),
                     }),
                     None => self.page_fault(),
@@ -245,9 +248,10 @@ impl Both {
                 page,
                 place,
             }),
-            Step::Found { frame, rights } => Progress::Ended(Ok(Walked {
+            Step::Found { frame, rights, .. } => Progress::Ended(Ok(Walked {
                 frame,
                 rights: both_rights(page.rights, rights),
+                level: page.level,
                 guest_frames: page.loaded.places(),
             })),
             Step::NoPage => Progress::Ended(Err(guest_page_fault(self.asked.kind, guest, false))),

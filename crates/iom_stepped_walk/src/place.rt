@@ -25,8 +25,12 @@ pub struct Place {
 pub(crate) enum Step {
     /// It goes on in the table that the entry names.
     Follow(Place),
-    /// It has reached a frame of memory.
-    Found { frame: u32, rights: Rights },
+    /// It has reached a frame of memory, by a leaf with so many levels below it.
+    Found {
+        frame: u32,
+        rights: Rights,
+        level: u8,
+    },
     /// It stops with the stage's page fault.
     NoPage,
     /// It stops with an access fault: the entry, or the page, lies outside memory.
@@ -114,6 +118,7 @@ impl Place {
                         Step::Found {
                             frame: frame as u32,
                             rights,
+                            level: self.level as u8,
                         }
                     } else {
                         Step::Outside

@@ -69,9 +69,14 @@ fn load_first<B: Bytes>(memory: &B, asked: Asked, place: Place) -> Progress
 {
     match place.step(memory, asked.address / PAGE_SIZE, asked.kind) {
         Step::Follow(place) => Progress::GoesOn(TableWalk::InFirstStage { asked, place }),
-        Step::Found { frame, rights } => Progress::Ended(Ok(Walked {
+        Step::Found {
             frame,
             rights,
+            level,
+        } => Progress::Ended(Ok(Walked {
+            frame,
+            rights,
+            level,
             guest_frames: [None; 4],
         })),
         Step::NoPage => Progress::Ended(Err(plain(Cause::page_fault(asked.kind)))),
@@ -85,9 +90,14 @@ fn load_second<B: Bytes>(memory: &B, asked: Asked, place: Place) -> Progress
 {
     match place.step(memory, asked.address / PAGE_SIZE, asked.kind) {
         Step::Follow(place) => Progress::GoesOn(TableWalk::InSecondStage { asked, place }),
-        Step::Found { frame, rights } => Progress::Ended(Ok(Walked {
+        Step::Found {
             frame,
             rights,
+            level,
+        } => Progress::Ended(Ok(Walked {
+            frame,
+            rights,
+            level,
             guest_frames: [None; 4],
         })),
         Step::NoPage => Progress::Ended(Err(guest_page_fault(asked.kind, asked.address, false))),

@@ -10,7 +10,7 @@ pub returns-in-Follow : goal.returns-in-Follow
 returns-in-Follow g c = second_load_is (g.B.Bytes.frames_of c.args.memory.now) c.args.asked c.args.place (Follow c.in-Follow.place) c.in-Follow.ensures
 
 pub returns-in-Found : goal.returns-in-Found
-returns-in-Found g c = second_load_is (g.B.Bytes.frames_of c.args.memory.now) c.args.asked c.args.place (Found c.in-Found.frame c.in-Found.rights) c.in-Found.ensures
+returns-in-Found g c = second_load_is (g.B.Bytes.frames_of c.args.memory.now) c.args.asked c.args.place (Found c.in-Found.frame c.in-Found.rights c.in-Found.level) c.in-Found.ensures
 
 pub returns-in-NoPage : goal.returns-in-NoPage
 returns-in-NoPage g c =

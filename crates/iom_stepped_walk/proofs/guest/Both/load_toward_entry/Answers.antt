@@ -14,7 +14,7 @@ returns-in-Follow g c =
 
 pub returns-in-Found : goal.returns-in-Found
 returns-in-Found g c =
-    toward_entry_is (g.B.Bytes.frames_of c.args.memory.now) c.args.self c.args.entry c.args.place c.guest_address-guest.result (Found c.in-Found.frame c.in-Found.rights) c.guest_address-guest.ensures c.in-Found.ensures
+    toward_entry_is (g.B.Bytes.frames_of c.args.memory.now) c.args.self c.args.entry c.args.place c.guest_address-guest.result (Found c.in-Found.frame c.in-Found.rights c.in-Found.level) c.guest_address-guest.ensures c.in-Found.ensures
 
 pub returns-in-NoPage : goal.returns-in-NoPage
 returns-in-NoPage g c =

@@ -12,8 +12,8 @@ returns-in-Follow g c = toward_page_is (g.B.Bytes.frames_of c.args.memory.now) c
 
 pub returns-in-Found : goal.returns-in-Found
 returns-in-Found g c =
-    ap (λ rights. ended_ok c.in-Found.frame rights c.places.result) c.both_rights.ensures ∙ ap (ended_ok c.in-Found.frame _) c.places.ensures
-    ∙ toward_page_is (g.B.Bytes.frames_of c.args.memory.now) c.args.self c.args.page c.args.place (Found c.in-Found.frame c.in-Found.rights) c.in-Found.ensures
+    ap (λ rights. ended_ok c.in-Found.frame rights c.args.page.level c.places.result) c.both_rights.ensures ∙ ap (ended_ok c.in-Found.frame _ c.args.page.level) c.places.ensures
+    ∙ toward_page_is (g.B.Bytes.frames_of c.args.memory.now) c.args.self c.args.page c.args.place (Found c.in-Found.frame c.in-Found.rights c.in-Found.level) c.in-Found.ensures
 
 pub returns-in-NoPage : goal.returns-in-NoPage
 returns-in-NoPage g c =
