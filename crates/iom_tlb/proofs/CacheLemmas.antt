@@ -1,12 +1,12 @@
 -- What holds of each set of a cache, after a set was made, and after one was changed.
-use Rattle.std.proofs.Common.{◌≡◌, ◌≢◌, ◌<◌, ◌∙◌, inl, inr, ℕ, zero, suc, Bool, true, false, cond, List, [], ◌∷◌, ◌++◌, length, get_or, set, Option, None, refl, sym, subst, arith}
+use Rattle.std.proofs.Common.{◌≡◌, ◌≢◌, ◌<◌, ◌%◌, ◌∙◌, inl, inr, ℕ, zero, suc, Bool, true, false, cond, List, [], ◌∷◌, ◌++◌, length, get_or, set, Option, Some, None, refl, sym, ap, subst, arith}
 use Rattle.std.proofs.lemmas.Bool.Decides.{eqb_tells}
-use Rattle.std.proofs.lemmas.List.{get_or-set_other, get_or_read, length-set}
+use Rattle.std.proofs.lemmas.List.{get_or-set_other, length-set}
 use Rattle.std.proofs.lemmas.Grind.{get_or-set_at}
 use Rattle.iom_tlb.specs.declared.trans_cache.Translation.{Translation}
-use Rattle.iom_tlb.specs.Content.{HasNothing}
-use Rattle.iom_tlb.specs.Ways.{Ways, is_space, in_set, no_ways}
-use Rattle.iom_tlb.specs.WayCalls.{AreAtHome, AreSets}
+use Rattle.iom_tlb.specs.Content.{Key, HasNothing, left_by, DropsWhere}
+use Rattle.iom_tlb.specs.Ways.{Ways, is_space, in_set, no_ways, content_of_sets}
+use Rattle.iom_tlb.specs.WayCalls.{AreAtHome, AreSets, CountersStay}
 
 nothing_either : (b : Bool) → ◌≡◌ {A = Option Translation} (cond b None None) None
 nothing_either true = refl
@@ -35,10 +35,45 @@ changed P sets i new lt here rest k = elim (eqb_tells k i) [
   | inr ne ↦ subst (λ s. P k s) (sym (get_or-set_other sets i k new no_ways ne.1)) (rest k ne.1)
 ]
 
--- the invariant stays true where a set is as much at home as the one whose place it takes
-pub sets_changed : (sets : List Ways) (i : ℕ) (old new : Ways) → AreSets sets → i < 64 → old ≡ get_or sets i old
-    → ((number : ℕ) → AreAtHome number old → AreAtHome number new) → AreSets (set sets i new)
-sets_changed sets i old new sound lt at home = (
-  length-set sets i new ∙ sound.0,
-  changed (λ k s. AreAtHome k s) sets i new (omega (arith, sound.0)) (home i (subst (λ s. AreAtHome i s) (sym (get_or_read sets i old (omega (arith, sound.0)) at no_ways)) (sound.1 i))) (λ k ne. sound.1 k),
-)
+-- what isn't there stays as it is, where the test lets all pass that is there
+untouched : (is_out : Translation → Bool) (was : Option Translation) → ((t : Translation) → was ≡ Some t → is_out t ≡ false) → was ≡ left_by is_out was
+untouched is_out None none = refl
+untouched is_out (Some t) none = sym (ap (λ b. cond b None (Some t)) (none t refl))
+
+-- two tests that say the same of what is there leave the same
+same_left : (one two : Translation → Bool) (was : Option Translation) → ((t : Translation) → was ≡ Some t → one t ≡ two t) → left_by one was ≡ left_by two was
+same_left one two None same = refl
+same_left one two (Some t) same = ap (λ b. cond b None (Some t)) (same t refl)
+
+-- A DROP IN ONE SET, where all that is to go is there
+module _ (old : List Ways) (i : ℕ) (before after : Ways) (lt : i < length old) (here : before ≡ get_or old i no_ways) where
+  -- the invariant stays true where the new set is as much at home
+  pub sound_in_one : AreSets old → ((number : ℕ) → AreAtHome number before → AreAtHome number after) → AreSets (set old i after)
+  sound_in_one sound home = (
+    length-set old i after ∙ sound.0,
+    changed (λ k s. AreAtHome k s) old i after lt (home i (subst (λ s. AreAtHome i s) (sym here) (sound.1 i))) (λ k ne. sound.1 k),
+  )
+
+  pub dropped_in_one : (goes is_out : Key → Translation → Bool) → DropsWhere goes (in_set before) (in_set after)
+      → ((key : Key) (t : Translation) → content_of_sets old key ≡ Some t → key.1 % 64 ≡ i → goes key t ≡ is_out key t)
+      → ((key : Key) (t : Translation) → content_of_sets old key ≡ Some t → key.1 % 64 ≢ i → is_out key t ≡ false)
+      → DropsWhere is_out (content_of_sets old) (content_of_sets (set old i after))
+  dropped_in_one goes is_out drops same none key = elim (eqb_tells (key.1 % 64) i) [
+    | inl own ↦
+        let was : in_set before key ≡ content_of_sets old key = ap (λ s. in_set s key) (here ∙ ap (λ j. get_or old j no_ways) (sym own.1)) in
+        ap (λ s. in_set s key) (get_or-set_at old i (key.1 % 64) after no_ways own.1 lt)
+        ∙ drops key ∙ ap (left_by (goes key)) was
+        ∙ same_left (goes key) (is_out key) (content_of_sets old key) (λ t is. same key t is own.1)
+    | inr ne ↦
+        ap (λ s. in_set s key) (get_or-set_other old i (key.1 % 64) after no_ways ne.1)
+        ∙ untouched (is_out key) (content_of_sets old key) (λ t is. none key t is ne.1)
+  ]
+
+  pub counters_in_one : after.next ≡ before.next → CountersStay old (set old i after)
+  counters_in_one same = changed (λ k s. s.next ≡ (get_or old k no_ways).next) old i after lt (same ∙ ap (λ (s : Ways). s.next) here) (λ k ne. refl)
+
+-- a drop in all
+pub dropped_in_all : (is_out : Key → Translation → Bool) (old new : List Ways) → length old ≡ 64
+    → ((number : ℕ) → number < length old → DropsWhere is_out (in_set (get_or old number no_ways)) (in_set (get_or new number no_ways)))
+    → DropsWhere is_out (content_of_sets old) (content_of_sets new)
+dropped_in_all is_out old new many drops key = drops (key.1 % 64) (omega (arith, many)) key

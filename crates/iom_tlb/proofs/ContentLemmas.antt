@@ -1,9 +1,18 @@
 -- A translation that is found after a call, by what there was before. So a fact about every cached translation stays true over each call that keeps
 -- none to which it doesn't apply.
-use Rattle.std.proofs.Common.{◌≡◌, ◌≢◌, ◌⊎◌, ◌∙◌, inl, inr, Bool, true, false, cond, Some, None, refl, sym, ap}
+use Rattle.std.proofs.Common.{◌≡◌, ◌≢◌, ◌⊎◌, ◌∙◌, inl, inr, Bool, true, false, cond, Option, Some, None, refl, sym, ap}
 use Rattle.iom_tlb.specs.declared.trans_cache.Translation.{Translation}
-use Rattle.iom_tlb.specs.Content.{Key, Translations, TranslationsStay, Sets, Keeps, DropsWhere}
+use Rattle.iom_tlb.specs.Content.{Key, Translations, TranslationsStay, Sets, Keeps, left_by, DropsWhere}
 use Rattle.iom_tlb.proofs.KeyLemmas.{one_or_other}
+
+-- what is left was there, and didn't pass the test
+pub left_of : (is_out : Translation → Bool) (was : Option Translation) (t : Translation) → left_by is_out was ≡ Some t → (is_out t ≡ false) × (was ≡ Some t)
+left_of is_out None t is = absurd (cc)
+left_of is_out (Some u) t is = by (is_out u) refl is
+  where
+    by : (b : Bool) → is_out u ≡ b → cond b None (Some u) ≡ Some t → (is_out t ≡ false) × (Some u ≡ Some t)
+    by true e f = absurd (cc)
+    by false e f = let same : u ≡ t = cc in (ap is_out (sym same) ∙ e, f)
 
 module _ (old new : Translations) (key : Key) (t : Translation) (found : new key ≡ Some t) where
   pub found_before_look : TranslationsStay old new → old key ≡ Some t
@@ -28,10 +37,6 @@ module _ (old new : Translations) (key : Key) (t : Translation) (found : new key
       let was = found_before_look refused.2 in
       inr (refused_at at refused.1 (one_or_other key at) was, was)
 
-  not_out : (b out : Bool) → out ≡ b → new key ≡ cond b None (old key) → (out ≡ false) × (old key ≡ Some t)
-  not_out true out is e = absurd (cc)
-  not_out false out is e = (is, sym e ∙ found)
-
   -- it wasn't covered, and was there
-  pub found_before_drop : (is_out : Key → Bool) → DropsWhere is_out old new → (is_out key ≡ false) × (old key ≡ Some t)
-  found_before_drop is_out dropped = not_out (is_out key) (is_out key) refl (dropped key)
+  pub found_before_drop : (is_out : Key → Translation → Bool) → DropsWhere is_out old new → (is_out key t ≡ false) × (old key ≡ Some t)
+  found_before_drop is_out dropped = left_of (is_out key) (old key) t (sym (dropped key) ∙ found)

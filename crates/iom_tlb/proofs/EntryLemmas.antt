@@ -7,6 +7,7 @@ use Rattle.std.specs.Map.{keys_of, lookup, lookup_entry, remove_entry}
 use Rattle.std.specs.Cmp.{IsEquivalence}
 use Rattle.std.proofs.lemmas.Map.{lookup-remove_entry}
 use Rattle.std.proofs.lemmas.List.{take-append-drop, take_all}
+use Rattle.iom_tlb.specs.Content.{left_by}
 use Rattle.lru.specs.LruCache.{LruCache, put_entries, promoted}
 use Rattle.lru.proofs.CallerLemmas.{Contains-lookup_entry}
 use Rattle.lru.proofs.Pairs.{lookup-lookup_entry}
@@ -19,11 +20,6 @@ module _ {K : Type 0} (eq : K → K → Bool) (laws : IsEquivalence eq) (one : (
   -- keys that aren't one
   pub apart_keys : (a b : K) → a ≢ b → eq a b ≡ false
   apart_keys a b apart = not_one a b apart (eq a b) refl
-
-  -- a test doesn't tell a key from itself
-  test_same : (p : K → Bool) (k x : K) (b : Bool) → eq k x ≡ b → p k ≡ true → p x ≡ false → b ≡ false
-  test_same p k x false h t f = refl
-  test_same p k x true h t f = let same : k ≡ x = one k x h in absurd (let g : p x ≡ true = rw (← same) t in cc)
 
   module _ {V : Type 0} where
     -- what is found without the entry of a key
@@ -131,8 +127,8 @@ module _ {K : Type 0} (eq : K → K → Bool) (laws : IsEquivalence eq) (one : (
       Puts-put_entries le pos = put_at le pos (lookup_entry (eq k) c.entries) refl
 
     -- a pop of the key of a found entry leaves fewer
-    shorter : (p : K → Bool) (e x : K × V) (es : List (K × V)) → (b t : Bool) → eq e.0 x.0 ≡ b → cond t (Some x) (find (λ e. p e.0) es) ≡ Some e
-        → (find (λ e. p e.0) es ≡ Some e → length (remove_entry (eq e.0) es) < length es)
+    shorter : (p : K × V → Bool) (e x : K × V) (es : List (K × V)) → (b t : Bool) → eq e.0 x.0 ≡ b → cond t (Some x) (find p es) ≡ Some e
+        → (find p es ≡ Some e → length (remove_entry (eq e.0) es) < length es)
         → length (cond b es (x ∷ remove_entry (eq e.0) es)) < length (x ∷ es)
     shorter p e x es true t h f less = omega arith
     shorter p e x es false true h f less =
@@ -141,18 +137,18 @@ module _ {K : Type 0} (eq : K → K → Bool) (laws : IsEquivalence eq) (one : (
         absurd (let h2 : eq x.0 x.0 ≡ false = rw (← same) at h in cc)
     shorter p e x es false false h f less = omega (arith, less f)
 
-    length-remove_found : (p : K → Bool) (e : K × V) (es : List (K × V)) → find (λ e. p e.0) es ≡ Some e → length (remove_entry (eq e.0) es) < length es
+    length-remove_found : (p : K × V → Bool) (e : K × V) (es : List (K × V)) → find p es ≡ Some e → length (remove_entry (eq e.0) es) < length es
     length-remove_found p e [] f = absurd (cc)
-    length-remove_found p e (x ∷ es) f = shorter p e x es (eq e.0 x.0) (p x.0) refl f (λ g. length-remove_found p e es g)
+    length-remove_found p e (x ∷ es) f = shorter p e x es (eq e.0 x.0) (p x) refl f (λ g. length-remove_found p e es g)
 
-    fewer : (p : K → Bool) (es : List (K × V)) (key : K) (o : Option (K × V)) → find (λ e. p e.0) es ≡ o → Some key ≡ option_map (λ e. e.0) o
+    fewer : (p : K × V → Bool) (es : List (K × V)) (key : K) (o : Option (K × V)) → find p es ≡ o → Some key ≡ option_map (λ e. e.0) o
         → length (remove_entry (eq key) es) < length es
     fewer p es key None f h = absurd (cc)
     fewer p es key (Some e) f h = let same : key ≡ e.0 = cc in rw same (length-remove_found p e es f)
 
-    pub drop_fewer : (p : K → Bool) (es : List (K × V)) (key : K) → Some key ≡ option_map (λ e. e.0) (find (λ e. p e.0) es)
+    pub drop_fewer : (p : K × V → Bool) (es : List (K × V)) (key : K) → Some key ≡ option_map (λ e. e.0) (find p es)
         → length (remove_entry (eq key) es) < length es
-    drop_fewer p es key h = fewer p es key (find (λ e. p e.0) es) refl h
+    drop_fewer p es key h = fewer p es key (find p es) refl h
 
     -- an entry that is found is one that goes
     found_fewer : (k : K) (x e : K × V) (es : List (K × V)) (b : Bool) → (lookup_entry (eq k) es ≡ Some e → length (remove_entry (eq k) es) < length es)
@@ -200,79 +196,86 @@ module _ {K : Type 0} (eq : K → K → Bool) (laws : IsEquivalence eq) (one : (
         → promoted (eq k) es ≡ option_map_or (λ v. (k, v) ∷ remove_entry (eq k) es) (lookup (eq k) es) es
     look_first k es = rw (sym (lookup-lookup_entry (eq k) es)) (look_first_at k es (lookup_entry (eq k) es) refl)
 
-    -- without an entry that is out, those that aren't are as they were
-    stay_without : (p : K → Bool) (k : K) (x : K × V) (es : List (K × V)) (b t : Bool) → eq k x.0 ≡ b → p x.0 ≡ t → p k ≡ true
-        → filter (λ e. not (p e.0)) (remove_entry (eq k) es) ≡ filter (λ e. not (p e.0)) es
-        → filter (λ e. not (p e.0)) (cond b es (x ∷ remove_entry (eq k) es)) ≡ cond (not t) (x ∷ filter (λ e. not (p e.0)) es) (filter (λ e. not (p e.0)) es)
-    stay_without p k x es true true h t out rest = refl
-    stay_without p k x es true false h t out rest = absurd (let same = test_same p k x.0 true h out t in cc)
-    stay_without p k x es false true h t out rest = rw t rest
-    stay_without p k x es false false h t out rest = rw t (ap (λ (ys : List (K × V)). x ∷ ys) rest)
+    -- an entry that is found has what all have
+    found_has_at : (P : K → Type 0) (e x : K × V) (rest : Option (K × V)) (t : Bool) → P x.0 → (rest ≡ Some e → P e.0) → cond t (Some x) rest ≡ Some e → P e.0
+    found_has_at P e x rest true here later f = let same : x ≡ e = cc in subst (λ (y : K × V). P y.0) same here
+    found_has_at P e x rest false here later f = later f
 
-    pub filter_without : (p : K → Bool) (k : K) (es : List (K × V)) → p k ≡ true
-        → filter (λ e. not (p e.0)) (remove_entry (eq k) es) ≡ filter (λ e. not (p e.0)) es
-    filter_without p k [] out = refl
-    filter_without p k (x ∷ es) out = stay_without p k x es (eq k x.0) (p x.0) refl refl out (filter_without p k es out)
+    found_has : (P : K → Type 0) (p : K × V → Bool) (e : K × V) (es : List (K × V)) → AllByRecursion P (keys_of es) → find p es ≡ Some e → P e.0
+    found_has P p e [] all f = absurd (cc)
+    found_has P p e (x ∷ es) all f = found_has_at P e x (find p es) (p x) all.0 (found_has P p e es all.1) f
 
-    missed : (p : K → Bool) (x : K × V) (es : List (K × V)) (k : K) → p k ≡ true → (t : Bool) → p x.0 ≡ t → cond t (Some x) (find (λ e. p e.0) es) ≡ None
-        → (find (λ e. p e.0) es ≡ None → lookup (eq k) es ≡ None) → lookup (eq k) (x ∷ es) ≡ None
-    missed p x es k h true g f rest = absurd (cc)
-    missed p x es k h false g f rest = rw (test_same p k x.0 (eq k x.0) refl h g) (rest f)
+    -- without a found entry, those that don't pass are as they were
+    goes_at : (p : K × V → Bool) (e x : K × V) (es : List (K × V)) (t b : Bool) → p x ≡ t → eq e.0 x.0 ≡ b → cond t (Some x) (find p es) ≡ Some e
+        → AllByRecursion (λ y. eq x.0 y ≡ false) (keys_of es)
+        → (find p es ≡ Some e → filter (λ e. not (p e)) (remove_entry (eq e.0) es) ≡ filter (λ e. not (p e)) es)
+        → filter (λ e. not (p e)) (cond b es (x ∷ remove_entry (eq e.0) es)) ≡ cond (not t) (x ∷ filter (λ e. not (p e)) es) (filter (λ e. not (p e)) es)
+    goes_at p e x es true true t h f all rest = refl
+    goes_at p e x es true false t h f all rest =
+        let same : x ≡ e = cc in
+        let itself : eq e.0 x.0 ≡ true = subst (λ (y : K × V). eq e.0 y.0 ≡ true) (sym same) (laws.refl e.0) in
+        absurd (cc)
+    goes_at p e x es false true t h f all rest =
+        let other : eq x.0 e.0 ≡ false = found_has (λ y. eq x.0 y ≡ false) p e es all f in
+        let back : eq e.0 x.0 ≡ false = laws.symm e.0 x.0 ∙ other in
+        absurd (cc)
+    goes_at p e x es false false t h f all rest = rw t (ap (λ (ys : List (K × V)). x ∷ ys) (rest f))
 
-    none_found : (p : K → Bool) (es : List (K × V)) → find (λ e. p e.0) es ≡ None → (k : K) → p k ≡ true → lookup (eq k) es ≡ None
-    none_found p [] f k h = refl
-    none_found p (x ∷ es) f k h = missed p x es k h (p x.0) refl f (λ g. none_found p es g k h)
+    found_goes : (p : K × V → Bool) (e : K × V) (es : List (K × V)) → IsDistinct eq (keys_of es) → find p es ≡ Some e
+        → filter (λ e. not (p e)) (remove_entry (eq e.0) es) ≡ filter (λ e. not (p e)) es
+    unfolding IsDistinct
+    found_goes p e [] d f = refl
+    found_goes p e (x ∷ es) d f = goes_at p e x es (p x) (eq e.0 x.0) refl refl f d.0 (found_goes p e es d.1)
 
-    named : (p : K → Bool) (e x : K × V) (es : List (K × V)) (t : Bool) → p x.0 ≡ t → cond t (Some x) (find (λ e. p e.0) es) ≡ Some e
-        → (find (λ e. p e.0) es ≡ Some e → p e.0 ≡ true) → p e.0 ≡ true
-    named p e x es true h f rest = let same : x ≡ e = cc in rw (← same) h
-    named p e x es false h f rest = rest f
+    others_at : (p : K × V → Bool) (es : List (K × V)) (key : K) (o : Option (K × V)) → IsDistinct eq (keys_of es) → find p es ≡ o → Some key ≡ option_map (λ e. e.0) o
+        → filter (λ e. not (p e)) (remove_entry (eq key) es) ≡ filter (λ e. not (p e)) es
+    others_at p es key None d f h = absurd (cc)
+    others_at p es key (Some e) d f h = let same : key ≡ e.0 = cc in rw same (found_goes p e es d f)
 
-    found_passes : (p : K → Bool) (e : K × V) (es : List (K × V)) → find (λ e. p e.0) es ≡ Some e → p e.0 ≡ true
-    found_passes p e [] f = absurd (cc)
-    found_passes p e (x ∷ es) f = named p e x es (p x.0) refl f (λ g. found_passes p e es g)
+    pub drop_others : (p : K × V → Bool) (es : List (K × V)) (key : K) → IsDistinct eq (keys_of es) → Some key ≡ option_map (λ e. e.0) (find p es)
+        → filter (λ e. not (p e)) (remove_entry (eq key) es) ≡ filter (λ e. not (p e)) es
+    drop_others p es key d h = others_at p es key (find p es) d refl h
 
-    key_passes : (p : K → Bool) (es : List (K × V)) (key : K) (o : Option (K × V)) → find (λ e. p e.0) es ≡ o → Some key ≡ option_map (λ e. e.0) o → p key ≡ true
-    key_passes p es key None f h = absurd (cc)
-    key_passes p es key (Some e) f h = let same : key ≡ e.0 = cc in rw same (found_passes p e es f)
+    -- what is found among those that don't pass
+    no_other : (k x : K) (es : List (K × V)) → eq k x ≡ true → AllByRecursion (λ y. eq x y ≡ false) (keys_of es) → lookup (eq k) es ≡ None
+    no_other k x [] h all = refl
+    no_other k x (e ∷ es) h all =
+        let apart : eq k e.0 ≡ false = laws.congr k x e.0 h ∙ all.0 in
+        rw apart (no_other k x es h all.1)
 
-    -- without the key of an entry that passes, those that don't are as they were
-    pub drop_others : (p : K → Bool) (es : List (K × V)) (key : K) → Some key ≡ option_map (λ e. e.0) (find (λ e. p e.0) es)
-        → filter (λ e. not (p e.0)) (remove_entry (eq key) es) ≡ filter (λ e. not (p e.0)) es
-    drop_others p es key h = filter_without p key es (key_passes p es key (find (λ e. p e.0) es) refl h)
+    left_at : (p : K × V → Bool) (k : K) (x : K × V) (es : List (K × V)) (t b : Bool) → p x ≡ t → eq k x.0 ≡ b → AllByRecursion (λ y. eq x.0 y ≡ false) (keys_of es)
+        → lookup (eq k) (filter (λ e. not (p e)) es) ≡ left_by (λ v. p (k, v)) (lookup (eq k) es)
+        → lookup (eq k) (cond (not t) (x ∷ filter (λ e. not (p e)) es) (filter (λ e. not (p e)) es)) ≡ left_by (λ v. p (k, v)) (cond b (Some x.1) (lookup (eq k) es))
+    left_at p k x es true true t h all rest =
+        rest ∙ ap (left_by (λ v. p (k, v))) (no_other k x.0 es h all)
+        ∙ sym (ap (λ b. cond b None (Some x.1)) (ap (λ (y : K). p (y, x.1)) (one k x.0 h) ∙ t))
+    left_at p k x es false true t h all rest =
+        rw h (sym (ap (λ b. cond b None (Some x.1)) (ap (λ (y : K). p (y, x.1)) (one k x.0 h) ∙ t)))
+    left_at p k x es true false t h all rest = rest
+    left_at p k x es false false t h all rest = rw h rest
 
-    -- what doesn't pass the test stays
-    pub drop_keeps : (p : K → Bool) (es : List (K × V)) (key k : K) → IsDistinct eq (keys_of es) → Some key ≡ option_map (λ e. e.0) (find (λ e. p e.0) es) → p k ≡ false
-        → lookup (eq k) (remove_entry (eq key) es) ≡ lookup (eq k) es
-    drop_keeps p es key k d h out =
-        let in_ = key_passes p es key (find (λ e. p e.0) es) refl h in
-        rw (removed key k es d, test_same p key k (eq key k) refl in_ out) refl
+    pub lookup-filter : (p : K × V → Bool) (k : K) (es : List (K × V)) → IsDistinct eq (keys_of es)
+        → lookup (eq k) (filter (λ e. not (p e)) es) ≡ left_by (λ v. p (k, v)) (lookup (eq k) es)
+    unfolding IsDistinct
+    lookup-filter p k [] d = refl
+    lookup-filter p k (x ∷ es) d = left_at p k x es (p x) (eq k x.0) refl refl d.0 (lookup-filter p k es d.1)
 
     no_entry : (o : Option (K × V)) → None ≡ option_map (λ e. e.0) o → o ≡ None
     no_entry None h = refl
     no_entry (Some e) h = absurd (cc)
 
-    cleared : (p : K → Bool) (k : K) (new old : Option V) (b : Bool) → p k ≡ b → (p k ≡ false → new ≡ old) → (p k ≡ true → new ≡ None) → new ≡ cond b None old
-    cleared p k new old true h f g = g h
-    cleared p k new old false h f g = f h
-
-    -- with no entry left that passes, all that passed is gone
-    pub drop_done : (p : K → Bool) (old new : List (K × V)) → None ≡ option_map (λ e. e.0) (find (λ e. p e.0) new)
-        → ((k : K) → p k ≡ false → lookup (eq k) new ≡ lookup (eq k) old) → (k : K) → lookup (eq k) new ≡ cond (p k) None (lookup (eq k) old)
-    drop_done p old new none same k = cleared p k _ _ (p k) refl (same k) (none_found p new (no_entry _ none) k)
-
-    all_in : (p : K → Bool) (x : K × V) (es : List (K × V)) (t : Bool) → p x.0 ≡ t → cond t (Some x) (find (λ e. p e.0) es) ≡ None
-        → (find (λ e. p e.0) es ≡ None → filter (λ e. not (p e.0)) es ≡ es) → cond (not t) (x ∷ filter (λ e. not (p e.0)) es) (filter (λ e. not (p e.0)) es) ≡ x ∷ es
+    all_in : (p : K × V → Bool) (x : K × V) (es : List (K × V)) (t : Bool) → p x ≡ t → cond t (Some x) (find p es) ≡ None
+        → (find p es ≡ None → filter (λ e. not (p e)) es ≡ es) → cond (not t) (x ∷ filter (λ e. not (p e)) es) (filter (λ e. not (p e)) es) ≡ x ∷ es
     all_in p x es true h f rest = absurd (cc)
     all_in p x es false h f rest = ap (λ (ys : List (K × V)). x ∷ ys) (rest f)
 
     -- and where none passes all stay
-    pub none_out : (p : K → Bool) (es : List (K × V)) → find (λ e. p e.0) es ≡ None → filter (λ e. not (p e.0)) es ≡ es
+    pub none_out : (p : K × V → Bool) (es : List (K × V)) → find p es ≡ None → filter (λ e. not (p e)) es ≡ es
     none_out p [] f = refl
-    none_out p (x ∷ es) f = all_in p x es (p x.0) refl f (none_out p es)
+    none_out p (x ∷ es) f = all_in p x es (p x) refl f (none_out p es)
 
-    pub drop_left : (p : K → Bool) (old new : List (K × V)) → None ≡ option_map (λ e. e.0) (find (λ e. p e.0) new)
-        → filter (λ e. not (p e.0)) new ≡ filter (λ e. not (p e.0)) old → new ≡ filter (λ e. not (p e.0)) old
+    pub drop_left : (p : K × V → Bool) (old new : List (K × V)) → None ≡ option_map (λ e. e.0) (find p new)
+        → filter (λ e. not (p e)) new ≡ filter (λ e. not (p e)) old → new ≡ filter (λ e. not (p e)) old
     drop_left p old new none same = sym (none_out p new (no_entry _ none)) ∙ same
 
     none_of_key : (k x : K) (es : List (K × V)) → eq k x ≡ true → AllByRecursion (λ y. eq x y ≡ false) (keys_of es) → filter (λ e. not (eq k e.0)) es ≡ es

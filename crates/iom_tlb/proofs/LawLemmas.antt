@@ -33,7 +33,7 @@ answers_kept sure old (drop_where cover ∷ earlier) new empty run key t found =
     dropped key t earlier run.0 new found (answers_kept sure old earlier run.0 empty run.1 key t) cover run.2
 answers_kept sure old (drop_all ∷ earlier) new empty run key t found = absurd (let e : new key ≡ None = run.2 key in cc)
 
-pub all_covered : (key : Key) → are_covering (covers_of (IotinvalVma None None None)) key || are_covering (covers_of (IotinvalGvma None None)) key ≡ true
-all_covered (First p, page) = refl
-all_covered (Second g, page) = refl
-all_covered (Both g p, page) = refl
+pub all_covered : (key : Key) (t : Translation) → are_covering (covers_of (IotinvalVma None None None)) key t || are_covering (covers_of (IotinvalGvma None None)) key t ≡ true
+all_covered (First p, page) t = refl
+all_covered (Second g, page) t = refl
+all_covered (Both g p, page) t = refl

@@ -9,5 +9,6 @@ pub mod WayLemmas
 pub mod SetLemmas
 pub mod EmptyLemmas
 pub mod CacheLemmas
+pub mod LargeLemmas
 pub mod PlaceLemmas
 pub mod SameLemmas

@@ -9,35 +9,9 @@ use Rattle.iom_tlb.specs.declared.trans_cache.Translation.{Translation}
 use Rattle.iom_tlb.specs.Places.{IsInWay, HasWays, IsCached, HavePlaces}
 use Rattle.iom_tlb.specs.Ways.{Ways, is_space, space_word, in_ways, in_set, no_ways}
 use Rattle.iom_tlb.specs.WayCalls.{AreWays, AreAtHome}
-use Rattle.iom_tlb.proofs.KeyLemmas.{both}
 use Rattle.iom_tlb.proofs.SetLemmas.{looked}
+use Rattle.iom_tlb.proofs.WayLemmas.{found_way}
 use Rattle.iom_tlb.proofs.WordLemmas.{no_word}
-
--- what is found for a word and a page stands in one of the ways
-pub record Found (ss ps : List ℕ) (ts : List Translation) (word page : ℕ) (t : Translation) : Type 0 where
-  pub way : ℕ
-  pub within : way < length ss
-  pub space : slice_get ss way ≡ Some word
-  pub number : slice_get ps way ≡ Some page
-  pub translation : slice_get ts way ≡ Some t
-
-pub found_way : (ss ps : List ℕ) (ts : List Translation) (word page : ℕ) (t : Translation) → in_ways ss ps ts word page ≡ Some t → Found ss ps ts word page t
-found_way [] ps ts word page t is = absurd (cc)
-found_way (s ∷ ss) [] ts word page t is = absurd (cc)
-found_way (s ∷ ss) (p ∷ ps) [] word page t is = absurd (cc)
-found_way (s ∷ ss) (p ∷ ps) (own ∷ ts) word page t is = by (found_way ss ps ts word page t) ((s == word) && (p == page)) refl
-  where
-    by : (in_ways ss ps ts word page ≡ Some t → Found ss ps ts word page t) → (b : Bool) → (s == word) && (p == page) ≡ b → Found (s ∷ ss) (p ∷ ps) (own ∷ ts) word page t
-    by later true e = record {
-      way = 0;
-      within = omega arith;
-      space = ap Some (eqb-true s word (both (s == word) (p == page) e).0);
-      number = ap Some (eqb-true p page (both (s == word) (p == page) e).1);
-      translation = sym (ap (λ b. cond b (Some own) (in_ways ss ps ts word page)) e) ∙ is;
-    }
-    by later false e =
-        let found = later (sym (ap (λ b. cond b (Some own) (in_ways ss ps ts word page)) e) ∙ is) in
-        record { way = suc found.way; within = omega (arith, found.within); space = found.space; number = found.number; translation = found.translation }
 
 guard_true : (b : Bool) (x : Option Translation) (t : Translation) → cond b x None ≡ Some t → (b ≡ true) × (x ≡ Some t)
 guard_true true x t e = (refl, e)

@@ -32,24 +32,14 @@ kept (Ok x) c new at t valid ok err sure = inl (rw ok (sets c at t valid))
 kept (Err x) c new at t valid ok err sure = inr (refl, refused_at (content_of c.entries at) (λ there. let wrong = sure there in cc), λ key. rw err refl)
 
 -- each pop of a covered entry leaves fewer entries
-pub fewer : (cover : Cover) (es : List (Key × Translation)) (key : Key) → Some key ≡ option_map (λ e. e.0) (find (λ e. covers cover e.0) es)
+pub fewer : (cover : Cover) (es : List (Key × Translation)) (key : Key) → Some key ≡ option_map (λ e. e.0) (find (λ e. covers cover e.0 e.1) es)
     → length (remove_entry (is_key key) es) < length es
-fewer cover es key found = entries.drop_fewer is_key key_laws one_key (covers cover) es key found
+fewer cover es key found = entries.drop_fewer is_key key_laws one_key (λ e. covers cover e.0 e.1) es key found
 
--- and what isn't covered stays
-pub stays : (cover : Cover) (es : List (Key × Translation)) (at key : Key) → IsDistinct is_key (keys_of es)
-    → Some at ≡ option_map (λ e. e.0) (find (λ e. covers cover e.0) es) → covers cover key ≡ false
-    → content_of (remove_entry (is_key at) es) key ≡ content_of es key
-stays cover es at key d found out = entries.drop_keeps is_key key_laws one_key (covers cover) es at key d found out
-
--- with no covered entry left, what was covered is gone, and nothing else
-pub dropped : (cover : Cover) (old new : List (Key × Translation)) → None ≡ option_map (λ e. e.0) (find (λ e. covers cover e.0) new)
-    → ((key : Key) → covers cover key ≡ false → content_of new key ≡ content_of old key) → DropsWhere (covers cover) (content_of old) (content_of new)
-dropped cover old new none same = entries.drop_done is_key key_laws one_key (covers cover) old new none same
-
--- without the entry of a key
-pub dropped_key : (at : Key) (es : List (Key × Translation)) → IsDistinct is_key (keys_of es) → DropsWhere (is_key at) (content_of es) (content_of (remove_entry (is_key at) es))
-dropped_key at es d = λ key. entries.removed is_key key_laws one_key at key es d
+-- what is found among those that aren't covered
+pub dropped : (cover : Cover) (es new : List (Key × Translation)) → IsDistinct is_key (keys_of es) → new ≡ after_drop (covers cover) es → DropsWhere (covers cover) (content_of es) (content_of new)
+unfolding after_drop
+dropped cover es new d is key = ap (λ (l : List (Key × Translation)). content_of l key) is ∙ entries.lookup-filter is_key key_laws one_key (λ e. covers cover e.0 e.1) key es d
 
 -- THE LIST OF ENTRIES
 
@@ -71,19 +61,14 @@ kept_order (Ok x) c new at t valid room ok err sure = inl (ap (λ (k : LruCache 
 kept_order (Err x) c new at t valid room ok err sure =
     inr (refused_at (content_of c.entries at) (λ there. let wrong = sure there in cc), ap (λ (k : LruCache Key Translation). k.entries) err)
 
--- without the entry of a key
-pub removed_order : (at : Key) (es : List (Key × Translation)) → IsDistinct is_key (keys_of es) → remove_entry (is_key at) es ≡ after_drop (is_key at) es
-unfolding after_drop
-removed_order at es d = entries.remove-filter is_key key_laws one_key at es d
-
 -- each pop of a covered entry leaves those that aren't
-pub same_others : (cover : Cover) (es : List (Key × Translation)) (at : Key) → Some at ≡ option_map (λ e. e.0) (find (λ e. covers cover e.0) es)
+pub same_others : (cover : Cover) (es : List (Key × Translation)) (at : Key) → IsDistinct is_key (keys_of es) → Some at ≡ option_map (λ e. e.0) (find (λ e. covers cover e.0 e.1) es)
     → after_drop (covers cover) (remove_entry (is_key at) es) ≡ after_drop (covers cover) es
 unfolding after_drop
-same_others cover es at found = entries.drop_others is_key key_laws one_key (covers cover) es at found
+same_others cover es at d found = entries.drop_others is_key key_laws one_key (λ e. covers cover e.0 e.1) es at d found
 
 -- and with no covered entry left these are all
-pub others_left : (cover : Cover) (old new : List (Key × Translation)) → None ≡ option_map (λ e. e.0) (find (λ e. covers cover e.0) new)
+pub others_left : (cover : Cover) (old new : List (Key × Translation)) → None ≡ option_map (λ e. e.0) (find (λ e. covers cover e.0 e.1) new)
     → after_drop (covers cover) new ≡ after_drop (covers cover) old → new ≡ after_drop (covers cover) old
 unfolding after_drop
-others_left cover old new none same = entries.drop_left is_key key_laws one_key (covers cover) old new none same
+others_left cover old new none same = entries.drop_left is_key key_laws one_key (λ e. covers cover e.0 e.1) old new none same

@@ -1,5 +1,5 @@
 -- `==` of keys and of translations decides whether they are one.
-use Rattle.std.proofs.Common.{rules, Decides, ◌≡◌, true, subst, nat_eq}
+use Rattle.std.proofs.Common.{rules, Decides, ◌≡◌, ◌&&◌, true, subst, nat_eq}
 use Rattle.std.proofs.lemmas.Bool.{eqb-true}
 use Rattle.iom_base.specs.contracts.rights.RightsPartialEq.TheImpl as rights
 use Rattle.iom_base.specs.declared.rights.Rights.{Rights}
@@ -15,8 +15,9 @@ one_right a b same = search rules
 
 one_translation : (a b : Translation) → translation.ghosts.eq a b ≡ true → a ≡ b
 one_translation a b same =
-    let both_are = both (nat_eq a.frame b.frame) (rights.ghosts.eq a.rights b.rights) same in
-    λ i. record { frame = eqb-true a.frame b.frame both_are.0 i; rights = one_right a.rights b.rights both_are.1 i }
+    let parts = both (nat_eq a.frame b.frame) (rights.ghosts.eq a.rights b.rights && nat_eq a.level b.level) same in
+    let two = both (rights.ghosts.eq a.rights b.rights) (nat_eq a.level b.level) parts.1 in
+    λ i. record { frame = eqb-true a.frame b.frame parts.0 i; rights = one_right a.rights b.rights two.0 i; level = eqb-true a.level b.level two.1 i }
 
 pub translation_decides : (a b : Translation) → Decides (translation.ghosts.eq a b) (a ≡ b)
 translation_decides a b = (one_translation a b, λ same. subst (λ x. translation.ghosts.eq a x ≡ true) same (translation_eq.laws-law.refl a))

@@ -3,15 +3,16 @@ use Rattle.std.proofs.Common.{◌≡◌, ◌≢◌, ◌<◌, ◌⊎◌, ◌∙�
 use Rattle.std.proofs.lemmas.Bool.Decides.{eqb_tells}
 use Rattle.std.proofs.lemmas.List.{get_or-set_other, get_or_past, length-set}
 use Rattle.std.proofs.lemmas.Grind.{get_or-set_at}
+use Rattle.std.proofs.lemmas.Option.{get_or_from_slice_get}
 use Rattle.iom_tlb.specs.declared.space.Space.{Space}
 use Rattle.iom_tlb.specs.declared.trans_cache.Translation.{Translation}
-use Rattle.iom_tlb.specs.Content.{Key, Sets, DropsWhere}
-use Rattle.iom_tlb.specs.Entries.{is_key}
+use Rattle.iom_tlb.specs.Content.{Key, Sets, left_by, DropsWhere}
+use Rattle.iom_tlb.specs.Entries.{is_key, has_key}
 use Rattle.iom_tlb.specs.Ways.{Ways, is_space, space_word, in_ways, in_set}
 use Rattle.iom_tlb.specs.WayCalls.{AreWays, AreAtHome, HasKey, with_way, PutsWay, Empties}
 use Rattle.iom_tlb.proofs.KeyLemmas.{key_laws, one_key, apart_keys}
 use Rattle.iom_tlb.proofs.WordLemmas.{no_word, one_word}
-use Rattle.iom_tlb.proofs.WayLemmas.{found_at, none_at, put_other, same_ways}
+use Rattle.iom_tlb.proofs.WayLemmas.{Found, found_at, found_way, none_at, none_there, put_other, same_ways}
 
 same_key : (a b : Key) → a.0 ≡ b.0 → a.1 ≡ b.1 → a ≡ b
 same_key a b s n = let P : Space → ℕ → Key = λ x y. (x, y) in ap (λ x. P x a.1) s ∙ ap (P b.0) n
@@ -25,10 +26,6 @@ guarded false x e = refl
 guarded_same : (b : Bool) (x y : Option Translation) → (b ≡ true → x ≡ y) → cond b x None ≡ cond b y None
 guarded_same true x y e = e refl
 guarded_same false x y e = refl
-
-chosen : (out : Bool) (new old : Option Translation) → (out ≡ true → new ≡ None) → (out ≡ false → new ≡ old) → new ≡ cond out None old
-chosen true new old f g = f refl
-chosen false new old f g = g refl
 
 -- a way has the key or hasn't
 has_or_not : (ways : Ways) (word page way : ℕ) → HasKey ways word page way ⊎ (get_or ways.spaces way 0 ≡ word → get_or ways.pages way 0 ≢ page)
@@ -184,14 +181,14 @@ module _ (ways : Ways) (facts : AreWays ways) where
 
   -- the way of one key, emptied
   pub empties_one : (at : Key) (way : ℕ) → is_space at.0 ≡ true → way < 8 → HasKey ways (space_word at.0) at.1 way
-      → Empties (is_key at) ways.pages ways.spaces (set ways.spaces way 0)
+      → Empties (has_key at) ways.pages ways.translations ways.spaces (set ways.spaces way 0)
   empties_one at way fits lt has = record {
     as_many = length-set ways.spaces way 0;
     empty_or_same = λ k. elim (eqb_tells k way) [
       | inl same ↦ inl (there k same.1)
       | inr ne ↦ inr (get_or-set_other ways.spaces way k 0 0 ne.1)
     ];
-    tested = λ k space own e. elim (eqb_tells k way) [
+    tested = λ k space cached own e at_k. elim (eqb_tells k way) [
       | inl same ↦ there k same.1 ∙ sym (ap (λ b. cond b 0 (space_word space)) (is_it k space own e same.1))
       | inr ne ↦ get_or-set_other ways.spaces way k 0 0 ne.1 ∙ e ∙ sym (ap (λ b. cond b 0 (space_word space)) (is_not k space e ne.1))
     ];
@@ -208,31 +205,61 @@ module _ (ways : Ways) (facts : AreWays ways) where
     is_not k space e ne = apart_keys at (space, get_or ways.pages k 0) (λ same.
         ne (only_this at way has k (e ∙ ap (λ (x : Key). space_word x.0) (sym same), ap (λ (x : Key). x.1) (sym same))))
 
-module _ (ways : Ways) (facts : AreWays ways) (is_out : Key → Bool) (new : List ℕ) (empties : Empties is_out ways.pages ways.spaces new) where
-  same_test : (key : Key) (k : ℕ) → get_or ways.pages k 0 ≡ key.1 → is_out (key.0, get_or ways.pages k 0) ≡ is_out key
-  same_test key k f = ap (λ n. is_out (key.0, n)) f
+module _ (ways : Ways) (facts : AreWays ways) (is_out : Key → Translation → Bool) (new : List ℕ) (empties : Empties is_out ways.pages ways.translations ways.spaces new) where
+  abbrev Had : Key → Option Translation
+  Had key = in_ways ways.spaces ways.pages ways.translations (space_word key.0) key.1
 
-  none_left : (key : Key) → is_space key.0 ≡ true → is_out key ≡ true → (k : ℕ) → get_or new k 0 ≡ space_word key.0 → get_or ways.pages k 0 ≢ key.1
-  none_left key own out k e = λ f. elim (empties.empty_or_same k) [
-    | inl z ↦ no_word key.0 (sym e ∙ z)
-    | inr s ↦ no_word key.0 (sym e ∙ empties.tested k key.0 own (sym s ∙ e) ∙ ap (λ b. cond b 0 (space_word key.0)) (same_test key k f ∙ out))
+  abbrev Has : Key → Option Translation
+  Has key = in_ways new ways.pages ways.translations (space_word key.0) key.1
+
+  -- a word that is left was there
+  was_there : (key : Key) (k : ℕ) → get_or new k 0 ≡ space_word key.0 → get_or ways.spaces k 0 ≡ space_word key.0
+  was_there key k e = elim (empties.empty_or_same k) [
+    | inl z ↦ absurd (no_word key.0 (sym e ∙ z))
+    | inr s ↦ sym s ∙ e
   ]
 
-  all_left : (key : Key) → is_space key.0 ≡ true → is_out key ≡ false
-      → in_ways new ways.pages ways.translations (space_word key.0) key.1 ≡ in_ways ways.spaces ways.pages ways.translations (space_word key.0) key.1
-  all_left key own out = same_ways (space_word key.0) key.1 new ways.spaces ways.pages ways.translations empties.as_many (λ k f. (
-    (λ e. elim (empties.empty_or_same k) [
-      | inl z ↦ absurd (no_word key.0 (sym e ∙ z))
-      | inr s ↦ sym s ∙ e
-    ]),
-    (λ e. empties.tested k key.0 own e ∙ ap (λ b. cond b 0 (space_word key.0)) (same_test key k f ∙ out)),
-  ))
+  -- where nothing was nothing is
+  still_none : (key : Key) → Had key ≡ None → Has key ≡ None
+  still_none key none =
+      let eight = facts.eight_spaces in
+      let pages = facts.eight_pages in
+      let translations = facts.eight_translations in
+      none_at (space_word key.0) key.1 new ways.pages ways.translations (λ k e.
+      none_has ways facts key
+      (λ j lt own. none_there (space_word key.0) key.1 ways.spaces ways.pages ways.translations none (omega arith) (omega arith) j (omega arith) own)
+      k (was_there key k e))
+
+  module _ (key : Key) (own : is_space key.0 ≡ true) (t : Translation) (found : Found ways.spaces ways.pages ways.translations (space_word key.0) key.1 t) where
+    has : HasKey ways (space_word key.0) key.1 found.way
+    has = (get_or_from_slice_get ways.spaces found.way (space_word key.0) 0 found.space, get_or_from_slice_get ways.pages found.way key.1 0 found.number)
+
+    tested : get_or new found.way 0 ≡ cond (is_out key t) 0 (space_word key.0)
+    tested = empties.tested found.way key.0 t own has.0 found.translation ∙ ap (λ n. cond (is_out (key.0, n) t) 0 (space_word key.0)) has.1
+
+    in_that_way : (k : ℕ) → get_or ways.spaces k 0 ≡ space_word key.0 → get_or ways.pages k 0 ≡ key.1 → get_or new k 0 ≡ cond (is_out key t) 0 (space_word key.0)
+    in_that_way k e f = ap (λ j. get_or new j 0) (only_this ways facts key found.way has k (e, f)) ∙ tested
+
+    -- what passes the test is gone, and what doesn't is left
+    out_or_left : Had key ≡ Some t → (b : Bool) → is_out key t ≡ b → Has key ≡ cond b None (Some t)
+    out_or_left is true out = none_at (space_word key.0) key.1 new ways.pages ways.translations (λ k e. λ f.
+        no_word key.0 (sym e ∙ in_that_way k (was_there key k e) f ∙ ap (λ b. cond b 0 (space_word key.0)) out))
+    out_or_left is false out =
+        same_ways (space_word key.0) key.1 new ways.spaces ways.pages ways.translations empties.as_many
+        (λ k f. (was_there key k, λ e. in_that_way k e f ∙ ap (λ b. cond b 0 (space_word key.0)) out))
+        ∙ is
+
+  left : (key : Key) → is_space key.0 ≡ true → (was : Option Translation) → Had key ≡ was → Has key ≡ left_by (is_out key) was
+  left key own None is = still_none key is
+  left key own (Some t) is = out_or_left key own t (found_way ways.spaces ways.pages ways.translations (space_word key.0) key.1 t is) is (is_out key t) refl
+
+  left_at : (key : Key) (b : Bool) → is_space key.0 ≡ b → cond b (Has key) None ≡ left_by (is_out key) (cond b (Had key) None)
+  left_at key true own = left key own (Had key) refl
+  left_at key false own = refl
 
   -- what that does to the content
   pub drops : DropsWhere is_out (in_set ways) (in_set (record { spaces = new; pages = ways.pages; translations = ways.translations; next = ways.next }))
-  drops key = chosen (is_out key) _ _
-      (λ out. guarded (is_space key.0) _ (λ own. none_at (space_word key.0) key.1 new ways.pages ways.translations (none_left key own out)))
-      (λ out. guarded_same (is_space key.0) _ _ (λ own. all_left key own out))
+  drops key = left_at key (is_space key.0) refl
 
   same_word : (k : ℕ) → get_or new k 0 ≢ 0 → get_or new k 0 ≡ get_or ways.spaces k 0
   same_word k there = elim (empties.empty_or_same k) [
@@ -263,8 +290,16 @@ module _ (ways : Ways) (facts : AreWays ways) (is_out : Key → Bool) (new : Lis
 
 module _ (ways : Ways) (facts : AreWays ways) (at : Key) where
   -- where no way has the key there is nothing to take out
-  pub drops_nothing : ((k : ℕ) → k < 8 → get_or ways.spaces k 0 ≡ space_word at.0 → get_or ways.pages k 0 ≢ at.1) → DropsWhere (is_key at) (in_set ways) (in_set ways)
-  drops_nothing none key = chosen (is_key at key) _ _ (λ yes. ap (in_set ways) (sym (one_key at key yes)) ∙ missed ways facts at none) (λ not_it. refl)
+  pub drops_nothing : ((k : ℕ) → k < 8 → get_or ways.spaces k 0 ≡ space_word at.0 → get_or ways.pages k 0 ≢ at.1) → DropsWhere (has_key at) (in_set ways) (in_set ways)
+  drops_nothing none key = same (in_set ways key) refl
+    where
+      other : (t : Translation) → in_set ways key ≡ Some t → (b : Bool) → is_key at key ≡ b → Some t ≡ cond b None (Some t)
+      other t is true same_key = let nothing : in_set ways key ≡ None = ap (in_set ways) (sym (one_key at key same_key)) ∙ missed ways facts at none in absurd (cc)
+      other t is false apart = refl
+
+      same : (was : Option Translation) → in_set ways key ≡ was → was ≡ left_by (has_key at key) was
+      same None is = refl
+      same (Some t) is = other t is (is_key at key) refl
 
   module _ (fits : is_space at.0 ≡ true) (t : Translation) (new : Ways) (puts : PutsWay ways (space_word at.0) at.1 t new) where
     Bounds : Type 0

@@ -29,6 +29,11 @@ pub record Sets (old : Translations) (at : Key) (translation : Translation) (new
 abbrev pub Keeps : Bool → Translations → Key → Translation → Translations → Type 0
 Keeps sure old at translation new = Sets old at translation new ⊎ ((sure ≡ false) × (old at ≡ None) × TranslationsStay old new)
 
+-- what is left of what was there
+abbrev pub left_by : {A : Type 0} → (A → Bool) → Option A → Option A
+left_by is_out None = None
+left_by is_out (Some value) = if is_out value then None else Some value
+
 -- THE RELATION of a drop: what is taken out is exactly that of which the test is true
-abbrev pub DropsWhere : (Key → Bool) → Translations → Translations → Type 0
-DropsWhere is_out old new = (key : Key) → new key ≡ (if is_out key then None else old key)
+abbrev pub DropsWhere : (Key → Translation → Bool) → Translations → Translations → Type 0
+DropsWhere is_out old new = (key : Key) → new key ≡ left_by (is_out key) (old key)

@@ -1,8 +1,12 @@
--- What a cover covers.
-use Rattle.std.specs.Prelude.{ℕ, Bool, true, false, ◌==◌, ◌&&◌, ◌||◌, List, [], ◌∷◌, Option, Some, None}
+-- What a cover covers (IOMMU specification, section 3.1.1: an address names the leaf that translates it, also one of a superpage).
+use Rattle.std.specs.Prelude.{ℕ, ◌/◌, ◌^◌, Bool, true, false, ◌==◌, ◌&&◌, ◌||◌, List, [], ◌∷◌, Option, Some, None}
+use Rattle.iom_base.specs.Tables.{table_entries}
+use Rattle.iom_tlb.specs.declared.space.Space.{Space}
 use Rattle.iom_tlb.specs.declared.space.Space.TheVariants as space
 use Rattle.iom_tlb.specs.declared.cover.Cover.{Cover}
 use Rattle.iom_tlb.specs.declared.cover.Cover.TheVariants as cover
+use Rattle.iom_tlb.specs.declared.large_leaves.LargeLeaves.{LargeLeaves}
+use Rattle.iom_tlb.specs.declared.trans_cache.Translation.{Translation}
 use Rattle.iom_tlb.specs.Content.{Key}
 
 -- whether a number is the one that is asked for, where one is
@@ -10,14 +14,36 @@ abbrev pub admits : Option ℕ → ℕ → Bool
 admits None number = true
 admits (Some asked) number = asked == number
 
--- whether a page of an address space is covered; a cover of one kind of address spaces covers no page of another kind
-abbrev pub covers : Cover → Key → Bool
-covers (cover.First pscid page) (space.First own, number) = admits pscid own && admits page number
-covers (cover.Second gscid page) (space.Second own, number) = admits gscid own && admits page number
-covers (cover.Both gscid pscid page) (space.Both guest own, number) = admits gscid guest && admits pscid own && admits page number
-covers _ _ = false
+-- whether two pages lie in one leaf of this level: it spans the entries of a table for each level below it
+abbrev pub is_same_leaf : ℕ → ℕ → ℕ → Bool
+is_same_leaf level page other = page / table_entries ^ level == other / table_entries ^ level
+
+-- whether a page lies in the leaf of the one that is asked for, where one is
+abbrev pub admits_page : Option ℕ → ℕ → ℕ → Bool
+admits_page None number level = true
+admits_page (Some asked) number level = is_same_leaf level asked number
+
+-- whether a translation of a page of an address space is covered; a cover of one kind of address spaces covers no page of another kind
+abbrev pub covers : Cover → Key → Translation → Bool
+covers (cover.First pscid page) (space.First own, number) cached = admits pscid own && admits_page page number cached.level
+covers (cover.Second gscid page) (space.Second own, number) cached = admits gscid own && admits_page page number cached.level
+covers (cover.Both gscid pscid page) (space.Both guest own, number) cached =
+    admits gscid guest && admits pscid own && admits_page page number cached.level
+covers _ _ _ = false
 
 -- whether one of some covers covers it
-abbrev pub are_covering : List Cover → Key → Bool
-are_covering [] key = false
-are_covering (first ∷ rest) key = covers first key || are_covering rest key
+abbrev pub are_covering : List Cover → Key → Translation → Bool
+are_covering [] key cached = false
+are_covering (first ∷ rest) key cached = covers first key cached || are_covering rest key cached
+
+-- whether a translation from a leaf above 4 KiB may be there: of an address space
+abbrev pub may_be_large : LargeLeaves → Space → Bool
+may_be_large large (space.First own) = large.first
+may_be_large large (space.Second own) = large.second
+may_be_large large (space.Both guest own) = large.both
+
+-- and among those that a cover covers
+abbrev pub may_cover_large : LargeLeaves → Cover → Bool
+may_cover_large large (cover.First pscid page) = large.first
+may_cover_large large (cover.Second gscid page) = large.second
+may_cover_large large (cover.Both gscid pscid page) = large.both

@@ -31,7 +31,7 @@ abbrev pub WasKept : Key → Translation → List TranslationCacheCall → Type 
 WasKept key translation [] = ⊥
 WasKept key translation (look asked found ∷ earlier) = WasKept key translation earlier
 WasKept key translation (keep at other ∷ earlier) = ((at ≡ key) × (other ≡ translation)) ⊎ ((at ≢ key) × WasKept key translation earlier)
-WasKept key translation (drop_where cover ∷ earlier) = (covers cover key ≡ false) × WasKept key translation earlier
+WasKept key translation (drop_where cover ∷ earlier) = (covers cover key translation ≡ false) × WasKept key translation earlier
 WasKept key translation (drop_all ∷ earlier) = ⊥
 
 -- THE LAW
@@ -40,7 +40,8 @@ AnswersOnlyWhatWasKept =
     (sure : Bool) (old : Translations) (calls : List TranslationCacheCall) (new : Translations) → HasNothing old → RunsCache sure old calls new
     → (key : Key) (translation : Translation) → new key ≡ Some translation → WasKept key translation calls
 
--- IOTINVAL.VMA and IOTINVAL.GVMA, both without any field, cover every page of every address space
+-- IOTINVAL.VMA and IOTINVAL.GVMA, both without any field, cover every translation of every page of every address space
 abbrev pub TakeOutEverything : Type 0
 TakeOutEverything =
-    (key : Key) → are_covering (covers_of (IotinvalVma None None None)) key || are_covering (covers_of (IotinvalGvma None None)) key ≡ true
+    (key : Key) (translation : Translation)
+    → are_covering (covers_of (IotinvalVma None None None)) key translation || are_covering (covers_of (IotinvalGvma None None)) key translation ≡ true

@@ -1,9 +1,11 @@
 -- What the calls of a set do to its ways, and what holds of them whatever calls were made.
-use Rattle.std.specs.Prelude.{◌≡◌, ◌≢◌, ◌⊎◌, ℕ, ◌+◌, ◌%◌, ◌<◌, Bool, true, List, length, get_or, set, if◌then◌else◌}
+use Rattle.std.specs.Prelude.{◌≡◌, ◌≢◌, ◌⊎◌, ℕ, ◌+◌, ◌%◌, ◌<◌, Bool, true, false, List, Option, Some, length, get_or, set, slice_get, if◌then◌else◌}
+use Rattle.iom_tlb.specs.declared.large_leaves.LargeLeaves.{LargeLeaves}
 use Rattle.iom_tlb.specs.declared.space.Space.{Space}
 use Rattle.iom_tlb.specs.declared.trans_cache.Translation.{Translation}
-use Rattle.iom_tlb.specs.Content.{Key}
-use Rattle.iom_tlb.specs.Ways.{Ways, no_ways, is_space, space_word}
+use Rattle.iom_tlb.specs.Content.{Key, Translations}
+use Rattle.iom_tlb.specs.Covers.{may_be_large}
+use Rattle.iom_tlb.specs.Ways.{Ways, no_ways, is_space, space_word, content_of_sets}
 
 -- THE INVARIANT of a set: of its eight ways each is empty or has the word of an address space, and no two have one key
 pub record AreWays (ways : Ways) : Type 0 where
@@ -18,9 +20,17 @@ pub record AreWays (ways : Ways) : Type 0 where
 abbrev pub AreAtHome : ℕ → Ways → Type 0
 AreAtHome number ways = (way : ℕ) → get_or ways.spaces way 0 ≢ 0 → get_or ways.pages way 0 % 64 ≡ number
 
--- THE INVARIANT of the cache: 64 sets, and each way's page is at home
+-- THE INVARIANT of the sets: 64, and each way's page is at home
 abbrev pub AreSets : List Ways → Type 0
 AreSets sets = (length sets ≡ 64) × ((number : ℕ) → AreAtHome number (get_or sets number no_ways))
+
+-- a translation from a leaf above 4 KiB is of an address space where one may be
+abbrev pub AreMarked : LargeLeaves → Translations → Type 0
+AreMarked large content = (key : Key) (cached : Translation) → content key ≡ Some cached → may_be_large large key.0 ≡ false → cached.level ≡ 0
+
+-- THE INVARIANT of the cache
+abbrev pub IsWayCache : List Ways → LargeLeaves → Type 0
+IsWayCache sets large = AreSets sets × AreMarked large (content_of_sets sets)
 
 -- THE WAY that a new key takes: the lowest that is empty. Or none is, and it is the one at the counter, which goes on by one modulo 8
 abbrev pub TakesWay : List ℕ → ℕ → ℕ → ℕ → Type 0
@@ -57,9 +67,9 @@ AreCountersAtZero sets = (number : ℕ) → (get_or sets number no_ways).next �
 abbrev pub CountersStay : List Ways → List Ways → Type 0
 CountersStay old new = (number : ℕ) → (get_or new number no_ways).next ≡ (get_or old number no_ways).next
 
--- ways are empty now: each whose key passes the test, and no other that had one
-pub record Empties (is_out : Key → Bool) (pages old new : List ℕ) : Type 0 where
+-- ways are empty now: each whose key and translation pass the test, and no other that had one
+pub record Empties (is_out : Key → Translation → Bool) (pages : List ℕ) (translations : List Translation) (old new : List ℕ) : Type 0 where
   pub as_many : length new ≡ length old
   pub empty_or_same : (way : ℕ) → (get_or new way 0 ≡ 0) ⊎ (get_or new way 0 ≡ get_or old way 0)
-  pub tested : (way : ℕ) (space : Space) → is_space space ≡ true → get_or old way 0 ≡ space_word space
-      → get_or new way 0 ≡ (if is_out (space, get_or pages way 0) then 0 else space_word space)
+  pub tested : (way : ℕ) (space : Space) (cached : Translation) → is_space space ≡ true → get_or old way 0 ≡ space_word space → slice_get translations way ≡ Some cached
+      → get_or new way 0 ≡ (if is_out (space, get_or pages way 0) cached then 0 else space_word space)

@@ -1,12 +1,15 @@
 ghost use Rattle.std.specs.Prelude.{◌≡◌, ◌≢◌, IfSome, false};
 ghost use Rattle.iom_tlb.specs.Content.{Key};
-ghost use Rattle.iom_tlb.specs.Covers.{covers};
+ghost use Rattle.iom_tlb.specs.Covers.{covers, is_same_leaf};
 ghost use Rattle.iom_tlb.specs.Entries.{is_key};
+ghost use Rattle.iom_tlb.specs.declared.trans_cache.Translation.{Translation};
 
 use crate::space::Space;
+use crate::trans_cache::Translation;
+use iom_base::TABLE_ENTRIES;
 
 /// Which translations are taken out: of the address spaces of one kind, and of these of the one with that
-/// GSCID or PSCID, or of all (None); of that page, or of all (None).
+/// GSCID or PSCID, or of all (None); those that came from the leaf in which that page lies, or all (None).
 #[derive(Clone, Copy, PartialEq, Eq, Debug)]
 pub enum Cover {
     First {
@@ -24,17 +27,33 @@ pub enum Cover {
     },
 }
 
+/// Whether two pages lie in one leaf that has so many levels below it.
+fn is_same_leaf(level: u8, page: u64, other: u64) -> bool
+    ensures { result ≡ is_same_leaf level page other }
+{
+    let mut one = page;
+    let mut two = other;
+    for _level in 0..level {
+        one = one / TABLE_ENTRIES;
+        two = two / TABLE_ENTRIES;
+    }
+    one == two
+}
+
 impl Cover {
     /// Whether the translation of this page of an address space is among them.
-    pub fn covers(&self, space: Space, number: u64) -> bool
-        ensures { result ≡ covers self.now (space, number) }
+    pub fn covers(&self, space: Space, number: u64, cached: Translation) -> bool
+        ensures { result ≡ covers self.now (space, number) cached }
     {
+        let level = cached.level;
         match (*self, space) {
             (Cover::First { pscid, page }, Space::First { pscid: own }) => {
-                pscid.is_none_or(|asked| asked == own) && page.is_none_or(|asked| asked == number)
+                pscid.is_none_or(|asked| asked == own)
+                    && page.is_none_or(|asked| is_same_leaf(level, asked, number))
             }
             (Cover::Second { gscid, page }, Space::Second { gscid: own }) => {
-                gscid.is_none_or(|asked| asked == own) && page.is_none_or(|asked| asked == number)
+                gscid.is_none_or(|asked| asked == own)
+                    && page.is_none_or(|asked| is_same_leaf(level, asked, number))
             }
             (
                 Cover::Both { gscid, pscid, page },
@@ -45,15 +64,16 @@ impl Cover {
             ) => {
                 gscid.is_none_or(|asked| asked == guest)
                     && pscid.is_none_or(|asked| asked == own)
-                    && page.is_none_or(|asked| asked == number)
+                    && page.is_none_or(|asked| is_same_leaf(level, asked, number))
             }
             (Cover::First { .. } | Cover::Second { .. } | Cover::Both { .. }, _) => false,
         }
     }
 
-    /// The one key that is covered, where the cover leaves nothing of it open.
+    /// The one key of which a translation from a leaf of 4 KiB is covered, where the cover leaves nothing of it open.
     pub(crate) fn only_key(&self) -> Option<(Space, u64)>
-        ensures { IfSome result (λ key. (other : Key) → covers self.now other ≡ is_key key other) }
+        ensures { IfSome result (λ key. (other : Key) (cached : Translation) → cached.level ≡ 0
+            → covers self.now other cached ≡ is_key key other) }
     {
         match *self {
             Cover::First {
@@ -73,9 +93,10 @@ impl Cover {
         }
     }
 
-    /// The one page of which translations are covered, where the cover names it.
+    /// The one page of which translations from leaves of 4 KiB are covered, where the cover names it.
     pub(crate) fn only_page(&self) -> Option<u64>
-        ensures { IfSome result (λ page. (key : Key) → key.1 ≢ page → covers self.now key ≡ false) }
+        ensures { IfSome result (λ page. (key : Key) (cached : Translation) → cached.level ≡ 0 → key.1 ≢ page
+            → covers self.now key cached ≡ false) }
     {
         match *self {
             Cover::First { page, .. } | Cover::Second { page, .. } | Cover::Both { page, .. } =>

@@ -4,7 +4,7 @@ ghost use Rattle.std.specs.Prelude.{◌≡◌, ◌↔◌, false, IsTrue, option_
 ghost use Rattle.std.specs.List.{find as first_of};
 ghost use Rattle.iom_tlb.specs.Content.{TranslationsStay, Keeps, DropsWhere};
 ghost use Rattle.iom_tlb.specs.Covers.{covers};
-ghost use Rattle.iom_tlb.specs.Entries.{is_key, content_of, after_look, KeepsInOrder, after_drop};
+ghost use Rattle.iom_tlb.specs.Entries.{content_of, after_look, KeepsInOrder, after_drop};
 
 use crate::cover::Cover;
 use crate::space::Space;
@@ -73,17 +73,6 @@ pub(crate) fn put(
     let _ = entries.put(key, translation);
 }
 
-/// Takes out what is at a key.
-pub(crate) fn remove(entries: &mut LruCache<(Space, u64), Translation>, key: (Space, u64))
-    ensures dropped { DropsWhere (is_key key) (content_of entries.old.entries)
-        (content_of entries.new.entries) }
-    ensures order { entries.new.entries ≡ after_drop (is_key key) entries.old.entries }
-    ensures capacity { entries.new.cap ≡ entries.old.cap }
-{
-    let _ = entries.len();
-    entries.pop(&key);
-}
-
 /// Takes out what is covered, one entry after the other.
 pub(crate) fn remove_covered(entries: &mut LruCache<(Space, u64), Translation>, cover: &Cover)
     ensures dropped { DropsWhere (covers cover.now) (content_of entries.old.entries)
@@ -91,6 +80,7 @@ pub(crate) fn remove_covered(entries: &mut LruCache<(Space, u64), Translation>, 
     ensures order { entries.new.entries ≡ after_drop (covers cover.now) entries.old.entries }
     ensures capacity { entries.new.cap ≡ entries.old.cap }
 {
+    let _ = entries.len();
     while let Some(key) = first_covered(entries, cover) {
         let _ = entries.len();
         entries.pop(&key);
@@ -103,10 +93,10 @@ fn first_covered(
     cover: &Cover,
 ) -> Option<(Space, u64)>
     ensures { result ≡ option_map (λ entry. entry.0)
-        (first_of (λ entry. covers cover.now entry.0) entries.now.entries) }
+        (first_of (λ entry. covers cover.now entry.0 entry.1) entries.now.entries) }
 {
-    for (key, _) in entries.iter() {
-        if cover.covers(key.0, key.1) {
+    for (key, translation) in entries.iter() {
+        if cover.covers(key.0, key.1, *translation) {
             return Some(*key);
         }
     }

@@ -2,7 +2,8 @@
 //!
 //! RISC-V IOMMU Architecture Specification 1.0, sections 2.1.3 (GSCID and PSCID, which name address spaces),
 //! 2.8, "Caching in-memory data structures", and 3.1.1 (IOTINVAL.VMA and IOTINVAL.GVMA). Each translation is
-//! that of one page of 4 KiB: each page of a superpage has one of its own.
+//! that of one page of 4 KiB: each page of a superpage has one of its own, which keeps the level of the leaf. A
+//! command that names a page takes out all that came from the leaf of that page.
 //!
 //! The layers above may rely on [`TransCache`], whichever cache stands behind it: a cache is seen as its
 //! content, which has a translation or none for each page of each address space. A look answers the content,
@@ -21,6 +22,7 @@ mod cover;
 mod entries;
 mod invalidation;
 mod lanes;
+mod large_leaves;
 pub mod laws;
 mod plain;
 mod space;

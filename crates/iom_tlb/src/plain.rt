@@ -77,10 +77,7 @@ impl TransCache for PlainCache {
         ensures dropped { DropsWhere (covers cover.now) (content_of self.old) (content_of self.new) }
         ensures order { self.new ≡ after_drop (covers cover.now) self.old }
     {
-        match cover.only_key() {
-            Some(key) => entries::remove(&mut self.entries, key),
-            None => entries::remove_covered(&mut self.entries, cover),
-        }
+        entries::remove_covered(&mut self.entries, cover);
     }
 
     fn drop_all(&mut self)

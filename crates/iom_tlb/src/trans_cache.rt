@@ -6,11 +6,14 @@ use crate::cover::Cover;
 use crate::space::Space;
 use iom_base::Rights;
 
-/// Where a page is translated to: its frame of 4 KiB, and what may be done there.
+/// Where a page is translated to: its frame of 4 KiB, and what may be done there; and from which leaf that came.
 #[derive(Clone, Copy, PartialEq, Eq, Debug)]
 pub struct Translation {
     pub frame: u32,
     pub rights: Rights,
+    /// How many levels of tables are below the leaf: 0 for a page of 4 KiB, 1 for a superpage of 2 MiB, and so on, 512
+    /// times as many pages a level. Through both stages it is the first stage's leaf.
+    pub level: u8,
 }
 
 impl Translation {

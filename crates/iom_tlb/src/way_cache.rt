@@ -1,13 +1,15 @@
 ghost use Rattle.std.specs.Prelude.{◌≡◌, ◌<◌, ◌%◌, ◌↔◌, ℕ, true, IfOk, IsTrue, IfSome, Some, length, get_or};
-ghost use Rattle.iom_tlb.specs.Content.{Keeps, DropsWhere, HasNothing};
+ghost use Rattle.iom_tlb.specs.Content.{Key, Keeps, DropsWhere, HasNothing};
 ghost use Rattle.iom_tlb.specs.Covers.{covers};
+ghost use Rattle.iom_tlb.specs.declared.trans_cache.Translation.{Translation};
 ghost use Rattle.iom_tlb.specs.Ways.{in_set, no_ways, content_of_sets};
 ghost use Rattle.iom_tlb.specs.declared.cached_page.CachedPage.{CachedPage};
 ghost use Rattle.iom_tlb.specs.Places.{IsCached, IsCachedAt, HavePlaces};
-ghost use Rattle.iom_tlb.specs.WayCalls.{AreAtHome, AreCountersAtZero, CountersStay, PutsInSet};
+ghost use Rattle.iom_tlb.specs.WayCalls.{AreSets, AreAtHome, AreCountersAtZero, CountersStay, PutsInSet};
 
 use crate::cached_page::CachedPage;
 use crate::cover::Cover;
+use crate::large_leaves::LargeLeaves;
 use crate::space::Space;
 use crate::trans_cache::{TransCache, Translation};
 use crate::way_set::{WAYS, WaySet};
@@ -29,18 +31,20 @@ pub const PLACES: usize = SETS * WAYS;
 #[derive(Drop)]
 pub struct WayCache {
     sets: Vec<WaySet>,
+    /// Where none may be, the page that a cover names is in one set.
+    large: LargeLeaves,
 }
 
 impl Model for WayCache {
     ghost use Rattle.std.specs.Prelude.{List};
     ghost use Rattle.iom_tlb.specs.Ways.{Ways};
-    ghost use Rattle.iom_tlb.specs.WayCalls.{AreSets};
+    ghost use Rattle.iom_tlb.specs.WayCalls.{IsWayCache};
 
     ghost Value = { List Ways };
 
     ghost view = { λ cache. cache.sets.items };
 
-    ghost invariant = { λ cache. AreSets cache.sets.items };
+    ghost invariant = { λ cache. IsWayCache cache.sets.items cache.large };
 }
 
 /// The number of the set of a page.
@@ -81,7 +85,7 @@ fn are_same_sets(one: &[WaySet], other: &[WaySet]) -> bool
     true
 }
 
-/// Empties each way whose key is covered, in every set.
+/// Empties each way whose translation is covered, in every set.
 fn drop_in_all(sets: &mut [WaySet], cover: &Cover)
     ensures dropped { (number : ℕ) → number < length sets.old → DropsWhere (covers cover.now)
         (in_set (get_or sets.old number no_ways)) (in_set (get_or sets.new number no_ways)) }
@@ -92,6 +96,28 @@ fn drop_in_all(sets: &mut [WaySet], cover: &Cover)
     for number in 0..sets.len() {
         let set = &mut sets[number];
         set.drop_where(cover);
+    }
+}
+
+/// Empties each way whose translation is covered, where all that are came from leaves of 4 KiB: those of the page that
+/// the cover names are in one set.
+#[inline(always)]
+fn drop_small(sets: &mut [WaySet], cover: &Cover)
+    requires sound { AreSets sets.old }
+    requires small { (key : Key) (cached : Translation) → content_of_sets sets.old key ≡ Some cached
+        → covers cover.now key cached ≡ true → cached.level ≡ 0 }
+    ensures dropped { DropsWhere (covers cover.now) (content_of_sets sets.old) (content_of_sets sets.new) }
+    ensures sound { AreSets sets.new }
+    ensures counters { CountersStay sets.old sets.new }
+{
+    if let Some((space, page)) = cover.only_key() {
+        let set = &mut sets[set_of(page)];
+        set.drop_key(space, page);
+    } else if let Some(page) = cover.only_page() {
+        let set = &mut sets[set_of(page)];
+        set.drop_where(cover);
+    } else {
+        drop_in_all(sets, cover);
     }
 }
 
@@ -114,7 +140,10 @@ impl WayCache {
         ensures counters { IfOk result AreCountersAtZero }
     {
         let sets = new_sets(alloc)?;
-        Ok(WayCache { sets })
+        Ok(WayCache {
+            sets,
+            large: LargeLeaves::none(),
+        })
     }
 
     /// That all that it has stands at a place. It does nothing.
@@ -160,6 +189,9 @@ impl TransCache for WayCache {
     {
         let set = &mut self.sets[set_of(page)];
         set.keep(space, page, translation);
+        if translation.level > 0 {
+            self.large.mark(space);
+        }
     }
 
     // Written into the fetch of a command, where it is known which of the covers it is.
@@ -168,14 +200,10 @@ impl TransCache for WayCache {
         ensures dropped { DropsWhere (covers cover.now) (content_of_sets self.old) (content_of_sets self.new) }
         ensures counters { CountersStay self.old self.new }
     {
-        if let Some((space, page)) = cover.only_key() {
-            let set = &mut self.sets[set_of(page)];
-            set.drop_key(space, page);
-        } else if let Some(page) = cover.only_page() {
-            let set = &mut self.sets[set_of(page)];
-            set.drop_where(cover);
-        } else {
+        if self.large.may_be_among(cover) {
             drop_in_all(&mut self.sets, cover);
+        } else {
+            drop_small(&mut self.sets, cover);
         }
     }
 
@@ -184,5 +212,6 @@ impl TransCache for WayCache {
         ensures counters { CountersStay self.old self.new }
     {
         empty_all(&mut self.sets);
+        self.large = LargeLeaves::none();
     }
 }

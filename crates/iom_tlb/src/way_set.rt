@@ -4,7 +4,7 @@ ghost use Rattle.iom_tlb.specs.Content.{Sets, DropsWhere, HasNothing};
 ghost use Rattle.iom_tlb.specs.Covers.{covers};
 ghost use Rattle.iom_tlb.specs.declared.cached_page.CachedPage.{CachedPage};
 ghost use Rattle.iom_tlb.specs.Places.{IsInWay, HasWays};
-ghost use Rattle.iom_tlb.specs.Entries.{is_key};
+ghost use Rattle.iom_tlb.specs.Entries.{has_key};
 ghost use Rattle.iom_tlb.specs.Ways.{is_space, space_word, in_set};
 ghost use Rattle.iom_tlb.specs.WayCalls.{AreAtHome, TakesWay, PutsWay, Empties};
 ghost use Rattle.iom_tlb.specs.declared.space.Space.{Space};
@@ -25,6 +25,7 @@ pub(crate) const WAYS: usize = 8;
 const NO_TRANSLATION: Translation = Translation {
     frame: 0,
     rights: Rights::R,
+    level: 0,
 };
 
 /// Eight ways, each with a translation or empty. No two have the same page of the same address space.
@@ -74,24 +75,29 @@ fn take_way(spaces: &[u64; WAYS], next: &mut usize) -> usize
     way
 }
 
-/// Whether the page of the address space with this word is covered. An empty way's isn't.
-fn is_covered(cover: &Cover, word: u64, page: u64) -> bool
+/// Whether the translation of a page of the address space with this word is covered. An empty way's isn't.
+fn is_covered(cover: &Cover, word: u64, page: u64, cached: Translation) -> bool
     ensures covered { (space : Space) → is_space space ≡ true → space_word space ≡ word
-        → result ≡ covers cover.now (space, page) }
+        → result ≡ covers cover.now (space, page) cached }
     ensures empty { word ≡ 0 → result ≡ false }
 {
     match space_of(word) {
-        Some(space) => cover.covers(space, page),
+        Some(space) => cover.covers(space, page, cached),
         None => false,
     }
 }
 
-/// Empties each way whose key is covered.
-fn empty_covered(spaces: &mut [u64; WAYS], pages: &[u64; WAYS], cover: &Cover)
-    ensures { Empties (covers cover.now) pages.now spaces.old spaces.new }
+/// Empties each way whose translation is covered.
+fn empty_covered(
+    spaces: &mut [u64; WAYS],
+    pages: &[u64; WAYS],
+    translations: &[Translation; WAYS],
+    cover: &Cover,
+)
+    ensures { Empties (covers cover.now) pages.now translations.now spaces.old spaces.new }
 {
     for way in 0..WAYS {
-        if is_covered(cover, spaces[way], pages[way]) {
+        if is_covered(cover, spaces[way], pages[way], translations[way]) {
             spaces[way] = 0;
         }
     }
@@ -176,7 +182,7 @@ impl WaySet {
 
     /// Empties the way that has the page of the address space.
     pub(crate) fn drop_key(&mut self, space: Space, page: u64)
-        ensures dropped { DropsWhere (is_key (space, page)) (in_set self.old) (in_set self.new) }
+        ensures dropped { DropsWhere (has_key (space, page)) (in_set self.old) (in_set self.new) }
         ensures home { (number : ℕ) → AreAtHome number self.old → AreAtHome number self.new }
         ensures counter { self.new.next ≡ self.old.next }
     {
@@ -185,13 +191,13 @@ impl WaySet {
         }
     }
 
-    /// Empties each way whose key is covered.
+    /// Empties each way whose translation is covered.
     pub(crate) fn drop_where(&mut self, cover: &Cover)
         ensures dropped { DropsWhere (covers cover.now) (in_set self.old) (in_set self.new) }
         ensures home { (number : ℕ) → AreAtHome number self.old → AreAtHome number self.new }
         ensures counter { self.new.next ≡ self.old.next }
     {
-        empty_covered(&mut self.spaces, &self.pages, cover);
+        empty_covered(&mut self.spaces, &self.pages, &self.translations, cover);
     }
 
     /// Empties all ways. The counter stays.

@@ -9,5 +9,5 @@ invariant-loop-key l =
     record {
       can : (goal.iterator-loop-key).can_next l.key-iterator;
       ends : (goal.iterator-loop-key).is_finite l.key-iterator;
-      rest : find (λ entry. covers l.cover entry.0) l.entries.entries ≡ find (λ entry. covers l.cover entry.0) l.key-iterator;
+      rest : find (λ entry. covers l.cover entry.0 entry.1) l.entries.entries ≡ find (λ entry. covers l.cover entry.0 entry.1) l.key-iterator;
     }

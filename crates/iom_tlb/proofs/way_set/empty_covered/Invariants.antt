@@ -4,4 +4,4 @@ use Rattle.iom_tlb.proofs.way_set.empty_covered.Given as goal
 
 -- the ways so far are tested
 abbrev pub invariant-loop-way : goal.invariant-loop-way
-invariant-loop-way l = EmptiesBelow l.way (covers l.cover) l.pages l.fn.spaces l.spaces
+invariant-loop-way l = EmptiesBelow l.way (covers l.cover) l.pages l.translations l.fn.spaces l.spaces

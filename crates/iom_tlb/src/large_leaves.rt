@@ -1,0 +1,49 @@
+// Of which address spaces a translation may be there that came from a leaf above 4 KiB.
+ghost use Rattle.std.specs.Prelude.{◌≡◌, true, false};
+ghost use Rattle.iom_tlb.specs.Covers.{may_be_large, may_cover_large};
+ghost use Rattle.iom_tlb.specs.declared.space.Space.{Space};
+
+use crate::cover::Cover;
+use crate::space::Space;
+
+/// Whether a translation from a leaf above 4 KiB may be there, for each kind of address spaces.
+#[derive(Clone, Copy)]
+pub(crate) struct LargeLeaves {
+    pub(crate) first: bool,
+    pub(crate) second: bool,
+    pub(crate) both: bool,
+}
+
+impl LargeLeaves {
+    /// Nowhere.
+    pub(crate) fn none() -> LargeLeaves {
+        LargeLeaves {
+            first: false,
+            second: false,
+            both: false,
+        }
+    }
+
+    /// Whether there may be one among those that a cover covers.
+    pub(crate) fn may_be_among(&self, cover: &Cover) -> bool
+        ensures { result ≡ may_cover_large self.now cover.now }
+    {
+        match cover {
+            Cover::First { .. } => self.first,
+            Cover::Second { .. } => self.second,
+            Cover::Both { .. } => self.both,
+        }
+    }
+
+    /// From now on there may be one of this address space too.
+    pub(crate) fn mark(&mut self, space: Space)
+        ensures marked { may_be_large self.new space ≡ true }
+        ensures others { (other : Space) → may_be_large self.new other ≡ false → may_be_large self.old other ≡ false }
+    {
+        match space {
+            Space::First { .. } => self.first = true,
+            Space::Second { .. } => self.second = true,
+            Space::Both { .. } => self.both = true,
+        }
+    }
+}
