@@ -19,7 +19,7 @@ use Rattle.iom_stage_walk.proofs.Exact.{one_fault, reached_not_stopped}
 use Rattle.iom_stage_walk.proofs.OneSecond.{leads_or_faults, one_fault_leading}
 use Rattle.iom_page_table.specs.Trees.{IsTableAt}
 use Rattle.iom_stage_walk.specs.Entries.{entries, slot}
-use Rattle.iom_stage_walk.specs.Paths.{Reaches, StopsAs, StopsFirst}
+use Rattle.iom_stage_walk.specs.Paths.{Reaches, StopsAs, StopsFirst, first_path, leaf_level}
 use Rattle.iom_stage_walk.specs.Second.{StopsSecond, reported, second_path}
 use Rattle.iom_stage_walk.specs.Both.{entry_address, guest_address, plain}
 use Rattle.iom_stage_walk.specs.declared.walked.Walked.{Walked}
@@ -48,12 +48,12 @@ first_is_judged_now reaches_leaf faults_else size m root address kind table done
         denied : (fault : WalkFault) → StopsFirst (levels_of size) m root address kind fault → (own : PageLeaf) → leaf_of (levels_of size) m root (address / 4096) ≡ Some own → (b : Bool) → allows own.rights kind ≡ b → b ≡ false
         denied fault stops own is false e = refl
         denied fault stops own is true e =
-            let walked : Walked = record { frame = own.frame; rights = own.rights; guest_frames = replicate 4 None } in
-            absurd (reached_not_stopped (levels_of size) m root address kind walked fault.cause ((reaches_leaf size m root address kind walked).1 (is, e, inside own is, refl)) stops.cause)
+            let walked : Walked = record { frame = own.frame; rights = own.rights; level = leaf_level (entries m) root (first_path (levels_of size) address); guest_frames = replicate 4 None } in
+            absurd (reached_not_stopped (levels_of size) m root address kind walked fault.cause ((reaches_leaf size m root address kind walked).1 (is, e, inside own is, refl, refl)) stops.cause)
 
 pub second_is_judged_now : GuestWalkReachesLeaf → GuestWalkFaultsElse → SecondIsJudgedNow
 second_is_judged_now reaches_leaf faults_else size m root address kind table done left answer guest inside small path at ends =
-    by answer (second_ends_as_now m (levels_of size) root kind kind (λ frame rights. Ends (Ok (record { frame = frame; rights = rights; guest_frames = replicate 4 None })))
+    by answer (second_ends_as_now m (levels_of size) root kind kind (λ frame rights level. Ends (Ok (record { frame = frame; rights = rights; level = level; guest_frames = replicate 4 None })))
     (λ cause. Ends (Err (reported cause address false))) address table done left answer small path at ends)
   where
     by : (a : Result Walked WalkFault) → made_from m (second_walk (length m) (levels_of size) root address kind) ≡ a
@@ -96,8 +96,8 @@ entry_is_judged_now reaches_leaf size m root address kind loaded guest i below t
     w : InBoth
     w = through size m root address kind
 
-    Found : ℕ → Rights → Walk (Result Walked WalkFault)
-    Found = inside (length m) (λ frame rights. guest_load w loaded guest i below (λ next. guest_down w (loaded ++ frame ∷ []) next below) frame) (unread w guest i (access_fault_of kind))
+    Found : ℕ → Rights → ℕ → Walk (Result Walked WalkFault)
+    Found = inside (length m) (λ frame rights level. guest_load w loaded guest i below (λ next. guest_down w (loaded ++ frame ∷ []) next below) frame) (unread w guest i (access_fault_of kind))
 
     Stopped : Cause → Walk (Result Walked WalkFault)
     Stopped = unread w guest i
@@ -110,46 +110,46 @@ entry_is_judged_now reaches_leaf size m root address kind loaded guest i below t
         ⊎ (((frame : ℕ) × (rights : Rights) × HasLeafNow size m root (entry_address (slot guest i)) Read frame rights × (After ≡ rest_of w (AtEntry loaded guest i below frame)))
         ⊎ ((fault : WalkFault) × (After ≡ Ends (Err fault))))
 
-    framed : (frame : ℕ) (rights : Rights) → Reaches (entries m) Read root (done ++ j ∷ left) frame rights → After ≡ Found frame rights → (b : Bool) → nat_lt frame (length m) ≡ b → Judged
+    framed : (frame : ℕ) (rights : Rights) → Reaches (entries m) Read root (done ++ j ∷ left) frame rights → After ≡ Found frame rights (length left) → (b : Bool) → nat_lt frame (length m) ≡ b → Judged
     framed frame rights reaches is true low =
         inr (inl (frame, rights, leaf_now reaches_leaf size m root (entry_address (slot guest i)) Read done j left frame rights small path reaches (leb-true (suc frame) (length m) low), is ∙ rw low refl))
     framed frame rights reaches is false low = inr (inr (reported (access_fault_of kind) (entry_address (slot guest i)) true, is ∙ rw low refl))
 
     by : ((next : ℕ) × IsTableAt (entries m) root (done ++ j ∷ []) next × (After ≡ down Read (guest_page_fault_of kind) (access_fault_of kind) Found Stopped next left))
-        ⊎ (((frame : ℕ) × (rights : Rights) × Reaches (entries m) Read root (done ++ j ∷ left) frame rights × (After ≡ Found frame rights))
+        ⊎ (((frame : ℕ) × (rights : Rights) × Reaches (entries m) Read root (done ++ j ∷ left) frame rights × (After ≡ Found frame rights (length left)))
         ⊎ ((cause : Cause) × StopsAs (entries m) Read (guest_page_fault_of kind) (access_fault_of kind) root (done ++ j ∷ left) cause × (After ≡ Stopped cause))) → Judged
     by (inl (next, there, is)) = inl (next, on size m root (entry_address (slot guest i)) next done j left small path there, is)
     by (inr (inl (frame, rights, reaches, is))) = framed frame rights reaches is (nat_lt frame (length m)) refl
     by (inr (inr (cause, stops, is))) = inr (inr (_, is))
 
 pub page_is_judged_now : GuestWalkReachesLeaf → PageIsJudgedNow
-page_is_judged_now reaches_leaf size m root address kind loaded page given table done j left (small, path, at) =
+page_is_judged_now reaches_leaf size m root address kind loaded page given level table done j left (small, path, at) =
     by (loads_are_of_now m kind (guest_page_fault_of kind) (access_fault_of kind) Found Stopped root table done j left at)
   where
     w : InBoth
     w = through size m root address kind
 
-    Found : ℕ → Rights → Walk (Result Walked WalkFault)
-    Found = inside (length m) (reached w loaded given) (unreached w page (access_fault_of kind))
+    Found : ℕ → Rights → ℕ → Walk (Result Walked WalkFault)
+    Found = inside (length m) (reached w loaded given level) (unreached w page (access_fault_of kind))
 
     Stopped : Cause → Walk (Result Walked WalkFault)
     Stopped = unreached w page
 
     After : Walk (Result Walked WalkFault)
-    After = after_load m (rest_of w (ToPage loaded page given table (j ∷ left)))
+    After = after_load m (rest_of w (ToPage loaded page given level table (j ∷ left)))
 
     Judged : Type 0
-    Judged = ((next : ℕ) × IsOnItsWay size m root (guest_address page address) next (done ++ j ∷ []) left × (After ≡ rest_of w (ToPage loaded page given next left)))
-        ⊎ (((frame : ℕ) × (rights : Rights) × HasLeafNow size m root (guest_address page address) kind frame rights × (After ≡ reached w loaded given frame rights))
+    Judged = ((next : ℕ) × IsOnItsWay size m root (guest_address page address) next (done ++ j ∷ []) left × (After ≡ rest_of w (ToPage loaded page given level next left)))
+        ⊎ (((frame : ℕ) × (rights : Rights) × HasLeafNow size m root (guest_address page address) kind frame rights × (After ≡ reached w loaded given level frame rights (length left)))
         ⊎ ((fault : WalkFault) × (After ≡ Ends (Err fault))))
 
-    framed : (frame : ℕ) (rights : Rights) → Reaches (entries m) kind root (done ++ j ∷ left) frame rights → After ≡ Found frame rights → (b : Bool) → nat_lt frame (length m) ≡ b → Judged
+    framed : (frame : ℕ) (rights : Rights) → Reaches (entries m) kind root (done ++ j ∷ left) frame rights → After ≡ Found frame rights (length left) → (b : Bool) → nat_lt frame (length m) ≡ b → Judged
     framed frame rights reaches is true low =
         inr (inl (frame, rights, leaf_now reaches_leaf size m root (guest_address page address) kind done j left frame rights small path reaches (leb-true (suc frame) (length m) low), is ∙ rw low refl))
     framed frame rights reaches is false low = inr (inr (reported (access_fault_of kind) (guest_address page address) false, is ∙ rw low refl))
 
     by : ((next : ℕ) × IsTableAt (entries m) root (done ++ j ∷ []) next × (After ≡ down kind (guest_page_fault_of kind) (access_fault_of kind) Found Stopped next left))
-        ⊎ (((frame : ℕ) × (rights : Rights) × Reaches (entries m) kind root (done ++ j ∷ left) frame rights × (After ≡ Found frame rights))
+        ⊎ (((frame : ℕ) × (rights : Rights) × Reaches (entries m) kind root (done ++ j ∷ left) frame rights × (After ≡ Found frame rights (length left)))
         ⊎ ((cause : Cause) × StopsAs (entries m) kind (guest_page_fault_of kind) (access_fault_of kind) root (done ++ j ∷ left) cause × (After ≡ Stopped cause))) → Judged
     by (inl (next, there, is)) = inl (next, on size m root (guest_address page address) next done j left small path there, is)
     by (inr (inl (frame, rights, reaches, is))) = framed frame rights reaches is (nat_lt frame (length m)) refl

@@ -20,7 +20,7 @@ use Rattle.iom_walk_loads.proofs.LoadLemmas.{made_load}
 use Rattle.iom_walk_loads.proofs.TableLemmas.{entries_are}
 
 -- from the table in hand as from the root
-down_now : {A : Type 0} (m : List (List ℕ)) (kind : AccessKind) (page access : Cause) (found : ℕ → Rights → Walk A) (stopped : Cause → Walk A) (root table : ℕ) (done left : List ℕ)
+down_now : {A : Type 0} (m : List (List ℕ)) (kind : AccessKind) (page access : Cause) (found : ℕ → Rights → ℕ → Walk A) (stopped : Cause → Walk A) (root table : ℕ) (done left : List ℕ)
     → IsTableAt (entries m) root done table → made_from m (down kind page access found stopped root (done ++ left)) ≡ made_from m (down kind page access found stopped table left)
 down_now m kind page access found stopped root table [] left same = ap (λ t. made_from m (down kind page access found stopped t left)) (sym same)
 down_now m kind page access found stopped root table (i ∷ done) left (next, at, rest) =
@@ -35,7 +35,7 @@ pub first_ends_as_now : FirstEndsAsNow
 first_ends_as_now m levels root address kind table done left answer lawful path at ends =
     ap (λ b. made_from m (if b then first_rest (length m) kind root (first_path levels address) else Ends (Err (plain (page_fault_of kind))))) lawful
     ∙ ap (λ is. made_from m (first_rest (length m) kind root is)) path
-    ∙ down_now m kind (page_fault_of kind) (access_fault_of kind) (inside (length m) (λ frame rights. Ends (Ok (record { frame = frame; rights = rights; guest_frames = replicate 4 None }))) (Ends (Err (plain (access_fault_of kind)))))
+    ∙ down_now m kind (page_fault_of kind) (access_fault_of kind) (inside (length m) (λ frame rights level. Ends (Ok (record { frame = frame; rights = rights; level = level; guest_frames = replicate 4 None }))) (Ends (Err (plain (access_fault_of kind)))))
     (λ cause. Ends (Err (plain cause))) root table done left at
     ∙ ended_now m (first_rest (length m) kind table left) answer ends
 

@@ -74,11 +74,11 @@ EntryIsJudgedNow = (size : Size) (memory : List (List ℕ)) (root address : ℕ)
 
 -- A load on the way to the page: the same, and where it comes there the walk ends, with the frame that the page has now.
 abbrev pub PageIsJudgedNow : Type 0
-PageIsJudgedNow = (size : Size) (memory : List (List ℕ)) (root address : ℕ) (kind : AccessKind) (loaded : List ℕ) (page : ℕ) (given : Rights) (table : ℕ) (done : List ℕ) (j : ℕ) (left : List ℕ)
+PageIsJudgedNow = (size : Size) (memory : List (List ℕ)) (root address : ℕ) (kind : AccessKind) (loaded : List ℕ) (page : ℕ) (given : Rights) (level : ℕ) (table : ℕ) (done : List ℕ) (j : ℕ) (left : List ℕ)
     → IsOnItsWay size memory root (guest_address page address) table done (j ∷ left)
     → ((next : ℕ) × IsOnItsWay size memory root (guest_address page address) next (done ++ j ∷ []) left
-    × (after_load memory (rest_of (through size memory root address kind) (ToPage loaded page given table (j ∷ left))) ≡ rest_of (through size memory root address kind) (ToPage loaded page given next left)))
+    × (after_load memory (rest_of (through size memory root address kind) (ToPage loaded page given level table (j ∷ left))) ≡ rest_of (through size memory root address kind) (ToPage loaded page given level next left)))
     ⊎ (((frame : ℕ) × (rights : Rights) × HasLeafNow size memory root (guest_address page address) kind frame rights
-    × (after_load memory (rest_of (through size memory root address kind) (ToPage loaded page given table (j ∷ left)))
-    ≡ Ends (Ok (record { frame = frame; rights = rights_of_both given rights; guest_frames = padded 4 loaded }))))
-    ⊎ ((fault : WalkFault) × (after_load memory (rest_of (through size memory root address kind) (ToPage loaded page given table (j ∷ left))) ≡ Ends (Err fault))))
+    × (after_load memory (rest_of (through size memory root address kind) (ToPage loaded page given level table (j ∷ left)))
+    ≡ Ends (Ok (record { frame = frame; rights = rights_of_both given rights; level = level; guest_frames = padded 4 loaded }))))
+    ⊎ ((fault : WalkFault) × (after_load memory (rest_of (through size memory root address kind) (ToPage loaded page given level table (j ∷ left))) ≡ Ends (Err fault))))

@@ -14,15 +14,15 @@ pub data Position : Type 0 where
   -- at that entry, which lies in this frame
   AtEntry : (loaded : List ℕ) (guest i : ℕ) (below : List ℕ) (frame : ℕ) → Position
   -- in a table of the second stage, on the way to the page that the guest's tables gave, with the right that they gave
-  ToPage : (loaded : List ℕ) (page : ℕ) (given : Rights) (table : ℕ) (left : List ℕ) → Position
+  ToPage : (loaded : List ℕ) (page : ℕ) (given : Rights) (level : ℕ) (table : ℕ) (left : List ℕ) → Position
 
 -- what remains of a walk that stands there
 abbrev pub rest_of : InBoth → Position → Walk (Result Walked WalkFault)
 rest_of w (ToEntry loaded guest i below table left) =
-    lead_rest w.frames Read w.kind (λ frame rights. guest_load w loaded guest i below (λ next. guest_down w (loaded ++ frame ∷ []) next below) frame) (unread w guest i) table left
+    lead_rest w.frames Read w.kind (λ frame rights level. guest_load w loaded guest i below (λ next. guest_down w (loaded ++ frame ∷ []) next below) frame) (unread w guest i) table left
 rest_of w (AtEntry loaded guest i below frame) = guest_load w loaded guest i below (λ next. guest_down w (loaded ++ frame ∷ []) next below) frame
-rest_of w (ToPage loaded page given table left) =
-    lead_rest w.frames w.kind w.kind (reached w loaded given) (unreached w page) table left
+rest_of w (ToPage loaded page given level table left) =
+    lead_rest w.frames w.kind w.kind (reached w loaded given level) (unreached w page) table left
 
 -- it stands somewhere, or has ended
 abbrev pub StandsOrEnds : InBoth → Walk (Result Walked WalkFault) → Type 0

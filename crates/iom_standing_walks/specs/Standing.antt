@@ -20,12 +20,12 @@ PointersStay old new root = (prefix : List ℕ) (table i next : ℕ)
 
 -- ONE LOAD IN TABLES THAT STAY: the walk goes on in the table that the entry names, or finds what a walk from the root reaches now, or stops as one would now.
 abbrev pub LoadsAreOfNow : Type 0
-LoadsAreOfNow = (memory : List (List ℕ)) (kind : AccessKind) (page access : Cause) (found : ℕ → Rights → Walk (Result Walked WalkFault)) (stopped : Cause → Walk (Result Walked WalkFault))
+LoadsAreOfNow = (memory : List (List ℕ)) (kind : AccessKind) (page access : Cause) (found : ℕ → Rights → ℕ → Walk (Result Walked WalkFault)) (stopped : Cause → Walk (Result Walked WalkFault))
     (root table : ℕ) (done : List ℕ) (i : ℕ) (below : List ℕ) → IsTableAt (entries memory) root done table
     → ((next : ℕ) × IsTableAt (entries memory) root (done ++ i ∷ []) next
     × (after_load memory (down kind page access found stopped table (i ∷ below)) ≡ down kind page access found stopped next below))
     ⊎ (((frame : ℕ) × (rights : Rights) × Reaches (entries memory) kind root (done ++ i ∷ below) frame rights
-    × (after_load memory (down kind page access found stopped table (i ∷ below)) ≡ found frame rights))
+    × (after_load memory (down kind page access found stopped table (i ∷ below)) ≡ found frame rights (length below)))
     ⊎ ((cause : Cause) × StopsAs (entries memory) kind page access root (done ++ i ∷ below) cause
     × (after_load memory (down kind page access found stopped table (i ∷ below)) ≡ stopped cause)))
 
@@ -44,7 +44,7 @@ FirstEndsAsNow = (memory : List (List ℕ)) (levels root address : ℕ) (kind : 
 
 -- and in a second, alone or behind the guest's tables
 abbrev pub SecondEndsAsNow : Type 0
-SecondEndsAsNow = (memory : List (List ℕ)) (levels root : ℕ) (kind original : AccessKind) (found : ℕ → Rights → Walk (Result Walked WalkFault))
+SecondEndsAsNow = (memory : List (List ℕ)) (levels root : ℕ) (kind original : AccessKind) (found : ℕ → Rights → ℕ → Walk (Result Walked WalkFault))
     (stopped : Cause → Walk (Result Walked WalkFault)) (address table : ℕ) (done left : List ℕ) (answer : Result Walked WalkFault)
     → address < 2 ^ (9 * levels + 14) → second_path levels address ≡ done ++ left → IsTableAt (entries memory) root done table
     → after_load memory (lead_rest (length memory) kind original found stopped table left) ≡ Ends answer

@@ -41,7 +41,7 @@ abbrev pub TowardPageStands : Type 0
 TowardPageStands = (frames : ℕ) (both : Both) (page : GuestPage) (place : Place)
     → rest_of frames (ToGuestPage both page place)
     ≡ position.rest_of (in_both frames both)
-    (position.ToPage (told page.loaded.frames) page.number page.rights place.table.number (indices_of place (guest_address page.number both.asked.address)))
+    (position.ToPage (told page.loaded.frames) page.number page.rights page.level place.table.number (indices_of place (guest_address page.number both.asked.address)))
 
 -- in a page of the directory
 abbrev pub DirectoryStands : Type 0
