@@ -31,12 +31,12 @@ use Rattle.iom_walk_stops.specs.declared.stages.Stages.TheVariants.{Both, First,
 fault_first : (fault : WalkFault) (walked : Walked) → ◌≡◌ {A = Walk TableAnswer} (Ends (Err fault)) (Ends (Ok walked)) → ⊥
 fault_first fault walked same = let both : ◌≡◌ {A = TableAnswer} (Err fault) (Ok walked) = cc in cc
 
-down_first : (kind : AccessKind) (page access : Cause) (found : ℕ → Rights → Walk TableAnswer) (stopped : Cause → Walk TableAnswer) (table : ℕ) (left : List ℕ) (walked : Walked)
+down_first : (kind : AccessKind) (page access : Cause) (found : ℕ → Rights → ℕ → Walk TableAnswer) (stopped : Cause → Walk TableAnswer) (table : ℕ) (left : List ℕ) (walked : Walked)
     → ((cause : Cause) → stopped cause ≡ Ends (Ok walked) → ⊥) → down kind page access found stopped table left ≡ Ends (Ok walked) → ⊥
 down_first kind page access found stopped table [] walked none same = none page same
 down_first kind page access found stopped table (i ∷ below) walked none same = cc
 
-lead_first : (frames levels root : ℕ) (kind original : AccessKind) (found : ℕ → Rights → Walk TableAnswer) (stopped : Cause → Walk TableAnswer) (address : ℕ) (walked : Walked)
+lead_first : (frames levels root : ℕ) (kind original : AccessKind) (found : ℕ → Rights → ℕ → Walk TableAnswer) (stopped : Cause → Walk TableAnswer) (address : ℕ) (walked : Walked)
     → ((cause : Cause) → stopped cause ≡ Ends (Ok walked) → ⊥) → lead frames levels root kind original found stopped address ≡ Ends (Ok walked) → ⊥
 lead_first frames levels root kind original found stopped address walked none = by (nat_lt address (2 ^ (9 * levels + 14)))
   where
@@ -52,19 +52,19 @@ first_first frames levels root address kind walked = by (is_canonical levels add
     by : (b : Bool) → (if b then first_rest frames kind root (first_path levels address) else Ends (Err (plain (page_fault_of kind)))) ≡ Ends (Ok walked) → ⊥
     by true same =
         down_first kind (page_fault_of kind) (access_fault_of kind)
-        (inside frames (λ frame rights. Ends (Ok (record { frame = frame; rights = rights; guest_frames = replicate 4 None }))) (Ends (Err (plain (access_fault_of kind)))))
+        (inside frames (λ frame rights level. Ends (Ok (record { frame = frame; rights = rights; level = level; guest_frames = replicate 4 None }))) (Ends (Err (plain (access_fault_of kind)))))
         (λ cause. Ends (Err (plain cause))) root (first_path levels address) walked (λ cause. fault_first (plain cause) walked) same
     by false same = fault_first (plain (page_fault_of kind)) walked same
 
 second_first : (frames levels root address : ℕ) (kind : AccessKind) (walked : Walked) → second_walk frames levels root address kind ≡ Ends (Ok walked) → ⊥
 second_first frames levels root address kind walked =
-    lead_first frames levels root kind kind (λ frame rights. Ends (Ok (record { frame = frame; rights = rights; guest_frames = replicate 4 None })))
+    lead_first frames levels root kind kind (λ frame rights level. Ends (Ok (record { frame = frame; rights = rights; level = level; guest_frames = replicate 4 None })))
     (λ cause. Ends (Err (reported cause address false))) address walked (λ cause. fault_first (reported cause address false) walked)
 
 guest_first : (w : InBoth) (table : ℕ) (left : List ℕ) (walked : Walked) → guest_down w [] table left ≡ Ends (Ok walked) → ⊥
 guest_first w table [] walked same = fault_first (plain (page_fault_of w.kind)) walked same
 guest_first w table (i ∷ below) walked same =
-    lead_first w.frames w.levels' w.second Read w.kind (λ frame rights. guest_load w [] table i below (λ next. guest_down w ([] ++ frame ∷ []) next below) frame)
+    lead_first w.frames w.levels' w.second Read w.kind (λ frame rights level. guest_load w [] table i below (λ next. guest_down w ([] ++ frame ∷ []) next below) frame)
     (unread w table i) (entry_address (slot table i)) walked (λ cause. fault_first (reported cause (entry_address (slot table i)) true) walked) same
 
 both_first : (frames levels levels' first second address : ℕ) (kind : AccessKind) (walked : Walked)

@@ -136,9 +136,9 @@ kept_in_directory request (Ends (Err cause)) = kept_as.Nothing
 kept_in_directory request (ReadsEntry address rest) = kept_as.Nothing
 kept_in_directory request (ReadsContext address rest) = kept_as.Nothing
 
--- what is kept of a walk
+-- what is kept of a walk: also the level of the leaf, by which an invalidation of another page of the leaf takes it out
 abbrev pub translation_of : Walked → Translation
-translation_of walked = record { frame = walked.frame; rights = walked.rights }
+translation_of walked = record { frame = walked.frame; rights = walked.rights; level = walked.level }
 
 -- A TRANSLATION at the load that ends the walk, where that reaches a page
 abbrev pub kept_in_tables : Request → Space → Walk TableAnswer → Kept

@@ -34,10 +34,23 @@ fn kept_in_tables(request: Request, space: Space, progress: Progress) -> Kept
     ensures { (frames : ℕ) → result ≡ kept_in_tables request space (remains frames progress) }
 {
     match progress {
-        Progress::Ended(Ok(Walked { frame, rights, .. })) => Kept::Translation {
+        Progress::Ended(
+            Ok(
+                Walked {
+                    frame,
+                    rights,
+                    level,
+                    ..
+                },
+            ),
+        ) => Kept::Translation {
             space,
             page: request.asked.address / PAGE_SIZE,
-            translation: Translation { frame, rights },
+            translation: Translation {
+                frame,
+                rights,
+                level,
+            },
         },
         Progress::Ended(Err(_)) | Progress::GoesOn(_) => Kept::Nothing,
     }
