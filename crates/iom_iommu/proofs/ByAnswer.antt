@@ -9,6 +9,8 @@ use Rattle.iom_command_queue.specs.declared.command.FenceStore.{FenceStore}
 use Rattle.iom_command_queue.specs.declared.entry.QueueEntry.{QueueEntry}
 use Rattle.iom_command_queue.specs.declared.entry.QueueEntry.TheVariants as stands
 use Rattle.iom_tlb.specs.declared.trans_cache.TransCache.{Ghosts as Cache}
+use Rattle.iom_tlb.specs.declared.trans_cache.Translation.{Translation}
+use Rattle.iom_tlb.specs.Content.{left_by}
 use Rattle.iom_tlb.specs.Invalidations.{vma_covers, gvma_covers}
 use Rattle.iom_iommu.specs.declared.iommu.Iommu.{Iommu}
 use Rattle.iom_iommu.specs.declared.fetched.Fetched.{Fetched}
@@ -16,6 +18,11 @@ use Rattle.iom_iommu.specs.declared.fetched.Fetched.TheVariants.{Did, Waiting, E
 use Rattle.iom_iommu.specs.Parts.{registers_of, contexts_of, translations_of, flights_of, fence_snapshot_of, waits_of, slots_of, frames_of}
 use Rattle.iom_iommu.specs.Fetches.{head_entry, counted_in, has_open, are_full, waits_with, after_command, with_interrupt, InvalidatesTranslations, InvalidatesContexts, EndsFence, FencesBy, OpensRequest, ExecutesCommand, FetchesFrom, FetchesCommand}
 use Rattle.iom_iommu.specs.Effects.{is_held_back, IsLeft, WaitsAt, StopsAtEntry, StopsFetching, after_fetched, fence_snapshot_at, waits_at, FetchesByAnswer}
+
+-- a drop of nothing leaves what was there
+none_out : (was : Option Translation) → was ≡ left_by (λ t. false) was
+none_out None = refl
+none_out (Some t) = refl
 
 module _ {C : Type 0} {c : Cache C} (m n : List (List ℕ)) (i j : Iommu C c) where
   -- WHAT A COMMAND LEAVES once it is done
@@ -47,7 +54,7 @@ module _ {C : Type 0} {c : Cache C} (m n : List (List ℕ)) (i j : Iommu C c) wh
   contexts_left device is = record {
     registers = ap registers_of is.rest;
     contexts = is.dropped;
-    translations = λ key. ap (λ x. translations_of x key) is.rest;
+    translations = λ key. ap (λ x. translations_of x key) is.rest ∙ none_out (translations_of i key);
     fence_snapshot = ap fence_snapshot_of is.rest;
     waits = ap waits_of is.rest;
     slots = ap slots_of is.rest;
@@ -59,7 +66,7 @@ module _ {C : Type 0} {c : Cache C} (m n : List (List ℕ)) (i j : Iommu C c) wh
   fence_left store wsi pr pw is = record {
     registers = ap registers_of is;
     contexts = λ key. ap (λ x. contexts_of x key) is;
-    translations = λ key. ap (λ x. translations_of x key) is;
+    translations = λ key. ap (λ x. translations_of x key) is ∙ none_out (translations_of i key);
     fence_snapshot = ap fence_snapshot_of is;
     waits = ap waits_of is;
     slots = ap slots_of is;
@@ -71,7 +78,7 @@ module _ {C : Type 0} {c : Cache C} (m n : List (List ℕ)) (i j : Iommu C c) wh
   request_left device range is = record {
     registers = ap registers_of is;
     contexts = λ key. ap (λ x. contexts_of x key) is;
-    translations = λ key. ap (λ x. translations_of x key) is;
+    translations = λ key. ap (λ x. translations_of x key) is ∙ none_out (translations_of i key);
     fence_snapshot = ap fence_snapshot_of is;
     waits = ap waits_of is;
     slots = ap slots_of is;

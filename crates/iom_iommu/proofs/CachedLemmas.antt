@@ -37,7 +37,7 @@ module _ (frames : ℕ) (old new : Translations) (inside : AreTranslationsIn fra
     | inr was ↦ inside key t was.1
   ]
 
-  pub drop_inside : (is_out : Key → Bool) → DropsWhere is_out old new → AreTranslationsIn frames new
+  pub drop_inside : (is_out : Key → Translation → Bool) → DropsWhere is_out old new → AreTranslationsIn frames new
   drop_inside is_out drops key t found = inside key t (found_before_drop old new key t found is_out drops).1
 
   module _ (sure : Bool) (Reaches : Walked → Type 0) (Stops : WalkFault → Type 0) (key : Key) where

@@ -58,7 +58,7 @@ ats_context_for memory r content id = ats_context_in (directory_mode r) (context
 -- the frame of the address itself, if there is one, to be read and written
 abbrev pub own_page : List (List ℕ) → ℕ → AccessKind → Result Translation WalkFault
 own_page memory address kind =
-    if nat_lt (address / page_size) (length memory) then Ok (record { frame = address / page_size; rights = rw })
+    if nat_lt (address / page_size) (length memory) then Ok (record { frame = address / page_size; rights = rw; level = 0 })
     else Err (plain (access_fault_of kind))
 
 -- the page of an address, in the address space that the stages of a context translate: a first stage's is named by PSCID, a second's by GSCID,
@@ -77,9 +77,9 @@ abbrev pub cached_for : Option Translation → AccessKind → Option Translation
 cached_for None kind = None
 cached_for (Some translation) kind = if allows translation.rights kind then Some translation else None
 
--- what is kept of a walk
+-- what is kept of a walk: also the level of the leaf, by which an invalidation of another page of the leaf takes it out
 abbrev pub translation_of : Walked → Translation
-translation_of walked = record { frame = walked.frame; rights = walked.rights }
+translation_of walked = record { frame = walked.frame; rights = walked.rights; level = walked.level }
 
 -- the walk reaches this translation, which is kept; or it stops with this fault, and nothing is kept. What it reaches, and with what it stops, is said
 -- of the stages that are walked

@@ -41,6 +41,7 @@ pub(crate) fn own_page(
     Ok(Translation {
         frame: page as u32,
         rights: Rights::RW,
+        level: 0,
     })
 }
 
@@ -123,8 +124,19 @@ fn walk_and_keep<C: TransCache>(
     ensures inside { IfOk result (λ translation. translation.frame < length memory.now) }
 {
     match walk(memory, context, address, kind) {
-        Ok(Walked { frame, rights, .. }) => {
-            let translation = Translation { frame, rights };
+        Ok(
+            Walked {
+                frame,
+                rights,
+                level,
+                ..
+            },
+        ) => {
+            let translation = Translation {
+                frame,
+                rights,
+                level,
+            };
             translations.keep(space, address / PAGE_SIZE, translation);
             Ok(translation)
         }

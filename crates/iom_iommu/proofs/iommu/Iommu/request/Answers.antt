@@ -33,6 +33,7 @@ returns-in-Ok-clause-answered g c = (
     within = c.in-Some.ensures.found.0 refl;
     frame = c.in-Ok.translation.frame;
     rights = c.in-Ok.translation.rights;
+    level = c.in-Ok.translation.level;
     served = c.in-Ok.ensures.served;
     inside = subst (λ n. c.in-Ok.translation.frame < n) c.requires.memory c.in-Ok.ensures.inside;
     accepted = subst (λ n. IsAccepted c.args.self.now.in_flight c.args.device
