@@ -20,10 +20,11 @@ static SPACES: [Space; 7] = [
 static TRANSLATION: Translation = Translation {
     frame: 5,
     rights: Rights::RW,
+    level: 0,
 };
 
 /// A command, by the fields that count.
-enum Order {
+pub(crate) enum Order {
     /// GSCID, PSCID and page, where GV, PSCV and AV are 1.
     Vma(Option<u16>, Option<u32>, Option<u64>),
     Gvma(Option<u16>, Option<u64>),
@@ -63,7 +64,7 @@ fn page_of(number: &Option<u64>) -> Option<PageNumber> {
     number.and_then(|number| PageNumber::new(number))
 }
 
-fn command_of(rt: &impl Abort, order: &Order) -> Command {
+pub(crate) fn command_of(rt: &impl Abort, order: &Order) -> Command {
     match order {
         Order::Vma(gscid, pscid, page) => Command::IotinvalVma {
             gscid: *gscid,
@@ -143,7 +144,10 @@ fn takes_out_one_kind<C: TransCache>(rt: &impl Abort, cache: &mut C) {
 // It takes out that kind.
 #[test]
 fn a_cover_is_of_one_kind(rt: HostRuntime) {
-    expect(&rt, SECOND.covers(Space::Second { gscid: 9 }, 9));
+    expect(
+        &rt,
+        SECOND.covers(Space::Second { gscid: 9 }, 9, TRANSLATION),
+    );
     let mut plain = new_plain(&rt, rt.alloc());
     takes_out_one_kind(&rt, &mut plain);
     let mut ways = new_ways(&rt, rt.alloc());

@@ -63,7 +63,7 @@ impl TransCache for OneTranslation {
 
     fn drop_where(&mut self, cover: &Cover) {
         if let Some(kept) = self.only {
-            if cover.covers(kept.space, kept.page) {
+            if cover.covers(kept.space, kept.page, kept.translation) {
                 self.only = None;
             }
         }

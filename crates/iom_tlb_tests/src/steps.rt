@@ -30,7 +30,11 @@ pub(crate) enum Step {
 }
 
 fn at(frame: u32, rights: Rights) -> Translation {
-    Translation { frame, rights }
+    Translation {
+        frame,
+        rights,
+        level: 0,
+    }
 }
 
 /// Keeps; and again where the first keep finds no memory.
