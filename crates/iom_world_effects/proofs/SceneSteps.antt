@@ -37,6 +37,7 @@ use Rattle.iom_tlb.specs.declared.trans_cache.Translation.{Translation}
 use Rattle.iom_tlb.specs.Content.{Key, Translations}
 use Rattle.iom_tlb.specs.Covers.{are_covering}
 use Rattle.iom_tlb.specs.Invalidations.{covers_of}
+use Rattle.iom_tlb.proofs.LargeLemmas.{own_leaf}
 use Rattle.iom_world_effects.specs.Queued.{invalidation_in, extent_in, IsInvalidation, IsQueuedAs, AreQueuedAs}
 use Rattle.iom_world_effects.proofs.QueuedLemmas.{SpacesStay, queued_first, queued_still, come_after}
 use Rattle.iom_world_effects.specs.Scenes.{Values, copy_of, IsSomebodys, IsStockOf, GoesInOrder, IsSceneOf, HasFaithfulScene}
@@ -368,7 +369,7 @@ TrafficAfter (IodirInvalDdt device) before after = after ≡ before
 -- what is cached after a command was cached before, and isn't covered by it
 abbrev pub TranslationsAfter : Commanded → Translations → Translations → Type 0
 TranslationsAfter command before after = (key : Key) (translation : Translation) → after key ≡ Some translation
-    → (before key ≡ Some translation) × (are_covering (covers_of command) key ≡ false)
+    → (before key ≡ Some translation) × (are_covering (covers_of command) key translation ≡ false)
 
 pub record DoesFirst (old new : Values) (command : Commanded) : Type 0 where
   pub keeps : KeepsGrants old new
@@ -402,14 +403,15 @@ not_true : (b : Bool) → not b ≡ true → b ≡ false
 not_true true it = absurd (false≢true it)
 not_true false it = refl
 
--- an invalidation covers the pages of its extent
-covered_there : (space : Space) (named : Option ℕ) (page : ℕ) → extent_covers (extent_in space named) page ≡ true → are_covering (covers_of (invalidation_in space named)) (space, page) ≡ true
-covered_there (space.First pscid) None page is = rw (eq-eqb pscid pscid refl) refl
-covered_there (space.First pscid) (Some own) page is = rw (eq-eqb pscid pscid refl, is) refl
-covered_there (space.Second gscid) None page is = rw (eq-eqb gscid gscid refl) refl
-covered_there (space.Second gscid) (Some own) page is = rw (eq-eqb gscid gscid refl, is) refl
-covered_there (space.Both gscid pscid) None page is = rw (eq-eqb gscid gscid refl) refl
-covered_there (space.Both gscid pscid) (Some own) page is = rw (eq-eqb gscid gscid refl) refl
+-- an invalidation covers the pages of its extent, whatever leaf their translations came from
+covered_there : (space : Space) (named : Option ℕ) (page : ℕ) (translation : Translation) → extent_covers (extent_in space named) page ≡ true
+    → are_covering (covers_of (invalidation_in space named)) (space, page) translation ≡ true
+covered_there (space.First pscid) None page translation is = rw (eq-eqb pscid pscid refl) refl
+covered_there (space.First pscid) (Some own) page translation is = rw (eq-eqb pscid pscid refl, own_leaf translation.level own page (eqb-true own page is)) refl
+covered_there (space.Second gscid) None page translation is = rw (eq-eqb gscid gscid refl) refl
+covered_there (space.Second gscid) (Some own) page translation is = rw (eq-eqb gscid gscid refl, own_leaf translation.level own page (eqb-true own page is)) refl
+covered_there (space.Both gscid pscid) None page translation is = rw (eq-eqb gscid gscid refl) refl
+covered_there (space.Both gscid pscid) (Some own) page translation is = rw (eq-eqb gscid gscid refl) refl
 
 -- the scene's slots are those of its values
 slots_as : (values : Values) (scene : Scene) → IsSceneOf values scene → values.traffic.slots ≡ [] → scene.slots ≡ []
@@ -523,15 +525,15 @@ module _ (old new : Values) (scene : Scene) (shows : IsSceneOf old scene) (facts
                 (outside_kept was.device key.1 (λ same covered.
                 let spaces : key.0 ≡ is.space = some_of key.0 is.space (sym was.own ∙ ap old.space_of (sym same) ∙ is.own) in
                 let key_is : key ≡ (is.space, key.1) = ap (λ (s : Space). (s, key.1)) spaces in
-                false≢true (sym (ap (are_covering (covers_of (invalidation_in is.space is.page))) (sym key_is) ∙ named before.1)
-                ∙ covered_there is.space is.page key.1 (subst (λ e. extent_covers e key.1 ≡ true) is.about covered))));
+                false≢true (sym (ap (λ (k : Key). are_covering (covers_of (invalidation_in is.space is.page)) k translation) (sym key_is) ∙ named before.1)
+                ∙ covered_there is.space is.page key.1 translation (subst (λ e. extent_covers e key.1 ≡ true) is.about covered))));
           }
         where
           some_of : (x y : Space) → Some x ≡ Some y → x ≡ y
           some_of x y e = cc
 
-          named : are_covering (covers_of command) key ≡ false → are_covering (covers_of (invalidation_in is.space is.page)) key ≡ false
-          named it = ap (λ (c : Commanded). are_covering (covers_of c) key) (sym is.named) ∙ it
+          named : are_covering (covers_of command) key translation ≡ false → are_covering (covers_of (invalidation_in is.space is.page)) key translation ≡ false
+          named it = ap (λ (c : Commanded). are_covering (covers_of c) key translation) (sym is.named) ∙ it
 
   drops_context : (device : ℕ) (later : List QueuedCommand) → DoesFirst old new (IodirInvalDdt (Some device)) → scene.waiting ≡ DropContext device ∷ later
       → AreQueuedAs old.address old.space_of new.waiting later → HasFaithfulScene new

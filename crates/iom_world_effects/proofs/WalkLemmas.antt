@@ -25,8 +25,9 @@ use Rattle.iom_page_table.specs.SecondTables.{IsGuestRoot, guest_leaf_of}
 use Rattle.iom_stage_walk.specs.declared.walked.Walked.{Walked}
 use Rattle.iom_stage_walk.specs.declared.walked.WalkFault.{WalkFault}
 use Rattle.iom_stage_walk.specs.Laws.{OneEnd, OneEndSecond, WritesAsReadsSecond, WritesAsReadsBoth, GuestFramesAreLed}
-use Rattle.iom_stage_walk.specs.Paths.{ReachesFirst, StopsFirst}
-use Rattle.iom_stage_walk.specs.Second.{LeadsTo, ReachesSecond, StopsSecond, reported}
+use Rattle.iom_stage_walk.specs.Entries.{entries}
+use Rattle.iom_stage_walk.specs.Paths.{ReachesFirst, StopsFirst, first_path, leaf_level}
+use Rattle.iom_stage_walk.specs.Second.{LeadsTo, ReachesSecond, StopsSecond, reported, second_path}
 use Rattle.iom_stage_walk.specs.Both.{ReachesBoth, StopsBoth}
 use Rattle.iom_world_effects.proofs.SceneSteps.{HoldsWalked}
 
@@ -104,9 +105,9 @@ module _ (laws : WalkLaws) (size : Size) (memory : List (List ℕ)) (ledger : Le
       let page = address / 4096 in
       let one = laws.one_end (levels_of size) memory root address kind fault stops in
       let none : NoneIsHeldFor ledger id page kind = λ frame held.
-      let walked : Walked = record { frame = frame; rights = held.0; guest_frames = replicate 4 None } in
+      let walked : Walked = record { frame = frame; rights = held.0; level = leaf_level (entries memory) root (first_path (levels_of size) address); guest_frames = replicate 4 None } in
       one.0 walked ((laws.reaches size memory root address kind walked).1
-      (leaves page low ∙ ap (option_map leaf_for) held.1, held.2, inside page frame held.0 held.1, refl)) in
+      (leaves page low ∙ ap (option_map leaf_for) held.1, held.2, inside page frame held.0 held.1, refl, refl)) in
       let faults = laws.faults size memory root address kind tree
       (λ leaf here. not_allowed (allows leaf.rights kind) (λ allowed.
       none leaf.frame (leaf.rights, pair_of_leaf (held_in ledger id page) leaf.frame leaf.rights (sym (leaves page low) ∙ here), allowed))) in
@@ -132,8 +133,8 @@ module _ (laws : WalkLaws) (size : Size) (memory : List (List ℕ)) (ledger : Le
   leads_reads : (address : ℕ) (kind : AccessKind) (frame : ℕ) (rights : Rights) → LeadsTo (levels_of size) memory root address kind frame rights → allows rights Read ≡ true
   leads_reads address Read frame rights leads = (leads_held address Read frame rights leads).1
   leads_reads address Write frame rights leads =
-      let walked : Walked = record { frame = frame; rights = rights; guest_frames = replicate 4 None } in
-      let reads = (laws.as_reads_second (levels_of size) memory root address walked).0 (record { leads = leads; no_guest = refl }) in
+      let walked : Walked = record { frame = frame; rights = rights; level = leaf_level (entries memory) root (second_path (levels_of size) address); guest_frames = replicate 4 None } in
+      let reads = (laws.as_reads_second (levels_of size) memory root address walked).0 (record { leads = leads; level = refl; no_guest = refl }) in
       (leads_held address Read frame rights reads.0.leads).1
 
   module _ (address : ℕ) (kind : AccessKind) where
@@ -149,9 +150,10 @@ module _ (laws : WalkLaws) (size : Size) (memory : List (List ℕ)) (ledger : Le
         let page = address / 4096 in
         let one = laws.one_end_second (levels_of size) memory root address kind fault stops in
         let none : NoneIsHeldFor ledger id page kind = λ frame held.
-        let walked : Walked = record { frame = frame; rights = held.0; guest_frames = replicate 4 None } in
+        let walked : Walked = record { frame = frame; rights = held.0; level = leaf_level (entries memory) root (second_path (levels_of size) address); guest_frames = replicate 4 None } in
         one.0 walked (record {
           leads = (laws.guest_reaches size memory root address kind frame held.0).1 (guest_mapped page ∙ ap (option_map leaf_for) held.1, held.2, inside page frame held.0 held.1);
+          level = refl;
           no_guest = refl;
         }) in
         let nowhere = laws.guest_faults size memory root address kind kind tree
