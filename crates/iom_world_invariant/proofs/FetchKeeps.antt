@@ -45,6 +45,7 @@ use Rattle.iom_world_effects.specs.Does.{FetchesNext}
 use Rattle.iom_world_effects.specs.Parts.{Parts}
 use Rattle.iom_world_effects.specs.Queued.{IsQueuedAs, AreQueuedAs, completed_in}
 use Rattle.iom_tlb.specs.declared.trans_cache.Translation.{Translation}
+use Rattle.iom_tlb.proofs.ContentLemmas.{found_before_drop}
 use Rattle.iom_tlb.specs.Content.{Translations}
 use Rattle.iom_tlb.specs.Covers.{are_covering}
 use Rattle.iom_tlb.specs.Invalidations.{covers_of}
@@ -280,12 +281,9 @@ cached_as (IotinvalGvma gscid page) old new drops = λ d there. ap is_some (sym 
 cached_as (AtsInval device range) old new drops = λ d there. ap is_some (sym (drops d)) ∙ there
 
 -- translations that are cached after it were cached before, and it doesn't cover them
-left_in : (o : Option Translation) (covered : Bool) (translation : Translation) → (if covered then None else o) ≡ Some translation → (o ≡ Some translation) × (covered ≡ false)
-left_in o true translation at = cc
-left_in o false translation at = (at, refl)
-
 translations_as : (command : Commanded) (old new : Translations) → DropsTranslations command old new → TranslationsAfter command old new
-translations_as command old new drops key translation at = left_in (old key) (are_covering (covers_of command) key) translation (sym (drops key) ∙ at)
+translations_as command old new drops key translation at =
+    let was = found_before_drop old new key translation at (are_covering (covers_of command)) drops in (was.1, was.0)
 
 -- a fence is done only where the accesses that were accepted before it are made
 not_waited : (a b : Bool) → (not a || not b) ≡ false → (a ≡ true) × (b ≡ true)

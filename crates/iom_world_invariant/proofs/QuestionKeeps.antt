@@ -84,16 +84,16 @@ module _ (laws : ServiceLaws) (old new : Parts) (events device page : ℕ) (soun
       (settled_scene old after device (grants_kept old after events sound own leaves) (queue_kept old after events sound own leaves fence_snapshot) flights keeps change)
 
   -- a page is told
-  told_page : (frame : ℕ) (rights : Rights) → TellsPage old.memory old.iommu device page frame rights new.iommu
-      → IsToldOf ioatc.SURE old.driver device (page * 4096) (translations_of old.iommu) (Ok (record { frame = frame; rights = rights })) (translations_of new.iommu)
+  told_page : (frame : ℕ) (rights : Rights) → (call : TellsPage old.memory old.iommu device page frame rights new.iommu)
+      → IsToldOf ioatc.SURE old.driver device (page * 4096) (translations_of old.iommu) (Ok (record { frame = frame; rights = rights; level = call.level })) (translations_of new.iommu)
   told_page frame rights call =
-      told_of laws old events sound own device (page * 4096) ioatc.SURE (translations_of old.iommu) (translations_of new.iommu) (Ok (record { frame = frame; rights = rights })) fits call.served
+      told_of laws old events sound own device (page * 4096) ioatc.SURE (translations_of old.iommu) (translations_of new.iommu) (Ok (record { frame = frame; rights = rights; level = call.level })) fits call.served
 
   told_sound : (frame : ℕ) (rights : Rights) → TellsPage old.memory old.iommu device page frame rights new.iommu → new.memory ≡ old.memory → AreSound (answering old new) events
   told_sound frame rights call memory =
       let told = told_page frame rights call in
       quiet_sound memory call.registers call.frames call.slots call.flights call.fence_snapshot (keeps_attached laws old events sound own device (contexts_of new.iommu) call.contexts)
-      (change_of old device (page * 4096) Read (translations_of new.iommu) (record { frame = frame; rights = rights }) told.1)
+      (change_of old device (page * 4096) Read (translations_of new.iommu) (record { frame = frame; rights = rights; level = call.level }) told.1)
 
   -- and it is what a walk gives, or a cached translation, of a device with ATS
   told_there : (frame : ℕ) (rights : Rights) → TellsPage old.memory old.iommu device page frame rights new.iommu → (scene : Scene) → IsSceneOf (values_of (answering old new)) scene
@@ -101,10 +101,10 @@ module _ (laws : ServiceLaws) (old new : Parts) (events device page : ℕ) (soun
       × (IsWalked scene (record { device = device; page = page; pair = (frame, rights) }) ⊎ Contains scene.translations (record { device = device; page = page; pair = (frame, rights) }))
   told_there frame rights call scene shows =
       let told = told_page frame rights call in
-      let from = served_from old device (page * 4096) Read (λ d. is_some (contexts_of new.iommu d)) (translations_of new.iommu) (record { frame = frame; rights = rights }) own told.1 in
+      let from = served_from old device (page * 4096) Read (λ d. is_some (contexts_of new.iommu d)) (translations_of new.iommu) (record { frame = frame; rights = rights; level = call.level }) own told.1 in
       let source = served_there (values_of after) scene device (page * 4096 / 4096) from.0 from.1 shows from.4 in (
         ap has_ats (shows.attachments device) ∙ told.0,
-        subst (λ p. IsKnownTo scene device p (record { frame = frame; rights = rights })) at_page (subst (IsKnownTo scene device (page * 4096 / 4096)) (sym from.2) source),
+        subst (λ p. IsKnownTo scene device p (record { frame = frame; rights = rights; level = call.level })) at_page (subst (IsKnownTo scene device (page * 4096 / 4096)) (sym from.2) source),
       )
 
   -- there is no answer

@@ -58,9 +58,9 @@ module _ (laws : ServiceLaws) (old new : Parts) (events device page : ℕ) (soun
   tells : (answer : Told) → AnswersQuestion old.memory old.iommu device page answer new.memory new.iommu
       → MayTell (shown_attachment (attachment_by_id old.driver.devices device)) state device page answer
   tells (Page frame rights) call =
-      let told = told_of laws old events sound own device (page * 4096) ioatc.SURE (translations_of old.iommu) (translations_of new.iommu) (Ok (record { frame = frame; rights = rights })) fits call.0.served in
+      let told = told_of laws old events sound own device (page * 4096) ioatc.SURE (translations_of old.iommu) (translations_of new.iommu) (Ok (record { frame = frame; rights = rights; level = call.0.level })) fits call.0.served in
       subst (λ p. MayTell (shown_attachment (attachment_by_id old.driver.devices device)) state device p (Page frame rights)) at_page
-      (may_tell old events state device (page * 4096) (record { frame = frame; rights = rights }) ioatc.SURE (translations_of new.iommu) sound own shows told.0 told.1)
+      (may_tell old events state device (page * 4096) (record { frame = frame; rights = rights; level = call.0.level }) ioatc.SURE (translations_of new.iommu) sound own shows told.0 told.1)
   tells (Refused cause) call =
       let told = told_of laws old events sound own device (page * 4096) ioatc.SURE (translations_of old.iommu) (translations_of new.iommu) (Err call.fault) fits call.served in
       subst (λ p. MayTell (shown_attachment (attachment_by_id old.driver.devices device)) state device p (Refused cause)) at_page
