@@ -9,7 +9,7 @@ use Rattle.iom_base.specs.declared.rights.Rights.{Rights}
 use Rattle.iom_base.specs.declared.size.Size.{Size}
 use Rattle.iom_base.specs.declared.size.Size.TheVariants.{Sv39, Sv48}
 use Rattle.iom_stage_walk.specs.Entries.{entries, slot}
-use Rattle.iom_stage_walk.specs.Paths.{Reaches, IsLawfulLeaf, IsCanonical, pages_spanned, page_in, path_of, first_widths, first_path}
+use Rattle.iom_stage_walk.specs.Paths.{Reaches, leaf_level, IsLawfulLeaf, IsCanonical, pages_spanned, page_in, path_of, first_widths, first_path}
 use Rattle.iom_stage_walk.specs.Second.{IsGuestPhysical, second_widths, second_path}
 use Rattle.iom_stage_walk.specs.declared.entry.Entry.{Entry}
 use Rattle.iom_stage_walk.specs.declared.entry.Entry.TheVariants as entry
@@ -99,11 +99,13 @@ pub first_stages_are_reached : FirstStagesAreReached
 first_stages_are_reached size memory root kind mapping (page, ends) inside allowed =
     let (address, (canonical, same)) = of_page size page in (
       address,
+      leaf_level (entries memory) root (first_path (levels_of size) address),
       record {
         canonical = canonical;
         path = subst (λ is. Reaches (entries memory) kind root is mapping.frame mapping.rights) (sym same)
             (ends_reaches memory kind root (path_of (first_widths (levels_of size)) page) mapping allowed ends);
         inside = inside;
+        level = refl;
         no_guest = refl;
       },
     )
@@ -112,6 +114,7 @@ pub second_stages_are_reached : SecondStagesAreReached
 second_stages_are_reached size memory root kind mapping (page, ends) inside allowed =
     let (address, (physical, same)) = of_guest_page size page in (
       address,
+      leaf_level (entries memory) root (second_path (levels_of size) address),
       record {
         leads = record {
           guest_physical = physical;
@@ -119,6 +122,7 @@ second_stages_are_reached size memory root kind mapping (page, ends) inside allo
               (ends_reaches memory kind root (path_of (second_widths (levels_of size)) page) mapping allowed ends);
           inside = inside;
         };
+        level = refl;
         no_guest = refl;
       },
     )

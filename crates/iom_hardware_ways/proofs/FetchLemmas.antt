@@ -34,6 +34,8 @@ use Rattle.iom_registers.specs.Queues.{command_base, command_entries, command_he
 use Rattle.iom_tlb.specs.Covers.{are_covering}
 use Rattle.iom_tlb.specs.Invalidations.{covers_of}
 use Rattle.iom_tlb.specs.Content.{Translations, Key, DropsWhere}
+use Rattle.iom_tlb.specs.declared.trans_cache.Translation.{Translation}
+use Rattle.iom_tlb.proofs.ContentLemmas.{found_before_drop}
 use Rattle.iom_reach.specs.Memory.{DiffersAt}
 use Rattle.iom_reach.specs.Occurrences.{AreSomeOfOr, IsPartOf, IsMemoryBy, DoCommand}
 use Rattle.iom_reach.specs.Scene.{Other}
@@ -142,12 +144,12 @@ contexts_part m (IodirInvalDdt device) old new drops key value is = by (covers_d
         gone true never = cc
         gone false never = cc
 
-translations_part : (out : Key → Bool) (old new : Translations) → DropsWhere out old new → IsPartOf (mappings_in new) (mappings_in old)
-translations_part out old new drops at value is = by (out (cached_key at)) (drops (cached_key at))
+translations_part : (out : Key → Translation → Bool) (old new : Translations) → DropsWhere out old new → IsPartOf (mappings_in new) (mappings_in old)
+translations_part out old new drops at value is = by (new (cached_key at)) refl is
   where
-    by : (b : Bool) → new (cached_key at) ≡ (if b then None else old (cached_key at)) → mappings_in old at ≡ Some value
-    by false same = ap (option_map mapping_of) (sym same) ∙ is
-    by true none = let never : None ≡ Some value = ap (option_map mapping_of) (sym none) ∙ is in absurd (cc)
+    by : (left : Option Translation) → new (cached_key at) ≡ left → option_map mapping_of left ≡ Some value → mappings_in old at ≡ Some value
+    by None none some = absurd (cc)
+    by (Some cached) there some = ap (option_map mapping_of) (found_before_drop old new (cached_key at) cached there out drops).1 ∙ some
 
 -- MESSAGES
 

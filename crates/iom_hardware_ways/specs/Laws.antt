@@ -31,9 +31,9 @@ use Rattle.iom_hardware_ways.specs.Calls.{HardwareCall, CallDoes, DoesHarmlessly
 
 -- THE FORMATS
 
--- what is walked without a guest's tables
-abbrev pub without_guest : Mapping → Walked
-without_guest mapping = record { frame = mapping.frame; rights = mapping.rights; guest_frames = replicate 4 None }
+-- what is walked without a guest's tables, by a leaf of this level
+abbrev pub without_guest : Mapping → ℕ → Walked
+without_guest mapping level = record { frame = mapping.frame; rights = mapping.rights; level = level; guest_frames = replicate 4 None }
 
 -- where the path of an address in a first stage reaches, a walk by the formats leads
 abbrev pub FirstStagesLead : Type 0
@@ -60,13 +60,13 @@ abbrev pub FirstStagesAreReached : Type 0
 FirstStagesAreReached = (size : Size) (memory : List (List ℕ)) (root : ℕ) (kind : AccessKind) (mapping : Mapping)
     → LeadsToMapping formats (slice_get memory) root (λ page. steps_along (first_widths (levels_of size)) page) mapping
     → IsInMemory memory mapping.frame → allows mapping.rights kind ≡ true
-    → (address : ℕ) × ReachesFirst (levels_of size) memory root address kind (without_guest mapping)
+    → (address : ℕ) × (level : ℕ) × ReachesFirst (levels_of size) memory root address kind (without_guest mapping level)
 
 abbrev pub SecondStagesAreReached : Type 0
 SecondStagesAreReached = (size : Size) (memory : List (List ℕ)) (root : ℕ) (kind : AccessKind) (mapping : Mapping)
     → LeadsToMapping formats (slice_get memory) root (λ page. steps_along (second_widths (levels_of size)) page) mapping
     → IsInMemory memory mapping.frame → allows mapping.rights kind ≡ true
-    → (address : ℕ) × ReachesSecond (levels_of size) memory root address kind (without_guest mapping)
+    → (address : ℕ) × (level : ℕ) × ReachesSecond (levels_of size) memory root address kind (without_guest mapping level)
 
 -- each is below the width of its level, and there is one for each
 abbrev pub AreIndices : List ℕ → List ℕ → Type 0
