@@ -11,7 +11,7 @@ use iom_hardware_runner::run;
 use std::{fs, io};
 
 /// The scripts of `data/drivers`. A new one is its two files and a line here.
-static DRIVERS: [&str; 51] = [
+static DRIVERS: [&str; 52] = [
     "correct-first",
     "correct-second",
     "correct-ats",
@@ -32,6 +32,7 @@ static DRIVERS: [&str; 51] = [
     "no-iodir",
     "split-without",
     "split-base-only",
+    "split-beside",
     "clears-late",
     "trusts-all",
     "ready-early",

@@ -1,7 +1,8 @@
 // Hardware as a whole without a driver: devices, their caches and messages, with tables, registers and commands by hand.
 use crate::machine::{Act, run};
 use crate::setup::{
-    Answer, CONTEXT, CQT, DDTP, DEVICE, FENCE, INVALIDATE, LEAF, ONE_LEVEL, PLAIN_FENCE, VMA, WORDS,
+    Answer, CONTEXT, CQT, DDTP, DEVICE, FENCE, INVALIDATE, LEAF, MIDDLE, ONE_LEVEL, PLAIN_FENCE,
+    VMA, VMA_PAGE_0, WORDS,
 };
 use iom_ats_cache::Taken;
 use iom_base::{Cause, DeviceKind, NewDevice, Refusal, Rights};
@@ -39,6 +40,39 @@ static RELEASED: [Act; 19] = [
         Sender::Own,
         DEVICE,
         0x3010,
+        b"",
+        Ok(Reply::Fault(Cause::ReadPageFault)),
+    ),
+];
+
+/// A leaf of 2 MiB is cleared, and one command names its first page: no page of the leaf is reached once that is done. So a
+/// kernel unmaps a superpage.
+static UNMAPPED: [Act; 16] = [
+    Act::TurnOn,
+    Act::Write(DDTP, ONE_LEVEL),
+    Act::Plug(DEVICE, NewDevice::Raw, Ok(())),
+    Act::Store(MIDDLE, 0xd7),
+    Act::Request(Sender::Own, DEVICE, 0x3010, b"", Ok(Reply::Accepted(1))),
+    Act::Makes(DEVICE, 3, 16, b"\0"),
+    Act::Request(Sender::Own, DEVICE, 0x2_0010, b"", Ok(Reply::Accepted(2))),
+    Act::Makes(DEVICE, 32, 16, b"\0"),
+    Act::Store(MIDDLE, 0),
+    Act::Put(0, VMA_PAGE_0),
+    Act::Put(1, PLAIN_FENCE),
+    Act::Write(CQT, 2),
+    Act::Does(VMA_PAGE_0),
+    Act::Does(PLAIN_FENCE),
+    Act::Request(
+        Sender::Own,
+        DEVICE,
+        0x3010,
+        b"",
+        Ok(Reply::Fault(Cause::ReadPageFault)),
+    ),
+    Act::Request(
+        Sender::Own,
+        DEVICE,
+        0x2_0010,
         b"",
         Ok(Reply::Fault(Cause::ReadPageFault)),
     ),
@@ -130,6 +164,7 @@ static DISKS: [Act; 15] = [
 #[test]
 fn hardware_needs_no_driver(rt: HostRuntime) {
     run(&rt, rt.alloc(), &WORDS, &RELEASED);
+    run(&rt, rt.alloc(), &WORDS, &UNMAPPED);
     run(&rt, rt.alloc(), &WORDS, &CACHED);
     run(&rt, rt.alloc(), &WORDS, &FORGED);
     run(&rt, rt.alloc(), &[], &DISKS);

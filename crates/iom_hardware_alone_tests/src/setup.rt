@@ -27,6 +27,9 @@ pub(crate) const ONE_LEVEL: u64 = 0x4002;
 /// The address of the device's context in the frame 16.
 pub(crate) const CONTEXT: u64 = 0x100a0;
 
+/// The entry of the pages 0 to 0x1ff in the table of the middle level.
+pub(crate) const MIDDLE: u64 = 0x12000;
+
 /// The leaf of the page 3.
 pub(crate) const LEAF: u64 = 0x13018;
 
@@ -37,17 +40,19 @@ pub(crate) static WORDS: [(u64, u64); 7] = [
     (CONTEXT + 16, 0x1000),
     (CONTEXT + 24, 0x8000_0000_0000_0011),
     (0x11000, 0x4801),
-    (0x12000, 0x4c01),
+    (MIDDLE, 0x4c01),
     (LEAF, 0x80d7),
 ];
 
-/// The words of a fence that stores 1 at 0x5000, of one that stores nothing, of IOTINVAL.VMA of the page 3 of PSCID 1, and of
+/// The words of a fence that stores 1 at 0x5000, of one that stores nothing, of IOTINVAL.VMA of the pages 3 and 0 of PSCID 1, and of
 /// ATS.INVAL of the page 3 of the device.
 pub(crate) const FENCE: (u64, u64) = (0x0000_0001_0000_0402, 0x1400);
 
 pub(crate) const PLAIN_FENCE: (u64, u64) = (2, 0);
 
 pub(crate) const VMA: (u64, u64) = (0x0000_0001_0000_1401, 0xc00);
+
+pub(crate) const VMA_PAGE_0: (u64, u64) = (0x0000_0001_0000_1401, 0);
 
 pub(crate) const INVALIDATE: (u64, u64) = (0x0000_0502_0000_0004, 0x3000);
 

@@ -197,6 +197,47 @@ fn a_page_of_both_stages_is_cached(rt: HostRuntime) {
     }
 }
 
+/// A second stage's leaves of 2 MiB, for the guest physical pages 0 to 0x1ff and 0x200 to 0x3ff. IOTINVAL.GVMA of any page of
+/// the first takes out what is cached of it: the page 9 goes by the leaf that is there now. A page beside it stays cached.
+static SECOND_SUPERPAGE: [Step; 14] = [
+    Step::TurnOn(BASE_VALUE),
+    Step::Write(DDTP, ONE_LEVEL),
+    Step::Store(0x34000, 0xd7),
+    Step::Store(0x34008, 0xd7),
+    Step::GoesTo(0x9010, b"", 9),
+    Step::GoesTo(0x20_9010, b"", 9),
+    Step::Store(0x34000, 0xd401),
+    Step::Store(0x34008, 0xd401),
+    Step::GoesTo(0x9010, b"", 9),
+    Step::Put(0, GVMA_PAGE_8),
+    Step::Write(CQT, 1),
+    Step::Does(GVMA_PAGE_8),
+    Step::GoesTo(0x9010, b"", 32),
+    Step::GoesTo(0x20_9010, b"", 9),
+];
+
+/// A guest's leaf of 2 MiB, which leads its page 9 to its page 9, for which the second stage has one of 4 KiB. IOTINVAL.VMA of
+/// any page of the guest's leaf takes out what is cached of it.
+static GUEST_SUPERPAGE: [Step; 11] = [
+    Step::TurnOn(BASE_VALUE),
+    Step::Write(DDTP, ONE_LEVEL),
+    Step::Store(CONTEXT + 24, GUEST_TABLES),
+    Step::Store(0x25000, 0xd7),
+    Step::GoesTo(0x9010, b"", 32),
+    Step::Store(LEAF, MOVED),
+    Step::GoesTo(0x9010, b"", 32),
+    Step::Put(0, VMA_VM_PAGE_4),
+    Step::Write(CQT, 1),
+    Step::Does(VMA_VM_PAGE_4),
+    Step::GoesTo(0x9010, b"", 33),
+];
+
+#[test]
+fn superpages_of_each_stage_go_as_a_whole(rt: HostRuntime) {
+    follow(&rt, rt.alloc(), &WORDS, &SECOND_SUPERPAGE);
+    follow(&rt, rt.alloc(), &WORDS, &GUEST_SUPERPAGE);
+}
+
 #[test]
 fn stages_serve(rt: HostRuntime) {
     follow(&rt, rt.alloc(), &WORDS, &SECOND);

@@ -104,3 +104,34 @@ static FAULT: [Step; 6] = [
 fn a_fault_is_not_cached(rt: HostRuntime) {
     follow(&rt, rt.alloc(), &WORDS, &FAULT);
 }
+
+/// IOTINVAL.VMA of PSCID 1 and the page 5.
+const PAGE_5: (u64, u64) = (0x0000_0001_0000_1401, 0x1400);
+
+/// Two leaves of 2 MiB, for the pages 0 to 0x1ff and 0x200 to 0x3ff. A command that names any page of the first takes
+/// out what is cached of it: the pages 3 and 0x20 go by the leaves that are there now. A page beside it stays cached.
+static SUPERPAGE: [Step; 18] = [
+    Step::TurnOn(BASE_VALUE),
+    Step::Write(DDTP, ONE_LEVEL),
+    Step::Store(0x12000, 0xd7),
+    Step::Store(0x12008, 0xd7),
+    Step::GoesTo(0x3010, b"", 3),
+    Step::GoesTo(0x20010, b"", 32),
+    Step::GoesTo(0x20_3010, b"", 3),
+    Step::Store(0x12000, 0x4c01),
+    Step::Store(0x12008, 0x4c01),
+    Step::Store(0x13100, MOVED),
+    Step::GoesTo(0x3010, b"", 3),
+    Step::GoesTo(0x20010, b"", 32),
+    Step::Put(0, PAGE_5),
+    Step::Write(CQT, 1),
+    Step::Does(PAGE_5),
+    Step::GoesTo(0x3010, b"", 32),
+    Step::GoesTo(0x20010, b"", 33),
+    Step::GoesTo(0x20_3010, b"", 3),
+];
+
+#[test]
+fn a_superpage_goes_as_a_whole(rt: HostRuntime) {
+    follow(&rt, rt.alloc(), &WORDS, &SUPERPAGE);
+}

@@ -57,6 +57,7 @@ fn at(frame: u32, rights: Rights) -> Result<Walked, WalkFault> {
     Ok(Walked {
         frame,
         rights,
+        level: 0,
         guest_frames: [None; 4],
     })
 }

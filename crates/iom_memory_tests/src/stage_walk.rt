@@ -11,10 +11,14 @@ use std::process::Abort;
 /// What a walk answers.
 #[derive(Clone, Copy)]
 enum Answer {
-    /// A frame is reached, with rights.
+    /// A frame is reached, with rights, by a leaf of 4 KiB.
     At(u32, Rights),
-    /// The same, by the guest's tables in the frames 0x40, 0x41 and 0x42, and in a fourth where there are four.
+    /// The same by a leaf with so many levels below it.
+    AtLeaf(u32, Rights, u8),
+    /// By the guest's tables in the frames 0x40, 0x41 and 0x42, and in a fourth where there are four.
     AtByGuest(u32, Rights, Option<u32>),
+    /// By a guest's leaf of 2 MiB, in its tables in the frames 0x40 and 0x41.
+    AtByGuestLeaf(u32, Rights),
     Fault(Cause),
     /// A fault of the second stage, at a guest physical address, which is a guest table's or not.
     Guest(Cause, u64, bool),
@@ -38,10 +42,11 @@ enum Step {
 
 type Walk = Result<Walked, WalkFault>;
 
-fn reached(frame: u32, rights: Rights, guest_frames: [Option<u32>; 4]) -> Walk {
+fn reached(frame: u32, rights: Rights, level: u8, guest_frames: [Option<u32>; 4]) -> Walk {
     Ok(Walked {
         frame,
         rights,
+        level,
         guest_frames,
     })
 }
@@ -56,9 +61,13 @@ fn refused(cause: Cause, gpa: u64, implicit: bool) -> Walk {
 
 fn is_answered(rt: &impl Abort, seen: Walk, answer: Answer) {
     let wanted = match answer {
-        Answer::At(frame, rights) => reached(frame, rights, [None; 4]),
+        Answer::At(frame, rights) => reached(frame, rights, 0, [None; 4]),
+        Answer::AtLeaf(frame, rights, level) => reached(frame, rights, level, [None; 4]),
         Answer::AtByGuest(frame, rights, last) => {
-            reached(frame, rights, [Some(0x40), Some(0x41), Some(0x42), last])
+            reached(frame, rights, 0, [Some(0x40), Some(0x41), Some(0x42), last])
+        }
+        Answer::AtByGuestLeaf(frame, rights) => {
+            reached(frame, rights, 1, [Some(0x40), Some(0x41), None, None])
         }
         Answer::Fault(cause) => refused(cause, 0, false),
         Answer::Guest(cause, gpa, implicit) => refused(cause, gpa, implicit),
@@ -273,15 +282,15 @@ static SUPERPAGES: [Step; 15] = [
     Step::Put(0x1000, 0xd7),
     Step::Put(0x1008, 0x801),
     Step::Put(0x2018, 0x10_00d7),
-    Step::Read(1, 0, Answer::At(0, Rights::RW)),
-    Step::Read(1, 0x3e_8000, Answer::At(1_000, Rights::RW)),
-    Step::Read(1, 0x7f_f000, Answer::At(2_047, Rights::RW)),
+    Step::Read(1, 0, Answer::AtLeaf(0, Rights::RW, 2)),
+    Step::Read(1, 0x3e_8000, Answer::AtLeaf(1_000, Rights::RW, 2)),
+    Step::Read(1, 0x7f_f000, Answer::AtLeaf(2_047, Rights::RW, 2)),
     Step::Read(1, 0x80_0000, Answer::Fault(Cause::ReadAccessFault)),
     Step::Read(1, 0x3fff_f000, Answer::Fault(Cause::ReadAccessFault)),
     Step::Read(1, 0x405f_f000, Answer::Fault(Cause::ReadPageFault)),
-    Step::Read(1, 0x4060_0000, Answer::At(1_024, Rights::RW)),
-    Step::Read(1, 0x4070_0000, Answer::At(1_280, Rights::RW)),
-    Step::Read(1, 0x407f_f000, Answer::At(1_535, Rights::RW)),
+    Step::Read(1, 0x4060_0000, Answer::AtLeaf(1_024, Rights::RW, 1)),
+    Step::Read(1, 0x4070_0000, Answer::AtLeaf(1_280, Rights::RW, 1)),
+    Step::Read(1, 0x407f_f000, Answer::AtLeaf(1_535, Rights::RW, 1)),
     Step::Read(1, 0x4080_0000, Answer::Fault(Cause::ReadPageFault)),
     Step::Put(0x2018, 0x10_04d7),
     Step::Read(1, 0x4060_0000, Answer::Fault(Cause::ReadPageFault)),
@@ -296,8 +305,8 @@ fn a_superpage_has_a_frame_for_each_page(rt: HostRuntime) {
 /// memory. Half of that isn't aligned.
 static LARGEST: [Step; 8] = [
     Step::Put(0x1000, 0xd7),
-    Step::Read(1, 0, Answer::At(0, Rights::RW)),
-    Step::Read(1, 0x3_fff8, Answer::At(63, Rights::RW)),
+    Step::Read(1, 0, Answer::AtLeaf(0, Rights::RW, 3)),
+    Step::Read(1, 0x3_fff8, Answer::AtLeaf(63, Rights::RW, 3)),
     Step::Read(1, 0x7f_ffff_fff8, Answer::Fault(Cause::ReadAccessFault)),
     Step::Put(0x1008, 0x20_0000_00d7),
     Step::Read(1, 0x80_0000_0000, Answer::Fault(Cause::ReadAccessFault)),
@@ -323,8 +332,8 @@ fn a_root_outside_memory_is_an_access_fault(rt: HostRuntime) {
 }
 
 /// As an emulated processor and an emulated IOMMU answer: of a root of four frames from page 0x30 on, entry
-/// 1,024 stands in the third, and an address of 42 bits is refused, whatever is mapped below.
-static UPPER: [Step; 8] = [
+/// 1,024 stands in the third, and an address of 42 bits is refused, whatever is mapped below. At the end a leaf of 2 MiB.
+static UPPER: [Step; 10] = [
     Step::Put(0x3_2000, 0xd001),
     Step::Put(0x3_4000, 0xd401),
     Step::Put(0x3_5018, 0x80d7),
@@ -336,6 +345,8 @@ static UPPER: [Step; 8] = [
         0x200_0000_3010,
         Answer::Guest(Cause::ReadGuestPageFault, 0x200_0000_3010, false),
     ),
+    Step::Put(0x3_4000, 0xd7),
+    Step::SecondRead(0x3010, Answer::AtLeaf(3, Rights::RW, 1)),
 ];
 
 #[test]
@@ -371,8 +382,9 @@ fn a_second_stage_of_four_levels_translates_50_bits(rt: HostRuntime) {
 }
 
 /// The guest's tables are its pages 0, 1 and 2, and lead the page 3 to its page 9. The second stage has the four in
-/// frames 0x40, 0x41, 0x42 and 0x20. As they answer too.
-static BOTH: [Step; 15] = [
+/// frames 0x40, 0x41, 0x42 and 0x20. As they answer too. At the end the guest has a leaf of 2 MiB, which leads the page 3 to
+/// its page 3.
+static BOTH: [Step; 18] = [
     Step::Put(0x4_0000, 0x401),
     Step::Put(0x4_1000, 0x801),
     Step::Put(0x4_2018, 0x24d7),
@@ -402,6 +414,14 @@ static BOTH: [Step; 15] = [
         Size::Sv39,
         0x3010,
         Answer::Guest(Cause::WriteGuestPageFault, 0x9010, false),
+    ),
+    Step::Put(0x4_1000, 0xd7),
+    Step::Put(0x3_5018, 0x80d7),
+    Step::Both(
+        Size::Sv39,
+        Size::Sv39,
+        0x3010,
+        Answer::AtByGuestLeaf(0x20, Rights::RW),
     ),
 ];
 

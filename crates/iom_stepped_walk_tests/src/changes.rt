@@ -28,6 +28,8 @@ enum Step {
     Load,
     /// It makes its last load, and ends at the frame.
     Reaches(u32),
+    /// The same, by a leaf with so many levels below it.
+    ReachesByLeaf(u32, u8),
     /// The same, with frames of the guest's tables.
     ReachesBy(u32, [Option<u32>; 4]),
     /// It makes its last load, and ends with the fault.
@@ -53,10 +55,11 @@ fn entry(page: u64, flags: u64) -> u64 {
     page.wrapping_mul(1024).wrapping_add(flags)
 }
 
-fn reached(frame: u32, guest_frames: [Option<u32>; 4]) -> Answer {
+fn reached(frame: u32, level: u8, guest_frames: [Option<u32>; 4]) -> Answer {
     Ok(Walked {
         frame,
         rights: Rights::RW,
+        level,
         guest_frames,
     })
 }
@@ -88,8 +91,9 @@ fn ends_so(progress: Progress, wanted: Answer) -> bool {
 fn is_right(now: Progress, step: Step) -> bool {
     match step {
         Step::Load => goes_on(now),
-        Step::Reaches(frame) => ends_so(now, reached(frame, [None; 4])),
-        Step::ReachesBy(frame, guest_frames) => ends_so(now, reached(frame, guest_frames)),
+        Step::Reaches(frame) => ends_so(now, reached(frame, 0, [None; 4])),
+        Step::ReachesByLeaf(frame, level) => ends_so(now, reached(frame, level, [None; 4])),
+        Step::ReachesBy(frame, guest_frames) => ends_so(now, reached(frame, 0, guest_frames)),
         Step::Faults(cause) => ends_so(now, refused(cause, 0, false)),
         Step::FaultsAt(cause, gpa, implicit) => ends_so(now, refused(cause, gpa, implicit)),
         _ => false,
@@ -182,6 +186,18 @@ fn an_entry_is_read_at_its_load_and_not_again(rt: HostRuntime) {
             // a pointer becomes a superpage, which is misaligned
             Step::Leaf(0x2000, 0x201),
             Step::Faults(Cause::ReadPageFault),
+        ],
+    );
+    follow(
+        &rt,
+        rt.alloc(),
+        first(&rt),
+        &FIRST,
+        &[
+            Step::Load,
+            // one of 2 MiB from the frame 0 on
+            Step::Leaf(0x2000, 0),
+            Step::ReachesByLeaf(5, 1),
         ],
     );
 }

@@ -140,6 +140,7 @@ fn a_first_stage_reaches_or_loads_nothing(rt: HostRuntime) {
     let walked = Walked {
         frame: 0x10,
         rights: Rights::RW,
+        level: 0,
         guest_frames: [None; 4],
     };
     let read = AccessKind::Read;
