@@ -3,7 +3,8 @@
 
 use crate::run::Step;
 use iom_base::{Access, AccessKind, DeviceId, Mode, Sequence, Size};
-use iom_machine::{Choice, Event, Outcome, State};
+use iom_kept_state::KeptState;
+use iom_machine::{Choice, Event, Outcome};
 use std::alloc::{AllocError, Global};
 
 /// No access: no block device takes a step here.
@@ -17,25 +18,23 @@ fn no_access(alloc: Global) -> Access {
 }
 
 /// Whether nobody has the frame. Those that are granted are the lowest, and no table comes to be there.
-fn is_free(state: &State, number: u32) -> bool {
-    match state.frames.as_slice().get(number as usize) {
-        Some(frame) => frame.owner.is_none(),
-        None => false,
-    }
+fn is_free(kept: &KeptState, number: u32) -> bool {
+    let number = u64::from(number);
+    number < kept.frames.count() && !kept.frames.is_reserved(number)
 }
 
 /// The size of the device's tables, where it has any.
-fn size_of(state: &State, asked: DeviceId) -> Option<Size> {
-    let mut devices = state.devices.as_slice().iter();
+fn size_of(kept: &KeptState, asked: DeviceId) -> Option<Size> {
+    let mut devices = kept.devices.as_slice().iter();
     let device = devices.find(|device| device.id == asked)?;
     Some(device.attachment.mode()?.size())
 }
 
 /// So many of the highest free frames.
-fn highest(alloc: Global, state: &State, count: usize) -> Result<Sequence<u32>, AllocError> {
+fn highest(alloc: Global, kept: &KeptState, count: usize) -> Result<Sequence<u32>, AllocError> {
     let mut all = Sequence::new(alloc);
     for number in (0..64).rev() {
-        if all.as_slice().len() < count && is_free(state, number) {
+        if all.as_slice().len() < count && is_free(kept, number) {
             all.push(number)?;
         }
     }
@@ -43,18 +42,18 @@ fn highest(alloc: Global, state: &State, count: usize) -> Result<Sequence<u32>, 
 }
 
 /// The highest free frame below the limit.
-fn highest_one(alloc: Global, state: &State, limit: u32) -> Result<Sequence<u32>, AllocError> {
+fn highest_one(alloc: Global, kept: &KeptState, limit: u32) -> Result<Sequence<u32>, AllocError> {
     for number in (0..limit).rev() {
-        if is_free(state, number) {
+        if is_free(kept, number) {
             return sequence(alloc, &[number]);
         }
     }
     Ok(Sequence::new(alloc))
 }
 
-fn are_free(state: &State, numbers: &[u32]) -> bool {
+fn are_free(kept: &KeptState, numbers: &[u32]) -> bool {
     for number in numbers {
-        if !is_free(state, *number) {
+        if !is_free(kept, *number) {
             return false;
         }
     }
@@ -62,11 +61,11 @@ fn are_free(state: &State, numbers: &[u32]) -> bool {
 }
 
 /// The highest four free frames in a row below the limit that begin at a multiple of four.
-fn highest_four(alloc: Global, state: &State, limit: u32) -> Result<Sequence<u32>, AllocError> {
+fn highest_four(alloc: Global, kept: &KeptState, limit: u32) -> Result<Sequence<u32>, AllocError> {
     for quarter in (0..16).rev() {
         let root = 4 * quarter;
         let four = [root, root + 1, root + 2, root + 3];
-        if root + 3 < limit && are_free(state, &four) {
+        if root + 3 < limit && are_free(kept, &four) {
             return sequence(alloc, &four);
         }
     }
@@ -116,11 +115,11 @@ impl Choices {
     fn tables(
         &mut self,
         alloc: Global,
-        state: &State,
+        kept: &KeptState,
         device: DeviceId,
         page: u64,
     ) -> Result<Sequence<u32>, AllocError> {
-        let most = match size_of(state, device) {
+        let most = match size_of(kept, device) {
             Some(Size::Sv39) => 2,
             Some(Size::Sv48) => 3,
             None => 0,
@@ -134,13 +133,13 @@ impl Choices {
         if lacking > 0 {
             self.granted.push((device, page))?;
         }
-        highest(alloc, state, lacking)
+        highest(alloc, kept, lacking)
     }
 
     /// How many pages the path of the id lacks, in a directory of one level or of three (IOMMU specification,
     /// section 2.1, "Device-Directory-Table (DDT)").
-    fn count_lacking(&self, state: &State, device: DeviceId) -> usize {
-        if state.levels == 1 {
+    fn count_lacking(&self, kept: &KeptState, device: DeviceId) -> usize {
+        if kept.levels == 1 {
             return 0;
         }
         let mut lacking = 2;
@@ -159,11 +158,11 @@ impl Choices {
     fn attach(
         &mut self,
         alloc: Global,
-        state: &State,
+        kept: &KeptState,
         device: DeviceId,
         mode: Mode,
     ) -> Result<(Sequence<u32>, Sequence<u32>), AllocError> {
-        let pages = highest(alloc, state, self.count_lacking(state, device))?;
+        let pages = highest(alloc, kept, self.count_lacking(kept, device))?;
         self.attached.push(device)?;
         self.granted.retain(|(owner, _page)| *owner != device);
         let limit = match pages.as_slice().last() {
@@ -171,8 +170,8 @@ impl Choices {
             None => 64,
         };
         let root = match mode {
-            Mode::First(_) => highest_one(alloc, state, limit)?,
-            Mode::Second(_) | Mode::Both(_) => highest_four(alloc, state, limit)?,
+            Mode::First(_) => highest_one(alloc, kept, limit)?,
+            Mode::Second(_) | Mode::Both(_) => highest_four(alloc, kept, limit)?,
         };
         Ok((pages, root))
     }
@@ -181,15 +180,15 @@ impl Choices {
     fn taken(
         &mut self,
         alloc: Global,
-        state: &State,
+        kept: &KeptState,
         step: &Step,
     ) -> Result<(Sequence<u32>, Sequence<u32>), AllocError> {
         match (&step.event, &step.outcome) {
             (Event::Attach { device, mode, .. }, Outcome::Done) => {
-                self.attach(alloc, state, *device, *mode)
+                self.attach(alloc, kept, *device, *mode)
             }
             (Event::Grant { device, page, .. }, Outcome::Done) => {
-                let tables = self.tables(alloc, state, *device, *page)?;
+                let tables = self.tables(alloc, kept, *device, *page)?;
                 Ok((Sequence::new(alloc), tables))
             }
             _ => Ok((Sequence::new(alloc), Sequence::new(alloc))),
@@ -200,10 +199,10 @@ impl Choices {
     pub(crate) fn choice(
         &mut self,
         alloc: Global,
-        state: &State,
+        kept: &KeptState,
         step: &Step,
     ) -> Result<Choice, AllocError> {
-        let (directory, taken) = self.taken(alloc, state, step)?;
+        let (directory, taken) = self.taken(alloc, kept, step)?;
         let (device, page) = match step.question {
             Some(question) => (question.device, question.page),
             None => (0, 0),

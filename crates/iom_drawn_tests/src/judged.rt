@@ -4,7 +4,8 @@ use crate::choices::Choices;
 use crate::expect::expect;
 use crate::notes::{Note, come_often};
 use crate::run::{Plan, Run};
-use iom_machine::{Limits, power_on};
+use iom_kept_state::KeptState;
+use iom_machine::Limits;
 use iom_machine_judge::judge;
 use std::alloc::{AllocError, Global};
 use std::process::Abort;
@@ -13,16 +14,15 @@ use std::test::Fail;
 /// How many of the steps the judge finds lawful, and the list of the messages under way too, up to the first that
 /// isn't so.
 fn lawful(alloc: Global, run: &Run) -> Result<usize, AllocError> {
-    let mut state = power_on(alloc, Limits::of_model(), 64, run.levels, &[])?;
+    let mut kept = KeptState::power_on(alloc, Limits::of_model(), 64, run.levels, &[])?;
     let mut choices = Choices::new(alloc);
     for (number, step) in run.steps.iter().enumerate() {
-        if state.frames.as_slice().len() > 64 || !step.agrees {
+        if !step.agrees {
             return Ok(number);
         }
-        let choice = choices.choice(alloc, &state, step)?;
-        match judge(alloc, state, &step.event, &step.outcome, &choice)? {
-            Some(next) => state = next,
-            None => return Ok(number),
+        let choice = choices.choice(alloc, &kept, step)?;
+        if !judge(alloc, &mut kept, &step.event, &step.outcome, &choice)? {
+            return Ok(number);
         }
     }
     Ok(run.steps.len())

@@ -1,4 +1,7 @@
 mod BlockLemmas
-mod HistoryLoops
-mod VerdictLemmas
+pub mod DecidedLemmas
 pub mod LeftLemmas
+mod MakeLemmas
+pub mod NextLemmas
+mod ReasonLemmas
+mod VerdictLemmas

@@ -1,136 +1,89 @@
 -- What the judge finds of the first line and of the later ones.
-use Rattle.std.proofs.Common.{◌≡◌, ◌↔◌, Bool, true, ℕ, zero, suc, ◌+◌, ◌≤◌, List, [], ◌∷◌, map, length, drop, Option, None, Some, Result, Ok, Err, IfOk, IfSome, slice_get, refl, sym, ap, ◌∙◌, subst, arith}
-use Rattle.std.proofs.lemmas.Grind.{common_steps}
-use Rattle.std.specs.declared.alloc.AllocError.{AllocError}
+use Rattle.std.proofs.Common.{◌≡◌, ◌↔◌, ℕ, zero, suc, ◌+◌, ◌≤◌, List, [], ◌∷◌, map, length, drop, Option, None, Some, slice_get, refl, sym, ap, ◌∙◌, subst, arith}
+use Rattle.iom_kept_state.specs.Grants.{IsPastOf}
+use Rattle.iom_kept_state.specs.States.{state_of, Leaves, MayNotCome}
+use Rattle.iom_kept_state.specs.declared.state.KeptState.{KeptState}
 use Rattle.iom_machine.specs.declared.choice.Choice.{Choice}
 use Rattle.iom_machine.specs.declared.event.Event.{Event}
 use Rattle.iom_machine_judge.specs.declared.line.Line.{Line}
-use Rattle.iom_machine_judge.specs.declared.line.Verdict.{Verdict}
-use Rattle.iom_machine_judge.specs.declared.line.Verdict.TheVariants.{Lawful, Unlawful}
 use Rattle.iom_machine.specs.declared.outcome.Outcome.{Outcome}
 use Rattle.iom_machine.specs.declared.state.State.{State}
 use Rattle.iom_machine.specs.Machine.{ChosenStep, Run}
-use Rattle.iom_machine_judge.specs.Deciding.{left_by}
-use Rattle.iom_machine_judge.specs.Verdicts.{LineStep, LinesRun, FirstUnlawfulAt, IsVerdict}
-use Rattle.iom_machine.proofs.SoundLemmas.{same_size-step}
-use Rattle.iom_machine.proofs.StepLemmas.{only_state}
+use Rattle.iom_machine_judge.specs.Verdicts.{LineStep, LinesRun, IsFoundOf}
 
--- a step that the judge decides keeps the number of frames
-pub same_size_if_left : (may : Bool) (choice : Choice) (old left : State) (event : Event) (outcome : Outcome) → may ≡ true
-    → ((new : State) → (left_by may left ≡ Some new) ↔ ChosenStep choice old event outcome new) → length left.frames ≡ length old.frames
-same_size_if_left may choice old left event outcome lawful decides =
-    same_size-step old left event outcome (choice, (decides left).0 (ap (λ (b : Bool). left_by b left) lawful))
+-- the first so many lines lead to what is kept: what is found of the others there is found of all
+abbrev pub later_by : ℕ → Option ℕ → Option ℕ
+later_by count None = None
+later_by count (Some place) = Some (count + place)
 
--- the line decides the next state
-abbrev pub Leaves : State → Line → State → Type 0
-Leaves old line next = (new : State) → (◌≡◌ {A = Option State} (Some next) (Some new)) ↔ LineStep old line new
-
--- so there is no other
-left_state : (old next : State) (line : Line) (mid : State) → Leaves old line next → LineStep old line mid → mid ≡ next
-left_state old next line mid leaves step = sym (only_state next mid ((leaves mid).1 step))
-
-pub verdict_lawful : (old next last : State) (line : Line) (later : List Line) → Leaves old line next → IsVerdict next later (Lawful last) → IsVerdict old (line ∷ later) (Lawful last)
-verdict_lawful old next last line later leaves (runs, stops) = (
-  (λ new. (
-    (λ same. (next, (leaves next).0 refl, (runs new).0 same)),
-    (λ run. (runs new).1 (subst (λ s. LinesRun s later new) (left_state old next line run.0 leaves run.1) run.2)),
-  )),
-  (λ k. ((λ same. cc), never k)),
-)
-  where
-    never : (k : ℕ) → FirstUnlawfulAt k old (line ∷ later) → Lawful last ≡ Unlawful k
-    never zero stop = absurd (stop next ((leaves next).0 refl))
-    never (suc k) (mid, step, stop) = let h : Lawful last ≡ Unlawful k = (stops k).1 (subst (λ s. FirstUnlawfulAt k s later) (left_state old next line mid leaves step) stop) in cc
-
-pub verdict_unlawful : (old next : State) (place : ℕ) (line : Line) (later : List Line) → Leaves old line next → IsVerdict next later (Unlawful place) → IsVerdict old (line ∷ later) (Unlawful (place + 1))
-verdict_unlawful old next place line later leaves (runs, stops) = (
-  (λ new. ((λ same. cc), (λ run. never new (subst (λ s. LinesRun s later new) (left_state old next line run.0 leaves run.1) run.2)))),
-  (λ k. (forward k, backward k)),
-)
-  where
-    never : (new : State) → LinesRun next later new → Unlawful (place + 1) ≡ Lawful new
-    never new run = let h : Unlawful place ≡ Lawful new = (runs new).1 run in cc
-
-    one_more : place + 1 ≡ suc place
-    one_more = omega arith
-
-    forward : (k : ℕ) → Unlawful (place + 1) ≡ Unlawful k → FirstUnlawfulAt k old (line ∷ later)
-    forward k same = let numbers : place + 1 ≡ k = cc in subst (λ n. FirstUnlawfulAt n old (line ∷ later)) (sym one_more ∙ numbers) (next, (leaves next).0 refl, (stops place).0 refl)
-
-    backward : (k : ℕ) → FirstUnlawfulAt k old (line ∷ later) → Unlawful (place + 1) ≡ Unlawful k
-    backward zero stop = absurd (stop next ((leaves next).0 refl))
-    backward (suc k) (mid, step, stop) =
-        let same : Unlawful place ≡ Unlawful k = (stops k).1 (subst (λ s. FirstUnlawfulAt k s later) (left_state old next line mid leaves step) stop) in
-        let numbers : place ≡ k = cc in ap (λ n. Unlawful n) (one_more ∙ ap suc numbers)
-
--- the verdict on a list of lines, by that on the list without its first so many
-abbrev pub later_by : ℕ → Verdict → Verdict
-later_by count (Lawful last) = Lawful last
-later_by count (Unlawful place) = Unlawful (count + place)
-
--- the first so many lines lead to a state: what is found of the others there is found of all
-abbrev pub LeadsTo : State → List Line → ℕ → State → Type 0
+abbrev pub LeadsTo : KeptState → List Line → ℕ → KeptState → Type 0
 LeadsTo old lines count reached =
-    (verdict : Verdict) → IsVerdict reached (drop count lines) verdict → IsVerdict old lines (later_by count verdict)
+    (new : KeptState) (found : Option ℕ) → IsFoundOf found reached new (drop count lines) → IsFoundOf (later_by count found) old new lines
 
-pub leads_to_none : (old : State) (lines : List Line) → LeadsTo old lines 0 old
-leads_to_none old lines (Lawful last) is = is
-leads_to_none old lines (Unlawful place) is = let none : place ≡ 0 + place = omega arith in subst (λ n. IsVerdict old lines (Unlawful n)) none is
+pub leads_to_none : (old : KeptState) (lines : List Line) → LeadsTo old lines 0 old
+leads_to_none old lines new None is = is
+leads_to_none old lines new (Some place) is = let none : place ≡ 0 + place = omega arith in subst (λ (n : ℕ). IsFoundOf (Some n) old new lines) none is
 
 -- the others, from a line on
-pub drop_at : (lines : List Line) (count : ℕ) (line : Line) → slice_get lines count ≡ Some line → drop count lines ≡ line ∷ drop (suc count) lines
+drop_at : (lines : List Line) (count : ℕ) (line : Line) → slice_get lines count ≡ Some line → drop count lines ≡ line ∷ drop (suc count) lines
 drop_at [] count line at = cc
 drop_at (first ∷ later) zero line at = let same : first ≡ line = cc in ap (λ (l : Line). l ∷ later) same
 drop_at (first ∷ later) (suc count) line at = drop_at later count line at
 
+-- what is found of a line that leaves the next state, and of those behind it
+found_next : (reached next new : KeptState) (line : Line) (later : List Line) → Leaves reached next (λ before after. LineStep before line after)
+    → IsFoundOf None next new later → IsFoundOf None reached new (line ∷ later)
+found_next reached next new line later leaves found history past =
+    let (mid, is_past, only) = leaves history past in
+    let (now, is_last, run) = found mid is_past in (
+      now,
+      is_last,
+      λ after. (
+        (λ same. (state_of next mid, (only (state_of next mid)).0 refl, (run after).0 same)),
+        (λ (between, step, rest). (run after).1 (subst (λ (s : State). LinesRun s later after) ((only between).1 step) rest)),
+      ),
+    )
+
+found_later : (reached next new : KeptState) (line : Line) (later : List Line) (place : ℕ) → Leaves reached next (λ before after. LineStep before line after)
+    → IsFoundOf (Some place) next new later → IsFoundOf (Some (suc place)) reached new (line ∷ later)
+found_later reached next new line later place leaves found history past =
+    let (mid, is_past, only) = leaves history past in
+    (state_of next mid, (only (state_of next mid)).0 refl, found mid is_past)
+
 -- one line more leads on
-pub leads_to_next : (old reached next : State) (lines : List Line) (count : ℕ) (line : Line)
-    → slice_get lines count ≡ Some line → Leaves reached line next → LeadsTo old lines count reached → LeadsTo old lines (count + 1) next
-leads_to_next old reached next lines count line at leaves leads (Lawful last) is =
-    leads (Lawful last) (subst (λ ls. IsVerdict reached ls (Lawful last)) (sym (drop_at lines count line at)) (verdict_lawful reached next last line _ leaves (as_later count is)))
+pub leads_to_next : (old reached next : KeptState) (lines : List Line) (count : ℕ) (line : Line)
+    → slice_get lines count ≡ Some line → Leaves reached next (λ before after. LineStep before line after) → LeadsTo old lines count reached → LeadsTo old lines (count + 1) next
+leads_to_next old reached next lines count line at leaves leads new found is = by found (subst (λ (n : ℕ). IsFoundOf found next new (drop n lines)) one_more is)
   where
-    as_later : (n : ℕ) → IsVerdict next (drop (n + 1) lines) (Lawful last) → IsVerdict next (drop (suc n) lines) (Lawful last)
-    as_later n found = let one_more : n + 1 ≡ suc n = omega arith in subst (λ m. IsVerdict next (drop m lines) (Lawful last)) one_more found
-leads_to_next old reached next lines count line at leaves leads (Unlawful place) is =
-    let numbers : count + (place + 1) ≡ count + 1 + place = omega arith in
-    subst (λ n. IsVerdict old lines (Unlawful n)) numbers
-    (leads (Unlawful (place + 1)) (subst (λ ls. IsVerdict reached ls (Unlawful (place + 1))) (sym (drop_at lines count line at)) (verdict_unlawful reached next place line _ leaves (as_later count is))))
+    one_more : count + 1 ≡ suc count
+    one_more = omega arith
+
+    by : (found : Option ℕ) → IsFoundOf found next new (drop (suc count) lines) → IsFoundOf (later_by (count + 1) found) old new lines
+    by None is =
+        leads new None (subst (λ (ls : List Line). IsFoundOf None reached new ls) (sym (drop_at lines count line at)) (found_next reached next new line (drop (suc count) lines) leaves is))
+    by (Some place) is =
+        let number : count + suc place ≡ count + 1 + place = omega arith in
+        subst (λ (n : ℕ). IsFoundOf (Some n) old new lines) number
+        (leads new (Some (suc place)) (subst (λ (ls : List Line). IsFoundOf (Some (suc place)) reached new ls) (sym (drop_at lines count line at)) (found_later reached next new line (drop (suc count) lines) place leaves is)))
+
+-- a line that may not come is the first
+pub stops_at : (old reached new : KeptState) (lines : List Line) (count : ℕ) (line : Line) → slice_get lines count ≡ Some line
+    → MayNotCome reached (λ before after. LineStep before line after) → LeadsTo old lines count reached → IsFoundOf (Some count) old new lines
+stops_at old reached new lines count line at never leads =
+    let here : count + 0 ≡ count = omega arith in
+    subst (λ (n : ℕ). IsFoundOf (Some n) old new lines) here
+    (leads new (Some 0) (subst (λ (ls : List Line). IsFoundOf (Some 0) reached new ls) (sym (drop_at lines count line at)) (λ history past. never history past)))
+
+-- past the last line
+pub ends_at : (old reached : KeptState) (lines : List Line) (count : ℕ) → length lines ≤ count → LeadsTo old lines count reached → IsFoundOf None old reached lines
+ends_at old reached lines count past leads =
+    leads reached None (subst (λ (ls : List Line). IsFoundOf None reached reached ls) (sym (none_left lines count past)) (λ history is. (history, is, λ after. ((λ same. same), (λ same. same)))))
   where
-    as_later : (n : ℕ) → IsVerdict next (drop (n + 1) lines) (Unlawful place) → IsVerdict next (drop (suc n) lines) (Unlawful place)
-    as_later n found = let one_more : n + 1 ≡ suc n = omega arith in subst (λ m. IsVerdict next (drop m lines) (Unlawful place)) one_more found
-
--- a line that may not come is the first such one
-pub stops_at : (old reached : State) (lines : List Line) (count : ℕ) (line : Line)
-    → slice_get lines count ≡ Some line → ((new : State) → ¬ LineStep reached line new) → LeadsTo old lines count reached → IsVerdict old lines (Unlawful count)
-stops_at old reached lines count line at never leads =
-    let none : count + 0 ≡ count = omega arith in
-    subst (λ n. IsVerdict old lines (Unlawful n)) none
-    (leads (Unlawful 0) (subst (λ ls. IsVerdict reached ls (Unlawful 0)) (sym (drop_at lines count line at)) first))
-  where
-    later : List Line
-    later = drop (suc count) lines
-
-    forward : (k : ℕ) → Unlawful 0 ≡ Unlawful k → FirstUnlawfulAt k reached (line ∷ later)
-    forward k same = let numbers : 0 ≡ k = cc in subst (λ n. FirstUnlawfulAt n reached (line ∷ later)) numbers never
-
-    backward : (k : ℕ) → FirstUnlawfulAt k reached (line ∷ later) → Unlawful 0 ≡ Unlawful k
-    backward zero stop = refl
-    backward (suc k) (mid, step, stop) = absurd (never mid step)
-
-    first : IsVerdict reached (line ∷ later) (Unlawful 0)
-    first = ((λ new. ((λ same. cc), (λ run. absurd (never run.0 run.1)))), (λ k. (forward k, backward k)))
-
--- after the last line
-pub ends_at : (old reached : State) (lines : List Line) (count : ℕ) → length lines ≤ count → LeadsTo old lines count reached → IsVerdict old lines (Lawful reached)
-ends_at old reached lines count all leads = leads (Lawful reached) (subst (λ ls. IsVerdict reached ls (Lawful reached)) (sym (nothing lines count all)) empty)
-  where
-    nothing : (ls : List Line) (n : ℕ) → length ls ≤ n → drop n ls ≡ []
-    nothing [] n all = grind (arith, common_steps)
-    nothing (first ∷ later) zero all = absurd (omega (arith, all))
-    nothing (first ∷ later) (suc n) all = nothing later n (omega (arith, all))
-
-    empty : IsVerdict reached [] (Lawful reached)
-    empty = ((λ new. ((λ same. let h : reached ≡ new = cc in sym h), (λ run. ap (λ s. Lawful s) (sym run)))), (λ k. ((λ same. cc), (λ stop. absurd stop))))
+    none_left : (ls : List Line) (n : ℕ) → length ls ≤ n → drop n ls ≡ []
+    none_left [] zero less = refl
+    none_left [] (suc n) less = refl
+    none_left (l ∷ ls) zero less = absurd (omega (arith, less))
+    none_left (l ∷ ls) (suc n) less = none_left ls n (omega (arith, less))
 
 -- a run, line by line
 pub lines_of_run : (old new : State) (events : List Event) (outcomes : List Outcome) → Run old events outcomes new

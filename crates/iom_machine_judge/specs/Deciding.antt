@@ -1,6 +1,6 @@
 -- The steps that the judge decides together: those of events of one sort.
 -- For the judge's own functions alone; no public contract cites these.
-use Rattle.std.specs.Prelude.{ℕ, Bool, true, false, Option, None, Some}
+use Rattle.std.specs.Prelude.{ℕ}
 use Rattle.iom_base.specs.Accesses.{read_of, write_of}
 use Rattle.iom_machine.specs.declared.choice.Choice.{Choice}
 use Rattle.iom_machine.specs.declared.event.Event.{Event}
@@ -9,11 +9,6 @@ use Rattle.iom_machine.specs.declared.outcome.Outcome.{Outcome}
 use Rattle.iom_machine.specs.declared.state.State.{State}
 use Rattle.iom_machine.specs.Machine.{Plugs, Attaches, Detaches, Grants, Releases, Quarantines, Revives, Restarts, TimesOut, Resets, InsertsDisk, SetsQueue, Steps, TellsStatus, Requests, RequestsTranslated, RequestsThroughCache}
 use Rattle.iom_virtqueue.specs.Layouts.{layout_of}
-
--- the state that is left, where the event may come so
-abbrev pub left_by : Bool → State → Option State
-left_by true state = Some state
-left_by false state = None
 
 -- the step of a call of the driver; no other event is one
 abbrev pub CallStep : Choice → State → Event → Outcome → State → Type 0

@@ -1,9 +1,11 @@
 -- What the judge finds of a list of lines.
-use Rattle.std.specs.Prelude.{◌≡◌, ◌↔◌, ℕ, zero, suc, List, [], ◌∷◌, map}
+use Rattle.std.specs.Prelude.{◌≡◌, ◌↔◌, ◌<◌, ℕ, zero, suc, List, [], ◌∷◌, Option, None, Some, map}
+use Rattle.iom_kept_state.specs.Grants.{IsPastOf}
+use Rattle.iom_kept_state.specs.States.{state_of}
+use Rattle.iom_kept_state.specs.declared.state.KeptState.{KeptState}
+use Rattle.iom_ledger.specs.History.{History}
 use Rattle.iom_machine.specs.declared.event.Event.{Event}
 use Rattle.iom_machine_judge.specs.declared.line.Line.{Line}
-use Rattle.iom_machine_judge.specs.declared.line.Verdict.{Verdict}
-use Rattle.iom_machine_judge.specs.declared.line.Verdict.TheVariants.{Lawful, Unlawful}
 use Rattle.iom_machine.specs.declared.outcome.Outcome.{Outcome}
 use Rattle.iom_machine.specs.declared.state.State.{State}
 use Rattle.iom_machine.specs.Machine.{ChosenStep, Run}
@@ -23,11 +25,12 @@ FirstUnlawfulAt k old [] = ⊥
 FirstUnlawfulAt zero old (line ∷ lines) = (new : State) → ¬ LineStep old line new
 FirstUnlawfulAt (suc k) old (line ∷ lines) = (mid : State) × LineStep old line mid × FirstUnlawfulAt k mid lines
 
--- the verdict is true of the lines, and the only one that is
-abbrev pub IsVerdict : State → List Line → Verdict → Type 0
-IsVerdict old lines verdict =
-    ((new : State) → (verdict ≡ Lawful new) ↔ LinesRun old lines new)
-    × ((k : ℕ) → (verdict ≡ Unlawful k) ↔ FirstUnlawfulAt k old lines)
+-- WHAT IS FOUND is true of each past: the lines may come, and the state that is kept is the only one that they leave; or this is the first that may not
+abbrev pub IsFoundOf : Option ℕ → KeptState → KeptState → List Line → Type 0
+IsFoundOf None old new lines =
+    (history : History) → IsPastOf old.grants history
+    → (now : History) × IsPastOf new.grants now × ((after : State) → (after ≡ state_of new now) ↔ LinesRun (state_of old history) lines after)
+IsFoundOf (Some k) old new lines = (history : History) → IsPastOf old.grants history → FirstUnlawfulAt k (state_of old history) lines
 
 -- Each run is one of some lines, with those events and outcomes.
 abbrev pub RunsAreChosen : Type 0

@@ -1,14 +1,15 @@
 // Events that ask for an access: of each of the three ways in which a request goes to memory.
-ghost use Rattle.std.specs.Prelude.{◌≡◌, ◌↔◌, IfOk, Some};
+ghost use Rattle.std.specs.Prelude.{◌≡◌, IfOk};
 ghost use Rattle.iom_base.specs.Accesses.{read_of, write_of};
-ghost use Rattle.iom_machine.specs.declared.state.State.{State};
-ghost use Rattle.iom_machine_judge.specs.Deciding.{UntranslatedStep, TranslatedStep, CachedStep, left_by};
+ghost use Rattle.iom_kept_state.specs.States.{Decides, DecidesStaying};
+ghost use Rattle.iom_machine_judge.specs.Deciding.{UntranslatedStep, TranslatedStep, CachedStep};
 
 use crate::requests::judge_request;
 use crate::through_cache::judge_through_cache;
 use crate::translated::judge_translated;
 use iom_base::{Access, AccessKind, Sequence};
-use iom_machine::{Event, Outcome, State};
+use iom_kept_state::KeptState;
+use iom_machine::{Event, Outcome};
 use std::alloc::{AllocError, Global};
 
 /// The access that a read asks for.
@@ -37,15 +38,15 @@ fn write_asked(alloc: Global, address: u64, bytes: &[u8]) -> Result<Access, Allo
     })
 }
 
-/// Whether a request that the IOMMU translates may be answered so, on this frame; the state is then what it leaves.
+/// Whether a request that the IOMMU translates may be answered so, on this frame; what is kept is then what it leaves.
 pub(crate) fn decide_untranslated(
     alloc: Global,
-    state: &mut State,
+    kept: &mut KeptState,
     event: &Event,
     outcome: &Outcome,
     frame: u32,
 ) -> Result<bool, AllocError>
-    ensures { IfOk result (λ may. (new : State) → (left_by may state.new ≡ Some new) ↔ UntranslatedStep frame state.old event.now outcome.now new) }
+    ensures { IfOk result (λ may. Decides may kept.old kept.new (λ before after. UntranslatedStep frame before event.now outcome.now after)) }
 {
     match event {
         Event::Read {
@@ -54,7 +55,7 @@ pub(crate) fn decide_untranslated(
             len,
         } => {
             let access = read_asked(alloc, *address, *len);
-            judge_request(state, *device, access, outcome, frame)
+            judge_request(kept, *device, access, outcome, frame)
         }
         Event::Write {
             device,
@@ -62,7 +63,7 @@ pub(crate) fn decide_untranslated(
             bytes,
         } => {
             let access = write_asked(alloc, *address, bytes.as_slice())?;
-            judge_request(state, *device, access, outcome, frame)
+            judge_request(kept, *device, access, outcome, frame)
         }
         _ => Ok(false),
     }
@@ -71,11 +72,11 @@ pub(crate) fn decide_untranslated(
 /// Whether a request that says it is translated already may be answered so, which leaves the state as it is.
 pub(crate) fn decide_translated(
     alloc: Global,
-    state: &State,
+    kept: &KeptState,
     event: &Event,
     outcome: &Outcome,
 ) -> Result<bool, AllocError>
-    ensures { IfOk result (λ may. (new : State) → (left_by may state.now ≡ Some new) ↔ TranslatedStep state.now event.now outcome.now new) }
+    ensures { IfOk result (λ may. DecidesStaying may kept.now (λ before after. TranslatedStep before event.now outcome.now after)) }
 {
     match event {
         Event::ReadTranslated {
@@ -84,7 +85,7 @@ pub(crate) fn decide_translated(
             len,
         } => {
             let access = read_asked(alloc, *address, *len);
-            Ok(judge_translated(state, *device, &access, outcome))
+            Ok(judge_translated(kept, *device, &access, outcome))
         }
         Event::WriteTranslated {
             device,
@@ -92,21 +93,21 @@ pub(crate) fn decide_translated(
             bytes,
         } => {
             let access = write_asked(alloc, *address, bytes.as_slice())?;
-            Ok(judge_translated(state, *device, &access, outcome))
+            Ok(judge_translated(kept, *device, &access, outcome))
         }
         _ => Ok(false),
     }
 }
 
-/// Whether this may come of an access through the device's own cache, on this frame; the state is then what it leaves.
+/// Whether this may come of an access through the device's own cache, on this frame; what is kept is then what it leaves.
 pub(crate) fn decide_through_cache(
     alloc: Global,
-    state: &mut State,
+    kept: &mut KeptState,
     event: &Event,
     outcome: &Outcome,
     frame: u32,
 ) -> Result<bool, AllocError>
-    ensures { IfOk result (λ may. (new : State) → (left_by may state.new ≡ Some new) ↔ CachedStep frame state.old event.now outcome.now new) }
+    ensures { IfOk result (λ may. Decides may kept.old kept.new (λ before after. CachedStep frame before event.now outcome.now after)) }
 {
     match event {
         Event::ReadThroughCache {
@@ -115,7 +116,7 @@ pub(crate) fn decide_through_cache(
             len,
         } => {
             let access = read_asked(alloc, *address, *len);
-            judge_through_cache(state, *device, access, outcome, frame)
+            judge_through_cache(kept, *device, access, outcome, frame)
         }
         Event::WriteThroughCache {
             device,
@@ -123,7 +124,7 @@ pub(crate) fn decide_through_cache(
             bytes,
         } => {
             let access = write_asked(alloc, *address, bytes.as_slice())?;
-            judge_through_cache(state, *device, access, outcome, frame)
+            judge_through_cache(kept, *device, access, outcome, frame)
         }
         _ => Ok(false),
     }

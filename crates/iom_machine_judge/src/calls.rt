@@ -1,21 +1,21 @@
 // The driver's calls.
-ghost use Rattle.std.specs.Prelude.{◌≡◌, ◌↔◌, ◌^◌, ◌≤◌, ◌++◌, All, IfOk, IsTrue, Some, length};
-ghost use Rattle.iom_machine.specs.declared.state.State.{State};
+ghost use Rattle.std.specs.Prelude.{◌≡◌, ◌↔◌, ◌+◌, ◌++◌, All, IfOk, IsTrue, None};
+ghost use Rattle.iom_ledger.specs.History.{History};
 ghost use Rattle.iom_machine.specs.Frames.{IsFree};
 ghost use Rattle.iom_machine.specs.Refusals.{MayRefusePlug, MayRefuseAttach, MayRefuseGrant, MayFindNoPlace};
 ghost use Rattle.iom_machine.specs.Machine.{Plugs, Attaches, Detaches, Grants, Releases, Fetches, TakesRecord};
-ghost use Rattle.iom_machine_judge.specs.Deciding.{left_by};
+ghost use Rattle.iom_kept_state.specs.Grants.{IsPastOf};
+ghost use Rattle.iom_kept_state.specs.States.{state_of, Decides, DecidesStaying};
 
-use crate::block_devices::without_disk;
 use crate::devices::{place_of, set_attachment, start_leaving};
-use crate::frames::{are_fewer_free, are_fewer_runs_free, are_free_besides};
+use crate::disks::without_disk;
 use crate::reasons::{
     attach_refusal, detach_refusal, grant_refusal, most_tables, plug_refusal, refuses,
     release_refusal,
 };
 use iom_base::{DeviceId, GrantRights, Mode, NewDevice, Owner, Refusal, Sequence};
-use iom_ledger::HistoryEntry;
-use iom_machine::{Attachment, Device, Outcome, State, reserve};
+use iom_kept_state::KeptState;
+use iom_machine::{Attachment, Device, Outcome};
 use std::alloc::{AllocError, Global};
 
 fn may_refuse_plug(why: Refusal) -> bool
@@ -24,25 +24,25 @@ fn may_refuse_plug(why: Refusal) -> bool
     matches!(why, Refusal::Memory)
 }
 
-fn may_refuse_attach(state: &State, mode: Mode, why: Refusal) -> bool
-    ensures { IsTrue result ↔ MayRefuseAttach state.now mode why }
+pub fn may_refuse_attach(kept: &KeptState, mode: Mode, why: Refusal) -> bool
+    ensures { (h : History) → IsPastOf kept.now.grants h → IsTrue result ↔ MayRefuseAttach (state_of kept.now h) mode why }
 {
     match why {
         Refusal::NoFrames => match mode {
-            Mode::First(_) => are_fewer_free(state, None, 3),
-            Mode::Second(_) => are_fewer_runs_free(state, 3),
-            Mode::Both(_) => are_fewer_runs_free(state, 3),
+            Mode::First(_) => kept.are_fewer_free(None, 3),
+            Mode::Second(_) => kept.are_fewer_runs_free(3),
+            Mode::Both(_) => kept.are_fewer_runs_free(3),
         },
         Refusal::Memory => true,
         _ => false,
     }
 }
 
-fn may_refuse_grant(state: &State, id: DeviceId, frame: u64, why: Refusal) -> bool
-    ensures { IsTrue result ↔ MayRefuseGrant state.now id frame why }
+pub fn may_refuse_grant(kept: &KeptState, id: DeviceId, frame: u64, why: Refusal) -> bool
+    ensures { (h : History) → IsPastOf kept.now.grants h → IsTrue result ↔ MayRefuseGrant (state_of kept.now h) id frame why }
 {
     match why {
-        Refusal::NoFrames => are_fewer_free(state, Some(frame), most_tables(state, id)),
+        Refusal::NoFrames => kept.are_fewer_free(Some(frame), most_tables(kept, id)),
         Refusal::Memory => true,
         _ => false,
     }
@@ -54,25 +54,35 @@ pub(crate) fn may_find_no_place(why: Refusal) -> bool
     matches!(why, Refusal::QueueFull | Refusal::NumbersUsedUp)
 }
 
-/// Whether a plug may come so; the state is then what it leaves.
+/// Whether this ticket is given next, where nothing is refused.
+pub(crate) fn may_give(kept: &KeptState, first: Option<Refusal>, ticket: u32) -> bool
+    ensures { IsTrue result ↔ ((first ≡ None) × (ticket ≡ kept.now.grants.given + 1)) }
+{
+    if first.is_some() {
+        return false;
+    }
+    u64::from(ticket) == u64::from(kept.grants.given) + 1
+}
+
+/// Whether a plug may come so; the next state is then kept.
 pub(crate) fn judge_plug(
     alloc: Global,
-    state: &mut State,
+    kept: &mut KeptState,
     id: DeviceId,
     what: NewDevice,
     outcome: &Outcome,
 ) -> Result<bool, AllocError>
-    ensures { IfOk result (λ may. (new : State) → (left_by may state.new ≡ Some new) ↔ Plugs state.old id what outcome.now new) }
+    ensures { IfOk result (λ may. Decides may kept.old kept.new (λ before after. Plugs before id what outcome.now after)) }
 {
-    let first = plug_refusal(state, id, what);
+    let first = plug_refusal(kept, id, what);
     match outcome {
         Outcome::Done => {
             if first.is_some() {
                 return Ok(false);
             }
-            let left = without_disk(alloc, state.disks.as_slice(), what.disk())?;
-            state.disks = left;
-            state.devices.push(Device {
+            let left = without_disk(alloc, kept.disks.as_slice(), what.disk())?;
+            kept.disks = left;
+            kept.devices.push(Device {
                 id,
                 kind: what.kind(),
                 has_disk: what.disk().is_some(),
@@ -88,74 +98,70 @@ pub(crate) fn judge_plug(
 }
 
 /// Whether each of these frames and of those is free.
-fn are_both_free(state: &State, pages: &[u32], taken: &[u32]) -> bool
-    ensures { IsTrue result ↔ All (IsFree state.now) (pages.now ++ taken.now) }
+fn are_both_free(kept: &KeptState, pages: &[u32], taken: &[u32]) -> bool
+    ensures { (h : History) → IsPastOf kept.now.grants h → IsTrue result ↔ All (IsFree (state_of kept.now h)) (pages.now ++ taken.now) }
 {
-    if !are_free_besides(state, None, pages) {
+    if !kept.are_free_besides(None, pages) {
         return false;
     }
-    are_free_besides(state, None, taken)
+    kept.are_free_besides(None, taken)
 }
 
-/// Whether an attach may come so, by which these frames become pages of the device directory and tables; the state
-/// is then what it leaves.
+/// Whether an attach may come so, by which these frames become pages of the device directory and tables; the next
+/// state is then kept.
 pub(crate) fn judge_attach(
-    state: &mut State,
+    kept: &mut KeptState,
     id: DeviceId,
     mode: Mode,
     ats: bool,
     outcome: &Outcome,
     pages: &[u32],
     taken: &[u32],
-) -> bool
-    ensures { (new : State) → (left_by result state.new ≡ Some new) ↔ Attaches pages.now taken.now state.old id mode ats outcome.now new }
+) -> Result<bool, AllocError>
+    ensures { IfOk result (λ may. Decides may kept.old kept.new (λ before after. Attaches pages.now taken.now before id mode ats outcome.now after)) }
 {
-    let first = attach_refusal(state, id, ats);
+    let first = attach_refusal(kept, id, ats);
     match outcome {
         Outcome::Done => {
             if first.is_some() {
-                return false;
+                return Ok(false);
             }
-            if !are_both_free(state, pages, taken) {
-                return false;
+            if !are_both_free(kept, pages, taken) {
+                return Ok(false);
             }
-            match place_of(state.devices.as_slice(), id) {
-                None => false,
+            match place_of(kept.devices.as_slice(), id) {
+                None => Ok(false),
                 Some(place) => {
-                    set_attachment(
-                        &mut state.devices,
-                        place,
-                        Attachment::Attached { mode, ats },
-                    );
-                    reserve(&mut state.frames, pages, Owner::System);
-                    reserve(&mut state.frames, taken, Owner::OneDevice(id));
-                    true
+                    set_attachment(&mut kept.devices, place, Attachment::Attached { mode, ats });
+                    kept.frames.reserve(pages, Owner::System)?;
+                    kept.frames.reserve(taken, Owner::OneDevice(id))?;
+                    Ok(true)
                 }
             }
         }
         Outcome::Refused(why) => {
-            let may_come = may_refuse_attach(state, mode, *why);
-            refuses(first, may_come, *why)
+            let may_come = may_refuse_attach(kept, mode, *why);
+            Ok(refuses(first, may_come, *why))
         }
-        _ => false,
+        _ => Ok(false),
     }
 }
 
-/// Whether a detach may come so; the state is then what it leaves.
-pub(crate) fn judge_detach(state: &mut State, id: DeviceId, outcome: &Outcome) -> bool
-    ensures { (new : State) → (left_by result state.new ≡ Some new) ↔ Detaches state.old id outcome.now new }
+/// Whether a detach may come so; the next state is then kept.
+pub(crate) fn judge_detach(kept: &mut KeptState, id: DeviceId, outcome: &Outcome) -> bool
+    ensures { Decides result kept.old kept.new (λ before after. Detaches before id outcome.now after) }
 {
-    let first = detach_refusal(state, id);
+    let first = detach_refusal(kept, id);
     match outcome {
         Outcome::Ticket(ticket) => {
-            if first.is_some() || u64::from(*ticket) != u64::from(state.last_ticket) + 1 {
+            if !may_give(kept, first, *ticket) {
                 return false;
             }
-            match place_of(state.devices.as_slice(), id) {
+            match place_of(kept.devices.as_slice(), id) {
                 None => false,
                 Some(place) => {
-                    start_leaving(&mut state.devices, place, *ticket);
-                    state.last_ticket = *ticket;
+                    start_leaving(&mut kept.devices, place, *ticket);
+                    kept.grants.give(*ticket);
                     true
                 }
             }
@@ -165,9 +171,9 @@ pub(crate) fn judge_detach(state: &mut State, id: DeviceId, outcome: &Outcome) -
     }
 }
 
-/// Whether a grant may come so, by which these frames become tables; the state is then what it leaves.
+/// Whether a grant may come so, by which these frames become tables; the next state is then kept.
 pub(crate) fn judge_grant(
-    state: &mut State,
+    kept: &mut KeptState,
     id: DeviceId,
     page: u64,
     frame: u64,
@@ -175,57 +181,45 @@ pub(crate) fn judge_grant(
     outcome: &Outcome,
     taken: &[u32],
 ) -> Result<bool, AllocError>
-    requires { length state.old.frames ≤ 2 ^ 32 }
-    ensures { IfOk result (λ may. (new : State) → (left_by may state.new ≡ Some new) ↔ Grants taken.now state.old id page frame rights outcome.now new) }
+    ensures { IfOk result (λ may. Decides may kept.old kept.new (λ before after. Grants taken.now before id page frame rights outcome.now after)) }
 {
-    let first = grant_refusal(state, id, page, frame);
+    let first = grant_refusal(kept, id, page, frame);
     match outcome {
         Outcome::Done => {
             if first.is_some() {
                 return Ok(false);
             }
-            if !are_free_besides(state, Some(frame), taken) {
+            if !kept.are_free_besides(Some(frame), taken) {
                 return Ok(false);
             }
-            let number = frame as u32;
-            state.history.push_front(HistoryEntry::Granted {
-                device: id,
-                page,
-                frame: number,
-                rights: rights.rights(),
-            })?;
-            reserve(&mut state.frames, taken, Owner::OneDevice(id));
+            kept.grants.grant(id, page, frame as u32, rights.rights())?;
+            kept.frames.reserve(taken, Owner::OneDevice(id))?;
             Ok(true)
         }
         Outcome::Refused(why) => {
-            let may_come = may_refuse_grant(state, id, frame, *why);
+            let may_come = may_refuse_grant(kept, id, frame, *why);
             Ok(refuses(first, may_come, *why))
         }
         _ => Ok(false),
     }
 }
 
-/// Whether a release may come so; the state is then what it leaves.
+/// Whether a release may come so; the next state is then kept.
 pub(crate) fn judge_release(
-    state: &mut State,
+    kept: &mut KeptState,
     id: DeviceId,
     page: u64,
     outcome: &Outcome,
 ) -> Result<bool, AllocError>
-    ensures { IfOk result (λ may. (new : State) → (left_by may state.new ≡ Some new) ↔ Releases state.old id page outcome.now new) }
+    ensures { IfOk result (λ may. Decides may kept.old kept.new (λ before after. Releases before id page outcome.now after)) }
 {
-    let first = release_refusal(state, id, page);
+    let first = release_refusal(kept, id, page);
     match outcome {
         Outcome::Ticket(ticket) => {
-            if first.is_some() || u64::from(*ticket) != u64::from(state.last_ticket) + 1 {
+            if !may_give(kept, first, *ticket) {
                 return Ok(false);
             }
-            state.history.push_front(HistoryEntry::Released {
-                device: id,
-                page,
-                ticket: *ticket,
-            })?;
-            state.last_ticket = *ticket;
+            kept.grants.release(id, page, *ticket)?;
             Ok(true)
         }
         Outcome::Refused(why) => Ok(refuses(first, may_find_no_place(*why), *why)),
@@ -234,8 +228,8 @@ pub(crate) fn judge_release(
 }
 
 /// Whether a fetch may come so, which leaves every state as it is.
-pub(crate) fn judge_fetch(outcome: &Outcome) -> bool
-    ensures { (old new : State) → (left_by result old ≡ Some new) ↔ Fetches old outcome.now new }
+pub(crate) fn judge_fetch(kept: &KeptState, outcome: &Outcome) -> bool
+    ensures { DecidesStaying result kept.now (λ before after. Fetches before outcome.now after) }
 {
     match outcome {
         Outcome::Fetched(_) => true,
@@ -244,8 +238,8 @@ pub(crate) fn judge_fetch(outcome: &Outcome) -> bool
 }
 
 /// Whether this may come where the driver asks for a fault record, which leaves every state as it is.
-pub(crate) fn judge_faults(outcome: &Outcome) -> bool
-    ensures { (old new : State) → (left_by result old ≡ Some new) ↔ TakesRecord old outcome.now new }
+pub(crate) fn judge_faults(kept: &KeptState, outcome: &Outcome) -> bool
+    ensures { DecidesStaying result kept.now (λ before after. TakesRecord before outcome.now after) }
 {
     match outcome {
         Outcome::Record(_) => true,

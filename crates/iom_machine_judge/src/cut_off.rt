@@ -1,19 +1,20 @@
 // What a device is answered that has no context, or that is quarantined or leaving under a ticket.
 ghost use Rattle.std.specs.Prelude.{◌≡◌, ◌↔◌, IsTrue};
+ghost use Rattle.iom_kept_state.specs.Grants.{IsPastOf};
+ghost use Rattle.iom_kept_state.specs.States.{state_of};
+ghost use Rattle.iom_ledger.specs.History.{History};
 ghost use Rattle.iom_machine.specs.Requests.{MayAcceptFormerly, MayAcceptCutOff, MayFaultCutOff, IsPageFaultOf, IsPageFaultOfEither, cause_without_context};
 
-use crate::history::{is_confirmed, lingers_somewhere};
-use crate::reasons::too_wide;
+use crate::ids::too_wide;
 use crate::requests::{is_same_cause, lingers};
 use iom_base::{Access, AccessKind, Cause, DeviceId, Mode};
-use iom_ledger::HistoryEntry;
-use iom_machine::State;
+use iom_kept_state::{KeptGrants, KeptState};
 
 /// The cause where no context of the device is found.
-pub(crate) fn cause_without_context(state: &State, id: DeviceId) -> Cause
-    ensures { result ≡ cause_without_context state.now id }
+pub(crate) fn cause_without_context(kept: &KeptState, id: DeviceId) -> Cause
+    ensures { (h : History) → result ≡ cause_without_context (state_of kept.now h) id }
 {
-    if too_wide(state, id) {
+    if too_wide(kept, id) {
         Cause::TransactionTypeDisallowed
     } else {
         Cause::DirectoryEntryNotValid
@@ -41,17 +42,17 @@ pub(crate) fn is_page_fault_of(mode: Mode, kind: AccessKind, cause: Cause) -> bo
 /// Whether what is left of the device's former mode may serve the access, on the frame.
 fn accepts_formerly(
     mode: Mode,
-    history: &[HistoryEntry],
+    grants: &KeptGrants,
     id: DeviceId,
     access: &Access,
     frame: u32,
 ) -> bool
-    ensures { IsTrue result ↔ MayAcceptFormerly mode history.now id access.now frame }
+    ensures { (h : History) → IsPastOf grants.now h → IsTrue result ↔ MayAcceptFormerly mode h id access.now frame }
 {
     match mode {
-        Mode::First(_) => lingers(history, id, access, frame),
-        Mode::Second(_) => lingers(history, id, access, frame),
-        Mode::Both(_) => lingers_somewhere(history, id, u64::from(frame), access.kind),
+        Mode::First(_) => lingers(grants, id, access, frame),
+        Mode::Second(_) => lingers(grants, id, access, frame),
+        Mode::Both(_) => grants.lingers_somewhere(id, frame, access.kind),
     }
 }
 
@@ -59,34 +60,34 @@ fn accepts_formerly(
 pub(crate) fn accepts_cut_off(
     ticket: u32,
     mode: Mode,
-    history: &[HistoryEntry],
+    grants: &KeptGrants,
     id: DeviceId,
     access: &Access,
     frame: u32,
 ) -> bool
-    ensures { IsTrue result ↔ MayAcceptCutOff ticket mode history.now id access.now frame }
+    ensures { (h : History) → IsPastOf grants.now h → IsTrue result ↔ MayAcceptCutOff ticket mode h id access.now frame }
 {
-    if is_confirmed(history, ticket) {
+    if grants.is_confirmed(ticket) {
         return false;
     }
-    accepts_formerly(mode, history, id, access, frame)
+    accepts_formerly(mode, grants, id, access, frame)
 }
 
 /// Whether such a device may have the access refused, with the cause.
 pub(crate) fn faults_cut_off(
     ticket: u32,
     mode: Mode,
-    state: &State,
+    kept: &KeptState,
     id: DeviceId,
     access: &Access,
     cause: Cause,
 ) -> bool
-    ensures { IsTrue result ↔ MayFaultCutOff ticket mode state.now id access.now cause }
+    ensures { (h : History) → IsPastOf kept.now.grants h → IsTrue result ↔ MayFaultCutOff ticket mode (state_of kept.now h) id access.now cause }
 {
-    if is_same_cause(cause, cause_without_context(state, id)) {
+    if is_same_cause(cause, cause_without_context(kept, id)) {
         return true;
     }
-    if is_confirmed(state.history.as_slice(), ticket) {
+    if kept.grants.is_confirmed(ticket) {
         return false;
     }
     is_page_fault_of(mode, access.kind, cause)

@@ -1,9 +1,9 @@
-// Decides the machine: a plain and slow program, whose contract is the definition.
-ghost use Rattle.std.specs.Prelude.{◌≡◌, ◌↔◌, ◌^◌, ◌≤◌, Some, IfOk, IfSome, length};
-ghost use Rattle.iom_machine.specs.declared.state.State.{State};
+// Decides the machine: which step may come.
+ghost use Rattle.std.specs.Prelude.{IfOk};
+ghost use Rattle.iom_kept_state.specs.States.{Decides};
 ghost use Rattle.iom_machine.specs.Machine.{ChosenStep};
-ghost use Rattle.iom_machine_judge.specs.Deciding.{CallStep, RecoveryStep, BlockDeviceStep, left_by};
-ghost use Rattle.iom_machine_judge.specs.Verdicts.{IsVerdict, RunsAreChosen};
+ghost use Rattle.iom_machine_judge.specs.Verdicts.{IsFoundOf, RunsAreChosen};
+ghost use Rattle.iom_machine_judge.specs.Deciding.{CallStep, RecoveryStep, BlockDeviceStep};
 
 use crate::accesses::{decide_through_cache, decide_translated, decide_untranslated};
 use crate::block_devices::{judge_medium, judge_queue, judge_status, judge_step};
@@ -11,54 +11,58 @@ use crate::calls::{
     judge_attach, judge_detach, judge_faults, judge_fetch, judge_grant, judge_plug, judge_release,
 };
 use crate::commits::judge_commit;
-use crate::line::{Line, Verdict};
+use crate::line::Line;
 use crate::messages::{judge_ask, judge_deliver, judge_drop, judge_forge, judge_repeat};
 use crate::polls::judge_poll;
 use crate::processor::{judge_free, judge_peek, judge_poke};
 use crate::recovery::{judge_quarantine, judge_reset, judge_restart, judge_revive, judge_timeout};
-use iom_machine::{Choice, Event, Outcome, State};
+use iom_kept_state::KeptState;
+use iom_machine::{Choice, Event, Outcome};
 use std::alloc::{AllocError, Global};
 
 /// Whether a call of the driver may come so; the state is then what it leaves.
 fn decide_call(
     alloc: Global,
-    state: &mut State,
+    kept: &mut KeptState,
     event: &Event,
     outcome: &Outcome,
     choice: &Choice,
 ) -> Result<bool, AllocError>
-    requires { length state.old.frames ≤ 2 ^ 32 }
-    ensures { IfOk result (λ may. (new : State) → (left_by may state.new ≡ Some new) ↔ CallStep choice.now state.old event.now outcome.now new) }
+    ensures { IfOk result (λ may. Decides may kept.old kept.new (λ before after. CallStep choice.now before event.now outcome.now after)) }
 {
     let taken = choice.taken.as_slice();
     match event {
-        Event::Plug { device, new } => judge_plug(alloc, state, *device, *new, outcome),
+        Event::Plug { device, new } => judge_plug(alloc, kept, *device, *new, outcome),
         Event::Attach { device, mode, ats } => {
             let pages = choice.directory.as_slice();
-            Ok(judge_attach(state, *device, *mode, *ats, outcome, pages, taken))
+            judge_attach(kept, *device, *mode, *ats, outcome, pages, taken)
         }
-        Event::Detach { device } => Ok(judge_detach(state, *device, outcome)),
+        Event::Detach { device } => Ok(judge_detach(kept, *device, outcome)),
         Event::Grant {
             device,
             page,
             frame,
             rights,
-        } => judge_grant(state, *device, *page, *frame, *rights, outcome, taken),
-        Event::Release { device, page } => judge_release(state, *device, *page, outcome),
+        } => judge_grant(kept, *device, *page, *frame, *rights, outcome, taken),
+        Event::Release { device, page } => judge_release(kept, *device, *page, outcome),
         _ => Ok(false),
     }
 }
 
 /// Whether an event may come so that has to do with a device that doesn't answer; the state is then what it leaves.
-fn decide_recovery(state: &mut State, event: &Event, outcome: &Outcome) -> Result<bool, AllocError>
-    ensures { IfOk result (λ may. (new : State) → (left_by may state.new ≡ Some new) ↔ RecoveryStep state.old event.now outcome.now new) }
+fn decide_recovery(
+    kept: &mut KeptState,
+    event: &Event,
+    outcome: &Outcome,
+) -> Result<bool, AllocError>
+    ensures { IfOk result (λ may. Decides may kept.old kept.new (λ before after. RecoveryStep before event.now outcome.now after)) }
 {
     match event {
-        Event::Quarantine { device } => judge_quarantine(state, *device, outcome),
-        Event::Revive { device } => Ok(judge_revive(state, *device, outcome)),
-        Event::Restart => Ok(judge_restart(outcome)),
-        Event::Timeout => Ok(judge_timeout(outcome)),
-        Event::Reset { device } => Ok(judge_reset(state, *device, outcome)),
+        Event::Quarantine { device } => judge_quarantine(kept, *device, outcome),
+        Event::Revive { device } => Ok(judge_revive(kept, *device, outcome)),
+        Event::Restart => Ok(judge_restart(kept, outcome)),
+        Event::Timeout => Ok(judge_timeout(kept, outcome)),
+        Event::Reset { device } => Ok(judge_reset(kept, *device, outcome)),
         _ => Ok(false),
     }
 }
@@ -66,15 +70,15 @@ fn decide_recovery(state: &mut State, event: &Event, outcome: &Outcome) -> Resul
 /// Whether an event may come so that only a block device takes; the state is then what it leaves.
 fn decide_block_device(
     alloc: Global,
-    state: &mut State,
+    kept: &mut KeptState,
     event: &Event,
     outcome: &Outcome,
     choice: &Choice,
 ) -> Result<bool, AllocError>
-    ensures { IfOk result (λ may. (new : State) → (left_by may state.new ≡ Some new) ↔ BlockDeviceStep choice.now state.old event.now outcome.now new) }
+    ensures { IfOk result (λ may. Decides may kept.old kept.new (λ before after. BlockDeviceStep choice.now before event.now outcome.now after)) }
 {
     match event {
-        Event::Medium { device, disk } => judge_medium(alloc, state, *device, *disk, outcome),
+        Event::Medium { device, disk } => judge_medium(alloc, kept, *device, *disk, outcome),
         Event::Queue {
             device,
             size,
@@ -82,7 +86,7 @@ fn decide_block_device(
             available,
             used,
         } => Ok(judge_queue(
-            state,
+            kept,
             *device,
             *size,
             *descriptors,
@@ -90,96 +94,74 @@ fn decide_block_device(
             *used,
             outcome,
         )),
-        Event::Step { device } => judge_step(alloc, state, *device, outcome, choice),
-        Event::Status { device } => Ok(judge_status(state, *device, outcome)),
+        Event::Step { device } => judge_step(alloc, kept, *device, outcome, choice),
+        Event::Status { device } => Ok(judge_status(kept, *device, outcome)),
         _ => Ok(false),
     }
 }
 
-/// Whether the event may come so; the state is then what it leaves. Where it may not, it may be anything.
-fn decide(
+/// Whether the event may have this outcome where what the outcome doesn't show was chosen so: then the next state is kept, and else nothing changed.
+pub fn judge(
     alloc: Global,
-    state: &mut State,
+    kept: &mut KeptState,
     event: &Event,
     outcome: &Outcome,
     choice: &Choice,
 ) -> Result<bool, AllocError>
-    requires { length state.old.frames ≤ 2 ^ 32 }
-    ensures { IfOk result (λ may. (new : State) → (left_by may state.new ≡ Some new) ↔ ChosenStep choice.now state.old event.now outcome.now new) }
+    ensures { IfOk result (λ may. Decides may kept.old kept.new (λ before after. ChosenStep choice.now before event.now outcome.now after)) }
 {
     match event {
         Event::Plug { .. }
         | Event::Attach { .. }
         | Event::Detach { .. }
         | Event::Grant { .. }
-        | Event::Release { .. } => decide_call(alloc, state, event, outcome, choice),
+        | Event::Release { .. } => decide_call(alloc, kept, event, outcome, choice),
         Event::Quarantine { .. }
         | Event::Revive { .. }
         | Event::Restart
         | Event::Timeout
-        | Event::Reset { .. } => decide_recovery(state, event, outcome),
+        | Event::Reset { .. } => decide_recovery(kept, event, outcome),
         Event::Medium { .. } | Event::Queue { .. } | Event::Step { .. } | Event::Status { .. } =>
-            decide_block_device(alloc, state, event, outcome, choice),
-        Event::Fetch => Ok(judge_fetch(outcome)),
-        Event::Poll => judge_poll(alloc, state, outcome),
-        Event::Faults => Ok(judge_faults(outcome)),
+            decide_block_device(alloc, kept, event, outcome, choice),
+        Event::Fetch => Ok(judge_fetch(kept, outcome)),
+        Event::Poll => judge_poll(kept, outcome),
+        Event::Faults => Ok(judge_faults(kept, outcome)),
         Event::Read { .. } | Event::Write { .. } => {
-            decide_untranslated(alloc, state, event, outcome, choice.frame)
+            decide_untranslated(alloc, kept, event, outcome, choice.frame)
         }
         Event::ReadTranslated { .. } | Event::WriteTranslated { .. } => {
-            decide_translated(alloc, state, event, outcome)
+            decide_translated(alloc, kept, event, outcome)
         }
         Event::ReadThroughCache { .. } | Event::WriteThroughCache { .. } => {
-            decide_through_cache(alloc, state, event, outcome, choice.frame)
+            decide_through_cache(alloc, kept, event, outcome, choice.frame)
         }
-        Event::Ask { device, .. } => Ok(judge_ask(state, *device, outcome)),
-        Event::Forge { device, .. } => Ok(judge_forge(state, *device, outcome)),
-        Event::Deliver { .. } => Ok(judge_deliver(state, outcome, choice)),
+        Event::Ask { device, .. } => Ok(judge_ask(kept, *device, outcome)),
+        Event::Forge { device, .. } => Ok(judge_forge(kept, *device, outcome)),
+        Event::Deliver { .. } => Ok(judge_deliver(kept, outcome, choice)),
         Event::Drop { .. } => Ok(judge_drop(outcome)),
         Event::Repeat { .. } => Ok(judge_repeat(outcome)),
-        Event::Commit { device } => judge_commit(alloc, state, *device, outcome),
-        Event::Poke { address, bytes } => {
-            judge_poke(alloc, state, *address, bytes.as_slice(), outcome)
-        }
-        Event::Peek { address, len } => Ok(judge_peek(state, *address, *len, outcome)),
-        Event::Free { frame } => Ok(judge_free(state, *frame, outcome)),
+        Event::Commit { device } => judge_commit(kept, *device, outcome),
+        Event::Poke { address, bytes } => { judge_poke(kept, *address, bytes.as_slice(), outcome) }
+        Event::Peek { address, len } => Ok(judge_peek(kept, *address, *len, outcome)),
+        Event::Free { frame } => Ok(judge_free(kept, *frame, outcome)),
     }
 }
 
-/// Whether the event may have this outcome where what the outcome doesn't show was chosen so: the
-/// state that it then leaves, or `None` where it may not.
-///
-/// A machine has at most 2^32 frames, since a frame's number is a `u32`.
-pub fn judge(
+/// Whether the lines are a run from the state that is kept: then the state that it leaves is kept. Else the first line, counted
+/// from 0, that may not come; what is kept is then the state before it.
+pub fn judge_run(
     alloc: Global,
-    state: State,
-    event: &Event,
-    outcome: &Outcome,
-    choice: &Choice,
-) -> Result<Option<State>, AllocError>
-    requires { length state.frames ≤ 2 ^ 32 }
-    ensures decides { IfOk result (λ next. (new : State) → (next ≡ Some new) ↔ ChosenStep choice.now state event.now outcome.now new) }
-    ensures same_size { IfOk result (λ next. IfSome next (λ new. length new.frames ≡ length state.frames)) }
+    kept: &mut KeptState,
+    lines: &[Line],
+) -> Result<Option<usize>, AllocError>
+    ensures { IfOk result (λ found. IsFoundOf found kept.old kept.new lines.now) }
 {
-    let mut next = state;
-    let may = decide(alloc, &mut next, event, outcome, choice)?;
-    if may { Ok(Some(next)) } else { Ok(None) }
-}
-
-/// Whether the lines are a run from the state: the state that it leaves, or the first line, counted
-/// from 0, that may not come.
-pub fn judge_run(alloc: Global, state: State, lines: &[Line]) -> Result<Verdict, AllocError>
-    requires { length state.frames ≤ 2 ^ 32 }
-    ensures { IfOk result (λ verdict. IsVerdict state lines.now verdict) }
-{
-    let mut reached = state;
     for (number, line) in lines.iter().enumerate() {
-        match judge(alloc, reached, &line.event, &line.outcome, &line.choice)? {
-            None => return Ok(Verdict::Unlawful { line: number }),
-            Some(next) => reached = next,
+        if !judge(alloc, kept, &line.event, &line.outcome, &line.choice)? {
+            return Ok(Some(number));
         }
     }
-    Ok(Verdict::Lawful(reached))
+    Ok(None)
 }
 
 /// Every run is one of some lines, with those events and outcomes, which some choices complete: so

@@ -1,22 +1,25 @@
 // Messages between the devices and the IOMMU: what may come of them, and that nothing changes.
-ghost use Rattle.std.specs.Prelude.{◌≡◌, ◌↔◌, IsTrue, IsSomeAnd, Some};
-ghost use Rattle.iom_machine.specs.declared.state.State.{State};
+ghost use Rattle.std.specs.Prelude.{◌↔◌, IsTrue, IsSomeAnd};
+ghost use Rattle.iom_kept_state.specs.declared.state.KeptState.{KeptState};
+ghost use Rattle.iom_kept_state.specs.Grants.{IsPastOf};
+ghost use Rattle.iom_kept_state.specs.States.{state_of, DecidesStaying};
+ghost use Rattle.iom_ledger.specs.History.{History};
 ghost use Rattle.iom_machine.specs.Devices.{device_of};
 ghost use Rattle.iom_machine.specs.Questions.{MayTell};
 ghost use Rattle.iom_machine.specs.Messages.{Sends, Delivers, Drops, Repeats};
 ghost use Rattle.iom_machine.specs.Machine.{Asks, Forges};
-ghost use Rattle.iom_machine_judge.specs.Deciding.{left_by};
 
 use crate::absent::{answers_absent, answers_unable};
 use crate::devices::device_with;
 use crate::questions::may_tell;
 use iom_base::DeviceId;
 use iom_fabric::Translation;
-use iom_machine::{Choice, Outcome, State};
+use iom_kept_state::KeptState;
+use iom_machine::{Choice, Outcome};
 
 /// Whether a message is sent, or lost, which leaves every state as it is.
 fn judge_send(outcome: &Outcome) -> bool
-    ensures { (old new : State) → (left_by result old ≡ Some new) ↔ Sends old outcome.now new }
+    ensures { (kept : KeptState) → DecidesStaying result kept (λ before after. Sends before outcome.now after) }
 {
     match outcome {
         Outcome::Sent => true,
@@ -26,10 +29,10 @@ fn judge_send(outcome: &Outcome) -> bool
 }
 
 /// Whether this may come of a question, which leaves the state as it is.
-pub(crate) fn judge_ask(state: &State, id: DeviceId, outcome: &Outcome) -> bool
-    ensures { (new : State) → (left_by result state.now ≡ Some new) ↔ Asks state.now id outcome.now new }
+pub(crate) fn judge_ask(kept: &KeptState, id: DeviceId, outcome: &Outcome) -> bool
+    ensures { DecidesStaying result kept.now (λ before after. Asks before id outcome.now after) }
 {
-    match device_with(state.devices.as_slice(), id) {
+    match device_with(kept.devices.as_slice(), id) {
         None => answers_absent(outcome),
         Some(device) => {
             if device.kind.asks_questions() {
@@ -42,10 +45,10 @@ pub(crate) fn judge_ask(state: &State, id: DeviceId, outcome: &Outcome) -> bool
 }
 
 /// Whether this may come where a device says that an invalidation is done, which leaves the state as it is.
-pub(crate) fn judge_forge(state: &State, id: DeviceId, outcome: &Outcome) -> bool
-    ensures { (new : State) → (left_by result state.now ≡ Some new) ↔ Forges state.now id outcome.now new }
+pub(crate) fn judge_forge(kept: &KeptState, id: DeviceId, outcome: &Outcome) -> bool
+    ensures { DecidesStaying result kept.now (λ before after. Forges before id outcome.now after) }
 {
-    match device_with(state.devices.as_slice(), id) {
+    match device_with(kept.devices.as_slice(), id) {
         None => answers_absent(outcome),
         Some(device) => {
             if device.kind.forges() {
@@ -58,21 +61,21 @@ pub(crate) fn judge_forge(state: &State, id: DeviceId, outcome: &Outcome) -> boo
 }
 
 /// Whether the question of the device for the page may be answered so.
-fn is_told(state: &State, asker: DeviceId, page: u64, told: Translation) -> bool
-    ensures { IsTrue result ↔ IsSomeAnd (device_of state.now asker) (λ device. MayTell device.attachment state.now device.id page told) }
+fn is_told(kept: &KeptState, asker: DeviceId, page: u64, told: Translation) -> bool
+    ensures { (h : History) → IsPastOf kept.now.grants h → IsTrue result ↔ IsSomeAnd (device_of (state_of kept.now h) asker) (λ device. MayTell device.attachment (state_of kept.now h) device.id page told) }
 {
-    match device_with(state.devices.as_slice(), asker) {
+    match device_with(kept.devices.as_slice(), asker) {
         None => false,
-        Some(device) => may_tell(device.attachment, state, device.id, page, told),
+        Some(device) => may_tell(device.attachment, kept, device.id, page, told),
     }
 }
 
 /// Whether this may come of a delivery, which leaves the state as it is.
-pub(crate) fn judge_deliver(state: &State, outcome: &Outcome, choice: &Choice) -> bool
-    ensures { (new : State) → (left_by result state.now ≡ Some new) ↔ Delivers choice.now.device choice.now.page state.now outcome.now new }
+pub(crate) fn judge_deliver(kept: &KeptState, outcome: &Outcome, choice: &Choice) -> bool
+    ensures { DecidesStaying result kept.now (λ before after. Delivers choice.now.device choice.now.page before outcome.now after) }
 {
     match outcome {
-        Outcome::Answered(told) => is_told(state, choice.device, choice.page, *told),
+        Outcome::Answered(told) => is_told(kept, choice.device, choice.page, *told),
         Outcome::Kept => true,
         Outcome::Stale => true,
         Outcome::AnswerRefused => true,
@@ -87,7 +90,7 @@ pub(crate) fn judge_deliver(state: &State, outcome: &Outcome, choice: &Choice) -
 
 /// Whether this may come where a message is dropped, which leaves every state as it is.
 pub(crate) fn judge_drop(outcome: &Outcome) -> bool
-    ensures { (old new : State) → (left_by result old ≡ Some new) ↔ Drops old outcome.now new }
+    ensures { (kept : KeptState) → DecidesStaying result kept (λ before after. Drops before outcome.now after) }
 {
     match outcome {
         Outcome::Dropped => true,
@@ -98,7 +101,7 @@ pub(crate) fn judge_drop(outcome: &Outcome) -> bool
 
 /// Whether this may come where a message is repeated, which leaves every state as it is.
 pub(crate) fn judge_repeat(outcome: &Outcome) -> bool
-    ensures { (old new : State) → (left_by result old ≡ Some new) ↔ Repeats old outcome.now new }
+    ensures { (kept : KeptState) → DecidesStaying result kept (λ before after. Repeats before outcome.now after) }
 {
     match outcome {
         Outcome::Repeated => true,

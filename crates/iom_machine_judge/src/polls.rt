@@ -1,93 +1,80 @@
 // Which tickets a poll may confirm.
-ghost use Rattle.std.specs.Prelude.{◌≡◌, ◌↔◌, ◌-◌, ◌≤◌, suc, IfOk, OnOk, IsTrue, Some, All};
-ghost use Rattle.iom_ledger.specs.History.{May};
+ghost use Rattle.std.specs.Prelude.{◌≡◌, ◌↔◌, ◌+◌, ◌-◌, ◌≤◌, suc, IfOk, IsTrue, All};
+ghost use Rattle.iom_ledger.specs.History.{History, May, confirmed_from};
 ghost use Rattle.iom_machine.specs.Devices.{DeviceMay};
-ghost use Rattle.iom_ledger.specs.History.{confirmed_from};
 ghost use Rattle.iom_machine.specs.Tickets.{AreNextTickets};
 ghost use Rattle.iom_machine.specs.Machine.{Polls};
-ghost use Rattle.iom_machine_judge.specs.Deciding.{left_by};
+ghost use Rattle.iom_kept_state.specs.Grants.{IsPastOf};
+ghost use Rattle.iom_kept_state.specs.States.{state_of, Decides};
 
-use crate::history::{last_ticket_confirmed, may};
-use crate::leaving::take_leave;
-use iom_base::{AcceptedAccess, DeviceId, Sequence};
-use iom_ledger::HistoryEntry;
-use iom_machine::{Device, Outcome, State};
-use std::alloc::{AllocError, Global};
+use iom_base::{AcceptedAccess, DeviceId, PAGE_SIZE};
+use iom_kept_state::{KeptGrants, KeptState};
+use iom_machine::{Device, Outcome};
+use std::alloc::AllocError;
 
-/// Whether each of the accesses of the device may reach its frame.
-fn each_may(history: &[HistoryEntry], id: DeviceId, in_flight: &[AcceptedAccess]) -> bool
-    ensures { IsTrue result ↔ All (λ flight. May history.now id flight.frame flight.access.kind) in_flight.now }
+/// Whether each of the accesses of the device may reach its frame, once the tickets up to this one are confirmed.
+fn each_may(grants: &KeptGrants, id: DeviceId, in_flight: &[AcceptedAccess], last: u32) -> bool
+    requires { grants.now.confirmed ≤ last }
+    ensures { (h : History) → IsPastOf grants.now h
+        → IsTrue result ↔ All (λ flight. May (confirmed_from (suc grants.now.confirmed) (last - grants.now.confirmed) h) id flight.frame flight.access.kind) in_flight.now }
 {
     match in_flight {
         [] => true,
         [flight, later @ ..] => {
-            if !may(history, id, u64::from(flight.frame), flight.access.kind) {
+            let page = flight.access.address / PAGE_SIZE;
+            if !grants.may_once(id, page, flight.frame, flight.access.kind, last) {
                 return false;
             }
-            each_may(history, id, later)
+            each_may(grants, id, later, last)
         }
     }
 }
 
-/// Whether each access in flight of these devices may reach its frame.
-fn all_may(history: &[HistoryEntry], devices: &[Device]) -> bool
-    ensures { IsTrue result ↔ All (DeviceMay history.now) devices.now }
+/// Whether each access in flight of these devices may reach its frame, once the tickets up to this one are confirmed.
+fn all_may(grants: &KeptGrants, devices: &[Device], last: u32) -> bool
+    requires { grants.now.confirmed ≤ last }
+    ensures { (h : History) → IsPastOf grants.now h
+        → IsTrue result ↔ All (DeviceMay (confirmed_from (suc grants.now.confirmed) (last - grants.now.confirmed) h)) devices.now }
 {
     match devices {
         [] => true,
         [device, others @ ..] => {
-            if !each_may(history, device.id, device.in_flight.as_slice()) {
+            if !each_may(grants, device.id, device.in_flight.as_slice(), last) {
                 return false;
             }
-            all_may(history, others)
+            all_may(grants, others, last)
         }
     }
 }
 
-/// Confirms the tickets from the first to the last, one after another.
-fn confirm(history: &mut Sequence<HistoryEntry>, first: u32, last: u32) -> Result<(), AllocError>
-    requires { first ≤ last }
-    ensures { OnOk result (history.new ≡ confirmed_from first (suc (last - first)) history.old) }
-{
-    for ticket in u64::from(first)..u64::from(last) + 1 {
-        history.push_front(HistoryEntry::Confirmed {
-            ticket: ticket as u32,
-        })?;
-    }
-    Ok(())
-}
-
 /// Whether these are the oldest pending tickets, or the first few of them.
-fn are_next_tickets(state: &State, first: u32, last: u32) -> bool
-    ensures { IsTrue result ↔ AreNextTickets state.now first last }
+fn are_next_tickets(kept: &KeptState, first: u32, last: u32) -> bool
+    ensures shown { IsTrue result → (first ≡ kept.now.grants.confirmed + 1) × (first ≤ last) × (last ≤ kept.now.grants.given) }
+    ensures next { (h : History) → IsPastOf kept.now.grants h → IsTrue result ↔ AreNextTickets (state_of kept.now h) first last }
 {
-    if u64::from(first) != u64::from(last_ticket_confirmed(state.history.as_slice())) + 1 {
+    if u64::from(first) != u64::from(kept.grants.last_confirmed()) + 1 {
         return false;
     }
     if first > last {
         return false;
     }
-    last <= state.last_ticket
+    last <= kept.grants.given
 }
 
-/// Whether a poll may come so; the state is then what it leaves.
-pub(crate) fn judge_poll(
-    alloc: Global,
-    state: &mut State,
-    outcome: &Outcome,
-) -> Result<bool, AllocError>
-    ensures { IfOk result (λ may. (new : State) → (left_by may state.new ≡ Some new) ↔ Polls state.old outcome.now new) }
+/// Whether a poll may come so; the next state is then kept.
+pub(crate) fn judge_poll(kept: &mut KeptState, outcome: &Outcome) -> Result<bool, AllocError>
+    ensures { IfOk result (λ may. Decides may kept.old kept.new (λ before after. Polls before outcome.now after)) }
 {
     match outcome {
         Outcome::Confirmed { first, last, .. } => {
-            if !are_next_tickets(state, *first, *last) {
+            if !are_next_tickets(kept, *first, *last) {
                 return Ok(false);
             }
-            confirm(&mut state.history, *first, *last)?;
-            if !all_may(state.history.as_slice(), state.devices.as_slice()) {
+            if !all_may(&kept.grants, kept.devices.as_slice(), *last) {
                 return Ok(false);
             }
-            take_leave(alloc, state)?;
+            kept.grants.confirm(*last);
+            kept.take_leave()?;
             Ok(true)
         }
         Outcome::NoneConfirmed { .. } => Ok(true),

@@ -1,16 +1,15 @@
 // What the processor writes and reads, and what it is told of a frame.
-ghost use Rattle.std.specs.Prelude.{◌≡◌, ◌↔◌, IfOk, IsTrue, Some};
+ghost use Rattle.std.specs.Prelude.{◌≡◌, ◌↔◌, IfOk, IsTrue};
 ghost use Rattle.iom_base.specs.Spans.{FitsInPage};
-ghost use Rattle.iom_machine.specs.declared.state.State.{State};
+ghost use Rattle.iom_ledger.specs.History.{History};
 ghost use Rattle.iom_machine.specs.Machine.{Pokes, ShowsBytes, Peeks, TellsFree};
-ghost use Rattle.iom_machine_judge.specs.Deciding.{left_by};
+ghost use Rattle.iom_kept_state.specs.States.{state_of, Decides, DecidesStaying};
 
-use crate::commits::{are_same, first_bytes, frame_bytes, later_bytes, store};
-use crate::frames::{has_owner, is_free};
 use crate::reasons::{frame_refusal, poke_refusal, refuses};
 use iom_base::{PAGE_SIZE, Span};
-use iom_machine::{Outcome, State};
-use std::alloc::{AllocError, Global};
+use iom_kept_state::KeptState;
+use iom_machine::Outcome;
+use std::alloc::AllocError;
 
 fn is_within_page(address: u64, len: u64) -> bool
     ensures { IsTrue result ↔ FitsInPage address len }
@@ -18,18 +17,17 @@ fn is_within_page(address: u64, len: u64) -> bool
     Span::new(address, len).is_some()
 }
 
-/// Whether a poke may come so; the state is then what it leaves.
+/// Whether a poke may come so; the next state is then kept.
 pub(crate) fn judge_poke(
-    alloc: Global,
-    state: &mut State,
+    kept: &mut KeptState,
     address: u64,
     bytes: &[u8],
     outcome: &Outcome,
 ) -> Result<bool, AllocError>
-    ensures { IfOk result (λ may. (new : State) → (left_by may state.new ≡ Some new) ↔ Pokes state.old address bytes.now outcome.now new) }
+    ensures { IfOk result (λ may. Decides may kept.old kept.new (λ before after. Pokes before address bytes.now outcome.now after)) }
 {
     let fits = is_within_page(address, bytes.len() as u64);
-    let first = poke_refusal(state, address / PAGE_SIZE);
+    let first = poke_refusal(kept, address / PAGE_SIZE);
     match outcome {
         Outcome::BadSpan => Ok(!fits),
         Outcome::Refused(why) => {
@@ -39,16 +37,14 @@ pub(crate) fn judge_poke(
             Ok(refuses(first, false, *why))
         }
         Outcome::Done => {
-            if !fits || first.is_some() {
+            if !fits {
                 return Ok(false);
             }
-            store(
-                alloc,
-                &mut state.frames,
-                address / PAGE_SIZE,
-                address % PAGE_SIZE,
-                bytes,
-            )?;
+            if first.is_some() {
+                return Ok(false);
+            }
+            kept.frames
+                .store(address / PAGE_SIZE, address % PAGE_SIZE, bytes)?;
             Ok(true)
         }
         _ => Ok(false),
@@ -56,26 +52,25 @@ pub(crate) fn judge_poke(
 }
 
 /// Whether so many bytes stand at the address, where that isn't reserved.
-fn shows(state: &State, address: u64, len: u64, bytes: &[u8]) -> bool
-    ensures { IsTrue result ↔ ShowsBytes state.now address len bytes.now }
+fn shows(kept: &KeptState, address: u64, len: u64, bytes: &[u8]) -> bool
+    ensures { (h : History) → IsTrue result ↔ ShowsBytes (state_of kept.now h) address len bytes.now }
 {
     if bytes.len() as u64 != len {
         return false;
     }
-    if has_owner(state.frames.as_slice(), address / PAGE_SIZE) {
+    if kept.frames.is_reserved(address / PAGE_SIZE) {
         return true;
     }
-    let frame = frame_bytes(state.frames.as_slice(), address / PAGE_SIZE);
-    let named = first_bytes(later_bytes(frame, address % PAGE_SIZE), len);
-    are_same(bytes, named)
+    kept.frames
+        .shows(address / PAGE_SIZE, address % PAGE_SIZE, len, bytes)
 }
 
 /// Whether a peek may come so, which leaves the state as it is.
-pub(crate) fn judge_peek(state: &State, address: u64, len: u64, outcome: &Outcome) -> bool
-    ensures { (new : State) → (left_by result state.now ≡ Some new) ↔ Peeks state.now address len outcome.now new }
+pub(crate) fn judge_peek(kept: &KeptState, address: u64, len: u64, outcome: &Outcome) -> bool
+    ensures { DecidesStaying result kept.now (λ before after. Peeks before address len outcome.now after) }
 {
     let fits = is_within_page(address, len);
-    let first = frame_refusal(state, address / PAGE_SIZE);
+    let first = frame_refusal(kept, address / PAGE_SIZE);
     match outcome {
         Outcome::BadSpan => !fits,
         Outcome::Refused(why) => {
@@ -85,27 +80,36 @@ pub(crate) fn judge_peek(state: &State, address: u64, len: u64, outcome: &Outcom
             refuses(first, false, *why)
         }
         Outcome::Bytes(bytes) => {
-            if !fits || first.is_some() {
+            if !fits {
                 return false;
             }
-            shows(state, address, len, bytes.as_slice())
+            if first.is_some() {
+                return false;
+            }
+            shows(kept, address, len, bytes.as_slice())
         }
         _ => false,
     }
 }
 
-/// Whether the question whether the frame is free may be answered so, which leaves the state as it is.
-pub(crate) fn judge_free(state: &State, frame: u64, outcome: &Outcome) -> bool
-    ensures { (new : State) → (left_by result state.now ≡ Some new) ↔ TellsFree state.now frame outcome.now new }
+fn are_same(one: bool, other: bool) -> bool
+    ensures { IsTrue result ↔ (one ≡ other) }
 {
-    let first = frame_refusal(state, frame);
+    one == other
+}
+
+/// Whether the question whether the frame is free may be answered so, which leaves the state as it is.
+pub(crate) fn judge_free(kept: &KeptState, frame: u64, outcome: &Outcome) -> bool
+    ensures { DecidesStaying result kept.now (λ before after. TellsFree before frame outcome.now after) }
+{
+    let first = frame_refusal(kept, frame);
     match outcome {
         Outcome::Refused(why) => refuses(first, false, *why),
         Outcome::Free(told) => {
-            if first.is_some() || *told != is_free(state, frame) {
+            if first.is_some() {
                 return false;
             }
-            true
+            are_same(*told, kept.is_free(frame))
         }
         _ => false,
     }

@@ -1,28 +1,26 @@
 // The first refusal that applies.
-ghost use Rattle.std.specs.Prelude.{◌≡◌, ◌↔◌, ◌<◌, ◌≤◌, ◌∷◌, [], ◌||◌, ◌-◌, not, nat_le, IsTrue, MatchOption, OnSome, find, ◌==◌};
-ghost use Rattle.std.specs.Option.{option_map_or};
-ghost use Rattle.iom_machine.specs.declared.state.Attachment.TheVariants.{Detached};
-ghost use Rattle.iom_base.specs.Disks.{is_missing};
-ghost use Rattle.iom_machine.specs.Tickets.{pending_tickets};
+ghost use Rattle.std.specs.Prelude.{◌≡◌, ◌↔◌, ◌<◌, ◌^◌, ◌&&◌, ◌||◌, not, nat_le, is_some, IsTrue, IsNone, IsSome, MatchOption, None};
 ghost use Rattle.iom_base.specs.Refusals.{first_that_applies};
+ghost use Rattle.iom_ledger.specs.History.{History};
+ghost use Rattle.iom_machine.specs.Judging.{attachment_in};
 ghost use Rattle.iom_machine.specs.Refusals.{plug_reasons, attach_reasons, detach_reasons, grant_reasons, release_reasons, quarantine_reasons, revive_reasons, frame_reasons, poke_reasons};
 ghost use Rattle.iom_machine.specs.Refusals.{is_plugged, attachment_of, is_detached, is_leaving, is_quarantined, is_attached, may_still_reach, table_limit_at};
-ghost use Rattle.iom_machine.specs.Refusals.{is_trusted, is_too_wide, is_held, is_lingering, has_grants};
-ghost use Rattle.iom_base.specs.DeviceIds.{id_limit};
-ghost use Rattle.iom_machine.specs.Judging.{attachment_in};
+ghost use Rattle.iom_machine.specs.Refusals.{is_trusted, is_held, is_lingering, has_grants};
+ghost use Rattle.iom_machine.specs.Tickets.{pending_tickets};
+ghost use Rattle.iom_kept_state.specs.Grants.{IsPastOf, held_by, lingering_by};
+ghost use Rattle.iom_kept_state.specs.States.{state_of};
 
-use crate::block_devices::is_among;
 use crate::devices::device_with;
-use crate::frames::has_owner;
-use crate::history::{grants_left, is_confirmed, last_ticket_confirmed, lingers_at, pair_held};
+use crate::disks::is_missing;
+use crate::ids::too_wide;
 use iom_base::{DeviceId, NewDevice, Refusal};
-use iom_ledger::HistoryEntry;
-use iom_machine::{Attachment, Device, State};
+use iom_kept_state::KeptState;
+use iom_machine::{Attachment, Device};
 
-fn plugged(state: &State, id: DeviceId) -> bool
-    ensures { result ≡ is_plugged state.now id }
+fn plugged(kept: &KeptState, id: DeviceId) -> bool
+    ensures { (h : History) → result ≡ is_plugged (state_of kept.now h) id }
 {
-    device_with(state.devices.as_slice(), id).is_some()
+    device_with(kept.devices.as_slice(), id).is_some()
 }
 
 /// How the device is attached, of these; detached, where it is none of them.
@@ -36,10 +34,10 @@ pub(crate) fn attachment_in(devices: &[Device], id: DeviceId) -> Attachment
 }
 
 /// How the device is attached; detached, where there is none.
-fn attachment(state: &State, id: DeviceId) -> Attachment
-    ensures { result ≡ attachment_of state.now id }
+fn attachment(kept: &KeptState, id: DeviceId) -> Attachment
+    ensures { (h : History) → result ≡ attachment_of (state_of kept.now h) id }
 {
-    attachment_in(state.devices.as_slice(), id)
+    attachment_in(kept.devices.as_slice(), id)
 }
 
 fn detached(attachment: Attachment) -> bool
@@ -67,230 +65,216 @@ fn attached(attachment: Attachment) -> bool
 }
 
 /// Whether it is cut off under a ticket that isn't confirmed.
-fn may_still_reach(history: &[HistoryEntry], attachment: Attachment) -> bool
-    ensures { result ≡ may_still_reach history.now attachment }
+pub(crate) fn may_still_reach(kept: &KeptState, attachment: Attachment) -> bool
+    ensures { (h : History) → IsPastOf kept.now.grants h → result ≡ may_still_reach h attachment }
 {
     match attachment {
-        Attachment::Quarantined { ticket, .. } => !is_confirmed(history, ticket),
+        Attachment::Quarantined { ticket, .. } => !kept.grants.is_confirmed(ticket),
         _ => false,
     }
 }
 
 /// Whether the device has a cache of translations.
-fn trusted(state: &State, id: DeviceId) -> bool
-    ensures { result ≡ is_trusted state.now id }
+fn trusted(kept: &KeptState, id: DeviceId) -> bool
+    ensures { (h : History) → result ≡ is_trusted (state_of kept.now h) id }
 {
-    match device_with(state.devices.as_slice(), id) {
+    match device_with(kept.devices.as_slice(), id) {
         None => false,
         Some(device) => device.kind.has_cache(),
     }
 }
 
-/// Whether the device directory can't name the id.
-pub(crate) fn too_wide(state: &State, id: DeviceId) -> bool
-    ensures { result ≡ is_too_wide state.now id }
+/// Whether no more tickets may be pending.
+fn too_many_pending(kept: &KeptState) -> bool
+    ensures { (h : History) → IsPastOf kept.now.grants h → result ≡ nat_le kept.now.limits.pending (pending_tickets (state_of kept.now h)) }
 {
-    id >= first_id_above(state.levels)
+    let pending = kept.grants.given - kept.grants.last_confirmed();
+    u64::from(pending) >= kept.limits.pending
 }
 
-fn first_id_above(levels: u8) -> u32
-    ensures { result ≡ id_limit levels }
+fn held(kept: &KeptState, id: DeviceId, page: u64) -> bool
+    ensures shown { result ≡ is_some (held_by kept.now.grants id page) }
+    ensures held { (h : History) → IsPastOf kept.now.grants h → result ≡ is_held (state_of kept.now h) id page }
 {
-    if levels == 1 {
-        1 << 7
-    } else if levels == 2 {
-        1 << 16
-    } else {
-        1 << 24
-    }
+    kept.grants.held(id, page).is_some()
 }
 
-/// How many tickets are pending.
-fn pending(state: &State) -> u32
-    ensures { result ≡ pending_tickets state.now }
+fn lingering(kept: &KeptState, id: DeviceId, page: u64) -> bool
+    ensures shown { result ≡ is_some (lingering_by kept.now.grants id page) }
+    ensures lingers { (h : History) → IsPastOf kept.now.grants h → result ≡ is_lingering (state_of kept.now h) id page }
 {
-    state
-        .last_ticket
-        .saturating_sub(last_ticket_confirmed(state.history.as_slice()))
-}
-
-fn held(state: &State, id: DeviceId, page: u64) -> bool
-    ensures { result ≡ is_held state.now id page }
-{
-    pair_held(state.history.as_slice(), id, page).is_some()
-}
-
-fn lingering(state: &State, id: DeviceId, page: u64) -> bool
-    ensures { result ≡ is_lingering state.now id page }
-{
-    lingers_at(state.history.as_slice(), id, page)
+    kept.grants.lingering(id, page).is_some()
 }
 
 /// Whether the device holds something, or something lingers for it.
-fn still_granted(state: &State, id: DeviceId) -> bool
-    ensures { result ≡ has_grants state.now id }
+fn still_granted(kept: &KeptState, id: DeviceId) -> bool
+    ensures { (h : History) → IsPastOf kept.now.grants h → result ≡ has_grants (state_of kept.now h) id }
 {
-    grants_left(state.history.as_slice(), id)
+    kept.grants.has_any(id)
 }
 
-/// Whether a disk is named that isn't one of these.
-fn missing(disks: &[u64], named: Option<u64>) -> bool
-    ensures { result ≡ is_missing disks.now named }
+/// Whether nothing is attached any longer, or it ends soon.
+fn not_attached(attachment: Attachment) -> bool
+    ensures { result ≡ (is_detached attachment || is_leaving attachment) }
 {
-    match named {
-        None => false,
-        Some(disk) => !is_among(disks, disk),
+    detached(attachment) || leaving(attachment)
+}
+
+/// Whether the page isn't free for a grant.
+fn busy(kept: &KeptState, id: DeviceId, page: u64) -> bool
+    ensures shown { result ≡ (is_some (held_by kept.now.grants id page) || is_some (lingering_by kept.now.grants id page)) }
+    ensures busy { (h : History) → IsPastOf kept.now.grants h → result ≡ (is_held (state_of kept.now h) id page || is_lingering (state_of kept.now h) id page) }
+{
+    let held = held(kept, id, page);
+    let lingering = lingering(kept, id, page);
+    either(held, lingering)
+}
+
+fn either(one: bool, other: bool) -> bool
+    ensures { result ≡ (one || other) }
+{
+    one || other
+}
+
+/// Whether ATS is asked for, of a device that has no cache of translations.
+fn untrusted(kept: &KeptState, id: DeviceId, ats: bool) -> bool
+    ensures { (h : History) → result ≡ (ats && not (is_trusted (state_of kept.now h) id)) }
+{
+    ats && !trusted(kept, id)
+}
+
+/// The refusal of the first reason that applies.
+fn first_that_applies(reasons: &[(bool, Refusal)]) -> Option<Refusal>
+    ensures { result ≡ first_that_applies reasons.now }
+{
+    match reasons {
+        [] => None,
+        [(applies, why), later @ ..] => {
+            if *applies {
+                Some(*why)
+            } else {
+                first_that_applies(later)
+            }
+        }
     }
 }
 
-pub(crate) fn plug_refusal(state: &State, id: DeviceId, what: NewDevice) -> Option<Refusal>
-    ensures { result ≡ first_that_applies (plug_reasons state.now id what) }
+pub fn plug_refusal(kept: &KeptState, id: DeviceId, what: NewDevice) -> Option<Refusal>
+    ensures { (h : History) → IsPastOf kept.now.grants h → result ≡ first_that_applies (plug_reasons (state_of kept.now h) id what) }
 {
-    if plugged(state, id) {
-        Some(Refusal::AlreadyPlugged)
-    } else if state.devices.as_slice().len() as u64 >= state.limits.devices {
-        Some(Refusal::TooManyDevices)
-    } else if missing(state.disks.as_slice(), what.disk()) {
-        Some(Refusal::BadMedium)
-    } else {
-        None
-    }
+    let devices = kept.devices.as_slice().len() as u64;
+    first_that_applies(&[
+        (plugged(kept, id), Refusal::AlreadyPlugged),
+        (devices >= kept.limits.devices, Refusal::TooManyDevices),
+        (
+            is_missing(kept.disks.as_slice(), what.disk()),
+            Refusal::BadMedium,
+        ),
+    ])
 }
 
-pub(crate) fn attach_refusal(state: &State, id: DeviceId, ats: bool) -> Option<Refusal>
-    ensures { result ≡ first_that_applies (attach_reasons state.now id ats) }
+pub fn attach_refusal(kept: &KeptState, id: DeviceId, ats: bool) -> Option<Refusal>
+    ensures { (h : History) → IsPastOf kept.now.grants h → result ≡ first_that_applies (attach_reasons (state_of kept.now h) id ats) }
 {
-    if !plugged(state, id) {
-        Some(Refusal::NoSuchDevice)
-    } else if !detached(attachment(state, id)) {
-        Some(Refusal::AlreadyAttached)
-    } else if too_wide(state, id) {
-        Some(Refusal::IdTooWide)
-    } else if ats && !trusted(state, id) {
-        Some(Refusal::NotTrusted)
-    } else {
-        None
-    }
+    first_that_applies(&[
+        (!plugged(kept, id), Refusal::NoSuchDevice),
+        (!detached(attachment(kept, id)), Refusal::AlreadyAttached),
+        (too_wide(kept, id), Refusal::IdTooWide),
+        (untrusted(kept, id, ats), Refusal::NotTrusted),
+    ])
 }
 
-pub(crate) fn detach_refusal(state: &State, id: DeviceId) -> Option<Refusal>
-    ensures { result ≡ first_that_applies (detach_reasons state.now id) }
+pub fn detach_refusal(kept: &KeptState, id: DeviceId) -> Option<Refusal>
+    ensures { (h : History) → IsPastOf kept.now.grants h → result ≡ first_that_applies (detach_reasons (state_of kept.now h) id) }
 {
-    let attachment = attachment(state, id);
-    if !plugged(state, id) {
-        Some(Refusal::NoSuchDevice)
-    } else if detached(attachment) || leaving(attachment) {
-        Some(Refusal::NotAttached)
-    } else if quarantined(attachment) {
-        Some(Refusal::Quarantined)
-    } else if still_granted(state, id) {
-        Some(Refusal::StillGranted)
-    } else if u64::from(pending(state)) >= state.limits.pending {
-        Some(Refusal::TooManyPending)
-    } else {
-        None
-    }
+    let attachment = attachment(kept, id);
+    first_that_applies(&[
+        (!plugged(kept, id), Refusal::NoSuchDevice),
+        (not_attached(attachment), Refusal::NotAttached),
+        (quarantined(attachment), Refusal::Quarantined),
+        (still_granted(kept, id), Refusal::StillGranted),
+        (too_many_pending(kept), Refusal::TooManyPending),
+    ])
 }
 
 /// The path of a page of the device lacks no more tables than this.
-pub(crate) fn most_tables(state: &State, id: DeviceId) -> usize
-    ensures { result ≡ table_limit_at (attachment_of state.now id) }
+pub(crate) fn most_tables(kept: &KeptState, id: DeviceId) -> usize
+    ensures { (h : History) → result ≡ table_limit_at (attachment_of (state_of kept.now h) id) }
 {
-    attachment(state, id).table_limit() as usize
+    attachment(kept, id).table_limit() as usize
 }
 
-pub(crate) fn grant_refusal(state: &State, id: DeviceId, page: u64, frame: u64) -> Option<Refusal>
-    ensures { result ≡ first_that_applies (grant_reasons state.now id page frame) }
+pub fn grant_refusal(kept: &KeptState, id: DeviceId, page: u64, frame: u64) -> Option<Refusal>
+    ensures named { IsNone result → frame < 2 ^ 32 }
+    ensures no_pair { IsNone result → (held_by kept.now.grants id page ≡ None) × (lingering_by kept.now.grants id page ≡ None) }
+    ensures first { (h : History) → IsPastOf kept.now.grants h → result ≡ first_that_applies (grant_reasons (state_of kept.now h) id page frame) }
 {
-    let attachment = attachment(state, id);
-    if !plugged(state, id) {
-        Some(Refusal::NoSuchDevice)
-    } else if detached(attachment) || leaving(attachment) {
-        Some(Refusal::NotAttached)
-    } else if quarantined(attachment) {
-        Some(Refusal::Quarantined)
-    } else if frame >= state.frames.as_slice().len() as u64 {
-        Some(Refusal::FrameOutOfRange)
-    } else if has_owner(state.frames.as_slice(), frame) {
-        Some(Refusal::FrameReserved)
-    } else if page >= attachment.page_limit() {
-        Some(Refusal::IovaOutOfRange)
-    } else if held(state, id, page) || lingering(state, id, page) {
-        Some(Refusal::IovaBusy)
-    } else {
-        None
-    }
+    let attachment = attachment(kept, id);
+    first_that_applies(&[
+        (!plugged(kept, id), Refusal::NoSuchDevice),
+        (not_attached(attachment), Refusal::NotAttached),
+        (quarantined(attachment), Refusal::Quarantined),
+        (frame >= kept.frames.count(), Refusal::FrameOutOfRange),
+        (kept.frames.is_reserved(frame), Refusal::FrameReserved),
+        (page >= attachment.page_limit(), Refusal::IovaOutOfRange),
+        (busy(kept, id, page), Refusal::IovaBusy),
+    ])
 }
 
-pub(crate) fn release_refusal(state: &State, id: DeviceId, page: u64) -> Option<Refusal>
-    ensures { result ≡ first_that_applies (release_reasons state.now id page) }
+pub fn release_refusal(kept: &KeptState, id: DeviceId, page: u64) -> Option<Refusal>
+    ensures held { IsNone result → IsSome (held_by kept.now.grants id page) }
+    ensures first { (h : History) → IsPastOf kept.now.grants h → result ≡ first_that_applies (release_reasons (state_of kept.now h) id page) }
 {
-    let attachment = attachment(state, id);
-    if !plugged(state, id) {
-        Some(Refusal::NoSuchDevice)
-    } else if detached(attachment) || leaving(attachment) {
-        Some(Refusal::NotAttached)
-    } else if quarantined(attachment) {
-        Some(Refusal::Quarantined)
-    } else if !held(state, id, page) {
-        Some(Refusal::NotGranted)
-    } else if u64::from(pending(state)) >= state.limits.pending {
-        Some(Refusal::TooManyPending)
-    } else {
-        None
-    }
+    let attachment = attachment(kept, id);
+    first_that_applies(&[
+        (!plugged(kept, id), Refusal::NoSuchDevice),
+        (not_attached(attachment), Refusal::NotAttached),
+        (quarantined(attachment), Refusal::Quarantined),
+        (!held(kept, id, page), Refusal::NotGranted),
+        (too_many_pending(kept), Refusal::TooManyPending),
+    ])
 }
 
-pub(crate) fn quarantine_refusal(state: &State, id: DeviceId) -> Option<Refusal>
-    ensures { result ≡ first_that_applies (quarantine_reasons state.now id) }
+pub fn quarantine_refusal(kept: &KeptState, id: DeviceId) -> Option<Refusal>
+    ensures { (h : History) → IsPastOf kept.now.grants h → result ≡ first_that_applies (quarantine_reasons (state_of kept.now h) id) }
 {
-    let attachment = attachment(state, id);
-    if !plugged(state, id) {
-        Some(Refusal::NoSuchDevice)
-    } else if detached(attachment) || leaving(attachment) {
-        Some(Refusal::NotAttached)
-    } else if quarantined(attachment) {
-        Some(Refusal::Quarantined)
-    } else if u64::from(pending(state)) >= state.limits.pending {
-        Some(Refusal::TooManyPending)
-    } else {
-        None
-    }
+    let attachment = attachment(kept, id);
+    first_that_applies(&[
+        (!plugged(kept, id), Refusal::NoSuchDevice),
+        (not_attached(attachment), Refusal::NotAttached),
+        (quarantined(attachment), Refusal::Quarantined),
+        (too_many_pending(kept), Refusal::TooManyPending),
+    ])
 }
 
-pub(crate) fn revive_refusal(state: &State, id: DeviceId) -> Option<Refusal>
-    ensures { result ≡ first_that_applies (revive_reasons state.now id) }
+pub fn revive_refusal(kept: &KeptState, id: DeviceId) -> Option<Refusal>
+    ensures { (h : History) → IsPastOf kept.now.grants h → result ≡ first_that_applies (revive_reasons (state_of kept.now h) id) }
 {
-    let attachment = attachment(state, id);
-    if !plugged(state, id) {
-        Some(Refusal::NoSuchDevice)
-    } else if detached(attachment) || leaving(attachment) {
-        Some(Refusal::NotAttached)
-    } else if attached(attachment) {
-        Some(Refusal::AlreadyAttached)
-    } else if may_still_reach(state.history.as_slice(), attachment) {
-        Some(Refusal::StillGranted)
-    } else {
-        None
-    }
+    let attachment = attachment(kept, id);
+    first_that_applies(&[
+        (!plugged(kept, id), Refusal::NoSuchDevice),
+        (not_attached(attachment), Refusal::NotAttached),
+        (attached(attachment), Refusal::AlreadyAttached),
+        (may_still_reach(kept, attachment), Refusal::StillGranted),
+    ])
 }
 
-pub(crate) fn frame_refusal(state: &State, frame: u64) -> Option<Refusal>
-    ensures { result ≡ first_that_applies (frame_reasons state.now frame) }
+pub fn frame_refusal(kept: &KeptState, frame: u64) -> Option<Refusal>
+    ensures { (h : History) → result ≡ first_that_applies (frame_reasons (state_of kept.now h) frame) }
 {
-    if frame >= state.frames.as_slice().len() as u64 {
+    if frame >= kept.frames.count() {
         Some(Refusal::FrameOutOfRange)
     } else {
         None
     }
 }
 
-pub(crate) fn poke_refusal(state: &State, frame: u64) -> Option<Refusal>
-    ensures { result ≡ first_that_applies (poke_reasons state.now frame) }
+pub(crate) fn poke_refusal(kept: &KeptState, frame: u64) -> Option<Refusal>
+    ensures { (h : History) → result ≡ first_that_applies (poke_reasons (state_of kept.now h) frame) }
 {
-    if frame >= state.frames.as_slice().len() as u64 {
+    if frame >= kept.frames.count() {
         Some(Refusal::FrameOutOfRange)
-    } else if has_owner(state.frames.as_slice(), frame) {
+    } else if kept.frames.is_reserved(frame) {
         Some(Refusal::FrameReserved)
     } else {
         None

@@ -1,43 +1,38 @@
 // Devices that don't answer: they are cut off and attached again, and the queue goes on without them.
-ghost use Rattle.std.specs.Prelude.{◌≡◌, ◌↔◌, IfOk, IsTrue, Some};
+ghost use Rattle.std.specs.Prelude.{◌≡◌, ◌↔◌, IfOk, IsTrue};
 ghost use Rattle.iom_machine.specs.declared.outcome.Outcome.TheVariants.{Done};
-ghost use Rattle.iom_machine.specs.declared.state.State.{State};
 ghost use Rattle.iom_machine.specs.Refusals.{MayRefuseRestart};
 ghost use Rattle.iom_machine.specs.Machine.{Quarantines, Revives, Restarts, TimesOut, Resets};
-ghost use Rattle.iom_machine_judge.specs.Deciding.{left_by};
+ghost use Rattle.iom_kept_state.specs.States.{Decides, DecidesStaying};
 
 use crate::absent::answers_absent;
-use crate::calls::may_find_no_place;
+use crate::calls::{may_find_no_place, may_give};
 use crate::devices::{attach_again, cut_off, device_with, place_of};
 use crate::reasons::{quarantine_refusal, refuses, revive_refusal};
 use iom_base::{DeviceId, Refusal};
-use iom_ledger::HistoryEntry;
-use iom_machine::{Outcome, State};
+use iom_kept_state::KeptState;
+use iom_machine::Outcome;
 use std::alloc::AllocError;
 
-/// Whether a quarantine may come so; the state is then what it leaves.
+/// Whether a quarantine may come so; the next state is then kept.
 pub(crate) fn judge_quarantine(
-    state: &mut State,
+    kept: &mut KeptState,
     id: DeviceId,
     outcome: &Outcome,
 ) -> Result<bool, AllocError>
-    ensures { IfOk result (λ may. (new : State) → (left_by may state.new ≡ Some new) ↔ Quarantines state.old id outcome.now new) }
+    ensures { IfOk result (λ may. Decides may kept.old kept.new (λ before after. Quarantines before id outcome.now after)) }
 {
-    let first = quarantine_refusal(state, id);
+    let first = quarantine_refusal(kept, id);
     match outcome {
         Outcome::Ticket(ticket) => {
-            if first.is_some() || u64::from(*ticket) != u64::from(state.last_ticket) + 1 {
+            if !may_give(kept, first, *ticket) {
                 return Ok(false);
             }
-            match place_of(state.devices.as_slice(), id) {
+            match place_of(kept.devices.as_slice(), id) {
                 None => Ok(false),
                 Some(place) => {
-                    state.history.push_front(HistoryEntry::AllReleased {
-                        device: id,
-                        ticket: *ticket,
-                    })?;
-                    cut_off(&mut state.devices, place, *ticket);
-                    state.last_ticket = *ticket;
+                    kept.grants.release_all(id, *ticket)?;
+                    cut_off(&mut kept.devices, place, *ticket);
                     Ok(true)
                 }
             }
@@ -47,20 +42,20 @@ pub(crate) fn judge_quarantine(
     }
 }
 
-/// Whether a revival may come so; the state is then what it leaves.
-pub(crate) fn judge_revive(state: &mut State, id: DeviceId, outcome: &Outcome) -> bool
-    ensures { (new : State) → (left_by result state.new ≡ Some new) ↔ Revives state.old id outcome.now new }
+/// Whether a revival may come so; the next state is then kept.
+pub(crate) fn judge_revive(kept: &mut KeptState, id: DeviceId, outcome: &Outcome) -> bool
+    ensures { Decides result kept.old kept.new (λ before after. Revives before id outcome.now after) }
 {
-    let first = revive_refusal(state, id);
+    let first = revive_refusal(kept, id);
     match outcome {
         Outcome::Done => {
             if first.is_some() {
                 return false;
             }
-            match place_of(state.devices.as_slice(), id) {
+            match place_of(kept.devices.as_slice(), id) {
                 None => false,
                 Some(place) => {
-                    attach_again(&mut state.devices, place);
+                    attach_again(&mut kept.devices, place);
                     true
                 }
             }
@@ -77,8 +72,8 @@ fn may_refuse_restart(why: Refusal) -> bool
 }
 
 /// Whether a restart may come so, which leaves every state as it is.
-pub(crate) fn judge_restart(outcome: &Outcome) -> bool
-    ensures { (old new : State) → (left_by result old ≡ Some new) ↔ Restarts old outcome.now new }
+pub(crate) fn judge_restart(kept: &KeptState, outcome: &Outcome) -> bool
+    ensures { DecidesStaying result kept.now (λ before after. Restarts before outcome.now after) }
 {
     match outcome {
         Outcome::Done => true,
@@ -88,8 +83,8 @@ pub(crate) fn judge_restart(outcome: &Outcome) -> bool
 }
 
 /// Whether a timeout may come so, which leaves every state as it is.
-pub(crate) fn judge_timeout(outcome: &Outcome) -> bool
-    ensures { (old new : State) → (left_by result old ≡ Some new) ↔ TimesOut old outcome.now new }
+pub(crate) fn judge_timeout(kept: &KeptState, outcome: &Outcome) -> bool
+    ensures { DecidesStaying result kept.now (λ before after. TimesOut before outcome.now after) }
 {
     match outcome {
         Outcome::TimedOut => true,
@@ -106,10 +101,10 @@ fn is_done(outcome: &Outcome) -> bool
 }
 
 /// Whether a reset of a device may come so, which leaves the state as it is.
-pub(crate) fn judge_reset(state: &State, id: DeviceId, outcome: &Outcome) -> bool
-    ensures { (new : State) → (left_by result state.now ≡ Some new) ↔ Resets state.now id outcome.now new }
+pub(crate) fn judge_reset(kept: &KeptState, id: DeviceId, outcome: &Outcome) -> bool
+    ensures { DecidesStaying result kept.now (λ before after. Resets before id outcome.now after) }
 {
-    match device_with(state.devices.as_slice(), id) {
+    match device_with(kept.devices.as_slice(), id) {
         None => answers_absent(outcome),
         Some(_device) => is_done(outcome),
     }

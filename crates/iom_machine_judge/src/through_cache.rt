@@ -1,24 +1,24 @@
 // What may come of an access through the device's own cache of translations.
 ghost use Rattle.std.specs.Prelude.{◌≡◌, ◌↔◌, ◌+◌, ◌<◌, IfOk, OnOk, IsTrue, Some, slice_get, length};
+ghost use Rattle.iom_base.specs.Accesses.{at_frame};
+ghost use Rattle.iom_kept_state.specs.Grants.{IsPastOf};
+ghost use Rattle.iom_kept_state.specs.States.{state_of, Decides};
+ghost use Rattle.iom_ledger.specs.History.{History};
 ghost use Rattle.iom_machine.specs.declared.state.Device.{Device};
-ghost use Rattle.iom_machine.specs.declared.state.State.{State};
 ghost use Rattle.iom_machine.specs.Requests.{IsForwarded};
 ghost use Rattle.iom_machine.specs.Translated.{MayFindNoContext};
-ghost use Rattle.iom_base.specs.Accesses.{at_frame};
 ghost use Rattle.iom_machine.specs.ThroughCache.{MayHaveCached, MayGoThrough, MayAnswerThroughCache, state_after_cached};
 ghost use Rattle.iom_machine.specs.Machine.{RequestsThroughCache};
 ghost use Rattle.iom_machine.specs.Judging.{StandsAt};
-ghost use Rattle.iom_machine_judge.specs.Deciding.{left_by};
 
 use crate::absent::{answers_absent, answers_unable};
 use crate::cut_off::accepts_cut_off;
 use crate::devices::{accept, place_of};
-use crate::history::may;
 use crate::requests::{answers_busy, holds, is_forwarded, is_next, is_within_page, lingers};
 use crate::translated::may_find_no_context;
 use iom_base::{Access, Cause, DeviceId, Mode, PAGE_SIZE};
-use iom_ledger::HistoryEntry;
-use iom_machine::{Attachment, Device, Outcome, State};
+use iom_kept_state::{KeptGrants, KeptState};
+use iom_machine::{Attachment, Device, Outcome};
 use std::alloc::AllocError;
 
 /// The access at its physical address, in the frame.
@@ -34,123 +34,144 @@ fn at_frame(access: Access, frame: u32) -> Access
 }
 
 /// Whether a cache may have the frame for the access.
-fn may_have_cached(history: &[HistoryEntry], id: DeviceId, access: &Access, frame: u32) -> bool
-    ensures { IsTrue result ↔ MayHaveCached history.now id access.now frame }
+fn may_have_cached(grants: &KeptGrants, id: DeviceId, access: &Access, frame: u32) -> bool
+    ensures { (h : History) → IsPastOf grants.now h → IsTrue result ↔ MayHaveCached h id access.now frame }
 {
-    if holds(history, id, access, frame) {
+    if holds(grants, id, access, frame) {
         return true;
     }
-    lingers(history, id, access, frame)
+    lingers(grants, id, access, frame)
 }
 
 /// Whether the access may go through, on the frame.
 fn may_go_through(
     attachment: Attachment,
-    state: &State,
+    kept: &KeptState,
     id: DeviceId,
     access: &Access,
     frame: u32,
 ) -> bool
-    ensures { IsTrue result ↔ MayGoThrough attachment state.now id access.now frame }
+    ensures { (h : History) → IsPastOf kept.now.grants h → IsTrue result ↔ MayGoThrough attachment (state_of kept.now h) id access.now frame }
 {
-    let history = state.history.as_slice();
+    let grants = &kept.grants;
     match attachment {
         Attachment::Detached => false,
         Attachment::Attached { mode, .. } => match mode {
-            Mode::First(_) => may_have_cached(history, id, access, frame),
-            Mode::Second(_) => may_have_cached(history, id, access, frame),
-            Mode::Both(_) => may(history, id, u64::from(frame), access.kind),
+            Mode::First(_) => may_have_cached(grants, id, access, frame),
+            Mode::Second(_) => may_have_cached(grants, id, access, frame),
+            Mode::Both(_) => grants.may(id, access.address / PAGE_SIZE, frame, access.kind),
         },
         Attachment::Quarantined { ticket, mode, .. } => {
-            accepts_cut_off(ticket, mode, history, id, access, frame)
+            accepts_cut_off(ticket, mode, grants, id, access, frame)
         }
         Attachment::Leaving { ticket, mode, .. } => {
-            accepts_cut_off(ticket, mode, history, id, access, frame)
+            accepts_cut_off(ticket, mode, grants, id, access, frame)
         }
     }
 }
 
-fn goes_through(state: &State, device: &Device, access: &Access, frame: u32, number: u64) -> bool
-    ensures { IsTrue result ↔ (IsForwarded state.now.limits.in_flight device.now.in_flight access.now.address access.now.len
-        × MayGoThrough device.now.attachment state.now device.now.id access.now frame × (number ≡ device.now.accepted + 1)) }
+fn goes_through(kept: &KeptState, device: &Device, access: &Access, frame: u32, number: u64) -> bool
+    ensures { (h : History) → IsPastOf kept.now.grants h
+        → IsTrue result ↔ (IsForwarded kept.now.limits.in_flight device.now.in_flight access.now.address access.now.len
+        × MayGoThrough device.now.attachment (state_of kept.now h) device.now.id access.now frame × (number ≡ device.now.accepted + 1)) }
 {
-    if !is_forwarded(state, device, access) {
+    if !is_forwarded(kept, device, access) {
         return false;
     }
     if !is_next(device, number) {
         return false;
     }
-    may_go_through(device.attachment, state, device.id, access, frame)
+    may_go_through(device.attachment, kept, device.id, access, frame)
 }
 
-fn finds_no_context(state: &State, device: &Device, access: &Access, cause: Cause) -> bool
-    ensures { IsTrue result ↔ (IsForwarded state.now.limits.in_flight device.now.in_flight access.now.address access.now.len × MayFindNoContext state.now device.now cause) }
+fn finds_no_context(kept: &KeptState, device: &Device, access: &Access, cause: Cause) -> bool
+    ensures { (h : History) → IsTrue result ↔ (IsForwarded kept.now.limits.in_flight device.now.in_flight access.now.address access.now.len
+        × MayFindNoContext (state_of kept.now h) device.now cause) }
 {
-    if !is_forwarded(state, device, access) {
+    if !is_forwarded(kept, device, access) {
         return false;
     }
-    may_find_no_context(state, device, cause)
+    may_find_no_context(kept, device, cause)
 }
 
 /// Whether this may come of a plugged device's access through its cache.
-pub(crate) fn may_answer(
-    state: &State,
+pub fn may_answer(
+    kept: &KeptState,
     device: &Device,
     access: &Access,
     frame: u32,
     outcome: &Outcome,
 ) -> bool
-    ensures { IsTrue result ↔ MayAnswerThroughCache state.now device.now access.now frame outcome.now }
+    ensures { (h : History) → IsPastOf kept.now.grants h → IsTrue result ↔ MayAnswerThroughCache (state_of kept.now h) device.now access.now frame outcome.now }
 {
     match outcome {
         Outcome::BadSpan => !is_within_page(access),
-        Outcome::Busy => answers_busy(state, device, access),
-        Outcome::Miss => is_forwarded(state, device, access),
-        Outcome::Accepted(number) => goes_through(state, device, access, frame, *number),
-        Outcome::Fault(cause) => finds_no_context(state, device, access, *cause),
+        Outcome::Busy => answers_busy(kept, device, access),
+        Outcome::Miss => is_forwarded(kept, device, access),
+        Outcome::Accepted(number) => goes_through(kept, device, access, frame, *number),
+        Outcome::Fault(cause) => finds_no_context(kept, device, access, *cause),
         _ => false,
     }
 }
 
 /// It makes the state this.
-pub(crate) fn after_answer(
-    state: &mut State,
+fn after_answer(
+    kept: &mut KeptState,
     place: usize,
     access: Access,
     frame: u32,
     outcome: &Outcome,
 ) -> Result<(), AllocError>
-    requires { place < length state.old.devices }
-    ensures { OnOk result ((device : Device) → StandsAt state.old.devices device.id place → slice_get state.old.devices place ≡ Some device
-        → MayAnswerThroughCache state.old device access frame outcome.now → state.new ≡ state_after_cached state.old device access frame outcome.now) }
+    requires { place < length kept.old.devices }
+    ensures grants { OnOk result (kept.new.grants ≡ kept.old.grants) }
+    ensures state { OnOk result ((device : Device) → StandsAt kept.old.devices device.id place → slice_get kept.old.devices place ≡ Some device
+        → (h : History) → MayAnswerThroughCache (state_of kept.old h) device access frame outcome.now
+        → state_of kept.new h ≡ state_after_cached (state_of kept.old h) device access frame outcome.now) }
 {
     if let Outcome::Accepted(number) = outcome {
         let sent = at_frame(access, frame);
-        accept(&mut state.devices, place, *number, sent, frame)?;
+        accept(&mut kept.devices, place, *number, sent, frame)?;
     }
     Ok(())
 }
 
-/// Whether this may come of an access through the device's own cache, on this frame; the state is then what it leaves.
+/// Whether this may come of an access of the device at the place through its cache, on this frame; what is kept is then what it leaves.
+pub(crate) fn answer_at(
+    kept: &mut KeptState,
+    place: usize,
+    access: Access,
+    frame: u32,
+    outcome: &Outcome,
+) -> Result<bool, AllocError>
+    requires { place < length kept.old.devices }
+    ensures { IfOk result (λ may. (device : Device) → slice_get kept.old.devices place ≡ Some device → StandsAt kept.old.devices device.id place
+        → Decides may kept.old kept.new (λ before after.
+        MayAnswerThroughCache before device access frame outcome.now × (after ≡ state_after_cached before device access frame outcome.now))) }
+{
+    let device = &kept.devices.as_slice()[place];
+    if !may_answer(kept, device, &access, frame, outcome) {
+        return Ok(false);
+    }
+    after_answer(kept, place, access, frame, outcome)?;
+    Ok(true)
+}
+
+/// Whether this may come of an access through the device's own cache, on this frame; what is kept is then what it leaves.
 pub(crate) fn judge_through_cache(
-    state: &mut State,
+    kept: &mut KeptState,
     id: DeviceId,
     access: Access,
     outcome: &Outcome,
     frame: u32,
 ) -> Result<bool, AllocError>
-    ensures { IfOk result (λ may. (new : State) → (left_by may state.new ≡ Some new) ↔ RequestsThroughCache frame state.old id access outcome.now new) }
+    ensures { IfOk result (λ may. Decides may kept.old kept.new (λ before after. RequestsThroughCache frame before id access outcome.now after)) }
 {
-    let Some(place) = place_of(state.devices.as_slice(), id) else {
+    let Some(place) = place_of(kept.devices.as_slice(), id) else {
         return Ok(answers_absent(outcome));
     };
-    let device = &state.devices.as_slice()[place];
+    let device = &kept.devices.as_slice()[place];
     if !device.kind.sends_through_cache() {
         return Ok(answers_unable(outcome));
     }
-    if !may_answer(state, device, &access, frame, outcome) {
-        return Ok(false);
-    }
-    after_answer(state, place, access, frame, outcome)?;
-    Ok(true)
+    answer_at(kept, place, access, frame, outcome)
 }

@@ -5,8 +5,9 @@ use iom_base::{
     Size,
 };
 use iom_fabric::{PageNumber, Translation};
-use iom_machine::{BlockStep, Choice, Event, FaultRecord, Fetched, Limits, Outcome, power_on};
-use iom_machine_judge::{Line, Verdict, judge_run};
+use iom_kept_state::KeptState;
+use iom_machine::{BlockStep, Choice, Event, FaultRecord, Fetched, Limits, Outcome};
+use iom_machine_judge::{Line, judge_run};
 use std::alloc::Global;
 use std::process::Abort;
 
@@ -425,15 +426,11 @@ const DISKS: [u64; 4] = [0, 1, 2, 3];
 
 /// The first of the lines that may not come, in a world of 64 frames, one directory level and four disks.
 pub(crate) fn judged(rt: &impl Abort, alloc: Global, lines: &[Line]) -> Option<usize> {
-    let opening = power_on(alloc, Limits::of_model(), 64, 1, &DISKS).expect(
+    let mut kept = KeptState::power_on(alloc, Limits::of_model(), 64, 1, &DISKS).expect(
         rt,
         "memory for a world",
     );
-    let verdict = judge_run(alloc, opening, lines).expect(rt, "memory for the judge");
-    match verdict {
-        Verdict::Lawful(_) => None,
-        Verdict::Unlawful { line } => Some(line),
-    }
+    judge_run(alloc, &mut kept, lines).expect(rt, "memory for the judge")
 }
 
 pub(crate) fn push(

@@ -1,8 +1,9 @@
 use crate::expect::expect;
 use crate::lines::{Comes, Does, Run, are_judged, line_of};
 use iom_base::{Cause, GrantRights, Refusal};
+use iom_kept_state::KeptState;
 use iom_machine::{
-    CommandName, Fetched, Limits, grants_are_at_pages, limits_stay, power_on, reclaim_theorem,
+    CommandName, Fetched, Limits, grants_are_at_pages, limits_stay, reclaim_theorem,
 };
 use iom_machine_judge::{Line, judge, lawful_runs_have_choices};
 use std::alloc::Global;
@@ -497,10 +498,11 @@ fn runs_are_judged(rt: HostRuntime) {
 
 /// How many devices there are once the line has come, the first after power-on.
 fn devices_after(rt: &impl Abort, alloc: Global, line: &Line) -> usize {
-    let opening = power_on(alloc, Limits::of_model(), 64, 1, &[]).expect(rt, "memory for a world");
-    let step = judge(alloc, opening, &line.event, &line.outcome, &line.choice);
-    let state = step.expect(rt, "memory for the judge");
-    state.expect(rt, "a lawful step").devices.as_slice().len()
+    let power_on = KeptState::power_on(alloc, Limits::of_model(), 64, 1, &[]);
+    let mut kept = power_on.expect(rt, "memory for a world");
+    let step = judge(alloc, &mut kept, &line.event, &line.outcome, &line.choice);
+    assert!(rt; step.expect(rt, "memory for the judge"));
+    kept.devices.as_slice().len()
 }
 
 // The judge of one line.

@@ -1,30 +1,46 @@
-use Rattle.std.proofs.Common.{◌∙◌, List, sym, ap}
+use Rattle.std.proofs.Common.{◌∙◌, List, refl, sym, ap}
 use Rattle.std.proofs.lemmas.Bool.{false≢true}
 use Rattle.iom_base.specs.declared.owner.Owner.TheVariants.{OneDevice}
+use Rattle.iom_machine.specs.declared.outcome.Outcome.TheVariants.{Done}
 use Rattle.iom_machine.specs.declared.state.Frame.{Frame}
 use Rattle.iom_machine.specs.Frames.{reserved_for}
-use Rattle.iom_machine.proofs.CallLemmas.{none_if_not_some, attached_as, not_attached_as}
-use Rattle.iom_machine.proofs.HeadlineLemmas.{element_at}
+use Rattle.iom_machine.specs.Machine.{Attaches}
 use Rattle.iom_machine.specs.Refusals.{attach_reasons, MayRefuseAttach}
-use Rattle.iom_machine_judge.proofs.LeftLemmas.{refused_by}
+use Rattle.iom_machine.proofs.CallLemmas.{none_if_not_some, attached_as}
+use Rattle.iom_machine.proofs.HeadlineLemmas.{element_at}
+use Rattle.iom_kept_state.specs.States.{state_of}
+use Rattle.iom_machine_judge.proofs.LeftLemmas.{refused_by, some_applies}
+use Rattle.iom_machine_judge.proofs.NextLemmas.{given_as}
 use Rattle.iom_machine_judge.proofs.calls.judge_attach.Goals as goal
+
+pub returns-then-is_some : goal.returns-then-is_some
+returns-then-is_some c = rw c.in-Done.is (
+  refl,
+  λ h past after step. some_applies c.attach_refusal-first.result (attach_reasons (state_of c.args.kept.now h) c.args.id c.args.ats) c.is_some.result
+      (c.attach_refusal-first.ensures h past) c.is_some.ensures c.if-is_some.true step.0,
+)
 
 pub returns-then-not-are_both_free : goal.returns-then-not-are_both_free
 returns-then-not-are_both_free c = rw c.in-Done.is
-    (not_attached_as c.args.pages.now c.args.taken.now c.args.state.now c.args.id c.args.mode c.args.ats
-    (λ free. false≢true (sym c.if-not-are_both_free.true ∙ c.are_both_free.ensures.1 free)))
+    (refl, λ h past after step. false≢true (sym c.if-not-are_both_free.true ∙ (c.are_both_free.ensures h past).1 step.1))
 
-pub returns-in-Some : goal.returns-in-Some
-returns-in-Some c =
+pub returns-in_ok-reserve-in-Some-2 : goal.returns-in_ok-reserve-in-Some-2
+returns-in_ok-reserve-in-Some-2 c =
     let place = rw c.as_slice.ensures at c.in-Some.ensures in
-    let found = element_at c.args.state.now.devices c.in-Some.place place.0 in
-    rw c.in-Done.is
-    (attached_as c.args.pages.now c.args.taken.now c.args.state.now c.args.id c.args.mode c.args.ats c.in-Some.place found.0 _ _
-    (sym c.attach_refusal-first.ensures ∙ none_if_not_some _ (sym c.is_some.ensures ∙ c.if-is_some.false))
-    (c.are_both_free.ensures.0 c.if-not-are_both_free.false)
-    place found.1 (c.set_attachment.ensures found.0 found.1)
-    (c.reserve-in-Some.ensures ∙ ap (λ (frames : List Frame). reserved_for (OneDevice c.args.id) c.args.taken.now frames) c.reserve.ensures))
+    let found = element_at c.args.kept.now.devices c.in-Some.place place.0 in
+    rw c.in-Done.is (λ h past. (
+      h,
+      past,
+      given_as c.args.kept.now _ h c.args.kept.now.grants.given c.args.kept.now.grants.given _
+          (λ after. Attaches c.args.pages.now c.args.taken.now (state_of c.args.kept.now h) c.args.id c.args.mode c.args.ats Done after) refl
+          (attached_as c.args.pages.now c.args.taken.now (state_of c.args.kept.now h) c.args.id c.args.mode c.args.ats c.in-Some.place found.0 _ _
+          (sym (c.attach_refusal-first.ensures h past) ∙ none_if_not_some _ (sym c.is_some.ensures ∙ c.if-is_some.false))
+          ((c.are_both_free.ensures h past).0 c.if-not-are_both_free.false)
+          place found.1 (c.set_attachment.ensures found.0 found.1)
+          (c.in_ok-reserve-in-Some-2.ensures ∙ ap (λ (frames : List Frame). reserved_for (OneDevice c.args.id) c.args.taken.now frames) c.in_ok-reserve-in-Some.ensures)),
+    ))
 
 pub returns-in-Refused : goal.returns-in-Refused
 returns-in-Refused c = rw c.in-Refused.is
-    (refused_by c.attach_refusal-first.result (attach_reasons c.args.state.now c.args.id c.args.ats) c.may_refuse_attach-may_come.result c.refuses.result (MayRefuseAttach c.args.state.now c.args.mode) c.in-Refused.why c.args.state.now c.attach_refusal-first.ensures c.may_refuse_attach-may_come.ensures c.refuses.ensures)
+    (refused_by c.attach_refusal-first.result (λ before. attach_reasons before c.args.id c.args.ats) c.may_refuse_attach-may_come.result c.refuses.result (λ before why. MayRefuseAttach before c.args.mode why) c.in-Refused.why c.args.kept.now
+    c.attach_refusal-first.ensures c.may_refuse_attach-may_come.ensures c.refuses.ensures)

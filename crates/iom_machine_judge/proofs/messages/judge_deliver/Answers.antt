@@ -8,5 +8,5 @@ pub returns-in-Answered : goal.returns-in-Answered
 returns-in-Answered c =
     rw c.in-Answered.is
     (stays_by c.is_told.result
-    (IsSomeAnd (device_of c.args.state.now c.args.choice.now.device) (λ device. MayTell device.attachment c.args.state.now device.id c.args.choice.now.page c.in-Answered.told))
-    c.args.state.now c.is_told.ensures)
+    (λ before. IsSomeAnd (device_of before c.args.choice.now.device) (λ device. MayTell device.attachment before device.id c.args.choice.now.page c.in-Answered.told)) c.args.kept.now
+    c.is_told.ensures)

@@ -1,3 +1,4 @@
+-- The devices become fewer.
 use Rattle.std.proofs.Common.{length}
 use Rattle.iom_machine_judge.proofs.polls.+all_may.Given as goal
 

@@ -1,3 +1,4 @@
+-- The accesses become fewer.
 use Rattle.std.proofs.Common.{length}
 use Rattle.iom_machine_judge.proofs.polls.+each_may.Given as goal
 

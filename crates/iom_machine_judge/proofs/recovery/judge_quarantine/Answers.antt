@@ -1,20 +1,37 @@
-use Rattle.std.proofs.Common.{◌∙◌, ◌≡◌, ◌+◌, sym, arith}
-use Rattle.iom_machine.proofs.CallLemmas.{none_if_not_some, cut_off_as}
-use Rattle.iom_machine.proofs.HeadlineLemmas.{element_at}
+use Rattle.std.proofs.Common.{◌∷◌, ◌∙◌, refl, sym}
+use Rattle.std.proofs.lemmas.Bool.{false≢true}
+use Rattle.iom_ledger.specs.declared.entry.HistoryEntry.TheVariants.{AllReleased}
+use Rattle.iom_machine.specs.declared.outcome.Outcome.TheVariants.{Ticket}
+use Rattle.iom_machine.specs.Machine.{Quarantines}
 use Rattle.iom_machine.specs.Refusals.{quarantine_reasons, MayFindNoPlace}
+use Rattle.iom_machine.proofs.CallLemmas.{cut_off_as}
+use Rattle.iom_machine.proofs.HeadlineLemmas.{element_at}
+use Rattle.iom_kept_state.specs.Frames.{frames_in}
+use Rattle.iom_kept_state.specs.States.{state_of}
 use Rattle.iom_machine_judge.proofs.LeftLemmas.{refused_by}
+use Rattle.iom_machine_judge.proofs.NextLemmas.{given_as}
 use Rattle.iom_machine_judge.proofs.recovery.judge_quarantine.Goals as goal
 
-pub returns-in_ok-push_front-in-Some : goal.returns-in_ok-push_front-in-Some
-returns-in_ok-push_front-in-Some c =
+pub returns-then-not-may_give : goal.returns-then-not-may_give
+returns-then-not-may_give c = rw c.in-Ticket.is
+    (refl, λ h past after step. false≢true (sym c.if-not-may_give.true ∙ c.may_give.ensures.1 (c.quarantine_refusal-first.ensures h past ∙ step.0, step.1)))
+
+pub returns-in_ok-release_all-in-Some : goal.returns-in_ok-release_all-in-Some
+returns-in_ok-release_all-in-Some c =
     let place = rw c.as_slice.ensures at c.in-Some.ensures in
-    let found = element_at c.args.state.now.devices c.in-Some.place place.0 in
-    let next_one : c.in-Ticket.ticket ≡ c.args.state.now.last_ticket + 1 = omega (arith, c.from.ensures, c.from-else-is_some.ensures, c.if-from.false) in
-    rw c.in-Ticket.is
-    (cut_off_as c.in-Ticket.ticket c.args.state.now c.args.id c.in-Some.place found.0 _ _
-    (sym c.quarantine_refusal-first.ensures ∙ none_if_not_some _ (sym c.is_some.ensures ∙ c.if-is_some.false))
-    next_one place found.1 c.in_ok-push_front-in-Some.ensures.ok (c.cut_off.ensures found.0 found.1))
+    let found = element_at c.args.kept.now.devices c.in-Some.place place.0 in
+    let gives = c.may_give.ensures.0 c.if-not-may_give.false in
+    rw c.in-Ticket.is (λ h past. (
+      AllReleased c.args.id c.in-Ticket.ticket ∷ h,
+      c.in_ok-release_all-in-Some.ensures.past h past,
+      given_as c.args.kept.now (frames_in c.args.kept.now.frames) (AllReleased c.args.id c.in-Ticket.ticket ∷ h) c.in-Ticket.ticket _ _
+          (λ after. Quarantines (state_of c.args.kept.now h) c.args.id (Ticket c.in-Ticket.ticket) after)
+          c.in_ok-release_all-in-Some.ensures.tickets.0
+          (cut_off_as c.in-Ticket.ticket (state_of c.args.kept.now h) c.args.id c.in-Some.place found.0 _ _
+          (sym (c.quarantine_refusal-first.ensures h past) ∙ gives.0) gives.1 place found.1 refl (c.cut_off.ensures found.0 found.1)),
+    ))
 
 pub returns-in-Refused : goal.returns-in-Refused
 returns-in-Refused c = rw c.in-Refused.is
-    (refused_by c.quarantine_refusal-first.result (quarantine_reasons c.args.state.now c.args.id) c.may_find_no_place.result c.refuses.result MayFindNoPlace c.in-Refused.why c.args.state.now c.quarantine_refusal-first.ensures c.may_find_no_place.ensures c.refuses.ensures)
+    (refused_by c.quarantine_refusal-first.result (λ before. quarantine_reasons before c.args.id) c.may_find_no_place.result c.refuses.result (λ before why. MayFindNoPlace why) c.in-Refused.why c.args.kept.now
+    c.quarantine_refusal-first.ensures (λ h past. c.may_find_no_place.ensures) c.refuses.ensures)

@@ -4,7 +4,6 @@ use Rattle.iom_machine.proofs.JudgeLemmas.{HoldsNoneFor-by_right}
 use Rattle.iom_machine_judge.proofs.requests.holds_none.Goals as goal
 
 pub returns-in-Some : goal.returns-in-Some
-returns-in-Some c =
+returns-in-Some c = λ h past.
     let access = c.args.access.now in
-    let by_right = HoldsNoneFor-by_right c.args.history.now c.args.id (page_of access) access.kind c.in-Some.pair (sym c.in-Some.ensures) in
-    rw c.allows.ensures by_right
+    rw c.allows.ensures (HoldsNoneFor-by_right h c.args.id (page_of access) access.kind c.in-Some.pair (sym (c.in-Some.ensures.held h past)))

@@ -1,12 +1,7 @@
-use Rattle.std.proofs.Common.{sym, ◌∙◌}
-use Rattle.iom_base.specs.Accesses.{page_of}
-use Rattle.iom_machine.proofs.JudgeLemmas.{LingersFor-from, LingersFor-test}
 use Rattle.iom_machine_judge.proofs.requests.lingers.Goals as goal
 
 pub returns : goal.returns
-returns c =
-    let access = c.args.access.now in
-    let same = rw c.from.ensures at c.lingers_in.ensures in (
-      (λ yes. LingersFor-from c.args.history.now c.args.id (page_of access) access.kind c.args.frame (sym same ∙ yes)),
-      (λ waits. same ∙ LingersFor-test c.args.history.now c.args.id (page_of access) access.kind c.args.frame waits),
-    )
+returns c = λ h past. (
+  (λ yes. let found = c.serves.ensures.0 yes in (found.0, (c.lingering-found.ensures.lingers h past (c.args.frame, found.0)).0 found.1, found.2)),
+  (λ waits. c.serves.ensures.1 (waits.0, (c.lingering-found.ensures.lingers h past (c.args.frame, waits.0)).1 waits.1, waits.2)),
+)

@@ -1,0 +1,9 @@
+mod ActLemmas
+mod ByteLemmas
+mod FrameLists
+mod FreeLemmas
+mod LeavingLemmas
+mod LookLemmas
+mod NamedLemmas
+mod PastLemmas
+mod ReachLemmas

@@ -1,0 +1,4 @@
+pub mod Grants
+pub mod Wanted
+pub mod Frames
+pub mod States

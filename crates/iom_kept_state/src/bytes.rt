@@ -1,0 +1,110 @@
+// Bytes of a frame, looked at and replaced.
+ghost use Rattle.std.specs.Prelude.{◌≡◌, ◌<◌, ◌≤◌, ◌+◌, ◌^◌, ◌↔◌, IfOk, OnOk, IsTrue, EachIndex, take, drop, length, replicate, slice_index, slice_range};
+ghost use Rattle.iom_base.specs.Bytes.{with_bytes};
+ghost use Rattle.iom_base.specs.Sizes.{page_size};
+
+use iom_base::{FRAME_SIZE, Sequence};
+use std::alloc::{AllocError, Global};
+
+/// The bytes of a frame of zeros.
+pub(crate) fn zeros(alloc: Global) -> Result<Sequence<u8>, AllocError>
+    ensures { IfOk result (λ bytes. bytes ≡ replicate page_size 0) }
+{
+    Ok(Sequence::from_vec(vec![in alloc; 0u8; FRAME_SIZE]?))
+}
+
+/// The first so many of the bytes, or all.
+fn first_bytes(bytes: &[u8], count: u64) -> &[u8]
+    ensures { result.now ≡ take count bytes.now }
+{
+    if count < bytes.len() as u64 {
+        &bytes[..count as usize]
+    } else {
+        bytes
+    }
+}
+
+/// The bytes without the first so many.
+fn later_bytes(bytes: &[u8], count: u64) -> &[u8]
+    ensures { result.now ≡ drop count bytes.now }
+{
+    if count < bytes.len() as u64 {
+        &bytes[count as usize..]
+    } else {
+        &[]
+    }
+}
+
+fn are_same(bytes: &[u8], other: &[u8]) -> bool
+    ensures { IsTrue result ↔ (bytes.now ≡ other.now) }
+{
+    bytes == other
+}
+
+/// Whether these are the bytes in all of these from the offset on, so many or all that there are.
+pub(crate) fn stand_in(all: &[u8], offset: u64, len: u64, bytes: &[u8]) -> bool
+    ensures { IsTrue result ↔ (bytes.now ≡ slice_range all.now offset (offset + len)) }
+{
+    are_same(bytes, first_bytes(later_bytes(all, offset), len))
+}
+
+/// Whether so many bytes from the offset on end within so many.
+fn ends_within(offset: u64, len: usize, limit: usize) -> bool
+    ensures { IsTrue result ↔ (offset + len ≤ limit) }
+{
+    len <= limit && offset <= (limit - len) as u64
+}
+
+/// A frame of zeros.
+static ZEROS: [u8; FRAME_SIZE] = [0; FRAME_SIZE];
+
+/// The bytes of a frame of zeros, lent.
+pub(crate) fn zeros_lent() -> &'static [u8]
+    ensures { result.now ≡ replicate page_size 0 }
+{
+    &ZEROS
+}
+
+/// The bytes, where those from the offset on are replaced.
+fn with_bytes(
+    alloc: Global,
+    bytes: &[u8],
+    offset: u64,
+    replacement: &[u8],
+) -> Result<Sequence<u8>, AllocError>
+    ensures { IfOk result (λ new. new ≡ with_bytes bytes.now offset replacement.now) }
+{
+    let mut items = Vec::new(alloc);
+    items.extend_from_slice(first_bytes(bytes, offset))?;
+    items.extend_from_slice(replacement)?;
+    items.extend_from_slice(later_bytes(later_bytes(bytes, offset), replacement.len() as u64))?;
+    Ok(Sequence::from_vec(items))
+}
+
+/// The bytes stand in all of these, from the offset on, where they fit there.
+fn put_within(all: &mut Sequence<u8>, offset: usize, bytes: &[u8])
+    requires fit { offset + length bytes.now ≤ length all.old }
+    requires small { offset + length bytes.now < 2 ^ 64 }
+    ensures { all.new ≡ with_bytes all.old offset bytes.now }
+{
+    for index in 0..bytes.len() {
+        *all.item_mut(offset + index) = bytes[index];
+    }
+}
+
+/// Those from the offset on are replaced by the bytes: in place, where they fit there.
+pub(crate) fn put(
+    alloc: Global,
+    all: &mut Sequence<u8>,
+    offset: u64,
+    bytes: &[u8],
+) -> Result<(), AllocError>
+    ensures { OnOk result (all.new ≡ with_bytes all.old offset bytes.now) }
+{
+    if ends_within(offset, bytes.len(), all.as_slice().len()) {
+        put_within(all, offset as usize, bytes);
+    } else {
+        *all = with_bytes(alloc, all.as_slice(), offset, bytes)?;
+    }
+    Ok(())
+}

@@ -1,0 +1,53 @@
+//! The state of the ledger machine as it is kept.
+
+use crate::frames::KeptFrames;
+use crate::grants::KeptGrants;
+use iom_base::Sequence;
+use iom_machine::{Device, Limits};
+use std::alloc::{AllocError, Global};
+
+/// A state without its history, in whose place the grants are kept.
+#[derive(Drop)]
+pub struct KeptState {
+    pub limits: Limits,
+    /// How many levels the device directory has, from 1 to 3.
+    pub levels: u8,
+    pub frames: KeptFrames,
+    pub grants: KeptGrants,
+    /// In the order of plugging.
+    pub devices: Sequence<Device>,
+    /// The numbers of the disks that were never put into a device.
+    pub disks: Sequence<u64>,
+}
+
+impl KeptState {
+    ghost use Rattle.std.specs.Prelude.{◌≡◌, ◌≤◌, [], IfOk};
+    ghost use Rattle.iom_machine.specs.PowerOn.{opening};
+    ghost use Rattle.iom_kept_state.specs.Grants.{IsPastOf};
+    ghost use Rattle.iom_kept_state.specs.States.{state_of};
+
+    /// The state at power-on, with these limits, so many frames and levels of the device directory, and disks of these
+    /// numbers.
+    pub fn power_on(
+        alloc: Global,
+        limits: Limits,
+        frames: u32,
+        levels: u8,
+        disks: &[u64],
+    ) -> Result<KeptState, AllocError>
+        requires { 4 ≤ frames }
+        ensures past { IfOk result (λ kept. IsPastOf kept.grants []) }
+        ensures state { IfOk result (λ kept. state_of kept [] ≡ opening limits frames levels disks.now) }
+    {
+        let mut numbers = Vec::new(alloc);
+        numbers.extend_from_slice(disks)?;
+        Ok(KeptState {
+            limits,
+            levels,
+            frames: KeptFrames::at_power_on(alloc, frames)?,
+            grants: KeptGrants::new(alloc)?,
+            devices: Sequence::new(alloc),
+            disks: Sequence::from_vec(numbers),
+        })
+    }
+}

@@ -1,0 +1,71 @@
+//! Whether a frame is reached, in a ledger that names it by its place.
+ghost use Rattle.std.specs.Prelude.{◌≡◌};
+ghost use Rattle.iom_kept_state.specs.Grants.{is_up_to};
+
+use iom_base::{AccessKind, DeviceId};
+use iom_ledger::{Ledger, Reach};
+
+/// Whether the ticket is one of those up to the last.
+pub(crate) fn is_up_to(last: u32, ticket: u32) -> bool
+    ensures { result ≡ is_up_to last ticket }
+{
+    0 < ticket && ticket <= last
+}
+
+/// What is looked for: a way by which the device reaches the frame at this place, with a right that allows the kind.
+#[derive(Clone, Copy)]
+pub(crate) struct Wanted {
+    pub device: DeviceId,
+    pub place: u32,
+    pub kind: AccessKind,
+    /// What was released counts, but under a ticket up to this one.
+    pub last: u32,
+    /// Whether what is held counts.
+    pub held: bool,
+}
+
+impl Wanted {
+    ghost use Rattle.std.specs.Prelude.{◌≡◌, ◌↔◌, true, IsTrue};
+    ghost use Rattle.iom_kept_state.specs.Wanted.{IsReach, IsReached};
+
+    /// Whether this reach is one.
+    fn is(&self, reach: &Reach) -> bool
+        ensures { IsTrue result ↔ IsReach self.now reach.now }
+    {
+        if !reach.rights.allows(self.kind) {
+            return false;
+        }
+        match reach.ticket {
+            None => self.held,
+            Some(ticket) => !is_up_to(self.last, ticket),
+        }
+    }
+
+    /// Whether there is one at this page, where it holds something.
+    pub(crate) fn is_held_at(&self, ledger: &Ledger, page: u64) -> bool
+        requires { self.now.held ≡ true }
+        ensures { IsTrue result → IsReached self.now ledger.now }
+    {
+        match ledger.holds(self.device, page) {
+            None => false,
+            Some((place, rights)) => place == self.place && rights.allows(self.kind),
+        }
+    }
+
+    /// Whether there is one.
+    pub(crate) fn is_anywhere(&self, ledger: &Ledger) -> bool
+        ensures { IsTrue result ↔ IsReached self.now ledger.now }
+    {
+        let mut from = 0;
+        for _index in 0..ledger.page_count(self.device) {
+            let Some(reach) = ledger.reach_from(self.device, self.place, from) else {
+                return false;
+            };
+            if self.is(&reach) {
+                return true;
+            }
+            from = reach.index + 1;
+        }
+        false
+    }
+}

@@ -1,0 +1,29 @@
+-- What is kept where a step may come that leaves another state, and where it may not.
+use Rattle.std.proofs.Common.{◌≡◌, ◌<◌, ◌∙◌, ℕ, true, false, List, Some, length, get_or, slice_get, refl, sym, subst}
+use Rattle.std.proofs.lemmas.Option.{slice_get_read}
+use Rattle.iom_kept_state.specs.declared.state.KeptState.{KeptState}
+use Rattle.iom_kept_state.specs.Grants.{IsPastOf}
+use Rattle.iom_kept_state.specs.States.{state_of, Decides, DecidesStaying}
+use Rattle.iom_ledger.specs.History.{History}
+use Rattle.iom_machine.specs.declared.state.Device.{Device}
+use Rattle.iom_machine.specs.declared.state.State.{State}
+
+-- it may come, and leaves this state
+pub comes : (old new : KeptState) (IsFact : State → Type 0) (final : State → State) → new.grants ≡ old.grants
+    → ((h : History) → IsPastOf old.grants h → IsFact (state_of old h))
+    → ((h : History) → IsPastOf old.grants h → state_of new h ≡ final (state_of old h))
+    → Decides true old new (λ before after. IsFact before × (after ≡ final before))
+comes old new IsFact final same fact is = λ h past. (
+  h,
+  subst (λ g. IsPastOf g h) (sym same) past,
+  (λ after. ((λ e. (fact h past, e ∙ is h past)), (λ both. both.1 ∙ sym (is h past)))),
+)
+
+-- it may not come
+pub never_comes : (kept : KeptState) (IsFact : State → Type 0) (final : State → State) → ((h : History) → IsPastOf kept.grants h → ¬ IsFact (state_of kept h))
+    → DecidesStaying false kept (λ before after. IsFact before × (after ≡ final before))
+never_comes kept IsFact final never = (refl, (λ h past after both. never h past both.0))
+
+-- the device that is read at the place of an id is the one with the id
+pub read_there : (devices : List Device) (place : ℕ) (read : Device) → place < length devices → read ≡ get_or devices place read → slice_get devices place ≡ Some read
+read_there devices place read below is = slice_get_read devices _ place read refl below is

@@ -1,0 +1,33 @@
+use Rattle.std.proofs.Common.{◌∙◌, ◌/◌, List, length, false, refl, sym, ap}
+use Rattle.iom_base.specs.Spans.{FitsInPage}
+use Rattle.iom_base.specs.Refusals.{IsRefusedBy}
+use Rattle.iom_machine.specs.declared.state.Frame.{Frame}
+use Rattle.iom_machine.specs.declared.state.State.{State}
+use Rattle.iom_machine.specs.Refusals.{NeverElse, poke_reasons}
+use Rattle.iom_machine.proofs.CallLemmas.{none_if_not_some}
+use Rattle.iom_kept_state.specs.States.{state_of}
+use Rattle.iom_machine_judge.proofs.LeftLemmas.{refused_by, some_applies, with_fact, never_so}
+use Rattle.iom_machine_judge.proofs.NextLemmas.{next_state}
+use Rattle.iom_machine_judge.proofs.processor.judge_poke.Goals as goal
+
+pub returns-then-is_some : goal.returns-then-is_some
+returns-then-is_some c = rw c.in-Done.is (
+  refl,
+  λ h past after step. some_applies c.poke_refusal-first.result (poke_reasons (state_of c.args.kept.now h) (c.args.address / 4096)) c.is_some.result
+      (c.poke_refusal-first.ensures h) c.is_some.ensures c.if-is_some.true step.1,
+)
+
+pub returns-else-not-fits : goal.returns-else-not-fits
+returns-else-not-fits c = rw c.in-Refused.is
+    (with_fact (FitsInPage c.args.address (length c.args.bytes.now)) (λ (before : State). IsRefusedBy (poke_reasons before (c.args.address / 4096)) NeverElse c.in-Refused.why) c.refuses.result c.args.kept.now
+    (c.is_within_page-fits.ensures.0 c.if-not-fits.false)
+    (refused_by c.poke_refusal-first.result (λ before. poke_reasons before (c.args.address / 4096)) false c.refuses.result (λ before why. NeverElse why) c.in-Refused.why c.args.kept.now
+    (λ h past. c.poke_refusal-first.ensures h) (λ h past. never_so c.in-Refused.why) c.refuses.ensures))
+
+pub returns-in_ok-store-in-Done : goal.returns-in_ok-store-in-Done
+returns-in_ok-store-in-Done c =
+    let fits = c.is_within_page-fits.ensures.0 c.if-not-fits-2.false in
+    rw c.in-Done.is (λ h past.
+    let none = sym (c.poke_refusal-first.ensures h) ∙ none_if_not_some _ (sym c.is_some.ensures ∙ c.if-is_some.false) in
+    let is = ap (λ (frames : List Frame). next_state c.args.kept.now frames h c.args.kept.now.grants.given c.args.kept.now.devices) c.in_ok-store-in-Done.ensures in
+    (h, past, λ after. ((λ same. (fits, none, same ∙ is)), (λ step. step.2 ∙ sym is))))

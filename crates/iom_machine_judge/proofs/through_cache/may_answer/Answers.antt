@@ -1,0 +1,4 @@
+use Rattle.iom_machine_judge.proofs.through_cache.may_answer.Goals as goal
+
+pub returns-in-Fault : goal.returns-in-Fault
+returns-in-Fault c = rw c.in-Fault.is (λ h past. c.finds_no_context.ensures h)
