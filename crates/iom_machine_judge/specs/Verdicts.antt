@@ -1,7 +1,7 @@
 -- What the judge finds of a list of lines.
-use Rattle.std.specs.Prelude.{◌≡◌, ◌↔◌, ◌<◌, ℕ, zero, suc, List, [], ◌∷◌, Option, None, Some, map}
+use Rattle.std.specs.Prelude.{◌≡◌, ◌↔◌, ℕ, zero, suc, List, [], ◌∷◌, Option, None, Some, map, take}
 use Rattle.iom_kept_state.specs.Grants.{IsPastOf}
-use Rattle.iom_kept_state.specs.States.{state_of}
+use Rattle.iom_kept_state.specs.States.{state_of, Leaves}
 use Rattle.iom_kept_state.specs.declared.state.KeptState.{KeptState}
 use Rattle.iom_ledger.specs.History.{History}
 use Rattle.iom_machine.specs.declared.event.Event.{Event}
@@ -25,12 +25,17 @@ FirstUnlawfulAt k old [] = ⊥
 FirstUnlawfulAt zero old (line ∷ lines) = (new : State) → ¬ LineStep old line new
 FirstUnlawfulAt (suc k) old (line ∷ lines) = (mid : State) × LineStep old line mid × FirstUnlawfulAt k mid lines
 
--- WHAT IS FOUND is true of each past: the lines may come, and the state that is kept is the only one that they leave; or this is the first that may not
+-- the lines before the one with this number; all, where there is none
+abbrev pub lines_before : Option ℕ → List Line → List Line
+lines_before None lines = lines
+lines_before (Some k) lines = take k lines
+
+-- WHAT IS FOUND is the number of the first line that may not come, if there is one, whatever the past. The lines before it may come, or all of them, and
+-- the state that is kept is the only one that they leave.
 abbrev pub IsFoundOf : Option ℕ → KeptState → KeptState → List Line → Type 0
-IsFoundOf None old new lines =
-    (history : History) → IsPastOf old.grants history
-    → (now : History) × IsPastOf new.grants now × ((after : State) → (after ≡ state_of new now) ↔ LinesRun (state_of old history) lines after)
-IsFoundOf (Some k) old new lines = (history : History) → IsPastOf old.grants history → FirstUnlawfulAt k (state_of old history) lines
+IsFoundOf found old new lines =
+    Leaves old new (λ before after. LinesRun before (lines_before found lines) after)
+    × ((history : History) → IsPastOf old.grants history → (k : ℕ) → (found ≡ Some k) ↔ FirstUnlawfulAt k (state_of old history) lines)
 
 -- Each run is one of some lines, with those events and outcomes.
 abbrev pub RunsAreChosen : Type 0

@@ -147,8 +147,8 @@ pub fn judge(
     }
 }
 
-/// Whether the lines are a run from the state that is kept: then the state that it leaves is kept. Else the first line, counted
-/// from 0, that may not come; what is kept is then the state before it.
+/// The number of the first line, counted from 0, that may not come, if there is one. Those before it may come one after another, or
+/// all of them, and the state that they leave is then kept.
 pub fn judge_run(
     alloc: Global,
     kept: &mut KeptState,
