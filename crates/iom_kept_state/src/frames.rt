@@ -1,6 +1,4 @@
 //! Frames as they are kept.
-ghost use Rattle.std.specs.Prelude.{◌≤◌, ◌^◌};
-
 use crate::bytes::{put, stand_in, zeros, zeros_lent};
 use indexmap::IndexMap;
 use iom_base::{Owner, Sequence};
@@ -67,8 +65,7 @@ pub struct KeptFrames {
     /// How many there are.
     pub(crate) count: u64,
     /// Those of which something is kept.
-    pub(crate) named: IndexMap<u32, KeptFrame>,
-    ghost small: { count ≤ 2 ^ 32 },
+    pub(crate) named: IndexMap<u64, KeptFrame>,
 }
 
 impl KeptFrames {
@@ -81,12 +78,12 @@ impl KeptFrames {
     ghost use Rattle.iom_kept_state.specs.Frames.{frames_in, kept_at, ChangesFrame};
 
     /// So many frames of zeros, of which the last four are the system's.
-    pub fn at_power_on(alloc: Global, count: u32) -> Result<KeptFrames, AllocError>
+    pub fn at_power_on(alloc: Global, count: u64) -> Result<KeptFrames, AllocError>
         requires { 4 ≤ count }
         ensures { IfOk result (λ frames. frames_in frames ≡ reserved_for System ((count - 4) ∷ (count - 3) ∷ (count - 2) ∷ (count - 1) ∷ []) (replicate count empty_frame)) }
     {
         let mut frames = KeptFrames {
-            count: u64::from(count),
+            count,
             named: IndexMap::new(alloc),
         };
         frames.reserve(&[count - 4, count - 3, count - 2, count - 1], Owner::System)?;
@@ -95,8 +92,7 @@ impl KeptFrames {
 
     /// How many frames there are.
     pub fn count(&self) -> u64
-        ensures count { result ≡ length (frames_in self.now) }
-        ensures small { result ≤ 2 ^ 32 }
+        ensures { result ≡ length (frames_in self.now) }
     {
         self.count
     }
@@ -125,8 +121,7 @@ impl KeptFrames {
         if number >= self.count {
             return None;
         }
-        let name = number as u32;
-        self.named.get(&name)
+        self.named.get(&number)
     }
 
     /// The bytes of the frame; none, where there is no such frame.
@@ -150,7 +145,7 @@ impl KeptFrames {
     }
 
     /// The frame belongs to the owner.
-    fn own(&mut self, number: u32, owner: Owner) -> Result<(), AllocError>
+    fn own(&mut self, number: u64, owner: Owner) -> Result<(), AllocError>
         ensures { OnOk result (ChangesFrame self.old self.new number (λ frame. record frame { owner = Some owner })) }
     {
         let alloc = *self.named.allocator();
@@ -160,17 +155,17 @@ impl KeptFrames {
     }
 
     /// The frame belongs to the owner, where there is such a frame.
-    fn reserve_one(&mut self, number: u32, owner: Owner) -> Result<(), AllocError>
+    fn reserve_one(&mut self, number: u64, owner: Owner) -> Result<(), AllocError>
         ensures { OnOk result (frames_in self.new ≡ with_frame (frames_in self.old) number (λ frame. record frame { owner = Some owner })) }
     {
-        if u64::from(number) < self.count {
+        if number < self.count {
             self.own(number, owner)?;
         }
         Ok(())
     }
 
     /// The frames belong to the owner, where there are such frames.
-    pub fn reserve(&mut self, taken: &[u32], owner: Owner) -> Result<(), AllocError>
+    pub fn reserve(&mut self, taken: &[u64], owner: Owner) -> Result<(), AllocError>
         ensures { OnOk result (frames_in self.new ≡ reserved_for owner taken.now (frames_in self.old)) }
     {
         for number in taken {
@@ -180,7 +175,7 @@ impl KeptFrames {
     }
 
     /// The bytes stand in the frame from the offset on.
-    fn store_in(&mut self, number: u32, offset: u64, bytes: &[u8]) -> Result<(), AllocError>
+    fn store_in(&mut self, number: u64, offset: u64, bytes: &[u8]) -> Result<(), AllocError>
         ensures { OnOk result (ChangesFrame self.old self.new number (λ frame. record frame { bytes = with_bytes frame.bytes offset bytes.now })) }
     {
         let alloc = *self.named.allocator();
@@ -193,7 +188,7 @@ impl KeptFrames {
         ensures { OnOk result (frames_in self.new ≡ stored (frames_in self.old) number offset bytes.now) }
     {
         if number < self.count {
-            self.store_in(number as u32, offset, bytes)?;
+            self.store_in(number, offset, bytes)?;
         }
         Ok(())
     }

@@ -15,7 +15,7 @@ impl KeptState {
         if number >= self.frames.count() || self.frames.is_reserved(number) {
             return false;
         }
-        self.grants.is_out_of_reach(number as u32)
+        self.grants.is_out_of_reach(number)
     }
 
     /// Whether the frame is free, and isn't the one that is named, if one is.
@@ -29,11 +29,11 @@ impl KeptState {
     }
 
     /// Whether each of the frames is free, and none is the one that is named, if one is.
-    pub fn are_free_besides(&self, named: Option<u64>, taken: &[u32]) -> bool
+    pub fn are_free_besides(&self, named: Option<u64>, taken: &[u64]) -> bool
         ensures { (h : History) → IsPastOf self.now.grants h → IsTrue result ↔ All (IsFreeBesides (state_of self.now h) named) taken.now }
     {
         for number in taken {
-            if !self.is_free_besides(named, u64::from(*number)) {
+            if !self.is_free_besides(named, *number) {
                 return false;
             }
         }

@@ -10,7 +10,7 @@ use std::alloc::{AllocError, Global};
 #[derive(Drop)]
 pub struct KeptGrants {
     /// The frames that were ever granted, in the order of their first grants. The ledger names each by its place here.
-    pub(crate) names: IndexSet<u32>,
+    pub(crate) names: IndexSet<u64>,
     pub(crate) ledger: Ledger,
     /// The last ticket that was given; they count from 1.
     pub given: u32,
@@ -45,7 +45,7 @@ impl KeptGrants {
         &mut self,
         device: DeviceId,
         page: u64,
-        frame: u32,
+        frame: u64,
         rights: Rights,
     ) -> Result<(), AllocError>
         requires not_held { held_by self.old device page ≡ None }

@@ -89,7 +89,7 @@ fn give_back(frames: &mut KeptFrames, grants: &KeptGrants, devices: &[Device])
         return;
     }
     frames.named.retain(
-        |_number: &u32, frame: &mut KeptFrame| -> bool
+        |_number: &u64, frame: &mut KeptFrame| -> bool
             ensures stays { frame.new ≡ frame.old }
             ensures keeps { (grants.exit ≡ grants.entry) × (devices.exit ≡ devices.entry) }
             ensures test { (h : History) → IsPastOf grants.entry.now h → result ≡ not (is_of_left_in h devices.entry.now frame.old.owner) }

@@ -11,7 +11,7 @@ impl KeptGrants {
     ghost use Rattle.iom_kept_state.specs.Grants.{IsPastOf, frame_at_place, held_by, lingering_by, pages_by};
 
     /// The frame at a place; 0 where there is no such place.
-    fn frame_at(&self, place: u32) -> u32
+    fn frame_at(&self, place: u32) -> u64
         ensures { result ≡ frame_at_place self.now.names.keys place }
     {
         match self.names.get_index(place as usize) {
@@ -21,7 +21,7 @@ impl KeptGrants {
     }
 
     /// What the device holds at the page.
-    pub fn held(&self, device: DeviceId, page: u64) -> Option<(u32, Rights)>
+    pub fn held(&self, device: DeviceId, page: u64) -> Option<(u64, Rights)>
         ensures shown { result ≡ held_by self.now device page }
         ensures held { (h : History) → IsPastOf self.now h → result ≡ held_at h device page }
     {
@@ -32,7 +32,7 @@ impl KeptGrants {
     }
 
     /// What lingers at the page: the device released it, under a ticket that isn't confirmed.
-    pub fn lingering(&self, device: DeviceId, page: u64) -> Option<(u32, Rights)>
+    pub fn lingering(&self, device: DeviceId, page: u64) -> Option<(u64, Rights)>
         ensures shown { result ≡ lingering_by self.now device page }
         ensures lingers { (h : History) → IsPastOf self.now h → (pair : Pair) → (result ≡ Some pair) ↔ Lingers h device page pair }
         ensures none { (h : History) → IsPastOf self.now h → IsNone result ↔ (lingering_at h device page ≡ []) }
@@ -86,7 +86,7 @@ impl KeptGrants {
         &self,
         device: DeviceId,
         page: u64,
-        frame: u32,
+        frame: u64,
         kind: AccessKind,
         last: u32,
     ) -> bool
@@ -109,14 +109,14 @@ impl KeptGrants {
 
     /// Whether the device may reach the frame by an access of this kind. It is looked for at this page first, so that the others
     /// needn't be.
-    pub fn may(&self, device: DeviceId, page: u64, frame: u32, kind: AccessKind) -> bool
+    pub fn may(&self, device: DeviceId, page: u64, frame: u64, kind: AccessKind) -> bool
         ensures { (h : History) → IsPastOf self.now h → IsTrue result ↔ May h device frame kind }
     {
         self.may_once(device, page, frame, kind, self.confirmed)
     }
 
     /// Whether the frame lingers at some page of the device, with a right that allows the kind.
-    pub fn lingers_somewhere(&self, device: DeviceId, frame: u32, kind: AccessKind) -> bool
+    pub fn lingers_somewhere(&self, device: DeviceId, frame: u64, kind: AccessKind) -> bool
         ensures { (h : History) → IsPastOf self.now h → IsTrue result ↔ LingersSomewhere h device frame kind }
     {
         let Some(place) = self.names.get_index_of(&frame) else {
@@ -133,7 +133,7 @@ impl KeptGrants {
     }
 
     /// Whether no device may reach the frame.
-    pub fn is_out_of_reach(&self, frame: u32) -> bool
+    pub fn is_out_of_reach(&self, frame: u64) -> bool
         ensures { (h : History) → IsPastOf self.now h → IsTrue result ↔ NoneMayReach h frame }
     {
         match self.names.get_index_of(&frame) {

@@ -31,7 +31,7 @@ impl KeptState {
     pub fn power_on(
         alloc: Global,
         limits: Limits,
-        frames: u32,
+        frames: u64,
         levels: u8,
         disks: &[u64],
     ) -> Result<KeptState, AllocError>

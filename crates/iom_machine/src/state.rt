@@ -82,11 +82,14 @@ pub struct Limits {
     pub in_flight: u64,
     /// The most devices plugged in.
     pub devices: u64,
+    /// The pages that may be granted to a device are below this; `None`: as many as the mode translates in which it is attached.
+    pub pages: Option<u64>,
 }
 
 impl Limits {
     ghost use Rattle.std.specs.Prelude.{◌≡◌};
     ghost use Rattle.iom_machine.specs.PowerOn.{model_limits};
+    ghost use Rattle.iom_machine.specs.Refusals.{page_limit_under};
 
     /// What the model's driver, its devices and its IOMMU have room for.
     pub fn of_model() -> Limits
@@ -96,6 +99,17 @@ impl Limits {
             pending: MAX_PENDING as u64,
             in_flight: MAX_IN_FLIGHT as u64,
             devices: MAX_DEVICES as u64,
+            pages: None,
+        }
+    }
+
+    /// The pages that may be granted to a device that is attached so are below this.
+    pub fn page_limit(self, attachment: Attachment) -> u64
+        ensures { result ≡ page_limit_under self attachment }
+    {
+        match self.pages {
+            None => attachment.page_limit(),
+            Some(pages) => pages,
         }
     }
 }

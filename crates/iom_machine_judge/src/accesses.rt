@@ -44,7 +44,7 @@ pub(crate) fn decide_untranslated(
     kept: &mut KeptState,
     event: &Event,
     outcome: &Outcome,
-    frame: u32,
+    frame: u64,
 ) -> Result<bool, AllocError>
     ensures { IfOk result (λ may. Decides may kept.old kept.new (λ before after. UntranslatedStep frame before event.now outcome.now after)) }
 {
@@ -105,7 +105,7 @@ pub(crate) fn decide_through_cache(
     kept: &mut KeptState,
     event: &Event,
     outcome: &Outcome,
-    frame: u32,
+    frame: u64,
 ) -> Result<bool, AllocError>
     ensures { IfOk result (λ may. Decides may kept.old kept.new (λ before after. CachedStep frame before event.now outcome.now after)) }
 {

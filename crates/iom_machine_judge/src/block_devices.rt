@@ -250,7 +250,7 @@ fn begin(
     kept: &mut KeptState,
     place: usize,
     access: &Access,
-    frame: u32,
+    frame: u64,
     outcome: &Outcome,
 ) -> Result<bool, AllocError>
     requires { place < length kept.old.devices }

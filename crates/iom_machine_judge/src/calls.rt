@@ -98,7 +98,7 @@ pub(crate) fn judge_plug(
 }
 
 /// Whether each of these frames and of those is free.
-fn are_both_free(kept: &KeptState, pages: &[u32], taken: &[u32]) -> bool
+fn are_both_free(kept: &KeptState, pages: &[u64], taken: &[u64]) -> bool
     ensures { (h : History) → IsPastOf kept.now.grants h → IsTrue result ↔ All (IsFree (state_of kept.now h)) (pages.now ++ taken.now) }
 {
     if !kept.are_free_besides(None, pages) {
@@ -115,8 +115,8 @@ pub(crate) fn judge_attach(
     mode: Mode,
     ats: bool,
     outcome: &Outcome,
-    pages: &[u32],
-    taken: &[u32],
+    pages: &[u64],
+    taken: &[u64],
 ) -> Result<bool, AllocError>
     ensures { IfOk result (λ may. Decides may kept.old kept.new (λ before after. Attaches pages.now taken.now before id mode ats outcome.now after)) }
 {
@@ -179,7 +179,7 @@ pub(crate) fn judge_grant(
     frame: u64,
     rights: GrantRights,
     outcome: &Outcome,
-    taken: &[u32],
+    taken: &[u64],
 ) -> Result<bool, AllocError>
     ensures { IfOk result (λ may. Decides may kept.old kept.new (λ before after. Grants taken.now before id page frame rights outcome.now after)) }
 {
@@ -192,7 +192,7 @@ pub(crate) fn judge_grant(
             if !kept.are_free_besides(Some(frame), taken) {
                 return Ok(false);
             }
-            kept.grants.grant(id, page, frame as u32, rights.rights())?;
+            kept.grants.grant(id, page, frame, rights.rights())?;
             kept.frames.reserve(taken, Owner::OneDevice(id))?;
             Ok(true)
         }

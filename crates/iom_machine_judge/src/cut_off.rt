@@ -45,7 +45,7 @@ fn accepts_formerly(
     grants: &KeptGrants,
     id: DeviceId,
     access: &Access,
-    frame: u32,
+    frame: u64,
 ) -> bool
     ensures { (h : History) → IsPastOf grants.now h → IsTrue result ↔ MayAcceptFormerly mode h id access.now frame }
 {
@@ -63,7 +63,7 @@ pub(crate) fn accepts_cut_off(
     grants: &KeptGrants,
     id: DeviceId,
     access: &Access,
-    frame: u32,
+    frame: u64,
 ) -> bool
     ensures { (h : History) → IsPastOf grants.now h → IsTrue result ↔ MayAcceptCutOff ticket mode h id access.now frame }
 {

@@ -42,7 +42,7 @@ pub(crate) fn accept(
     place: usize,
     number: u64,
     access: Access,
-    frame: u32,
+    frame: u64,
 ) -> Result<(), AllocError>
     requires { place < length devices.old }
     ensures { OnOk result ((device : Device) → slice_get devices.old place ≡ Some device

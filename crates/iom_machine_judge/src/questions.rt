@@ -27,7 +27,7 @@ fn is_refused_with(told: Translation, cause: Cause) -> bool
 }
 
 /// Whether the pair is the one of this frame and these rights.
-fn is_pair(pair: (u32, Rights), frame: u32, rights: Rights) -> bool
+fn is_pair(pair: (u32, Rights), frame: u64, rights: Rights) -> bool
     ensures { IsTrue result ↔ (pair ≡ (frame, rights)) }
 {
     pair.0 == frame && pair.1 == rights
@@ -44,7 +44,7 @@ fn holds_nothing(grants: &KeptGrants, id: DeviceId, page: u64) -> bool
 }
 
 /// Whether the frame lingers at the page, with these rights.
-fn pair_lingers(grants: &KeptGrants, id: DeviceId, page: u64, frame: u32, rights: Rights) -> bool
+fn pair_lingers(grants: &KeptGrants, id: DeviceId, page: u64, frame: u64, rights: Rights) -> bool
     ensures { (h : History) → IsPastOf grants.now h → IsTrue result ↔ Lingers h id page (frame, rights) }
 {
     match grants.lingering(id, page) {
@@ -54,7 +54,7 @@ fn pair_lingers(grants: &KeptGrants, id: DeviceId, page: u64, frame: u32, rights
 }
 
 /// Whether the frame may be shown in one stage, with these rights.
-fn may_show(grants: &KeptGrants, id: DeviceId, page: u64, frame: u32, rights: Rights) -> bool
+fn may_show(grants: &KeptGrants, id: DeviceId, page: u64, frame: u64, rights: Rights) -> bool
     ensures { (h : History) → IsPastOf grants.now h → IsTrue result ↔ MayShow h id page (frame, rights) }
 {
     match grants.held(id, page) {
@@ -90,7 +90,7 @@ fn tells_in_one_stage(
 }
 
 /// Whether the device may reach the frame by each kind of access that the rights allow.
-fn may_each(grants: &KeptGrants, id: DeviceId, page: u64, frame: u32, rights: Rights) -> bool
+fn may_each(grants: &KeptGrants, id: DeviceId, page: u64, frame: u64, rights: Rights) -> bool
     ensures { (h : History) → IsPastOf grants.now h → IsTrue result ↔ IsForEachKind rights (May h id frame) }
 {
     if !rights.allows(AccessKind::Read) {
@@ -106,7 +106,7 @@ fn may_each(grants: &KeptGrants, id: DeviceId, page: u64, frame: u32, rights: Ri
 }
 
 /// Whether the frame lingers somewhere for each kind of access that the rights allow.
-fn lingers_each(grants: &KeptGrants, id: DeviceId, frame: u32, rights: Rights) -> bool
+fn lingers_each(grants: &KeptGrants, id: DeviceId, frame: u64, rights: Rights) -> bool
     ensures { (h : History) → IsPastOf grants.now h → IsTrue result ↔ IsForEachKind rights (LingersSomewhere h id frame) }
 {
     if !rights.allows(AccessKind::Read) {
@@ -137,7 +137,7 @@ fn shows_formerly(
     grants: &KeptGrants,
     id: DeviceId,
     page: u64,
-    frame: u32,
+    frame: u64,
     rights: Rights,
 ) -> bool
     ensures { (h : History) → IsPastOf grants.now h → IsTrue result ↔ MayShowFormerly mode h id page frame rights }

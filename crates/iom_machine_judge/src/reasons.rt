@@ -205,7 +205,6 @@ pub(crate) fn most_tables(kept: &KeptState, id: DeviceId) -> usize
 }
 
 pub fn grant_refusal(kept: &KeptState, id: DeviceId, page: u64, frame: u64) -> Option<Refusal>
-    ensures named { IsNone result → frame < 2 ^ 32 }
     ensures no_pair { IsNone result → (held_by kept.now.grants id page ≡ None) × (lingering_by kept.now.grants id page ≡ None) }
     ensures first { (h : History) → IsPastOf kept.now.grants h → result ≡ first_that_applies (grant_reasons (state_of kept.now h) id page frame) }
 {
@@ -216,7 +215,7 @@ pub fn grant_refusal(kept: &KeptState, id: DeviceId, page: u64, frame: u64) -> O
         (quarantined(attachment), Refusal::Quarantined),
         (frame >= kept.frames.count(), Refusal::FrameOutOfRange),
         (kept.frames.is_reserved(frame), Refusal::FrameReserved),
-        (page >= attachment.page_limit(), Refusal::IovaOutOfRange),
+        (page >= kept.limits.page_limit(attachment), Refusal::IovaOutOfRange),
         (busy(kept, id, page), Refusal::IovaBusy),
     ])
 }

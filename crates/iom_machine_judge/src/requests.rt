@@ -45,7 +45,7 @@ pub(crate) fn is_forwarded(kept: &KeptState, device: &Device, access: &Access) -
 }
 
 /// Whether a pair was found that is on the frame, with a right that allows the kind.
-fn serves(found: Option<(u32, Rights)>, frame: u32, kind: AccessKind) -> bool
+fn serves(found: Option<(u64, Rights)>, frame: u64, kind: AccessKind) -> bool
     ensures { IsTrue result ↔ ((rights : Rights) × (found ≡ Some (frame, rights)) × (allows rights kind ≡ true)) }
 {
     match found {
@@ -55,7 +55,7 @@ fn serves(found: Option<(u32, Rights)>, frame: u32, kind: AccessKind) -> bool
 }
 
 /// Whether the device holds the frame where the access is to, with a right that allows it.
-pub(crate) fn holds(grants: &KeptGrants, id: DeviceId, access: &Access, frame: u32) -> bool
+pub(crate) fn holds(grants: &KeptGrants, id: DeviceId, access: &Access, frame: u64) -> bool
     ensures { (h : History) → IsPastOf grants.now h → IsTrue result ↔ HoldsFor h id access.now frame }
 {
     let found = grants.held(id, access.address / PAGE_SIZE);
@@ -63,7 +63,7 @@ pub(crate) fn holds(grants: &KeptGrants, id: DeviceId, access: &Access, frame: u
 }
 
 /// Whether the frame lingers there, with such a right.
-pub(crate) fn lingers(grants: &KeptGrants, id: DeviceId, access: &Access, frame: u32) -> bool
+pub(crate) fn lingers(grants: &KeptGrants, id: DeviceId, access: &Access, frame: u64) -> bool
     ensures { (h : History) → IsPastOf grants.now h → IsTrue result ↔ LingersFor h id access.now frame }
 {
     let found = grants.lingering(id, access.address / PAGE_SIZE);
@@ -80,7 +80,7 @@ fn holds_none(grants: &KeptGrants, id: DeviceId, access: &Access) -> bool
     }
 }
 
-fn accepts_in_one_stage(grants: &KeptGrants, id: DeviceId, access: &Access, frame: u32) -> bool
+fn accepts_in_one_stage(grants: &KeptGrants, id: DeviceId, access: &Access, frame: u64) -> bool
     ensures { (h : History) → IsPastOf grants.now h → IsTrue result ↔ MayAcceptInOneStage h id access.now frame }
 {
     holds(grants, id, access, frame)
@@ -114,7 +114,7 @@ fn may_accept(
     kept: &KeptState,
     id: DeviceId,
     access: &Access,
-    frame: u32,
+    frame: u64,
 ) -> bool
     ensures { (h : History) → IsPastOf kept.now.grants h → IsTrue result ↔ MayAccept attachment (state_of kept.now h) id access.now frame }
 {
@@ -184,7 +184,7 @@ pub(crate) fn is_next(device: &Device, number: u64) -> bool
     u128::from(number) == u128::from(device.accepted) + 1
 }
 
-fn accepts(kept: &KeptState, device: &Device, access: &Access, frame: u32, number: u64) -> bool
+fn accepts(kept: &KeptState, device: &Device, access: &Access, frame: u64, number: u64) -> bool
     ensures { (h : History) → IsPastOf kept.now.grants h
         → IsTrue result ↔ (IsForwarded kept.now.limits.in_flight device.now.in_flight access.now.address access.now.len
         × MayAccept device.now.attachment (state_of kept.now h) device.now.id access.now frame × (number ≡ device.now.accepted + 1)) }
@@ -214,7 +214,7 @@ pub fn may_answer(
     kept: &KeptState,
     device: &Device,
     access: &Access,
-    frame: u32,
+    frame: u64,
     outcome: &Outcome,
 ) -> bool
     ensures { (h : History) → IsPastOf kept.now.grants h → IsTrue result ↔ MayAnswer (state_of kept.now h) device.now access.now frame outcome.now }
@@ -233,7 +233,7 @@ fn after_answer(
     kept: &mut KeptState,
     place: usize,
     access: Access,
-    frame: u32,
+    frame: u64,
     outcome: &Outcome,
 ) -> Result<(), AllocError>
     requires { place < length kept.old.devices }
@@ -253,7 +253,7 @@ pub(crate) fn answer_at(
     kept: &mut KeptState,
     place: usize,
     access: Access,
-    frame: u32,
+    frame: u64,
     outcome: &Outcome,
 ) -> Result<bool, AllocError>
     requires { place < length kept.old.devices }
@@ -275,7 +275,7 @@ pub(crate) fn judge_request(
     id: DeviceId,
     access: Access,
     outcome: &Outcome,
-    frame: u32,
+    frame: u64,
 ) -> Result<bool, AllocError>
     ensures { IfOk result (λ may. Decides may kept.old kept.new (λ before after. Requests frame before id access outcome.now after)) }
 {

@@ -22,7 +22,7 @@ use iom_machine::{Attachment, Device, Outcome};
 use std::alloc::AllocError;
 
 /// The access at its physical address, in the frame.
-fn at_frame(access: Access, frame: u32) -> Access
+fn at_frame(access: Access, frame: u64) -> Access
     ensures { result ≡ at_frame frame access }
 {
     Access {
@@ -34,7 +34,7 @@ fn at_frame(access: Access, frame: u32) -> Access
 }
 
 /// Whether a cache may have the frame for the access.
-fn may_have_cached(grants: &KeptGrants, id: DeviceId, access: &Access, frame: u32) -> bool
+fn may_have_cached(grants: &KeptGrants, id: DeviceId, access: &Access, frame: u64) -> bool
     ensures { (h : History) → IsPastOf grants.now h → IsTrue result ↔ MayHaveCached h id access.now frame }
 {
     if holds(grants, id, access, frame) {
@@ -49,7 +49,7 @@ fn may_go_through(
     kept: &KeptState,
     id: DeviceId,
     access: &Access,
-    frame: u32,
+    frame: u64,
 ) -> bool
     ensures { (h : History) → IsPastOf kept.now.grants h → IsTrue result ↔ MayGoThrough attachment (state_of kept.now h) id access.now frame }
 {
@@ -70,7 +70,7 @@ fn may_go_through(
     }
 }
 
-fn goes_through(kept: &KeptState, device: &Device, access: &Access, frame: u32, number: u64) -> bool
+fn goes_through(kept: &KeptState, device: &Device, access: &Access, frame: u64, number: u64) -> bool
     ensures { (h : History) → IsPastOf kept.now.grants h
         → IsTrue result ↔ (IsForwarded kept.now.limits.in_flight device.now.in_flight access.now.address access.now.len
         × MayGoThrough device.now.attachment (state_of kept.now h) device.now.id access.now frame × (number ≡ device.now.accepted + 1)) }
@@ -99,7 +99,7 @@ pub fn may_answer(
     kept: &KeptState,
     device: &Device,
     access: &Access,
-    frame: u32,
+    frame: u64,
     outcome: &Outcome,
 ) -> bool
     ensures { (h : History) → IsPastOf kept.now.grants h → IsTrue result ↔ MayAnswerThroughCache (state_of kept.now h) device.now access.now frame outcome.now }
@@ -119,7 +119,7 @@ fn after_answer(
     kept: &mut KeptState,
     place: usize,
     access: Access,
-    frame: u32,
+    frame: u64,
     outcome: &Outcome,
 ) -> Result<(), AllocError>
     requires { place < length kept.old.devices }
@@ -140,7 +140,7 @@ pub(crate) fn answer_at(
     kept: &mut KeptState,
     place: usize,
     access: Access,
-    frame: u32,
+    frame: u64,
     outcome: &Outcome,
 ) -> Result<bool, AllocError>
     requires { place < length kept.old.devices }
@@ -162,7 +162,7 @@ pub(crate) fn judge_through_cache(
     id: DeviceId,
     access: Access,
     outcome: &Outcome,
-    frame: u32,
+    frame: u64,
 ) -> Result<bool, AllocError>
     ensures { IfOk result (λ may. Decides may kept.old kept.new (λ before after. RequestsThroughCache frame before id access outcome.now after)) }
 {

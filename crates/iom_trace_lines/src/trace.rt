@@ -26,6 +26,7 @@ impl WorldLimits {
                 pending: u64::MAX,
                 in_flight: u64::MAX,
                 devices: u64::MAX,
+                pages: Some(1 << 52),
             },
         }
     }

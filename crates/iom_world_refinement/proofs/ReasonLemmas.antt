@@ -24,7 +24,7 @@ use Rattle.iom_ledger.specs.Shown.{Agrees, held_in, released_in, lingering_in}
 use Rattle.iom_machine.specs.Frames.{is_reserved}
 use Rattle.iom_machine.specs.Refusals as machine
 use Rattle.iom_base.specs.DeviceKinds.{has_cache}
-use Rattle.iom_machine.specs.Refusals.{attachment_of, is_detached, is_leaving, is_quarantined, is_held, is_lingering, has_grants, is_too_wide, is_trusted, page_limit_at, MayFindNoPlace}
+use Rattle.iom_machine.specs.Refusals.{attachment_of, is_detached, is_leaving, is_quarantined, is_held, is_lingering, has_grants, is_too_wide, is_trusted, page_limit_at, page_limit_under, MayFindNoPlace}
 use Rattle.iom_machine.proofs.GrantLemmas.{grants_are_at_pages}
 use Rattle.iom_machine.specs.Tickets.{last_confirmed, pending_tickets}
 use Rattle.iom_machine.specs.declared.state.Attachment.{Attachment}
@@ -202,7 +202,7 @@ abbrev granting_tests : State → ℕ → ℕ → ℕ → List (Bool × Refusal)
 granting_tests state id page frame =
     (nat_le (length state.frames) frame, FrameOutOfRange)
     ∷ (is_reserved state.frames frame, FrameReserved)
-    ∷ (nat_le (page_limit_at (attachment_of state id)) page, IovaOutOfRange)
+    ∷ (nat_le (page_limit_under state.limits (attachment_of state id)) page, IovaOutOfRange)
     ∷ (is_held state id page || is_lingering state id page, IovaBusy)
     ∷ []
 
@@ -292,9 +292,10 @@ attach_first parts events state id ats sound shows =
 
 -- so the pages that may be granted to an attached device are those that the driver grants
 limit_shown : (parts : Parts) (events : ℕ) (state : State) (id : ℕ) → AreSound parts events → PartsShow parts state → (stage : Stages)
-    → as_known.attachment_by_id parts.driver.devices id ≡ attached.Attached stage → page_limit_at (attachment_of state id) ≡ page_limit_in (as_known.stages_of parts.driver.devices id)
+    → as_known.attachment_by_id parts.driver.devices id ≡ attached.Attached stage → page_limit_under state.limits (attachment_of state id) ≡ page_limit_in (as_known.stages_of parts.driver.devices id)
 limit_shown parts events state id sound shows stage is =
-    ap page_limit_at (how_shown parts events state id sound shows ∙ ap shown_attachment is) ∙ sym (ap (λ a. page_limit_in (attached_stages a)) is)
+    ap (λ (limits : Limits). page_limit_under limits (attachment_of state id)) shows.limits
+    ∙ ap page_limit_at (how_shown parts events state id sound shows ∙ ap shown_attachment is) ∙ sym (ap (λ a. page_limit_in (attached_stages a)) is)
 
 pub grant_first : (parts : Parts) (events : ℕ) (state : State) (id page frame : ℕ) → AreSound parts events → PartsShow parts state
     → first_that_applies (machine.grant_reasons state id page frame) ≡ first_that_applies (why_not_grant parts.driver id page frame)
@@ -304,7 +305,7 @@ grant_first parts events state id page frame sound shows =
     (granting_tests state id page frame) (granting_reasons d id page frame)
     (there_shown parts events state id sound shows) (how_shown parts events state id sound shows) sound.started
     (λ stage is.
-    grant_same (length state.frames) (length d.marks) (page_limit_at (attachment_of state id)) (page_limit_in (as_known.stages_of d.devices id)) page frame (is_reserved state.frames frame)
+    grant_same (length state.frames) (length d.marks) (page_limit_under state.limits (attachment_of state id)) (page_limit_in (as_known.stages_of d.devices id)) page frame (is_reserved state.frames frame)
     (is_marked d.marks frame) (is_held state id page || is_lingering state id page) (is_busy d id page)
     (frames_shown parts events state sound shows)
     (reserved_shown parts.memory d.marks state.frames frame shows.frames)
