@@ -1,3 +1,1 @@
-pub mod CertificateLemmas
-pub mod CertifiedSteps
-pub mod FollowPolls
+mod CertificateLemmas

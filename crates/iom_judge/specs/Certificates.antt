@@ -1,5 +1,5 @@
--- What a certificate says: that the text of a trace is the lines of a run of the ledger machine from power-on.
-use Rattle.std.specs.Prelude.{◌≡◌, ℕ, ◌-◌, Bool, true, false, List, [], ◌∷◌, All, Option, None, Some, IfSome, IsTrue, take, ⊤}
+-- What a verdict says of a trace: that its text is the lines of a run of the ledger machine from power-on, or those before the line that it names are.
+use Rattle.std.specs.Prelude.{◌≡◌, ℕ, ◌+◌, Bool, List, [], ◌∷◌, ◌++◌, All, Option, None, Some, MatchOption, length, ⊤}
 use Rattle.iom_base.specs.declared.access.Access.{Access}
 use Rattle.iom_machine.specs.declared.event.Event.{Event}
 use Rattle.iom_machine.specs.declared.outcome.Outcome.{Outcome}
@@ -10,32 +10,19 @@ use Rattle.iom_machine.specs.Reclaim.{Reclaims}
 use Rattle.iom_script.specs.declared.script.WorldSize.{WorldSize}
 use Rattle.iom_script.specs.Grammar.{spoken, bytes_of_lines}
 use Rattle.iom_script.specs.Words.{IsWithout}
-use Rattle.iom_trace_lines.specs.Taken.{AreLines}
 use Rattle.iom_trace_lines.specs.TraceLines.{SaysLine, World, Step}
 use Rattle.iom_trace_lines.specs.WorldLimits.{limits_of}
 use Rattle.iom_trace_lines.specs.declared.trace.WorldLimits.{WorldLimits}
 use Rattle.iom_judge.specs.declared.verdict.Verdict.{Verdict}
-use Rattle.iom_judge.specs.declared.verdict.Verdict.TheVariants.{Lawful, Uncertified, Unlawful, Undecided, Bad}
+use Rattle.iom_judge.specs.declared.verdict.Verdict.TheVariants.{Lawful, Uncertified, Beyond, Unlawful, Bad}
 
--- whether it finds the trace lawful
-abbrev pub is_lawful : Verdict → Bool
-is_lawful Lawful = true
-is_lawful (Uncertified line cause) = false
-is_lawful (Unlawful line reason) = false
-is_lawful (Undecided line reason) = false
-is_lawful (Bad line) = false
-
--- the line from which on it doesn't certify the trace, if there is one
-abbrev pub uncertified_line : Verdict → Option ℕ
-uncertified_line Lawful = None
-uncertified_line (Uncertified line cause) = Some line
-uncertified_line (Unlawful line reason) = None
-uncertified_line (Undecided line reason) = None
-uncertified_line (Bad line) = None
-
--- It refuses a line: it finds the trace neither lawful nor not certified.
-abbrev pub IsRefusal : Verdict → Type 0
-IsRefusal verdict = (is_lawful verdict ≡ false) × (uncertified_line verdict ≡ None)
+-- the line that it names, if it names one: the first that isn't certified to be lawful
+abbrev pub named_line : Verdict → Option ℕ
+named_line Lawful = None
+named_line (Uncertified line missing) = Some line
+named_line (Beyond line reason) = Some line
+named_line (Unlawful line reason) = Some line
+named_line (Bad line) = Some line
 
 -- the numbers of the disks that a world has at power-on
 abbrev pub four_disks : List ℕ
@@ -77,13 +64,14 @@ pub record IsLawfulTrace (text : List ℕ) : Type 0 where
   pub is_text : text ≡ bytes_of_lines lines
   pub lawful : AreLawfulLines (spoken lines)
 
--- The text is lines, and those before the one with this number, counted from 1, are a lawful trace of their own.
+-- The text begins with the lines before the one with this number, counted from 1, and they are a lawful trace of their own.
 pub record IsLawfulBefore (line : ℕ) (text : List ℕ) : Type 0 where
   pub lines : List (List ℕ)
-  pub are : AreLines lines text
-  pub before : IsLawfulTrace (bytes_of_lines (take (line - 1) lines))
+  pub rest : List ℕ
+  pub is_text : text ≡ bytes_of_lines lines ++ rest
+  pub next : line ≡ length lines + 1
+  pub before : IsLawfulTrace (bytes_of_lines lines)
 
--- What the verdict says of the text is so: that it is a lawful trace, or up to which line it is one.
+-- What the verdict says of the text is so: that it is a lawful trace, or that the lines before the one that it names are.
 abbrev pub IsSoOf : Verdict → List ℕ → Type 0
-IsSoOf verdict text =
-    (IsTrue (is_lawful verdict) → IsLawfulTrace text) × IfSome (uncertified_line verdict) (λ line. IsLawfulBefore line text)
+IsSoOf verdict text = MatchOption (named_line verdict) (IsLawfulTrace text) (λ line. IsLawfulBefore line text)

@@ -1,31 +1,39 @@
 // A trace, judged line by line.
-ghost use Rattle.std.specs.Prelude.{◌≡◌, ◌↔◌, ◌+◌, ◌-◌, ◌^◌, ◌++◌, ◌∷◌, ◌&&◌, [], ℕ, List, Option, None, IfOk, IfSome, IsSomeAnd, IsTrue, MatchOption, OnOk, min, nat_lt, if◌then◌else◌};
+ghost use Rattle.std.specs.Prelude.{◌≡◌, ◌+◌, ◌++◌, ◌∷◌, [], ℕ, List, Option, None, IfOk, IfSome, IsSomeAnd, MatchOption, OnOk, IsTrue, length};
+ghost use Rattle.iom_kept_state.specs.Grants.{IsPastOf};
+ghost use Rattle.iom_kept_state.specs.States.{state_of};
+ghost use Rattle.iom_machine.specs.PowerOn.{opening};
+ghost use Rattle.iom_script.specs.Grammar.{spoken};
 ghost use Rattle.iom_trace_lines.specs.TraceLines.{said_of};
-ghost use Rattle.iom_known.specs.Allowed.{Past, IsTrueOf};
 ghost use Rattle.iom_trace_lines.specs.WorldLimits.{limits_of};
-ghost use Rattle.iom_known.specs.Starts.{IsPowerOn, SomeAreAllowed};
-ghost use Rattle.iom_trace_lines.specs.Taken.{AreLines};
-ghost use Rattle.iom_judge.specs.Certificates.{four_disks, IsRefusal, IsSoOf, SaysStep, uncertified_line};
-ghost use Rattle.iom_judge.specs.Certified.{GoesOn, HasJudged, HasTakenAll, IsReadOf};
+ghost use Rattle.iom_judge.specs.Certificates.{four_disks, opening_of, IsLawfulTrace, IsSoOf};
+ghost use Rattle.iom_judge.specs.Certified.{Certify, GoesOn, HasJudged, HasTakenAll, IsReadOf, Names};
 
-use crate::belief::{Belief, Shown};
-use crate::hindsight::Judges;
-use crate::unfollowed::{Unfollowed, Why};
-use crate::verdict::Verdict;
-use iom_doubts::unseen::SeenWrite;
-use iom_machine::{Event, Outcome};
-use iom_reasons::Subject;
+use crate::choosing::{Chosen, Shown, choose};
+use crate::guesses::Guesses;
+use crate::missing::Missing;
+use crate::verdict::{Verdict, quoting};
+use iom_kept_state::KeptState;
+use iom_machine::{Choice, Event, Outcome};
+use iom_machine_judge::judge;
+use iom_reasons::{Facts, Notes};
 use iom_script::{LineBuffer, WorldSize};
 use iom_trace_lines::{KeptOutcomes, Lines, NextLine, TraceLine, WorldLimits, read_line};
-use std::alloc::Global;
+use std::alloc::{AllocError, Global};
 use std::io::{self, ErrorKind, Read};
+
+/// The numbers of the disks that a world has at power-on.
+const DISKS: [u64; 4] = [0, 1, 2, 3];
+
+/// The frames of the largest world.
+const MOST_FRAMES: u64 = 1 << 40;
 
 /// What the reading of lines takes, for line after line.
 #[derive(Drop)]
 pub(crate) struct Reading {
-    pub(crate) printed: LineBuffer,
-    pub(crate) kept: KeptOutcomes,
-    pub(crate) tables: Vec<u32>,
+    printed: LineBuffer,
+    kept: KeptOutcomes,
+    tables: Vec<u64>,
 }
 
 impl Reading {
@@ -39,99 +47,202 @@ impl Reading {
 }
 
 /// The tables, where they are shown.
-fn if_shown(has_tables: bool, tables: &[u32]) -> Option<&[u32]> {
+fn if_shown(has_tables: bool, tables: &[u64]) -> Option<&[u64]> {
     if has_tables { Some(tables) } else { None }
+}
+
+/// The state at power-on of a world of this size, with these limits. None where there is no such world.
+fn power_on(
+    alloc: Global,
+    size: WorldSize,
+    limits: WorldLimits,
+) -> Result<Option<KeptState>, AllocError>
+    ensures { IfOk result (λ found. IfSome found (λ kept. IsPastOf kept.grants [] × (state_of kept [] ≡ opening_of size limits))) }
+{
+    if size.frames < 4 || size.frames > MOST_FRAMES || size.levels > 3 {
+        return Ok(None);
+    }
+    let levels = size.levels as u8;
+    let kept = KeptState::power_on(alloc, limits.to_limits(), size.frames, levels, &DISKS)?;
+    Ok(Some(kept))
+}
+
+/// Whether this may come of the event without the model's limits.
+fn may_come_unlimited(
+    alloc: Global,
+    kept: &mut KeptState,
+    event: &Event,
+    outcome: &Outcome,
+    choice: &Choice,
+) -> Result<bool, AllocError> {
+    if kept.limits.pages.is_some() {
+        return Ok(false);
+    }
+    kept.limits = WorldLimits::Unlimited.to_limits();
+    judge(alloc, kept, event, outcome, choice)
 }
 
 /// The judge of a trace, after the lines so far.
 #[derive(Drop)]
 pub(crate) struct Judge {
     alloc: Global,
-    pub(crate) belief: Option<Belief>,
-    pub(crate) line: u64,
-    /// Whether each line so far was followed.
-    pub(crate) is_certified: bool,
-    /// The last line up to which each was, where that was asked: before each line that may be the first that isn't.
-    last_followed: u64,
+    /// The state to which they lead.
+    kept: Option<KeptState>,
+    /// How many they were.
+    line: u64,
+    notes: Notes,
+    guesses: Guesses,
 }
 
 impl Judge {
-    pub(crate) fn new(alloc: Global) -> Judge
+    fn new(alloc: Global) -> Judge
         ensures { HasTakenAll result [] }
     {
         Judge {
             alloc,
-            belief: None,
+            kept: None,
             line: 0,
-            is_certified: true,
-            last_followed: 0,
+            notes: Notes::new(alloc),
+            guesses: Guesses::new(alloc),
         }
     }
 
     /// The world has this size, and its machine these limits.
     fn begin(&mut self, size: WorldSize, limits: WorldLimits) -> io::Result<Option<Verdict>>
-        ensures counts { (self.new.line ≡ self.old.line) × (self.new.last_followed ≡ self.old.last_followed) }
+        ensures line { self.new.line ≡ self.old.line }
         ensures begun { IfOk result (λ found. MatchOption found
-            ((self.old.belief ≡ None) × (self.new.is_certified ≡ self.old.is_certified)
-            × IsSomeAnd self.new.belief (λ belief. IsPowerOn belief.known (limits_of limits) size.frames size.levels four_disks × (belief.doubts.all.items ≡ [])))
-            IsRefusal) }
+            ((self.old.kept ≡ None) × IsSomeAnd self.new.kept (λ kept. IsPastOf kept.grants [] × (state_of kept [] ≡ opening_of size limits)))
+            (Names self.old.line)) }
     {
-        if self.belief.is_some() || size.frames < 4 || size.frames > 4096 || size.levels > 3 {
+        if self.kept.is_some() {
             return Ok(Some(Verdict::Bad { line: self.line }));
         }
-        let (frames, levels) = (size.frames as u32, size.levels as u8);
-        let belief = Belief::power_on(self.alloc, limits.to_limits(), frames, levels)?;
-        self.belief = Some(belief);
-        Ok(None)
+        match power_on(self.alloc, size, limits)? {
+            None => Ok(Some(Verdict::Bad { line: self.line })),
+            Some(kept) => {
+                self.kept = Some(kept);
+                Ok(None)
+            }
+        }
+    }
+
+    /// Notes what this line shows, and what was guessed of it.
+    fn note(
+        &mut self,
+        event: &Event,
+        outcome: &Outcome,
+        shown: Shown<'_>,
+        missing: Option<Missing>,
+        made: Option<Missing>,
+    ) -> Result<(), AllocError>
+        ensures kept { self.new.kept ≡ self.old.kept }
+        ensures line { self.new.line ≡ self.old.line }
+    {
+        self.notes.begin_line(self.line);
+        self.notes.note(event, outcome)?;
+        if shown.tables.is_some() {
+            self.guesses.note_tables();
+        }
+        if let Some(missing) = made {
+            self.guesses.make(missing, outcome);
+        }
+        if let Some(missing) = missing {
+            self.guesses.note(missing)?;
+        }
+        Ok(())
+    }
+
+    /// What is found of a line of which this may not come.
+    fn refuse(
+        &mut self,
+        event: &Event,
+        outcome: &Outcome,
+        on: Option<u64>,
+        choice: &Choice,
+        text: &[u8],
+    ) -> io::Result<Verdict>
+        ensures { IfOk result (Names self.old.line) }
+    {
+        let (alloc, line) = (self.alloc, self.line);
+        let Some(kept) = &mut self.kept else {
+            return Ok(Verdict::Bad { line });
+        };
+        if let Some(missing) = self.guesses.behind(kept, event, outcome) {
+            return Ok(Verdict::Uncertified { line, missing });
+        }
+        let facts = Facts {
+            kept,
+            notes: &self.notes,
+            on,
+        };
+        let reason = quoting(alloc, text, &facts.reason(alloc, event, outcome)?)?;
+        if may_come_unlimited(alloc, kept, event, outcome, choice)? {
+            return Ok(Verdict::Beyond { line, reason });
+        }
+        Ok(Verdict::Unlawful { line, reason })
+    }
+
+    /// Whether this may come of the event, where what the line doesn't show is chosen so. What is kept is then what it leaves.
+    fn step(&mut self, event: &Event, outcome: &Outcome, choice: &Choice) -> io::Result<bool>
+        ensures line { self.new.line ≡ self.old.line }
+        ensures went { IfOk result (λ may. IsTrue may → GoesOn self.old.kept event.now outcome.now self.new.kept) }
+    {
+        let Some(kept) = &mut self.kept else {
+            return Ok(false);
+        };
+        let may_come = judge(self.alloc, kept, event, outcome, choice)?;
+        Ok(may_come)
+    }
+
+    /// What is chosen of what the line doesn't show, and what was guessed of the access that it makes.
+    fn choose(
+        &self,
+        event: &Event,
+        outcome: &Outcome,
+        shown: Shown<'_>,
+    ) -> io::Result<Option<(Chosen, Option<Missing>)>> {
+        let Some(kept) = &self.kept else {
+            return Ok(None);
+        };
+        let line = self.line;
+        let chosen = choose(self.alloc, kept, &self.notes, line, event, outcome, shown)?;
+        Ok(Some((chosen, self.guesses.of_oldest(kept, event))))
     }
 
     /// What is found where this came of the event, if that ends the trace.
-    // Written into its one caller, which else moves what is found once more for each line.
-    #[inline(always)]
     fn go_on(
         &mut self,
         event: &Event,
         outcome: &Outcome,
         shown: Shown<'_>,
+        text: &[u8],
     ) -> io::Result<Option<Verdict>>
-        ensures counts { (self.new.line ≡ self.old.line) × (self.new.last_followed ≡ self.old.last_followed) }
-        ensures went { IfOk result (λ found. MatchOption found
-            (GoesOn self.old.is_certified self.old.belief event.now outcome.now self.new.is_certified self.new.belief)
-            IsRefusal) }
+        ensures { IfOk result (λ found. MatchOption found
+            ((self.new.line ≡ self.old.line) × GoesOn self.old.kept event.now outcome.now self.new.kept)
+            (Names self.old.line)) }
     {
-        let alloc = self.alloc;
-        let line = self.line;
-        let Some(belief) = &mut self.belief else {
-            return Ok(Some(Verdict::Bad { line }));
+        let Some((chosen, made)) = self.choose(event, outcome, shown)? else {
+            return Ok(Some(Verdict::Bad { line: self.line }));
         };
-        if belief.step_in(alloc, line, event, outcome, shown)? {
-            let is_followed = belief.is_followed;
-            self.is_certified = self.is_certified && is_followed;
+        if self.step(event, outcome, &chosen.choice)? {
+            self.note(event, outcome, shown, chosen.missing, made)?;
             return Ok(None);
         }
-        let subject = Subject::of(event);
-        let reason = belief.reason(alloc, subject, shown.on)?;
-        Ok(Some(if belief.decides(subject) {
-            Verdict::Unlawful { line, reason }
-        } else {
-            Verdict::Undecided { line, reason }
-        }))
+        let verdict = self.refuse(event, outcome, shown.on, &chosen.choice, text)?;
+        Ok(Some(verdict))
     }
 
-    /// What the next line is found, if it ends the trace.
-    pub(crate) fn take(
+    /// What is found of a line that says this, if it ends the trace.
+    fn take_said(
         &mut self,
         said: &TraceLine<'_>,
-        tables: &[u32],
+        tables: &[u64],
+        text: &[u8],
     ) -> io::Result<Option<Verdict>>
-        ensures kept { self.new.last_followed ≡ self.old.last_followed }
-        ensures taken { (line : List ℕ) (lines : List (List ℕ)) → IsReadOf line (said_of said.now) tables.now
-            → HasTakenAll self.old lines
-            → IfOk result (λ found. MatchOption found
-            (HasTakenAll self.new (lines ++ line ∷ []))
-            IsRefusal) }
+        ensures { (line : List ℕ) (lines : List (List ℕ)) → IsReadOf line (said_of said.now) tables.now
+            → Certify self.old.kept (spoken lines) → self.old.line ≡ length lines + 1
+            → IfOk result (λ found. MatchOption found (HasTakenAll self.new (lines ++ line ∷ [])) (Names self.old.line)) }
     {
-        self.line = self.line.saturating_add(1);
         match said {
             TraceLine::Nothing => Ok(None),
             TraceLine::Bad => Ok(Some(Verdict::Bad { line: self.line })),
@@ -148,203 +259,94 @@ impl Judge {
                     on: *on,
                     began: began.as_ref(),
                 };
-                self.go_on(event, outcome, shown)
+                self.go_on(event, outcome, shown, text)
             }
         }
     }
 
-    /// Whether it is in doubt what the step of a block device began that was taken last.
-    pub(crate) fn doubts_step(&self, said: &TraceLine<'_>) -> bool {
-        let TraceLine::Step { event, .. } = said else {
-            return false;
-        };
-        let Event::Step { .. } = event else {
-            return false;
-        };
-        match &self.belief {
-            None => false,
-            Some(belief) => belief.has_steps_in_doubt(),
-        }
-    }
-
-    /// Whether some state is allowed, with each past that is true of what is known.
-    fn is_possible(&self) -> bool
-        ensures { IsTrue result → IfSome self.now.belief (λ belief. (past : Past) → IsTrueOf belief.known past
-            → SomeAreAllowed belief.known past) }
+    /// Counts a line more.
+    fn count(&mut self) -> io::Result<()>
+        ensures kept { self.new.kept ≡ self.old.kept }
+        ensures counted { OnOk result (self.new.line ≡ self.old.line + 1) }
     {
-        match &self.belief {
-            None => true,
-            Some(belief) => belief.known.is_possible(),
+        if self.line == u64::MAX {
+            return Err(io::Error::from(ErrorKind::Other));
         }
-    }
-
-    /// Whether something is in doubt: else the next line is followed, whatever it is.
-    fn is_in_doubt(&self) -> bool
-        ensures { IsTrue result ↔ IsSomeAnd self.now.belief (λ belief.
-            ¬ ((belief.doubts.all.items ≡ []) × (belief.memory.unseen.all.items ≡ []) × (belief.memory.versions.all.items ≡ []))) }
-    {
-        match &self.belief {
-            None => false,
-            Some(belief) => !belief.is_settled(),
-        }
-    }
-
-    /// Whether it is to be noted that each line so far was followed: the next one may not be, and some state is allowed.
-    fn is_to_note(&self) -> bool
-        ensures { IsTrue result → IfSome self.now.belief (λ belief. (past : Past) → IsTrueOf belief.known past
-            → SomeAreAllowed belief.known past) }
-    {
-        if !self.is_in_doubt() {
-            return false;
-        }
-        self.is_possible()
-    }
-
-    /// Notes that each line so far was followed, where that is asked for.
-    fn note_line(&mut self, is_to_note: bool)
-        ensures same { (self.new.is_certified ≡ self.old.is_certified) × (self.new.belief ≡ self.old.belief) × (self.new.line ≡ self.old.line) }
-        ensures noted { self.new.last_followed ≡ (if is_to_note && nat_lt self.old.line (2 ^ 64 - 1) then self.old.line else self.old.last_followed) }
-    {
-        if is_to_note && self.line < u64::MAX {
-            self.last_followed = self.line;
-        }
-    }
-
-    /// What was seen of writes that no line of theirs shows, since it was asked last.
-    pub(crate) fn take_seen(&mut self) -> Vec<SeenWrite> {
-        match &mut self.belief {
-            None => Vec::new(self.alloc),
-            Some(belief) => belief.memory.take_seen(self.alloc),
-        }
-    }
-
-    /// What a judge ahead saw of such writes.
-    pub(crate) fn hear(&mut self, seen: Vec<SeenWrite>) -> io::Result<()>
-        ensures { (lines : List (List ℕ)) → HasTakenAll self.old lines → OnOk result (HasTakenAll self.new lines) }
-    {
-        let Some(belief) = &mut self.belief else {
-            return Ok(());
-        };
-        belief.hear(seen)?;
+        self.line += 1;
         Ok(())
     }
 
-    /// Takes the line, where each before was followed. It isn't, where it isn't found lawful.
-    pub(crate) fn follow(&mut self, said: &TraceLine<'_>, tables: &[u32]) -> io::Result<()>
-        ensures { (line : List ℕ) (lines : List (List ℕ)) → IsReadOf line (said_of said.now) tables.now
-            → HasTakenAll self.old lines → OnOk result (HasTakenAll self.new (lines ++ line ∷ [])) }
+    /// What is found of the next line, if it ends the trace.
+    fn take(&mut self, reading: &mut Reading, text: &[u8]) -> io::Result<Option<Verdict>>
+        ensures { (lines : List (List ℕ)) → HasTakenAll self.old lines
+            → IfOk result (λ found. MatchOption found (HasTakenAll self.new (lines ++ text.now ∷ [])) (Names (length lines + 1))) }
     {
-        if !self.is_certified {
-            return Ok(());
-        }
-        let is_to_note = self.is_to_note();
-        self.note_line(is_to_note);
-        match self.take(said, tables)? {
-            None => Ok(()),
-            Some(_) => {
-                self.is_certified = false;
-                Ok(())
-            }
-        }
+        self.count()?;
+        let said = read_line(
+            self.alloc,
+            &mut reading.printed,
+            &mut reading.kept,
+            &mut reading.tables,
+            self.kept.is_some(),
+            text,
+        )?;
+        self.take_said(&said, reading.tables.as_slice(), text)
     }
-
-    /// Why the first line that wasn't followed couldn't be, if one wasn't.
-    fn cause(&self) -> Unfollowed {
-        match &self.belief {
-            None => Unfollowed::plain(Why::Unknown),
-            Some(belief) => belief.cause,
-        }
-    }
-
-    /// What is found of the lines, where there are no others. Where they aren't certified, the line that it names is the
-    /// one behind the last up to which each was followed.
-    pub(crate) fn end(&self) -> Verdict
-        ensures named { IfSome (uncertified_line result) (λ line. line ≡ min (self.now.last_followed + 1) (2 ^ 64 - 1)) }
-        ensures so { (text : List ℕ) (lines : List (List ℕ)) → HasTakenAll self.now lines → AreLines lines text → IsSoOf result text }
-    {
-        if self.is_certified {
-            if self.is_possible() {
-                return Verdict::Lawful;
-            }
-        }
-        Verdict::Uncertified {
-            line: self.last_followed.saturating_add(1),
-            cause: self.cause(),
-        }
-    }
-}
-
-/// The judge takes the line, where each before was followed.
-pub(crate) fn follow_line(
-    alloc: Global,
-    behind: &mut Judge,
-    printed: &mut LineBuffer,
-    kept: &mut KeptOutcomes,
-    tables: &mut Vec<u32>,
-    line: &[u8],
-) -> io::Result<()>
-    ensures { (lines : List (List ℕ)) → HasTakenAll behind.old lines → OnOk result (HasTakenAll behind.new (lines ++ line.now ∷ [])) }
-{
-    let has_world = behind.belief.is_some();
-    let said = read_line(alloc, printed, kept, tables, has_world, line)?;
-    behind.follow(&said, tables.as_slice())
 }
 
 /// What is found of the next line, if that ends the trace.
 fn judge_next<R: Read>(
-    judges: &mut Judges,
+    judge: &mut Judge,
     reading: &mut Reading,
     lines: &mut Lines,
     reader: &mut R,
 ) -> io::Result<Option<Verdict>>
     ensures { (first : Option (List ℕ))
-        → HasJudged judges.old.behind judges.old.window.items lines.old.buffer.items lines.old.start lines.old.end first (R.remaining reader.old)
+        → HasJudged judge.old lines.old.buffer.items lines.old.start lines.old.end first (R.remaining reader.old)
         → IfOk result (λ found. MatchOption found
-        (HasJudged judges.new.behind judges.new.window.items lines.new.buffer.items lines.new.start lines.new.end first (R.remaining reader.new))
+        (HasJudged judge.new lines.new.buffer.items lines.new.start lines.new.end first (R.remaining reader.new))
         (λ verdict. IfSome first (IsSoOf verdict))) }
 {
     match lines.next_line(reader)? {
-        NextLine::End => {
-            let verdict = judges.end(reading)?;
-            Ok(Some(verdict))
+        NextLine::End => Ok(Some(Verdict::Lawful)),
+        NextLine::Broken => {
+            judge.count()?;
+            Ok(Some(Verdict::Bad { line: judge.line }))
         }
-        NextLine::Broken => Ok(Some(Verdict::Bad {
-            line: judges.line().saturating_add(1),
-        })),
-        NextLine::Line(start, end) => judges.take(reading, lines.between(start, end)),
+        NextLine::Line(start, end) => judge.take(reading, lines.between(start, end)),
     }
 }
 
 /// What is found of the lines.
 fn judge_lines<R: Read>(
-    judges: &mut Judges,
+    judge: &mut Judge,
     reading: &mut Reading,
     lines: &mut Lines,
     reader: &mut R,
 ) -> io::Result<Verdict>
     ensures { (first : Option (List ℕ))
-        → HasJudged judges.old.behind judges.old.window.items lines.old.buffer.items lines.old.start lines.old.end first (R.remaining reader.old)
+        → HasJudged judge.old lines.old.buffer.items lines.old.start lines.old.end first (R.remaining reader.old)
         → IfOk result (λ verdict. IfSome first (IsSoOf verdict)) }
 {
     for _ in 0..u64::MAX {
-        if let Some(verdict) = judge_next(judges, reading, lines, reader)? {
+        if let Some(verdict) = judge_next(judge, reading, lines, reader)? {
             return Ok(verdict);
         }
     }
     Err(io::Error::from(ErrorKind::Other))
 }
 
-/// What the judge finds of the trace that the reader has. It is judged line by line, and the memory that this takes
-/// doesn't grow with it.
+/// What the judge finds of the trace that the reader has. It is judged line by line, and the memory that this takes is what the
+/// trace names.
 ///
 /// A trace that is found lawful is lines of a run of the ledger machine from power-on, with some choice of what they don't
-/// show, and the sentences of the headline hold of that run. Of one that isn't certified from some line on, the lines before
-/// that one are such a trace.
+/// show, and the sentences of the headline hold of that run. Of one of which the verdict names a line, the lines before it are
+/// such a trace.
 pub fn judge_trace<R: Read>(alloc: Global, reader: &mut R) -> io::Result<Verdict>
     ensures { IfOk result (λ verdict. IfSome (R.remaining reader.old) (IsSoOf verdict)) }
 {
     let mut lines = Lines::new(alloc)?;
-    let mut judges = Judges::new(alloc)?;
+    let mut judge = Judge::new(alloc);
     let mut reading = Reading::new(alloc)?;
-    judge_lines(&mut judges, &mut reading, &mut lines, reader)
+    judge_lines(&mut judge, &mut reading, &mut lines, reader)
 }

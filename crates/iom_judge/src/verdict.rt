@@ -1,24 +1,24 @@
 // What the judge finds of a trace.
-use crate::unfollowed::Unfollowed;
+use crate::missing::Missing;
 use std::alloc::{AllocError, Global};
 use std::fmt;
 
 /// So many bytes of a line stand in a reason at most.
 const MOST_QUOTED: usize = 100;
 
-/// What the judge finds of a trace, whose lines count from 1.
+/// What the judge finds of a trace, whose lines count from 1. Of each line that is named, those before it are lines of a run of the
+/// ledger machine: so it is proved.
 #[derive(Drop)]
 pub enum Verdict {
-    /// The lines are those of a run of the ledger machine: so it is proved.
+    /// All lines are those of a run: so it is proved.
     Lawful,
-    /// None of the lines was found unlawful. This one couldn't be followed by the definition of the machine; those before it
-    /// are those of a run: so it is proved.
-    Uncertified { line: u64, cause: Unfollowed },
-    /// Those before this line are, after which it may not come, and why.
+    /// Whether this line may come depends on what an earlier one doesn't show.
+    Uncertified { line: u64, missing: Missing },
+    /// It may not come by the limits of the model alone.
+    Beyond { line: u64, reason: String },
+    /// It may not come, and why.
     Unlawful { line: u64, reason: String },
-    /// In no way that was followed this line may come, and not each way was.
-    Undecided { line: u64, reason: String },
-    /// Those before this line are; it isn't in the grammar.
+    /// It isn't in the grammar.
     Bad { line: u64 },
 }
 
@@ -31,7 +31,7 @@ fn quoted(alloc: Global, line: &[u8]) -> Result<String, AllocError> {
 }
 
 /// The reason, with the line before it.
-fn quoting(alloc: Global, line: &[u8], reason: &str) -> Result<String, AllocError> {
+pub(crate) fn quoting(alloc: Global, line: &[u8], reason: &str) -> Result<String, AllocError> {
     let quoted = quoted(alloc, line)?;
     if reason.is_empty() {
         return Ok(quoted);
@@ -40,33 +40,19 @@ fn quoting(alloc: Global, line: &[u8], reason: &str) -> Result<String, AllocErro
 }
 
 impl Verdict {
-    ghost use Rattle.std.specs.Prelude.{◌≡◌, IfOk};
-    ghost use Rattle.iom_judge.specs.Certificates.{is_lawful, uncertified_line};
+    ghost use Rattle.std.specs.Prelude.{◌≡◌};
+    ghost use Rattle.iom_judge.specs.Certificates.{named_line};
 
-    /// The line that was refused, if one was.
-    pub fn line(&self) -> Option<u64> {
-        match self {
-            Verdict::Lawful | Verdict::Uncertified { .. } => None,
-            Verdict::Unlawful { line, .. }
-            | Verdict::Undecided { line, .. }
-            | Verdict::Bad { line } => { Some(*line) }
-        }
-    }
-
-    /// The same, with the line before the reason, if there is one.
-    pub(crate) fn with_line(self, alloc: Global, line: &[u8]) -> Result<Verdict, AllocError>
-        ensures { IfOk result (λ verdict. (is_lawful verdict ≡ is_lawful self) × (uncertified_line verdict ≡ uncertified_line self)) }
+    /// The line that it names: the first that isn't certified to be lawful.
+    pub fn line(&self) -> Option<u64>
+        ensures { result ≡ named_line self.now }
     {
         match self {
-            Verdict::Unlawful { line: at, reason } => Ok(Verdict::Unlawful {
-                line: at,
-                reason: quoting(alloc, line, &reason)?,
-            }),
-            Verdict::Undecided { line: at, reason } => Ok(Verdict::Undecided {
-                line: at,
-                reason: quoting(alloc, line, &reason)?,
-            }),
-            verdict => Ok(verdict),
+            Verdict::Lawful => None,
+            Verdict::Uncertified { line, .. }
+            | Verdict::Beyond { line, .. }
+            | Verdict::Unlawful { line, .. }
+            | Verdict::Bad { line } => Some(*line),
         }
     }
 }
@@ -76,14 +62,19 @@ impl fmt::Display for Verdict {
     fn fmt<W: fmt::Write>(&self, f: &mut fmt::Formatter<W>) -> fmt::Result {
         match self {
             Verdict::Lawful => f.write_str("lawful"),
-            Verdict::Uncertified { line, cause } => {
+            Verdict::Uncertified { line, missing } => {
                 write!(
                     f,
-                    "line {line}: not certified from here on; no line was found unlawful{cause}"
+                    "line {line}: not certified from here on; no line was found unlawful{missing}"
+                )
+            }
+            Verdict::Beyond { line, reason } => {
+                write!(
+                    f,
+                    "line {line}: beyond the model's limits: {reason}; write `unlimited` behind the size of the world"
                 )
             }
             Verdict::Unlawful { line, reason } => write!(f, "line {line}: unlawful: {reason}"),
-            Verdict::Undecided { line, reason } => write!(f, "line {line}: not decided: {reason}"),
             Verdict::Bad { line } => write!(f, "line {line} isn't in the grammar"),
         }
     }

@@ -215,7 +215,10 @@ pub fn grant_refusal(kept: &KeptState, id: DeviceId, page: u64, frame: u64) -> O
         (quarantined(attachment), Refusal::Quarantined),
         (frame >= kept.frames.count(), Refusal::FrameOutOfRange),
         (kept.frames.is_reserved(frame), Refusal::FrameReserved),
-        (page >= kept.limits.page_limit(attachment), Refusal::IovaOutOfRange),
+        (
+            page >= kept.limits.page_limit(attachment),
+            Refusal::IovaOutOfRange,
+        ),
         (busy(kept, id, page), Refusal::IovaBusy),
     ])
 }

@@ -20,7 +20,7 @@ struct Desk {
     alloc: Global,
     printed: LineBuffer,
     kept: KeptOutcomes,
-    tables: Vec<u32>,
+    tables: Vec<u64>,
     has_world: bool,
 }
 

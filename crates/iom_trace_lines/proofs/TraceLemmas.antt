@@ -10,12 +10,13 @@ use Rattle.iom_machine.specs.declared.event.Event.{Event}
 use Rattle.iom_machine.specs.declared.event.Event.TheVariants as events
 use Rattle.iom_machine.specs.declared.outcome.Outcome.{Outcome}
 use Rattle.iom_machine.specs.declared.outcome.Outcome.TheVariants as outcomes
-use Rattle.iom_script.specs.Grammar.{IsEventLine, IsWorldLine}
+use Rattle.iom_script.specs.Cuts.{BeginsWithWord}
+use Rattle.iom_script.specs.Grammar.{IsEventLine}
 use Rattle.iom_script.specs.Lines.{line_of}
 use Rattle.iom_script.specs.Words.{◌␣◌, IsNumber}
 use Rattle.iom_script.specs.declared.script.WorldSize.{WorldSize}
 use Rattle.iom_trace_lines.specs.TraceLines.{EventAsksFor, frames_text, is_accepted, tables_text, on_text, TraceMayShow, SaysLine, World, Step}
-use Rattle.iom_trace_lines.specs.WorldLimits.{limits_text}
+use Rattle.iom_trace_lines.specs.WorldLimits.{limits_text, IsLargeSize, IsLargeWorldLine, SaysSize}
 use Rattle.iom_trace_lines.specs.declared.trace.WorldLimits.{WorldLimits}
 
 -- one frame more, with a space before it
@@ -99,10 +100,15 @@ frame_handed said word None is number = tt
 frame_handed said word (Some frame) is number = (word, number, is)
 
 -- how large the world is, with the word that says its limits behind
-pub world_says : (said sized answer : List ℕ) (size : WorldSize) (limits : WorldLimits) (tables : List ℕ) → said ≡ sized ++ limits_text limits → IsWorldLine sized size → answer ≡ codes "ok"
+pub world_says : (said sized answer : List ℕ) (size : WorldSize) (limits : WorldLimits) (tables : List ℕ) → said ≡ sized ++ limits_text limits → SaysSize limits sized size → answer ≡ codes "ok"
     → SaysLine (said ++ codes " => " ++ answer) (World size limits) tables
 world_says said sized answer size limits tables cut says ok = (
   sized,
   says,
   ap (λ (l : List ℕ). said ++ codes " => " ++ l) ok ∙ append_assoc said (codes " => ") (codes "ok") ∙ ap (λ (l : List ℕ). l ++ codes " => ok") cut,
 )
+
+-- how large a world without limits is, of what was read of its line
+pub large_world : (line arguments rest : List ℕ) (size : WorldSize) → line ≡ codes "world " ++ arguments → BeginsWithWord IsNumber arguments size.frames rest
+    → IsNumber rest size.levels → IsLargeSize size → IsLargeWorldLine line size
+large_world line arguments rest size begins (word, says, cut) levels large = (word, rest, says, levels, large, begins ∙ ap (λ (l : List ℕ). codes "world " ++ l) cut)

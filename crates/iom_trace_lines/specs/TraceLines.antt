@@ -8,11 +8,11 @@ use Rattle.iom_machine.specs.declared.event.Event.{Event}
 use Rattle.iom_machine.specs.declared.event.Event.TheVariants as events
 use Rattle.iom_machine.specs.declared.outcome.Outcome.{Outcome}
 use Rattle.iom_machine.specs.declared.outcome.Outcome.TheVariants as outcomes
-use Rattle.iom_script.specs.Grammar.{IsEventLine, IsWorldLine, is_spoken}
+use Rattle.iom_script.specs.Grammar.{IsEventLine, is_spoken}
 use Rattle.iom_script.specs.Lines.{line_of}
 use Rattle.iom_script.specs.Words.{◌␣◌, IsNumber}
 use Rattle.iom_script.specs.declared.script.WorldSize.{WorldSize}
-use Rattle.iom_trace_lines.specs.WorldLimits.{limits_text}
+use Rattle.iom_trace_lines.specs.WorldLimits.{limits_text, SaysSize}
 use Rattle.iom_trace_lines.specs.declared.trace.TraceLine.{TraceLine}
 use Rattle.iom_trace_lines.specs.declared.trace.TraceLine.TheVariants as lines
 use Rattle.iom_trace_lines.specs.declared.trace.WorldLimits.{WorldLimits}
@@ -87,7 +87,7 @@ SaysWhat line event outcome has_tables on (Some access) tables = ShowsAccess lin
 -- The line, without its line feed, says this. The frames of its tables stand beside.
 abbrev pub SaysLine : List ℕ → Said → List ℕ → Type 0
 SaysLine line Nothing tables = is_spoken line ≡ false
-SaysLine line (World size limits) tables = (said : List ℕ) × IsWorldLine said size × (line ≡ said ++ limits_text limits ++ codes " => ok")
+SaysLine line (World size limits) tables = (said : List ℕ) × SaysSize limits said size × (line ≡ said ++ limits_text limits ++ codes " => ok")
 SaysLine line (Step event outcome has_tables on began) tables = SaysWhat line event outcome has_tables on began tables
 SaysLine line Bad tables = ⊤
 

@@ -1,7 +1,10 @@
 -- How much the machine of a trace allows at a time, and the word that says so.
-use Rattle.std.specs.Prelude.{ℕ, ◌-◌, ◌^◌, List, [], Some, codes}
+use Rattle.std.specs.Prelude.{◌≡◌, ℕ, ◌-◌, ◌^◌, ◌≤◌, List, [], Some, codes}
 use Rattle.iom_machine.specs.PowerOn.{model_limits}
 use Rattle.iom_machine.specs.declared.state.Limits.{Limits}
+use Rattle.iom_script.specs.Grammar.{IsWorldLine}
+use Rattle.iom_script.specs.Words.{◌␣◌, IsNumber}
+use Rattle.iom_script.specs.declared.script.WorldSize.{WorldSize}
 use Rattle.iom_trace_lines.specs.declared.trace.WorldLimits.{WorldLimits}
 use Rattle.iom_trace_lines.specs.declared.trace.WorldLimits.TheVariants.{OfModel, Unlimited}
 
@@ -18,3 +21,17 @@ limits_of Unlimited = largest_limits
 abbrev pub limits_text : WorldLimits → List ℕ
 limits_text OfModel = []
 limits_text Unlimited = codes " unlimited"
+
+-- how large a world may be that has no limits
+abbrev pub IsLargeSize : WorldSize → Type 0
+IsLargeSize size = (64 ≤ size.frames) × (size.frames ≤ 2 ^ 40) × (1 ≤ size.levels) × (size.levels ≤ 3)
+
+-- the line, without what stands behind the size, says how large such a world is
+abbrev pub IsLargeWorldLine : List ℕ → WorldSize → Type 0
+IsLargeWorldLine line size =
+    (f l : List ℕ) × IsNumber f size.frames × IsNumber l size.levels × IsLargeSize size × (line ≡ codes "world" ␣ f ␣ l)
+
+-- the same of a world with these limits: one of the model's is as large as that of a script
+abbrev pub SaysSize : WorldLimits → List ℕ → WorldSize → Type 0
+SaysSize OfModel line size = IsWorldLine line size
+SaysSize Unlimited line size = IsLargeWorldLine line size

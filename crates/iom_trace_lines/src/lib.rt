@@ -10,6 +10,7 @@ mod kept;
 mod line;
 mod outcomes;
 mod reading;
+mod sizes;
 mod trace;
 mod words;
 mod zipping;

@@ -10,12 +10,13 @@ ghost use Rattle.iom_trace_lines.specs.TraceLines.{EventAsksFor, frames_text, is
 
 use crate::kept::KeptOutcomes;
 use crate::outcomes::read_outcome;
+use crate::sizes::size_of;
 use crate::trace::{Behind, TraceLine, WorldLimits};
-use crate::words::short_number_of;
+use crate::words::frame_of;
 use iom_base::{Access, AccessKind, DeviceId, Sequence};
 use iom_machine::{Event, Outcome};
 use iom_script::words::{after, is_word};
-use iom_script::{LineBuffer, event_of, is_spoken, world_of};
+use iom_script::{LineBuffer, event_of, is_spoken};
 use memchr::{memchr, memchr_iter};
 use std::alloc::{AllocError, Global};
 
@@ -47,7 +48,7 @@ fn first_word(text: &[u8]) -> (&[u8], &[u8])
 }
 
 /// The frames that the text names, with a space before each. False where it names none.
-fn read_frames(text: &[u8], frames: &mut Vec<u32>) -> Result<bool, AllocError>
+fn read_frames(text: &[u8], frames: &mut Vec<u64>) -> Result<bool, AllocError>
     requires { frames.old.items ≡ [] }
     ensures { IfOk result (λ read. IsTrue read → text.now ≡ frames_text frames.new.items) }
 {
@@ -60,7 +61,7 @@ fn read_frames(text: &[u8], frames: &mut Vec<u32>) -> Result<bool, AllocError>
             return Ok(false);
         };
         let (word, behind) = first_word(words);
-        let Some(frame) = short_number_of(word) else {
+        let Some(frame) = frame_of(word) else {
             return Ok(false);
         };
         frames.push(frame)?;
@@ -89,7 +90,7 @@ fn read_behind(
     event: &Event,
     outcome: &Outcome,
     behind: &[u8],
-    tables: &mut Vec<u32>,
+    tables: &mut Vec<u64>,
 ) -> Result<Option<Behind>, AllocError>
     requires { tables.old.items ≡ [] }
     ensures { IfOk result (λ read. IfSome read (λ it. TraceMayShow event.now outcome.now it.has_tables it.on
@@ -110,7 +111,7 @@ fn read_behind(
     if !is_accepted(outcome) {
         return Ok(None);
     }
-    match short_number_of(word) {
+    match frame_of(word) {
         None => Ok(None),
         Some(frame) => Ok(Some(Behind {
             has_tables: false,
@@ -186,7 +187,7 @@ fn read_step<'a>(
     alloc: Global,
     printed: &mut LineBuffer,
     kept: &'a mut KeptOutcomes,
-    tables: &mut Vec<u32>,
+    tables: &mut Vec<u64>,
     said: &[u8],
     answered: &[u8],
 ) -> Result<TraceLine<'a>, AllocError>
@@ -241,23 +242,21 @@ fn is_granted(answered: Option<&[u8]>) -> bool
 }
 
 /// The frame of which it is said that it is now given to somebody else.
-fn handed_off(said: &[u8]) -> Option<u32>
+fn handed_off(said: &[u8]) -> Option<u64>
     ensures { IfSome result (λ frame. (word : List ℕ) × IsNumber word frame × (said.now ≡ codes "handoff" ␣ word)) }
 {
     let word = after(said, b"handoff ")?;
-    short_number_of(word)
+    frame_of(word)
 }
 
 /// The claim that a frame is now given to somebody else: that it is free.
-fn handoff(kept: &mut KeptOutcomes, frame: u32) -> TraceLine<'_>
+fn handoff(kept: &mut KeptOutcomes, frame: u64) -> TraceLine<'_>
     ensures { said_of result ≢ Bad → said_of result ≡ Step (events.Free frame) (outcomes.Free true) false None None }
 {
     match kept.is_free() {
         None => TraceLine::Bad,
         Some(outcome) => TraceLine::Step {
-            event: Event::Free {
-                frame: u64::from(frame),
-            },
+            event: Event::Free { frame },
             outcome,
             has_tables: false,
             on: None,
@@ -289,7 +288,7 @@ fn read_world(said: &[u8], answer: &[u8]) -> TraceLine<'static>
     let Some((sized, limits)) = cut_limits(said) else {
         return TraceLine::Bad;
     };
-    match world_of(sized) {
+    match size_of(limits, sized) {
         None => TraceLine::Bad,
         Some(size) => TraceLine::World(size, limits),
     }
@@ -300,7 +299,7 @@ pub fn read_line<'a>(
     alloc: Global,
     printed: &mut LineBuffer,
     kept: &'a mut KeptOutcomes,
-    tables: &mut Vec<u32>,
+    tables: &mut Vec<u64>,
     has_world: bool,
     line: &[u8],
 ) -> Result<TraceLine<'a>, AllocError>

@@ -45,7 +45,7 @@ pub enum TraceLine<'a> {
         event: Event,
         outcome: &'a Outcome,
         has_tables: bool,
-        on: Option<u32>,
+        on: Option<u64>,
         began: Option<Access>,
     },
     /// It isn't in the grammar.
@@ -67,5 +67,5 @@ pub enum NextLine {
 #[derive(Clone, Copy)]
 pub(crate) struct Behind {
     pub(crate) has_tables: bool,
-    pub(crate) on: Option<u32>,
+    pub(crate) on: Option<u64>,
 }

@@ -22,6 +22,13 @@ pub(crate) fn short_number_of(word: &[u8]) -> Option<u32>
     u32::try_from(number).ok()
 }
 
+/// The frame that the word names.
+pub(crate) fn frame_of(word: &[u8]) -> Option<u64>
+    ensures { IfSome result (IsNumber word.now) }
+{
+    number_of(word)
+}
+
 /// The number that `0x` and sixteen hexadecimal digits say.
 pub(crate) fn word_of(text: &[u8]) -> Option<u64> {
     if text.len() != 18 {

@@ -1,11 +1,11 @@
 //! `iommu-judge [--help | --version | FILE]` judges the trace in the file, or on standard input: it prints `lawful`, or the first line that
-//! can't have come, with the reason, or the first that couldn't be followed, where none is found unlawful. The
-//! repository's `docs/JUDGE.md` says how a trace is written, and what the verdicts mean.
+//! can't have come, with the reason, or the first of which that depends on what the trace doesn't show, and how it may show
+//! that. The repository's `docs/JUDGE.md` says how a trace is written, and what the verdicts mean.
 //!
-//! The exit status is 0 where the trace is lawful, which is proved then, 1 where it isn't or where that can't be decided,
-//! 2 where a line isn't in the grammar, 3 where the command line isn't lawful, 4 where reading, writing or memory failed,
-//! and 5 where no line was found unlawful, and the trace isn't certified. What goes wrong is told on standard error, as
-//! `iommu-judge: NAME: TEXT`. Where that is a terminal, it also tells every ten million lines how far it is.
+//! The exit status is 0 where the trace is lawful, which is proved then, 1 where it isn't, 2 where a line isn't in the grammar,
+//! 3 where the command line isn't lawful, 4 where reading, writing or memory failed, 5 where no line was found unlawful, and
+//! the trace isn't certified, and 6 where a line may not come by the model's limits alone. What goes wrong is told on
+//! standard error, as `iommu-judge: NAME: TEXT`. Where that is a terminal, it also tells every ten million lines how far it is.
 #![tactic(auto)]
 
 mod progress;
@@ -28,6 +28,8 @@ const BAD_COMMAND_LINE: u8 = 3;
 const FAILED: u8 = 4;
 
 const NOT_CERTIFIED: u8 = 5;
+
+const BEYOND_LIMITS: u8 = 6;
 
 const USAGE: &str = "iommu-judge [--help | --version | FILE]";
 
@@ -64,7 +66,11 @@ fn tell(rt: &HostRuntime, name: &str, verdict: &Verdict) -> io::Result<u8> {
             println!(rt; "{verdict}")?;
             Ok(NOT_CERTIFIED)
         }
-        Verdict::Unlawful { .. } | Verdict::Undecided { .. } => {
+        Verdict::Beyond { .. } => {
+            println!(rt; "{verdict}")?;
+            Ok(BEYOND_LIMITS)
+        }
+        Verdict::Unlawful { .. } => {
             println!(rt; "{verdict}")?;
             Ok(NOT_LAWFUL)
         }

@@ -6,16 +6,14 @@ use Rattle.iom_judge.proofs.judging.judge_lines.Goals as goal
 
 pub returns-in-Some : goal.returns-in-Some
 returns-in-Some g c first judged =
-    let judges = c.judge_next.new.judges in
     let lines = c.judge_next.new.lines in
     subst (λ (found : Option Verdict). MatchOption found
-    (HasJudged judges.behind judges.window.items lines.buffer.items lines.start lines.end first (g.R.Read.remaining c.judge_next.new.reader))
+    (HasJudged c.judge_next.new.judge lines.buffer.items lines.start lines.end first (g.R.Read.remaining c.judge_next.new.reader))
     (λ verdict. IfSome first (IsSoOf verdict))) c.in-Some.is (c.in_ok-verdict.ensures first (c.loop.invariant first judged))
 
 pub loop-preserved : goal.loop-preserved
 loop-preserved g c first judged =
-    let judges = c.judge_next.new.judges in
     let lines = c.judge_next.new.lines in
     subst (λ (found : Option Verdict). MatchOption found
-    (HasJudged judges.behind judges.window.items lines.buffer.items lines.start lines.end first (g.R.Read.remaining c.judge_next.new.reader))
+    (HasJudged c.judge_next.new.judge lines.buffer.items lines.start lines.end first (g.R.Read.remaining c.judge_next.new.reader))
     (λ verdict. IfSome first (IsSoOf verdict))) c.in_default.is (c.in_ok-verdict.ensures first (c.loop.invariant first judged))

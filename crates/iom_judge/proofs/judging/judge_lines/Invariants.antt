@@ -2,9 +2,9 @@ use Rattle.std.proofs.Common.{ℕ, List, Option}
 use Rattle.iom_judge.specs.Certified.{HasJudged}
 use Rattle.iom_judge.proofs.judging.judge_lines.Given as goal
 
--- the judges have taken some lines
+-- the judge has taken some lines
 abbrev pub invariant-loop : goal.invariant-loop
 invariant-loop g l =
     (first : Option (List ℕ))
-    → HasJudged l.fn.judges.behind l.fn.judges.window.items l.fn.lines.buffer.items l.fn.lines.start l.fn.lines.end first (g.R.Read.remaining l.fn.reader)
-    → HasJudged l.judges.behind l.judges.window.items l.lines.buffer.items l.lines.start l.lines.end first (g.R.Read.remaining l.reader)
+    → HasJudged l.fn.judge l.fn.lines.buffer.items l.fn.lines.start l.fn.lines.end first (g.R.Read.remaining l.fn.reader)
+    → HasJudged l.judge l.lines.buffer.items l.lines.start l.lines.end first (g.R.Read.remaining l.reader)

@@ -1,3 +1,0 @@
-pub mod Begun
-pub mod Doubted
-pub mod Followed

@@ -1,0 +1,213 @@
+// What was guessed of what lines don't show, and which line depends on it.
+use crate::missing::{Begun, Missing};
+use crate::settled::device_with;
+use iom_base::{AcceptedAccess, DeviceId, PAGE_SIZE, Refusal};
+use iom_kept_state::KeptState;
+use iom_machine::{Device, Event, Outcome};
+use iom_machine_judge::reasons::{attach_refusal, grant_refusal};
+use std::alloc::{AllocError, Global};
+
+/// What was guessed.
+#[derive(Drop)]
+pub(crate) struct Guesses {
+    /// Whether a line has shown which frames became tables. Then those that don't took none.
+    shows_tables: bool,
+    /// The first line that took some and doesn't show them.
+    tables: Option<Missing>,
+    /// The accesses in flight of which something was guessed.
+    in_flight: Vec<Missing>,
+    /// The first of them that was a write, and was made: bytes may be elsewhere.
+    made: Option<Missing>,
+}
+
+/// The number of the device's oldest access in flight.
+fn oldest_number(device: &Device) -> u64 {
+    let count = device.in_flight.as_slice().len() as u64;
+    device.accepted.saturating_sub(count).saturating_add(1)
+}
+
+/// Whether this is missing of the device's access with this number.
+fn is_of(missing: Missing, device: DeviceId, number: u64) -> bool {
+    match missing {
+        Missing::Tables { .. } => false,
+        Missing::Frame(begun) | Missing::Access(begun) => {
+            begun.device == device && begun.number == number
+        }
+    }
+}
+
+/// Whether the device may still reach the frame of its access once the tickets are confirmed up to this one.
+fn may_stay(kept: &KeptState, device: &Device, flight: &AcceptedAccess, last: u32) -> bool {
+    if last < kept.grants.last_confirmed() {
+        return true;
+    }
+    let page = flight.access.address / PAGE_SIZE;
+    kept.grants
+        .may_once(device.id, page, flight.frame, flight.access.kind, last)
+}
+
+impl Guesses {
+    pub(crate) fn new(alloc: Global) -> Guesses {
+        Guesses {
+            shows_tables: false,
+            tables: None,
+            in_flight: Vec::new(alloc),
+            made: None,
+        }
+    }
+
+    /// A line shows which frames became tables.
+    pub(crate) fn note_tables(&mut self) {
+        self.shows_tables = true;
+    }
+
+    /// Something was guessed.
+    pub(crate) fn note(&mut self, missing: Missing) -> Result<(), AllocError> {
+        match missing {
+            Missing::Tables { .. } => {
+                if !self.shows_tables && self.tables.is_none() {
+                    self.tables = Some(missing);
+                }
+                Ok(())
+            }
+            _ => {
+                self.in_flight.push(missing)?;
+                Ok(())
+            }
+        }
+    }
+
+    /// What was guessed of the device's access with this number.
+    fn of(&self, device: DeviceId, number: u64) -> Option<Missing> {
+        for missing in &self.in_flight {
+            if is_of(*missing, device, number) {
+                return Some(*missing);
+            }
+        }
+        None
+    }
+
+    /// What was guessed of the access that the event makes, if it is a commit.
+    pub(crate) fn of_oldest(&self, kept: &KeptState, event: &Event) -> Option<Missing> {
+        let Event::Commit { device: id } = event else {
+            return None;
+        };
+        if self.in_flight.is_empty() {
+            return None;
+        }
+        let device = device_with(kept.devices.as_slice(), *id)?;
+        self.of(*id, oldest_number(device))
+    }
+
+    /// The access of which this was guessed was made.
+    pub(crate) fn make(&mut self, made: Missing, outcome: &Outcome) {
+        if matches!(outcome, Outcome::Wrote(_)) && self.made.is_none() {
+            self.made = Some(made);
+        }
+        let (Missing::Frame(begun) | Missing::Access(begun)) = made else {
+            return;
+        };
+        let Begun { device, number, .. } = begun;
+        self.in_flight.retain(|missing: &Missing| -> bool { !is_of(*missing, device, number) });
+    }
+
+    /// What bytes in memory depend on.
+    fn of_bytes(&self) -> Option<Missing> {
+        match self.made {
+            Some(missing) => Some(missing),
+            None => self.tables,
+        }
+    }
+
+    /// What the refusal of a commit depends on: of an access that was guessed on that, of another on the bytes that it reads.
+    fn of_commit(&self, kept: &KeptState, event: &Event, outcome: &Outcome) -> Option<Missing> {
+        match self.of_oldest(kept, event) {
+            Some(missing) => Some(missing),
+            None => match outcome {
+                Outcome::Read(_) => self.of_bytes(),
+                _ => None,
+            },
+        }
+    }
+
+    /// What the refusal of a grant depends on: whether the frame is a table, or how many are free.
+    fn of_grant(&self, first: Option<Refusal>, outcome: &Outcome) -> Option<Missing> {
+        match outcome {
+            Outcome::Refused(Refusal::FrameReserved) => match first {
+                None | Some(Refusal::IovaOutOfRange | Refusal::IovaBusy) => self.tables,
+                _ => None,
+            },
+            Outcome::Refused(Refusal::NoFrames) => match first {
+                None => self.tables,
+                _ => None,
+            },
+            _ => None,
+        }
+    }
+
+    /// What the refusal of an answer about a frame depends on, where it says that the frame is somebody's.
+    fn of_frame(&self, outcome: &Outcome) -> Option<Missing> {
+        match outcome {
+            Outcome::Free(false) | Outcome::Refused(Refusal::FrameReserved) => self.tables,
+            Outcome::Bytes(_) => self.of_bytes(),
+            _ => None,
+        }
+    }
+
+    /// The first access of the device that couldn't stay once the tickets are confirmed up to this one: none, where each may; and
+    /// what was guessed of it, if that was.
+    fn first_to_stay(
+        &self,
+        kept: &KeptState,
+        device: &Device,
+        last: u32,
+    ) -> Option<Option<Missing>> {
+        let first = oldest_number(device);
+        for (index, flight) in device.in_flight.as_slice().iter().enumerate() {
+            if !may_stay(kept, device, flight, last) {
+                return Some(self.of(device.id, first.saturating_add(index as u64)));
+            }
+        }
+        None
+    }
+
+    /// What the refusal of a poll depends on: the guesses of accesses that couldn't stay, where there is none that wasn't guessed.
+    fn of_poll(&self, kept: &KeptState, outcome: &Outcome) -> Option<Missing> {
+        let Outcome::Confirmed { first, last, .. } = outcome else {
+            return None;
+        };
+        if *first != kept.grants.last_confirmed().saturating_add(1) || *last > kept.grants.given {
+            return None;
+        }
+        for device in kept.devices.as_slice() {
+            if let Some(found) = self.first_to_stay(kept, device, *last) {
+                return found;
+            }
+        }
+        None
+    }
+
+    /// What it depends on that this may not come of the event: a guess, if there is one.
+    pub(crate) fn behind(
+        &self,
+        kept: &KeptState,
+        event: &Event,
+        outcome: &Outcome,
+    ) -> Option<Missing> {
+        match event {
+            Event::Commit { .. } => self.of_commit(kept, event, outcome),
+            Event::Poll => self.of_poll(kept, outcome),
+            Event::Grant {
+                device,
+                page,
+                frame,
+                ..
+            } => self.of_grant(grant_refusal(kept, *device, *page, *frame), outcome),
+            Event::Attach { device, ats, .. } => {
+                self.of_grant(attach_refusal(kept, *device, *ats), outcome)
+            }
+            Event::Free { .. } | Event::Poke { .. } | Event::Peek { .. } => self.of_frame(outcome),
+            _ => None,
+        }
+    }
+}

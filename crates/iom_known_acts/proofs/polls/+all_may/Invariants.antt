@@ -1,5 +1,0 @@
-use Rattle.std.proofs.Common.{length}
-use Rattle.iom_known_acts.proofs.polls.+all_may.Given as goal
-
-abbrev pub decreases-all_may : goal.decreases-all_may
-decreases-all_may l = length l.devices.now

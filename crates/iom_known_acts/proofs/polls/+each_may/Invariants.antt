@@ -1,5 +1,0 @@
-use Rattle.std.proofs.Common.{length}
-use Rattle.iom_known_acts.proofs.polls.+each_may.Given as goal
-
-abbrev pub decreases-each_may : goal.decreases-each_may
-decreases-each_may l = length l.in_flight.now
