@@ -15,7 +15,7 @@ use Rattle.iom_base.specs.declared.owner.Owner.TheVariants.{System, OneDevice}
 use Rattle.iom_machine.specs.declared.state.State.{State}
 use Rattle.iom_machine.specs.Frames.{IsFree, IsFreeBesides, reserved_for}
 use Rattle.iom_machine.specs.Devices.{device_of, with_device, DeviceMay, EachInFlightMay}
-use Rattle.iom_machine.specs.Tickets.{AreNextTickets, with_confirmed}
+use Rattle.iom_machine.specs.Tickets.{MayConfirm, with_confirmed}
 use Rattle.iom_base.specs.Refusals.{NoneApplies}
 use Rattle.iom_machine.specs.Refusals.{attach_reasons, detach_reasons, grant_reasons, quarantine_reasons, revive_reasons}
 use Rattle.iom_machine.specs.Judging.{StandsAt}
@@ -128,7 +128,7 @@ revived_as old id place device devices none is_place at d new =
     )
 
 -- the state after a poll
-pub confirmed_as : (old : State) (first last : ℕ) (timed_out : Bool) (history : History) → AreNextTickets old first last → history ≡ confirmed_from first (suc (last - first)) old.history
+pub confirmed_as : (old : State) (first last : ℕ) (timed_out : Bool) (history : History) → MayConfirm old first last → history ≡ confirmed_from first (suc (last - first)) old.history
     → All (DeviceMay history) old.devices
     → (next : State) → next ≡ with_left (record { limits = old.limits; levels = old.levels; frames = old.frames; history = history; last_ticket = old.last_ticket; devices = old.devices; disks = old.disks })
     → (new : State) → (◌≡◌ {A = Option State} (Some next) (Some new)) ↔ Polls old (Confirmed first last timed_out) new

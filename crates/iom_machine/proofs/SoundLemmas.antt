@@ -39,7 +39,7 @@ use Rattle.iom_machine.specs.ThroughCache.{state_after_cached}
 use Rattle.iom_machine.specs.Machine.{Requests, RequestsThroughCache, InsertsDisk, Steps, Makes, Commits, Step, Run}
 use Rattle.iom_machine.specs.PowerOn.{opening, empty_frame}
 use Rattle.iom_machine.specs.Leaving.{is_of_left, given_back}
-use Rattle.iom_machine.specs.Tickets.{with_confirmed}
+use Rattle.iom_machine.specs.Tickets.{with_confirmed, IsLastPending, MayConfirm, MayTake}
 use Rattle.iom_machine.specs.Headline.{GrantsFrameTo}
 use Rattle.iom_machine.specs.Laws.{IsReached}
 use Rattle.iom_virtqueue.specs.Layouts.{layout_of}
@@ -224,14 +224,36 @@ same_ledger-steps access chosen old new id outcome step = (
   kept_by_step (λ (s : State). s.last_ticket) (λ s devices. refl) access chosen old new id outcome step,
 )
 
+-- the ticket is the next one, or the last, and isn't confirmed
+abbrev TakesTicket : State → ℕ → Type 0
+TakesTicket old ticket = (ticket ≡ old.last_ticket + 1) ⊎ IsLastPending old ticket
+
+taken : (old : State) (ticket : ℕ) → MayTake old ticket → TakesTicket old ticket
+taken old ticket (inl next) = inl next
+taken old ticket (inr shared) = inr shared.1
+
+-- it isn't confirmed, and none was given after it
+taken_fresh : (old : State) (ticket : ℕ) → WereGiven old.history old.last_ticket → TakesTicket old ticket → confirms old.history ticket ≡ false
+taken_fresh old ticket given (inl next) = ap (confirms old.history) next ∙ fresh_ticket old.history old.last_ticket given
+taken_fresh old ticket given (inr last) = last.2
+
+taken_last : (old : State) (ticket : ℕ) → TakesTicket old ticket → old.last_ticket ≤ ticket
+taken_last old ticket (inl next) = omega (arith, next)
+taken_last old ticket (inr last) = let is = last.1 in omega (arith, is)
+
 -- How a step changes the ledger.
 pub data Change (event : Event) (outcome : Outcome) (old new : State) : Type 0 where
   ledger_stays : SameLedger old new → Change event outcome old new
   grants : (id page frame : ℕ) (rights : Rights) → GrantsFrameTo event outcome id frame → frame < length old.frames → held_at old.history id page ≡ None → new.history ≡ entries.Granted id page frame rights ∷ old.history → new.last_ticket ≡ old.last_ticket → Change event outcome old new
   detaches : new.history ≡ old.history → new.last_ticket ≡ old.last_ticket + 1 → Change event outcome old new
-  releases : (id page : ℕ) → new.history ≡ entries.Released id page new.last_ticket ∷ old.history → new.last_ticket ≡ old.last_ticket + 1 → Change event outcome old new
+  releases : (id page : ℕ) → new.history ≡ entries.Released id page new.last_ticket ∷ old.history → TakesTicket old new.last_ticket → Change event outcome old new
   releases_all : (id : ℕ) → new.history ≡ entries.AllReleased id new.last_ticket ∷ old.history → new.last_ticket ≡ old.last_ticket + 1 → Change event outcome old new
   confirms_some : (first n : ℕ) → first + n ≤ old.last_ticket + 1 → new.history ≡ confirmed_from first n old.history → new.last_ticket ≡ old.last_ticket → EachInFlightMay new → Change event outcome old new
+
+-- tickets that may be confirmed were given
+confirmable : (old : State) (first last : ℕ) → MayConfirm old first last → (first ≤ last) × (last ≤ old.last_ticket)
+confirmable old first last (inl next) = (next.1, next.2)
+confirmable old first last (inr pending) = (pending.1.1, pending.1.2)
 
 unchanged : (event : Event) (outcome : Outcome) (old new : State) → new ≡ old → Change event outcome old new
 unchanged event outcome old new same = Change.ledger_stays (all_same old new same)
@@ -255,7 +277,7 @@ change-step old new (events.Grant id page frame rights) (Refused why) (choice, s
 change-step old new (events.Grant id page frame rights) _ (choice, step) = absurd step
 change-step old new (events.Release id page) (Ticket ticket) (choice, step) =
     let given : new.last_ticket ≡ ticket = ap (λ (s : State). s.last_ticket) step.2 in
-    Change.releases id page (ap (λ (s : State). s.history) step.2 ∙ ap (λ t. entries.Released id page t ∷ old.history) (sym given)) (given ∙ step.1)
+    Change.releases id page (ap (λ (s : State). s.history) step.2 ∙ ap (λ t. entries.Released id page t ∷ old.history) (sym given)) (subst (TakesTicket old) (sym given) (taken old ticket step.1))
 change-step old new (events.Release id page) (Refused why) (choice, step) = unchanged _ _ old new step.1
 change-step old new (events.Release id page) _ (choice, step) = absurd step
 change-step old new (events.Quarantine id) (Ticket ticket) (choice, step) =
@@ -277,7 +299,7 @@ change-step old new events.Timeout TimedOut (choice, step) = unchanged _ _ old n
 change-step old new events.Timeout NoEffect (choice, step) = unchanged _ _ old new step
 change-step old new events.Timeout _ (choice, step) = absurd step
 change-step old new events.Poll (Confirmed first last timed_out) (choice, step) =
-    let upward : first ≤ last = step.0.1 in let most : last ≤ old.last_ticket = step.0.2 in
+    let within = confirmable old first last step.0 in let upward : first ≤ last = within.0 in let most : last ≤ old.last_ticket = within.1 in
     Change.confirms_some first (suc (last - first)) (omega arith) (ap (λ (s : State). s.history) step.1) (ap (λ (s : State). s.last_ticket) step.1) step.2
 change-step old new events.Poll (NoneConfirmed timed_out) (choice, step) = unchanged _ _ old new step
 change-step old new events.Poll _ (choice, step) = absurd step
@@ -323,7 +345,7 @@ reaches-change event outcome old new (Change.grants id page frame rights granted
 reaches-change event outcome old new (Change.releases id page extended next) given all =
     subst (λ h. AllInFlight (StillMay h) new.devices) (sym extended)
     (AllInFlight-weaker (StillMay old.history) _ (λ d flight may. reach_after_release old.history id page new.last_ticket
-    (ap (confirms old.history) next ∙ fresh_ticket old.history old.last_ticket given) d flight.frame flight.access.kind may) new.devices all)
+    (taken_fresh old new.last_ticket given next) d flight.frame flight.access.kind may) new.devices all)
 reaches-change event outcome old new (Change.releases_all id extended next) given all =
     subst (λ h. AllInFlight (StillMay h) new.devices) (sym extended)
     (AllInFlight-weaker (StillMay old.history) _ (λ d flight may. reach_after_release_of_all old.history id new.last_ticket
@@ -338,7 +360,7 @@ tickets-change event outcome old new (Change.detaches stays next) given =
 tickets-change event outcome old new (Change.grants id page frame rights granted low empty extended tickets) given = rw (extended, tickets) given
 tickets-change event outcome old new (Change.releases id page extended next) given =
     λ t c. let before : confirms old.history t ≡ true = subst (λ h. confirms h t ≡ true) extended c in
-    let below : t ≤ old.last_ticket = given t before in omega (arith, next)
+    let below : t ≤ old.last_ticket = given t before in let later = taken_last old new.last_ticket next in omega (arith, below, later)
 tickets-change event outcome old new (Change.releases_all id extended next) given =
     λ t c. let before : confirms old.history t ≡ true = subst (λ h. confirms h t ≡ true) extended c in
     let below : t ≤ old.last_ticket = given t before in omega (arith, next)

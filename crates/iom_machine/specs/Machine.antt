@@ -24,7 +24,7 @@ use Rattle.iom_base.specs.declared.owner.Owner.TheVariants.{System, OneDevice}
 use Rattle.iom_machine.specs.declared.state.State.{State}
 use Rattle.iom_machine.specs.Frames.{is_reserved, IsFree, IsFreeBesides, reserved_for, bytes_of, stored}
 use Rattle.iom_machine.specs.Devices.{device_of, with_device, EachInFlightMay}
-use Rattle.iom_machine.specs.Tickets.{AreNextTickets, with_confirmed}
+use Rattle.iom_machine.specs.Tickets.{with_confirmed, MayConfirm, MayTake}
 use Rattle.iom_base.specs.Refusals.{NoneApplies, IsRefusedBy}
 use Rattle.iom_machine.specs.Refusals.{MayRefusePlug, MayRefuseAttach, MayRefuseGrant, MayRefuseRestart, MayFindNoPlace, NeverElse, plug_reasons, attach_reasons, detach_reasons, grant_reasons, release_reasons, quarantine_reasons, revive_reasons, frame_reasons, poke_reasons}
 use Rattle.iom_base.specs.Accesses.{read_of, write_of, offset_of}
@@ -87,10 +87,10 @@ Grants taken old id page frame rights (Refused why) new =
     IsRefusedBy (grant_reasons old id page frame) (MayRefuseGrant old id frame) why × (new ≡ old)
 Grants taken old id page frame rights _ new = ⊥
 
--- What the device holds at a page is released, under the next ticket.
+-- What the device holds at a page is released, under the next ticket, or one that it may share.
 abbrev pub Releases : State → ℕ → ℕ → Outcome → State → Type 0
 Releases old id page (Ticket ticket) new =
-    NoneApplies (release_reasons old id page) × (ticket ≡ old.last_ticket + 1)
+    NoneApplies (release_reasons old id page) × MayTake old ticket
     × (new ≡ record old { history = entry.Released id page ticket ∷ old.history; last_ticket = ticket })
 Releases old id page (Refused why) new =
     IsRefusedBy (release_reasons old id page) MayFindNoPlace why × (new ≡ old)
@@ -134,11 +134,11 @@ TimesOut old TimedOut new = new ≡ old
 TimesOut old NoEffect new = new ≡ old
 TimesOut old _ new = ⊥
 
--- Some of the oldest pending tickets are confirmed, such that each access in flight may still reach its frame, and devices that were leaving under
+-- Some of the oldest pending tickets are confirmed, or, where no order is asked for, of any that are pending, such that each access in flight may still reach its frame, and devices that were leaving under
 -- them are detached, with their frames given back; or none is confirmed.
 abbrev pub Polls : State → Outcome → State → Type 0
 Polls old (Confirmed first last timed_out) new =
-    AreNextTickets old first last × (new ≡ with_left (with_confirmed old first last)) × EachInFlightMay new
+    MayConfirm old first last × (new ≡ with_left (with_confirmed old first last)) × EachInFlightMay new
 Polls old (NoneConfirmed timed_out) new = new ≡ old
 Polls old _ new = ⊥
 

@@ -84,6 +84,8 @@ pub struct Limits {
     pub devices: u64,
     /// The pages that may be granted to a device are below this; `None`: as many as the mode translates in which it is attached.
     pub pages: Option<u64>,
+    /// Whether each release takes a ticket of its own, and tickets are confirmed in their order.
+    pub in_order: bool,
 }
 
 impl Limits {
@@ -100,6 +102,7 @@ impl Limits {
             in_flight: MAX_IN_FLIGHT as u64,
             devices: MAX_DEVICES as u64,
             pages: None,
+            in_order: true,
         }
     }
 

@@ -108,7 +108,7 @@ release_is_answered state id page = by (first_that_applies (release_reasons stat
     by None none = (
       Ticket (state.last_ticket + 1),
       record state { history = entry.Released id page (state.last_ticket + 1) ∷ state.history; last_ticket = state.last_ticket + 1 },
-      (no_choice, (none, refl, refl)),
+      (no_choice, (none, inl refl, refl)),
     )
     by (Some why) some = (Refused why, state, (no_choice, (refused_first (release_reasons state id page) MayFindNoPlace why some, refl)))
 

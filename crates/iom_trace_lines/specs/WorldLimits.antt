@@ -1,5 +1,5 @@
 -- How much the machine of a trace allows at a time, and the word that says so.
-use Rattle.std.specs.Prelude.{◌≡◌, ℕ, ◌-◌, ◌^◌, ◌≤◌, List, [], Some, codes}
+use Rattle.std.specs.Prelude.{◌≡◌, ℕ, ◌-◌, ◌^◌, ◌≤◌, List, [], Some, false, codes}
 use Rattle.iom_machine.specs.PowerOn.{model_limits}
 use Rattle.iom_machine.specs.declared.state.Limits.{Limits}
 use Rattle.iom_script.specs.Grammar.{IsWorldLine}
@@ -8,9 +8,9 @@ use Rattle.iom_script.specs.declared.script.WorldSize.{WorldSize}
 use Rattle.iom_trace_lines.specs.declared.trace.WorldLimits.{WorldLimits}
 use Rattle.iom_trace_lines.specs.declared.trace.WorldLimits.TheVariants.{OfModel, Unlimited}
 
--- limits that no trace comes to: as much as can be counted, and as many pages as an address of 64 bits can name
+-- limits that no trace comes to: as much as can be counted, as many pages as an address of 64 bits can name, and tickets in any order
 abbrev pub largest_limits : Limits
-largest_limits = record { pending = 2 ^ 64 - 1; in_flight = 2 ^ 64 - 1; devices = 2 ^ 64 - 1; pages = Some (2 ^ 52) }
+largest_limits = record { pending = 2 ^ 64 - 1; in_flight = 2 ^ 64 - 1; devices = 2 ^ 64 - 1; pages = Some (2 ^ 52); in_order = false }
 
 -- the limits of the machine
 abbrev pub limits_of : WorldLimits → Limits

@@ -27,6 +27,7 @@ impl WorldLimits {
                 in_flight: u64::MAX,
                 devices: u64::MAX,
                 pages: Some(1 << 52),
+                in_order: false,
             },
         }
     }

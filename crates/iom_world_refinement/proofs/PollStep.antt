@@ -1,5 +1,5 @@
 -- A poll confirms the oldest pending tickets in the ledger machine, such that each access in flight may still reach its frame, and gives back what devices had that left under them.
-use Rattle.std.proofs.Common.{suc, zero, ◌≡◌, ◌≢◌, ◌+◌, ◌-◌, ◌<◌, ◌≤◌, ◌==◌, ◌||◌, ◌∙◌, ℕ, Bool, true, false, not, nat_le, List, [], ◌∷◌, map, Option, Some, None, slice_get, Result, Ok, Err, refl, sym, ap, subst, arith, inl, inr, if◌then◌else◌}
+use Rattle.std.proofs.Common.{suc, zero, ◌≡◌, ◌≢◌, ◌+◌, ◌-◌, ◌<◌, ◌≤◌, ◌==◌, ◌||◌, ◌∙◌, ℕ, inl, Bool, true, false, not, nat_le, List, [], ◌∷◌, map, Option, Some, None, slice_get, Result, Ok, Err, refl, sym, ap, subst, arith, inl, inr, if◌then◌else◌}
 use Rattle.std.proofs.lemmas.Bool.{false≢true, or_from}
 use Rattle.std.proofs.lemmas.Bool.Decides.{eqb_tells, leb_tells}
 use Rattle.iom_base.specs.declared.owner.Owner.{Owner}
@@ -282,7 +282,7 @@ confirmed_so old new first count timed_out state may shows shows' shows_old most
     let given = shows.given in (
       with_left (with_confirmed state first (first + suc m - 1)),
       subst (λ b. machine.Polls state (if b then NoneConfirmed timed_out else Confirmed first (first + suc m - 1) timed_out) (with_left (with_confirmed state first (first + suc m - 1)))) (sym test) (
-        (omega (arith, begin, confirmed), omega arith, omega (arith, last, most, some, given)),
+        inl (omega (arith, begin, confirmed), omega arith, omega (arith, last, most, some, given)),
         refl,
         may (with_left (with_confirmed state first (first + suc m - 1))) shown,
       ),

@@ -1,5 +1,5 @@
 -- A release of the driver is one of the ledger machine.
-use Rattle.std.proofs.Common.{◌≡◌, ◌≢◌, ◌+◌, ◌∙◌, ℕ, List, [], ◌∷◌, length, Option, Some, None, Result, Ok, Err, slice_get, refl, sym, ap, subst, arith}
+use Rattle.std.proofs.Common.{◌≡◌, ◌≢◌, ◌+◌, ◌∙◌, ℕ, inl, List, [], ◌∷◌, length, Option, Some, None, Result, Ok, Err, slice_get, refl, sym, ap, subst, arith}
 use Rattle.iom_base.specs.Modes.{size_in}
 use Rattle.iom_base.specs.declared.owner.Owner.{Owner}
 use Rattle.iom_base.specs.declared.owner.Owner.TheVariants.{System, OneDevice}
@@ -88,7 +88,7 @@ release_step old new events id page told sound sound_driver does state shows = b
     by (Ok ticket) is call = (
       released state id page ticket.0,
       subst (λ t. machine.Releases state id page t (released state id page ticket.0)) (sym is)
-          (may_release old events state id page sound shows call.0, call.1.next ∙ ap (λ n. n + 1) (sym shows.given), refl),
+          (may_release old events state id page sound shows call.0, inl (call.1.next ∙ ap (λ n. n + 1) (sym shows.given)), refl),
       shows_released old new id page ticket.0 sound.ready.stand.size sound_driver call.1 does.devices state shows,
     )
     by (Err why) is call = (
