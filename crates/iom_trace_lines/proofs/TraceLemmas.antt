@@ -1,21 +1,21 @@
 -- Lines of a trace, put together of what was read of them.
 use Rattle.std.proofs.Common.{◌≡◌, ◌∙◌, ℕ, Bool, true, false, List, [], ◌∷◌, ◌++◌, Option, None, Some, MatchOption, IfSome, IsTrue, inl, inr, refl, sym, ap, append-nil, append_assoc}
-use Rattle.std.specs.Prelude.{codes, ⊤}
+use Rattle.std.specs.Prelude.{codes, ◌<◌, ◌+◌, ◌^◌, ⊤}
 use Rattle.std.specs.Borrow.{Bor}
 use Rattle.std.specs.Fmt.{decimal}
 use Rattle.std.proofs.lemmas.Bool.{false≢true}
 use Rattle.std.proofs.lemmas.List.{flat_map_more}
 use Rattle.iom_base.specs.declared.access.Access.{Access}
+use Rattle.iom_base.specs.declared.grant_rights.GrantRights.{GrantRights}
 use Rattle.iom_machine.specs.declared.event.Event.{Event}
 use Rattle.iom_machine.specs.declared.event.Event.TheVariants as events
 use Rattle.iom_machine.specs.declared.outcome.Outcome.{Outcome}
-use Rattle.iom_machine.specs.declared.outcome.Outcome.TheVariants as outcomes
 use Rattle.iom_script.specs.Cuts.{BeginsWithWord}
 use Rattle.iom_script.specs.Grammar.{IsEventLine}
 use Rattle.iom_script.specs.Lines.{line_of}
-use Rattle.iom_script.specs.Words.{◌␣◌, IsNumber}
+use Rattle.iom_script.specs.Words.{◌␣◌, IsDevice, IsNumber, IsRight}
 use Rattle.iom_script.specs.declared.script.WorldSize.{WorldSize}
-use Rattle.iom_trace_lines.specs.TraceLines.{EventAsksFor, frames_text, is_accepted, tables_text, on_text, TraceMayShow, SaysLine, World, Step}
+use Rattle.iom_trace_lines.specs.TraceLines.{EventAsksFor, frames_text, is_accepted, tables_text, on_text, made_text, IsPages, IsGrantsLine, IsReleasesLine, IsHandingLine, TraceMayShow, SaysLine, World, Step, Made, Grants, Releases, Handoff, Take}
 use Rattle.iom_trace_lines.specs.WorldLimits.{limits_text, IsLargeSize, IsLargeWorldLine, SaysSize}
 use Rattle.iom_trace_lines.specs.declared.trace.WorldLimits.{WorldLimits}
 
@@ -41,7 +41,7 @@ on_behind behind word frames frame is number = ap (λ (l : List ℕ). codes "; "
 pub step_alone : (said answered answer : List ℕ) (event : Event) (outcome : Outcome) (tables : List ℕ) → IsEventLine said event → line_of outcome ≡ answer ++ 10 ∷ [] → answered ≡ answer
     → SaysLine (said ++ codes " => " ++ answered) (Step event outcome false None None) tables
 step_alone said answered answer event outcome tables says tells is =
-    inl ((λ shown. absurd (false≢true shown), tt), (said, answer, says, tells, ap (λ (l : List ℕ). said ++ codes " => " ++ l) is ∙ sym (append-nil (said ++ codes " => " ++ answer))))
+    ((λ shown. absurd (false≢true shown), tt), (said, answer, says, tells, ap (λ (l : List ℕ). said ++ codes " => " ++ l) is ∙ sym (append-nil (said ++ codes " => " ++ answer))))
 
 -- and with something behind
 pub step_behind : (said answered answer behind : List ℕ) (event : Event) (outcome : Outcome) (has_tables : Bool) (on : Option ℕ) (tables : List ℕ) → IsEventLine said event
@@ -49,7 +49,7 @@ pub step_behind : (said answered answer behind : List ℕ) (event : Event) (outc
     → line_of outcome ≡ answer ++ 10 ∷ [] → answered ≡ answer ++ codes "; " ++ behind → codes "; " ++ behind ≡ tables_text has_tables tables ++ on_text on
     → SaysLine (said ++ codes " => " ++ answered) (Step event outcome has_tables on None) tables
 step_behind said answered answer behind event outcome has_tables on tables says may tells is shown =
-    inl (
+    (
       may,
       (
         said,
@@ -84,20 +84,77 @@ step_began said answered answer behind event outcome access tables says tells is
   ),
 )
 
--- the claim that a frame is given to somebody else
+-- a frame is given to somebody else, or taken back
+handing_says : (name line said : List ℕ) (answered : Option (Bor (List ℕ))) (frame : ℕ)
+    → MatchOption answered (line ≡ said) (λ behind. line ≡ said ++ codes " => " ++ behind.now)
+    → (word : List ℕ) × IsNumber word frame × (said ≡ name ␣ word) → MatchOption answered ⊤ (λ answer. answer.now ≡ codes "ok")
+    → IsHandingLine name line frame
+handing_says name line said None frame is (word, number, named) granted = (word, number, inl (is ∙ named))
+handing_says name line said (Some answer) frame is (word, number, named) granted =
+    (word, number, inr (is ∙ ap (λ (l : List ℕ). l ++ codes " => " ++ answer.now) named ∙ ap (λ (l : List ℕ). (name ␣ word) ++ codes " => " ++ l) granted ∙ append_assoc (name ␣ word) (codes " => ") (codes "ok")))
+
 pub handoff_says : (line said : List ℕ) (answered : Option (Bor (List ℕ))) (frame : ℕ) (tables : List ℕ)
     → MatchOption answered (line ≡ said) (λ behind. line ≡ said ++ codes " => " ++ behind.now)
     → (word : List ℕ) × IsNumber word frame × (said ≡ codes "handoff" ␣ word) → MatchOption answered ⊤ (λ answer. answer.now ≡ codes "ok")
-    → SaysLine line (Step (events.Free frame) (outcomes.Free true) false None None) tables
-handoff_says line said None frame tables is (word, number, named) granted = inr (word, frame, number, refl, refl, inl (is ∙ named))
-handoff_says line said (Some answer) frame tables is (word, number, named) granted =
-    inr (word, frame, number, refl, refl, inr (is ∙ ap (λ (l : List ℕ). l ++ codes " => " ++ answer.now) named ∙ ap (λ (l : List ℕ). (codes "handoff" ␣ word) ++ codes " => " ++ l) granted ∙ append_assoc (codes "handoff" ␣ word) (codes " => ") (codes "ok")))
+    → SaysLine line (Handoff frame) tables
+handoff_says line said answered frame tables is named granted = handing_says (codes "handoff") line said answered frame is named granted
 
--- the frame that is handed off
+pub take_says : (line said : List ℕ) (answered : Option (Bor (List ℕ))) (frame : ℕ) (tables : List ℕ)
+    → MatchOption answered (line ≡ said) (λ behind. line ≡ said ++ codes " => " ++ behind.now)
+    → (word : List ℕ) × IsNumber word frame × (said ≡ codes "take" ␣ word) → MatchOption answered ⊤ (λ answer. answer.now ≡ codes "ok")
+    → SaysLine line (Take frame) tables
+take_says line said answered frame tables is named granted = handing_says (codes "take") line said answered frame is named granted
+
+-- the frame that is given away, and the one that is taken back
 pub frame_handed : (said word : List ℕ) (result : Option ℕ) → said ≡ codes "handoff " ++ word → IfSome result (IsNumber word)
     → IfSome result (λ frame. (named : List ℕ) × IsNumber named frame × (said ≡ codes "handoff" ␣ named))
 frame_handed said word None is number = tt
 frame_handed said word (Some frame) is number = (word, number, is)
+
+pub frame_taken : (said word : List ℕ) (result : Option ℕ) → said ≡ codes "take " ++ word → IfSome result (IsNumber word)
+    → IfSome result (λ frame. (named : List ℕ) × IsNumber named frame × (said ≡ codes "take" ␣ named))
+frame_taken said word None is number = tt
+frame_taken said word (Some frame) is number = (word, number, is)
+
+-- an access that was made
+pub made_says : (said answered word : List ℕ) (device : ℕ) (is_read : Bool) (tables : List ℕ) → said ≡ codes "commit " ++ word → IsDevice word device → answered ≡ made_text is_read
+    → SaysLine (said ++ codes " => " ++ answered) (Made device is_read) tables
+made_says said answered word device is_read tables named id told =
+    (word, id, ap (λ (l : List ℕ). l ++ codes " => " ++ answered) named ∙ ap (λ (l : List ℕ). (codes "commit" ␣ word) ++ codes " => " ++ l) told)
+
+-- pages side by side
+pub pages_say : (text first behind : List ℕ) (page count : ℕ) → text ≡ first ++ 43 ∷ behind → IsNumber first page → IsNumber behind count → 0 < count → page + count < 2 ^ 64 → IsPages text page count
+pages_say text first behind page count is p n some fits = (first, behind, p, n, some, fits, is)
+
+pub grants_line : (said words pages rest right id f : List ℕ) (device page count frame : ℕ) (rights : GrantRights) → said ≡ codes "grant " ++ words → IsDevice id device → words ≡ id ␣ pages ++ 32 ∷ rest
+    → IsPages pages page count → IsNumber f frame → rest ≡ f ␣ right → IsRight right rights → frame + count < 2 ^ 64 → IsGrantsLine said device page count frame rights
+grants_line said words pages rest right id f device page count frame rights is d cut many number behind allowed fits = (
+  id,
+  pages,
+  f,
+  right,
+  d,
+  many,
+  number,
+  allowed,
+  fits,
+  is ∙ ap (λ (l : List ℕ). codes "grant " ++ l) (cut ∙ ap (λ (l : List ℕ). id ␣ pages ++ 32 ∷ l) behind),
+)
+
+pub releases_line : (said words pages id : List ℕ) (device page count : ℕ) → said ≡ codes "release " ++ words → IsDevice id device → words ≡ id ␣ pages → IsPages pages page count
+    → IsReleasesLine said device page count
+releases_line said words pages id device page count is d cut many = (id, pages, d, many, is ∙ ap (λ (l : List ℕ). codes "release " ++ l) cut)
+
+-- what is told of grants and of releases
+pub grants_say : (said answered answer behind : List ℕ) (device page count frame : ℕ) (rights : GrantRights) (has_tables : Bool) (tables : List ℕ) → IsGrantsLine said device page count frame rights
+    → answer ≡ codes "ok" → answered ≡ answer ++ behind → behind ≡ tables_text has_tables tables
+    → SaysLine (said ++ codes " => " ++ answered) (Grants device page count frame rights has_tables) tables
+grants_say said answered answer behind device page count frame rights has_tables tables says ok cut shown =
+    (said, says, ap (λ (l : List ℕ). said ++ codes " => " ++ l) (cut ∙ ap (λ (l : List ℕ). l ++ behind) ok ∙ ap (λ (l : List ℕ). codes "ok" ++ l) shown))
+
+pub releases_say : (said answered word : List ℕ) (device page count ticket : ℕ) (tables : List ℕ) → IsReleasesLine said device page count → IsNumber word ticket → answered ≡ codes "ticket " ++ word
+    → SaysLine (said ++ codes " => " ++ answered) (Releases device page count ticket) tables
+releases_say said answered word device page count ticket tables says number told = (said, word, says, number, ap (λ (l : List ℕ). said ++ codes " => " ++ l) told)
 
 -- how large the world is, with the word that says its limits behind
 pub world_says : (said sized answer : List ℕ) (size : WorldSize) (limits : WorldLimits) (tables : List ℕ) → said ≡ sized ++ limits_text limits → SaysSize limits sized size → answer ≡ codes "ok"

@@ -1,27 +1,38 @@
 -- What a line of a trace says: a script's line, ` => `, and the line of what came of it, with what is shown behind that.
-use Rattle.std.specs.Prelude.{◌≡◌, ◌⊎◌, ℕ, Bool, true, false, List, [], ◌∷◌, ◌++◌, Option, None, Some, IfSome, IsTrue, codes, ⊤}
+use Rattle.std.specs.Prelude.{◌≡◌, ◌⊎◌, ◌<◌, ◌+◌, ◌^◌, ℕ, zero, suc, Bool, true, false, List, [], ◌∷◌, ◌++◌, Option, None, Some, IfSome, IsTrue, codes, replicate, ⊤}
 use Rattle.std.specs.List.{flat_map}
 use Rattle.std.specs.Fmt.{decimal}
 use Rattle.iom_base.specs.Accesses.{read_of, write_of}
 use Rattle.iom_base.specs.declared.access.Access.{Access}
+use Rattle.iom_base.specs.declared.grant_rights.GrantRights.{GrantRights}
 use Rattle.iom_machine.specs.declared.event.Event.{Event}
 use Rattle.iom_machine.specs.declared.event.Event.TheVariants as events
 use Rattle.iom_machine.specs.declared.outcome.Outcome.{Outcome}
 use Rattle.iom_machine.specs.declared.outcome.Outcome.TheVariants as outcomes
 use Rattle.iom_script.specs.Grammar.{IsEventLine, is_spoken}
 use Rattle.iom_script.specs.Lines.{line_of}
-use Rattle.iom_script.specs.Words.{◌␣◌, IsNumber}
+use Rattle.iom_script.specs.Words.{◌␣◌, IsDevice, IsNumber, IsRight}
 use Rattle.iom_script.specs.declared.script.WorldSize.{WorldSize}
 use Rattle.iom_trace_lines.specs.WorldLimits.{limits_text, SaysSize}
 use Rattle.iom_trace_lines.specs.declared.trace.TraceLine.{TraceLine}
 use Rattle.iom_trace_lines.specs.declared.trace.TraceLine.TheVariants as lines
 use Rattle.iom_trace_lines.specs.declared.trace.WorldLimits.{WorldLimits}
 
--- What a line says: nothing, how large the world is and how much its machine allows, that this came of an event, with what is shown behind that, or what isn't in the grammar.
+-- What a line says: nothing, how large the world is and how much its machine allows, that this came of an event, with what is shown behind that, more than one
+-- event or less than an outcome, or what isn't in the grammar.
 pub data Said : Type 0 where
   Nothing : Said
   World : WorldSize → WorldLimits → Said
   Step : Event → Outcome → Bool → Option ℕ → Option Access → Said
+  -- the oldest access of the device was made: a read, or whatever it is
+  Made : ℕ → Bool → Said
+  -- the device was granted so many frames, at so many pages, with this right; whether it is shown which frames became tables
+  Grants : (device page count frame : ℕ) → GrantRights → Bool → Said
+  -- what it held at so many pages was released under the ticket
+  Releases : (device page count ticket : ℕ) → Said
+  -- the frame is now given to somebody else, and is taken back
+  Handoff : ℕ → Said
+  Take : ℕ → Said
   Bad : Said
 
 -- frames, with a space before each
@@ -59,11 +70,30 @@ abbrev pub IsStepLine : List ℕ → Event → Outcome → List ℕ → Type 0
 IsStepLine line event outcome behind =
     (said answer : List ℕ) × IsEventLine said event × (line_of outcome ≡ answer ++ 10 ∷ []) × (line ≡ said ++ codes " => " ++ answer ++ behind)
 
--- the claim that a frame is now given to somebody else, with ` => ok` behind it or without: that it is told to be free
-abbrev pub IsHandoffLine : List ℕ → Event → Outcome → Type 0
-IsHandoffLine line event outcome =
-    (word : List ℕ) × (frame : ℕ) × IsNumber word frame × (event ≡ events.Free frame) × (outcome ≡ outcomes.Free true)
-    × ((line ≡ codes "handoff" ␣ word) ⊎ (line ≡ (codes "handoff" ␣ word) ++ codes " => ok"))
+-- the name and the frame, with ` => ok` behind or without
+abbrev pub IsHandingLine : List ℕ → List ℕ → ℕ → Type 0
+IsHandingLine name line frame =
+    (word : List ℕ) × IsNumber word frame × ((line ≡ name ␣ word) ⊎ (line ≡ (name ␣ word) ++ codes " => ok"))
+
+-- what is told of an access that was made: of a read without its bytes, of whatever it is
+abbrev pub made_text : Bool → List ℕ
+made_text true = codes "read ?"
+made_text false = codes "made"
+
+-- the first of some pages and how many they are, as `P+N` says
+abbrev pub IsPages : List ℕ → ℕ → ℕ → Type 0
+IsPages text page count =
+    (p n : List ℕ) × IsNumber p page × IsNumber n count × (0 < count) × (page + count < 2 ^ 64) × (text ≡ p ++ 43 ∷ n)
+
+-- the line of a grant of so many frames at so many pages, and of a release of so many pages
+abbrev pub IsGrantsLine : List ℕ → (device page count frame : ℕ) → GrantRights → Type 0
+IsGrantsLine said device page count frame rights =
+    (id pages f right : List ℕ) × IsDevice id device × IsPages pages page count × IsNumber f frame × IsRight right rights
+    × (frame + count < 2 ^ 64) × (said ≡ codes "grant" ␣ id ␣ pages ␣ f ␣ right)
+
+abbrev pub IsReleasesLine : List ℕ → (device page count : ℕ) → Type 0
+IsReleasesLine said device page count =
+    (id pages : List ℕ) × IsDevice id device × IsPages pages page count × (said ≡ codes "release" ␣ id ␣ pages)
 
 -- by this event the device asks for the access
 abbrev pub EventAsksFor : Event → ℕ → Access → Type 0
@@ -80,8 +110,7 @@ ShowsAccess line event outcome access =
 -- The line says that this came of the event, with what is shown behind it.
 abbrev pub SaysWhat : List ℕ → Event → Outcome → Bool → Option ℕ → Option Access → List ℕ → Type 0
 SaysWhat line event outcome has_tables on None tables =
-    (TraceMayShow event outcome has_tables on × IsStepLine line event outcome (tables_text has_tables tables ++ on_text on))
-    ⊎ IsHandoffLine line event outcome
+    TraceMayShow event outcome has_tables on × IsStepLine line event outcome (tables_text has_tables tables ++ on_text on)
 SaysWhat line event outcome has_tables on (Some access) tables = ShowsAccess line event outcome access
 
 -- The line, without its line feed, says this. The frames of its tables stand beside.
@@ -89,6 +118,14 @@ abbrev pub SaysLine : List ℕ → Said → List ℕ → Type 0
 SaysLine line Nothing tables = is_spoken line ≡ false
 SaysLine line (World size limits) tables = (said : List ℕ) × SaysSize limits said size × (line ≡ said ++ limits_text limits ++ codes " => ok")
 SaysLine line (Step event outcome has_tables on began) tables = SaysWhat line event outcome has_tables on began tables
+SaysLine line (Made device is_read) tables =
+    (id : List ℕ) × IsDevice id device × (line ≡ (codes "commit" ␣ id) ++ codes " => " ++ made_text is_read)
+SaysLine line (Grants device page count frame rights has_tables) tables =
+    (said : List ℕ) × IsGrantsLine said device page count frame rights × (line ≡ said ++ codes " => ok" ++ tables_text has_tables tables)
+SaysLine line (Releases device page count ticket) tables =
+    (said word : List ℕ) × IsReleasesLine said device page count × IsNumber word ticket × (line ≡ said ++ codes " => ticket " ++ word)
+SaysLine line (Handoff frame) tables = IsHandingLine (codes "handoff") line frame
+SaysLine line (Take frame) tables = IsHandingLine (codes "take") line frame
 SaysLine line Bad tables = ⊤
 
 -- what was read of a line, with the outcome in the place that is lent
@@ -96,4 +133,37 @@ abbrev pub said_of : TraceLine → Said
 said_of lines.Nothing = Nothing
 said_of (lines.World size limits) = World size limits
 said_of (lines.Step event outcome has_tables on began) = Step event outcome.now has_tables on began
+said_of (lines.Made device is_read) = Made device is_read
+said_of (lines.Grants granted has_tables) = Grants granted.device granted.page granted.count granted.frame granted.rights has_tables
+said_of (lines.Releases released ticket) = Releases released.device released.page released.count ticket
+said_of (lines.Handoff frame) = Handoff frame
+said_of (lines.Take frame) = Take frame
 said_of lines.Bad = Bad
+
+-- the events and outcomes of a grant of so many frames at so many pages, one after another, and of a release of so many
+abbrev pub granted_events : (device page frame : ℕ) → GrantRights → ℕ → List Event
+granted_events device page frame rights zero = []
+granted_events device page frame rights (suc n) = granted_events device page frame rights n ++ events.Grant device (page + n) (frame + n) rights ∷ []
+
+abbrev pub released_events : (device page : ℕ) → ℕ → List Event
+released_events device page zero = []
+released_events device page (suc n) = released_events device page n ++ events.Release device (page + n) ∷ []
+
+-- what may be told of an access that was made: of a read its bytes
+abbrev pub IsMade : Bool → Outcome → Type 0
+IsMade is_read (outcomes.Read bytes) = ⊤
+IsMade false (outcomes.Wrote len) = ⊤
+IsMade _ _ = ⊥
+
+-- Who says this says that these events had these outcomes, one after another.
+abbrev pub Tells : Said → List Event → List Outcome → Type 0
+Tells (Step event outcome has_tables on began) told came = (told ≡ event ∷ []) × (came ≡ outcome ∷ [])
+Tells (Made device is_read) told came =
+    (outcome : Outcome) × IsMade is_read outcome × (told ≡ events.Commit device ∷ []) × (came ≡ outcome ∷ [])
+Tells (Grants device page count frame rights has_tables) told came =
+    (told ≡ granted_events device page frame rights count) × (came ≡ replicate count outcomes.Done)
+Tells (Releases device page count ticket) told came =
+    (told ≡ released_events device page count) × (came ≡ replicate count (outcomes.Ticket ticket))
+Tells (Handoff frame) told came = (told ≡ events.Free frame ∷ []) × (came ≡ outcomes.Free true ∷ [])
+Tells (Take frame) told came = (told ≡ []) × (came ≡ [])
+Tells _ told came = ⊥

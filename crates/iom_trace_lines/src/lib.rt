@@ -6,9 +6,12 @@
 //! read isn't in the grammar is tested only.
 #![tactic(auto)]
 
+mod handing;
 mod kept;
 mod line;
+mod made;
 mod outcomes;
+mod ranges;
 mod reading;
 mod sizes;
 mod trace;
@@ -19,5 +22,5 @@ pub use kept::{CAUSES, KeptOutcomes};
 pub use line::read_line;
 pub use outcomes::read_outcome;
 pub use reading::Lines;
-pub use trace::{NextLine, TraceLine, WorldLimits};
+pub use trace::{GrantedPages, NextLine, ReleasedPages, TraceLine, WorldLimits};
 pub use zipping::trace_of;

@@ -8,8 +8,11 @@ ghost use Rattle.iom_script.specs.Words.{◌␣◌, IsNumber};
 ghost use Rattle.iom_trace_lines.specs.WorldLimits.{limits_text};
 ghost use Rattle.iom_trace_lines.specs.TraceLines.{EventAsksFor, frames_text, is_accepted, takes_frames, tables_text, on_text, TraceMayShow, said_of, SaysLine, Nothing, Step, Bad};
 
+use crate::handing::read_handing;
 use crate::kept::KeptOutcomes;
+use crate::made::read_made;
 use crate::outcomes::read_outcome;
+use crate::ranges::{grants_of, read_grants, read_releases};
 use crate::sizes::size_of;
 use crate::trace::{Behind, TraceLine, WorldLimits};
 use crate::words::frame_of;
@@ -24,7 +27,7 @@ use std::alloc::{AllocError, Global};
 /// bytes, which comes seldom: the one at the place.
 // Written into its caller, where the separator is known.
 #[inline(always)]
-fn cut<'a>(text: &'a [u8], separator: &[u8], by: usize) -> (&'a [u8], Option<&'a [u8]>)
+pub(crate) fn cut<'a>(text: &'a [u8], separator: &[u8], by: usize) -> (&'a [u8], Option<&'a [u8]>)
     ensures { MatchOption result.1 (text.now ≡ result.0.now) (λ behind. text.now ≡ result.0.now ++ separator.now ++ behind.now) }
 {
     let Some(byte) = separator.get(by) else {
@@ -48,7 +51,7 @@ fn first_word(text: &[u8]) -> (&[u8], &[u8])
 }
 
 /// The frames that the text names, with a space before each. False where it names none.
-fn read_frames(text: &[u8], frames: &mut Vec<u64>) -> Result<bool, AllocError>
+pub(crate) fn read_frames(text: &[u8], frames: &mut Vec<u64>) -> Result<bool, AllocError>
     requires { frames.old.items ≡ [] }
     ensures { IfOk result (λ read. IsTrue read → text.now ≡ frames_text frames.new.items) }
 {
@@ -231,37 +234,27 @@ fn read_step<'a>(
     }
 }
 
-/// Whether `ok` is answered, or nothing.
-fn is_granted(answered: Option<&[u8]>) -> bool
-    ensures { IsTrue result → MatchOption answered.entry ⊤ (λ answer. answer.now ≡ codes "ok") }
+/// The event or the events of a line with their answer, and what is shown behind that.
+fn read_answered<'a>(
+    alloc: Global,
+    printed: &mut LineBuffer,
+    kept: &'a mut KeptOutcomes,
+    tables: &mut Vec<u64>,
+    said: &[u8],
+    answered: &[u8],
+) -> Result<TraceLine<'a>, AllocError>
+    requires { tables.old.items ≡ [] }
+    ensures { IfOk result (λ read. SaysLine (said.now ++ codes " => " ++ answered.now) (said_of read) tables.new.items) }
 {
-    match answered {
-        None => true,
-        Some(answer) => is_word(answer, b"ok"),
+    if let Some(read) = read_made(said, answered) {
+        return Ok(read);
     }
-}
-
-/// The frame of which it is said that it is now given to somebody else.
-fn handed_off(said: &[u8]) -> Option<u64>
-    ensures { IfSome result (λ frame. (word : List ℕ) × IsNumber word frame × (said.now ≡ codes "handoff" ␣ word)) }
-{
-    let word = after(said, b"handoff ")?;
-    frame_of(word)
-}
-
-/// The claim that a frame is now given to somebody else: that it is free.
-fn handoff(kept: &mut KeptOutcomes, frame: u64) -> TraceLine<'_>
-    ensures { said_of result ≢ Bad → said_of result ≡ Step (events.Free frame) (outcomes.Free true) false None None }
-{
-    match kept.is_free() {
-        None => TraceLine::Bad,
-        Some(outcome) => TraceLine::Step {
-            event: Event::Free { frame },
-            outcome,
-            has_tables: false,
-            on: None,
-            began: None,
-        },
+    if let Some(read) = read_releases(said, answered) {
+        return Ok(read);
+    }
+    match grants_of(said) {
+        None => read_step(alloc, printed, kept, tables, said, answered),
+        Some(granted) => read_grants(granted, answered, tables),
     }
 }
 
@@ -317,14 +310,11 @@ pub fn read_line<'a>(
         };
         return Ok(read_world(said, answer));
     }
-    if let Some(frame) = handed_off(said) {
-        if !is_granted(answered) {
-            return Ok(TraceLine::Bad);
-        }
-        return Ok(handoff(kept, frame));
+    if let Some(read) = read_handing(said, answered) {
+        return Ok(read);
     }
     match answered {
         None => Ok(TraceLine::Bad),
-        Some(answered) => read_step(alloc, printed, kept, tables, said, answered),
+        Some(answered) => read_answered(alloc, printed, kept, tables, said, answered),
     }
 }

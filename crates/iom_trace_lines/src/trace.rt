@@ -1,5 +1,5 @@
 // A line of a trace.
-use iom_base::Access;
+use iom_base::{Access, DeviceId, GrantRights};
 use iom_machine::{Event, Limits, Outcome};
 use iom_script::WorldSize;
 
@@ -33,6 +33,27 @@ impl WorldLimits {
     }
 }
 
+/// Frames that are granted at pages, one after another.
+#[derive(Clone, Copy)]
+pub struct GrantedPages {
+    pub device: DeviceId,
+    /// The first page, and how many there are.
+    pub page: u64,
+    pub count: u64,
+    /// The first frame.
+    pub frame: u64,
+    pub rights: GrantRights,
+}
+
+/// Pages that are released, one after another.
+#[derive(Clone, Copy)]
+pub struct ReleasedPages {
+    pub device: DeviceId,
+    /// The first page, and how many there are.
+    pub page: u64,
+    pub count: u64,
+}
+
 /// What a line of a trace says.
 #[derive(Drop)]
 pub enum TraceLine<'a> {
@@ -49,6 +70,16 @@ pub enum TraceLine<'a> {
         on: Option<u64>,
         began: Option<Access>,
     },
+    /// The device's oldest access was made: a read, of bytes that aren't shown, or whatever it is.
+    Made { device: DeviceId, is_read: bool },
+    /// Frames were granted at so many pages; and whether it is shown which became tables.
+    Grants(GrantedPages, bool),
+    /// So many pages were released under the ticket.
+    Releases(ReleasedPages, u32),
+    /// The frame is now given to somebody else.
+    Handoff(u64),
+    /// It is taken back.
+    Take(u64),
     /// It isn't in the grammar.
     Bad,
 }

@@ -1,0 +1,105 @@
+// Grants and releases of pages side by side, in one line.
+ghost use Rattle.std.specs.Prelude.{◌≡◌, ◌++◌, ℕ, List, [], IfOk, IfSome, codes};
+ghost use Rattle.iom_script.specs.Words.{IsNumber};
+ghost use Rattle.iom_trace_lines.specs.TraceLines.{said_of, IsPages, IsGrantsLine, IsReleasesLine, SaysLine};
+
+use crate::line::{cut, read_frames};
+use crate::trace::{GrantedPages, ReleasedPages, TraceLine};
+use crate::words::short_number_of;
+use iom_script::words::{after, cut as cut_at, device_and, is_word, number_and, number_of, right_of};
+use std::alloc::AllocError;
+
+/// The first of some pages and how many there are, as `P+N` says.
+fn pages_of(text: &[u8]) -> Option<(u64, u64)>
+    ensures { IfSome result (λ pages. IsPages text.now pages.0 pages.1) }
+{
+    let (first, count) = cut_at(text, b'+')?;
+    let page = number_of(first)?;
+    let count = number_of(count)?;
+    if count == 0 || page > u64::MAX - count {
+        return None;
+    }
+    Some((page, count))
+}
+
+/// The grants that the words say.
+pub(crate) fn grants_of(said: &[u8]) -> Option<GrantedPages>
+    ensures { IfSome result (λ granted. IsGrantsLine said.now granted.device granted.page granted.count granted.frame granted.rights) }
+{
+    let words = after(said, b"grant ")?;
+    let (device, words) = device_and(words)?;
+    let (pages, words) = cut_at(words, b' ')?;
+    let (page, count) = pages_of(pages)?;
+    let (frame, right) = number_and(words)?;
+    let rights = right_of(right)?;
+    if frame > u64::MAX - count {
+        return None;
+    }
+    Some(GrantedPages {
+        device,
+        page,
+        count,
+        frame,
+        rights,
+    })
+}
+
+/// The releases that the words say.
+fn releases_of(said: &[u8]) -> Option<ReleasedPages>
+    ensures { IfSome result (λ released. IsReleasesLine said.now released.device released.page released.count) }
+{
+    let words = after(said, b"release ")?;
+    let (device, pages) = device_and(words)?;
+    let (page, count) = pages_of(pages)?;
+    Some(ReleasedPages {
+        device,
+        page,
+        count,
+    })
+}
+
+/// What the answer says of these grants: that they are done, and which frames became tables, where that is shown.
+pub(crate) fn read_grants(
+    granted: GrantedPages,
+    answered: &[u8],
+    tables: &mut Vec<u64>,
+) -> Result<TraceLine<'static>, AllocError>
+    requires { tables.old.items ≡ [] }
+    ensures { (said : List ℕ) → IsGrantsLine said granted.device granted.page granted.count granted.frame granted.rights
+        → IfOk result (λ read. SaysLine (said ++ codes " => " ++ answered.now) (said_of read) tables.new.items) }
+{
+    let (answer, behind) = cut(answered, b"; ", 0);
+    if !is_word(answer, b"ok") {
+        return Ok(TraceLine::Bad);
+    }
+    let Some(behind) = behind else {
+        return Ok(TraceLine::Grants(granted, false));
+    };
+    let Some(frames) = after(behind, b"tables") else {
+        return Ok(TraceLine::Bad);
+    };
+    if read_frames(frames, tables)? {
+        Ok(TraceLine::Grants(granted, true))
+    } else {
+        Ok(TraceLine::Bad)
+    }
+}
+
+/// The ticket that the answer gives.
+fn ticket_of(answered: &[u8]) -> Option<u32>
+    ensures { IfSome result (λ ticket. (word : List ℕ) × IsNumber word ticket × (answered.now ≡ codes "ticket " ++ word)) }
+{
+    let word = after(answered, b"ticket ")?;
+    short_number_of(word)
+}
+
+/// What the line says, where it releases pages side by side.
+pub(crate) fn read_releases(said: &[u8], answered: &[u8]) -> Option<TraceLine<'static>>
+    ensures { (tables : List ℕ) → IfSome result (λ read. SaysLine (said.now ++ codes " => " ++ answered.now) (said_of read) tables) }
+{
+    let released = releases_of(said)?;
+    match ticket_of(answered) {
+        None => Some(TraceLine::Bad),
+        Some(ticket) => Some(TraceLine::Releases(released, ticket)),
+    }
+}
