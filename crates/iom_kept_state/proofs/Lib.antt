@@ -4,6 +4,7 @@ mod FrameLists
 mod FreeLemmas
 mod LeavingLemmas
 mod LookLemmas
+mod LowLemmas
 mod NamedLemmas
 mod PastLemmas
 mod ReachLemmas

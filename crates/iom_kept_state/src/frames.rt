@@ -1,4 +1,6 @@
 //! Frames as they are kept.
+ghost use Rattle.std.specs.Prelude.{◌≤◌, ◌^◌};
+
 use crate::bytes::{put, stand_in, zeros, zeros_lent};
 use indexmap::IndexMap;
 use iom_base::{Owner, Sequence};
@@ -66,6 +68,7 @@ pub struct KeptFrames {
     pub(crate) count: u64,
     /// Those of which something is kept.
     pub(crate) named: IndexMap<u64, KeptFrame>,
+    ghost small: { count ≤ 2 ^ 40 },
 }
 
 impl KeptFrames {
@@ -79,7 +82,8 @@ impl KeptFrames {
 
     /// So many frames of zeros, of which the last four are the system's.
     pub fn at_power_on(alloc: Global, count: u64) -> Result<KeptFrames, AllocError>
-        requires { 4 ≤ count }
+        requires four { 4 ≤ count }
+        requires small { count ≤ 2 ^ 40 }
         ensures { IfOk result (λ frames. frames_in frames ≡ reserved_for System ((count - 4) ∷ (count - 3) ∷ (count - 2) ∷ (count - 1) ∷ []) (replicate count empty_frame)) }
     {
         let mut frames = KeptFrames {
@@ -92,7 +96,8 @@ impl KeptFrames {
 
     /// How many frames there are.
     pub fn count(&self) -> u64
-        ensures { result ≡ length (frames_in self.now) }
+        ensures count { result ≡ length (frames_in self.now) }
+        ensures small { result ≤ 2 ^ 40 }
     {
         self.count
     }

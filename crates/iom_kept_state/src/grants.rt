@@ -1,5 +1,5 @@
 //! Grants as they are kept, and what is done to them.
-ghost use Rattle.std.specs.Prelude.{◌≤◌, length};
+ghost use Rattle.std.specs.Prelude.{◌≤◌, ◌<◌, ◌^◌, All, length};
 
 use indexmap::IndexSet;
 use iom_base::{DeviceId, Rights};
@@ -9,7 +9,8 @@ use std::alloc::{AllocError, Global};
 /// Who holds which frame at which page, what lingers, and which tickets are given and confirmed.
 #[derive(Drop)]
 pub struct KeptGrants {
-    /// The frames that were ever granted, in the order of their first grants. The ledger names each by its place here.
+    /// The frames that were ever granted, in the order of their first grants: numbers of 40 bits. The ledger names each by its place
+    /// here.
     pub(crate) names: IndexSet<u64>,
     pub(crate) ledger: Ledger,
     /// The last ticket that was given; they count from 1.
@@ -18,10 +19,11 @@ pub struct KeptGrants {
     pub confirmed: u32,
     ghost ordered: { confirmed ≤ given },
     ghost few: { length names.keys ≤ 4294967295 },
+    ghost low: { All (λ frame. frame < 2 ^ 40) names.keys },
 }
 
 impl KeptGrants {
-    ghost use Rattle.std.specs.Prelude.{◌≡◌, ◌<◌, ◌≤◌, ◌-◌, ◌+◌, suc, [], ◌∷◌, OnOk, IfOk, IsSome, None};
+    ghost use Rattle.std.specs.Prelude.{◌≡◌, ◌<◌, ◌≤◌, ◌-◌, ◌+◌, ◌^◌, suc, [], ◌∷◌, OnOk, IfOk, IsSome, None};
     ghost use Rattle.iom_base.specs.Calls.{IsGrantable};
     ghost use Rattle.iom_ledger.specs.History.{History, confirmed_from};
     ghost use Rattle.iom_ledger.specs.declared.entry.HistoryEntry.TheVariants.{Granted, Released, AllReleased, Confirmed};
@@ -51,6 +53,7 @@ impl KeptGrants {
         requires not_held { held_by self.old device page ≡ None }
         requires not_lingering { lingering_by self.old device page ≡ None }
         requires right { IsGrantable rights }
+        requires low { frame < 2 ^ 40 }
         ensures past { OnOk result ((h : History) → IsPastOf self.old h → IsPastOf self.new (Granted device page frame rights ∷ h)) }
         ensures tickets { OnOk result ((self.new.given ≡ self.old.given) × (self.new.confirmed ≡ self.old.confirmed)) }
     {

@@ -4,8 +4,8 @@
 //! A [`KeptState`] has the limits, devices and disks of a state as they are, its grants as an `iom_ledger` ledger, and of its
 //! frames those that have an owner or other bytes than zeros. The history is nowhere stored: whoever calls may rely on what a
 //! call says of each history that is a past of what is kept (`IsPastOf`), and of the state that has it (`state_of`).
-//! Frames are named by 32 bits, and stand in the ledger by their place among those that were ever granted, so that a high one
-//! takes no more room than a low one.
+//! Frames have numbers of 40 bits, and stand in the ledger by their place among those that were ever granted, so that a high
+//! one takes no more room than a low one.
 #![tactic(auto)]
 
 mod bytes;

@@ -4,7 +4,7 @@ use crate::wanted::{Wanted, is_up_to};
 use iom_base::{AccessKind, DeviceId, Rights};
 
 impl KeptGrants {
-    ghost use Rattle.std.specs.Prelude.{◌≡◌, ◌≤◌, ◌-◌, ◌↔◌, ◌⊎◌, suc, [], IsTrue, IsNone, Some, ℕ, length, slice_get};
+    ghost use Rattle.std.specs.Prelude.{◌≡◌, ◌≤◌, ◌<◌, ◌^◌, ◌-◌, ◌↔◌, ◌⊎◌, suc, [], IsTrue, IsNone, IfSome, Some, ℕ, length, slice_get};
     ghost use Rattle.iom_ledger.specs.History.{History, Pair, Holds, held_at, lingering_at, confirms, confirmed_from, Lingers, May, NoneMayReach};
     ghost use Rattle.iom_machine.specs.Requests.{LingersSomewhere};
     ghost use Rattle.iom_machine.specs.Tickets.{last_confirmed};
@@ -24,6 +24,7 @@ impl KeptGrants {
     pub fn held(&self, device: DeviceId, page: u64) -> Option<(u64, Rights)>
         ensures shown { result ≡ held_by self.now device page }
         ensures held { (h : History) → IsPastOf self.now h → result ≡ held_at h device page }
+        ensures low { IfSome result (λ pair. pair.0 < 2 ^ 40) }
     {
         match self.ledger.holds(device, page) {
             None => None,
@@ -36,6 +37,7 @@ impl KeptGrants {
         ensures shown { result ≡ lingering_by self.now device page }
         ensures lingers { (h : History) → IsPastOf self.now h → (pair : Pair) → (result ≡ Some pair) ↔ Lingers h device page pair }
         ensures none { (h : History) → IsPastOf self.now h → IsNone result ↔ (lingering_at h device page ≡ []) }
+        ensures low { IfSome result (λ pair. pair.0 < 2 ^ 40) }
     {
         match self.ledger.lingers(device, page) {
             None => None,
@@ -91,8 +93,9 @@ impl KeptGrants {
         last: u32,
     ) -> bool
         requires { self.now.confirmed ≤ last }
-        ensures { (h : History) → IsPastOf self.now h
+        ensures may { (h : History) → IsPastOf self.now h
             → IsTrue result ↔ May (confirmed_from (suc self.now.confirmed) (last - self.now.confirmed) h) device frame kind }
+        ensures low { IsTrue result → frame < 2 ^ 40 }
     {
         let Some(place) = self.names.get_index_of(&frame) else {
             return false;
@@ -110,14 +113,16 @@ impl KeptGrants {
     /// Whether the device may reach the frame by an access of this kind. It is looked for at this page first, so that the others
     /// needn't be.
     pub fn may(&self, device: DeviceId, page: u64, frame: u64, kind: AccessKind) -> bool
-        ensures { (h : History) → IsPastOf self.now h → IsTrue result ↔ May h device frame kind }
+        ensures may { (h : History) → IsPastOf self.now h → IsTrue result ↔ May h device frame kind }
+        ensures low { IsTrue result → frame < 2 ^ 40 }
     {
         self.may_once(device, page, frame, kind, self.confirmed)
     }
 
     /// Whether the frame lingers at some page of the device, with a right that allows the kind.
     pub fn lingers_somewhere(&self, device: DeviceId, frame: u64, kind: AccessKind) -> bool
-        ensures { (h : History) → IsPastOf self.now h → IsTrue result ↔ LingersSomewhere h device frame kind }
+        ensures lingers { (h : History) → IsPastOf self.now h → IsTrue result ↔ LingersSomewhere h device frame kind }
+        ensures low { IsTrue result → frame < 2 ^ 40 }
     {
         let Some(place) = self.names.get_index_of(&frame) else {
             return false;

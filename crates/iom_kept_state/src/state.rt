@@ -21,13 +21,13 @@ pub struct KeptState {
 }
 
 impl KeptState {
-    ghost use Rattle.std.specs.Prelude.{◌≡◌, ◌≤◌, [], IfOk};
+    ghost use Rattle.std.specs.Prelude.{◌≡◌, ◌≤◌, ◌^◌, [], IfOk};
     ghost use Rattle.iom_machine.specs.PowerOn.{opening};
     ghost use Rattle.iom_kept_state.specs.Grants.{IsPastOf};
     ghost use Rattle.iom_kept_state.specs.States.{state_of};
 
     /// The state at power-on, with these limits, so many frames and levels of the device directory, and disks of these
-    /// numbers.
+    /// numbers. An address has at most 52 bits, so there are no more frames than their numbers of 40 bits name.
     pub fn power_on(
         alloc: Global,
         limits: Limits,
@@ -35,7 +35,8 @@ impl KeptState {
         levels: u8,
         disks: &[u64],
     ) -> Result<KeptState, AllocError>
-        requires { 4 ≤ frames }
+        requires four { 4 ≤ frames }
+        requires small { frames ≤ 2 ^ 40 }
         ensures past { IfOk result (λ kept. IsPastOf kept.grants []) }
         ensures state { IfOk result (λ kept. state_of kept [] ≡ opening limits frames levels disks.now) }
     {

@@ -1,8 +1,8 @@
-use Rattle.std.proofs.Common.{◌≡◌, ℕ, Option, None, Some, sym, ap, ◌∙◌}
+use Rattle.std.proofs.Common.{ℕ, Some, sym, ap, subst, ◌∙◌, ◌<◌, ◌^◌}
 use Rattle.std.specs.Option.{option_map}
-use Rattle.iom_ledger.specs.History.{Pair}
 use Rattle.iom_kept_state.specs.Grants.{held_by, named_pair}
 use Rattle.iom_kept_state.proofs.LookLemmas.{held_of_past}
+use Rattle.iom_kept_state.proofs.LowLemmas.{low_at_place}
 use Rattle.iom_kept_state.proofs.grants.KeptGrants.held.Goals as goal
 
 pub returns-in-None-clause-shown : goal.returns-in-None-clause-shown
@@ -20,3 +20,6 @@ returns-in-Some-clause-shown c =
 
 pub returns-in-Some-clause-held : goal.returns-in-Some-clause-held
 returns-in-Some-clause-held c = λ h past. returns-in-Some-clause-shown c ∙ held_of_past c.args.self.now h past c.args.device c.args.page
+
+pub returns-in-Some-clause-low : goal.returns-in-Some-clause-low
+returns-in-Some-clause-low c = subst (λ (frame : ℕ). frame < 2 ^ 40) (sym c.frame_at.ensures) (low_at_place c.args.self.now.names.keys c.in-Some.place c.args.self.now.low)

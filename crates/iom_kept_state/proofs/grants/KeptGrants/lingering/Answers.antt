@@ -1,9 +1,9 @@
-use Rattle.std.proofs.Common.{◌≡◌, ◌↔◌, ℕ, true, false, [], Option, None, Some, IsNone, is_none, refl, sym, ap, ◌∙◌}
+use Rattle.std.proofs.Common.{◌≡◌, ℕ, None, Some, refl, sym, ap, subst, ◌∙◌, ◌<◌, ◌^◌}
 use Rattle.std.specs.Option.{option_map}
 use Rattle.std.proofs.lemmas.Bool.{false≢true}
-use Rattle.iom_ledger.specs.History.{Pair}
 use Rattle.iom_kept_state.specs.Grants.{lingering_by, named_pair}
 use Rattle.iom_kept_state.proofs.LookLemmas.{lingers_of_past, none_lingers_of_past}
+use Rattle.iom_kept_state.proofs.LowLemmas.{low_at_place}
 use Rattle.iom_kept_state.proofs.grants.KeptGrants.lingering.Goals as goal
 
 pub returns-in-None-clause-shown : goal.returns-in-None-clause-shown
@@ -39,3 +39,6 @@ returns-in-Some-clause-none c = λ h past. (
       let no : Some (c.frame_at.result, c.in-Some.rights) ≡ None = returns-in-Some-clause-shown c ∙ (none_lingers_of_past c.args.self.now h past c.args.device c.args.page).1 none in
       cc,
 )
+
+pub returns-in-Some-clause-low : goal.returns-in-Some-clause-low
+returns-in-Some-clause-low c = subst (λ (frame : ℕ). frame < 2 ^ 40) (sym c.frame_at.ensures) (low_at_place c.args.self.now.names.keys c.in-Some.place c.args.self.now.low)

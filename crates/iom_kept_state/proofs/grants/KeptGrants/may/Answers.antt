@@ -2,7 +2,7 @@ use Rattle.std.proofs.Common.{◌≡◌, ◌-◌, ◌↔◌, ℕ, suc, IsTrue, s
 use Rattle.iom_ledger.specs.History.{confirmed_from, May}
 use Rattle.iom_kept_state.proofs.grants.KeptGrants.may.Goals as goal
 
-pub returns : goal.returns
-returns c = λ h past.
+pub returns-clause-may : goal.returns-clause-may
+returns-clause-may c = λ h past.
     let none : c.args.self.now.confirmed - c.args.self.now.confirmed ≡ 0 = omega arith in
-    subst (λ (n : ℕ). IsTrue c.may_once.result ↔ May (confirmed_from (suc c.args.self.now.confirmed) n h) c.args.device c.args.frame c.args.kind) none (c.may_once.ensures h past)
+    subst (λ (n : ℕ). IsTrue c.may_once.result ↔ May (confirmed_from (suc c.args.self.now.confirmed) n h) c.args.device c.args.frame c.args.kind) none (c.may_once.ensures.may h past)

@@ -9,7 +9,7 @@ use Rattle.iom_kept_state.proofs.state.KeptState.are_free_besides.Goals as goal
 pub loop-number-preserved : goal.loop-number-preserved
 loop-number-preserved c h past =
     All-more (IsFreeBesides (state_of c.args.self.now h) c.args.named) c.args.taken.now c.loop-number.number-index 0 c.loop-number-test.true (c.loop-number.invariant h past)
-    (rw c.from.ensures at ((c.is_free_besides.ensures h past).0 c.if-not-is_free_besides.false))
+    ((c.is_free_besides.ensures h past).0 c.if-not-is_free_besides.false)
 
 pub returns : goal.returns
 returns c h past =
@@ -21,5 +21,5 @@ pub returns-then-not-is_free_besides : goal.returns-then-not-is_free_besides
 returns-then-not-is_free_besides c h past = (
   (λ yes. absurd (false≢true yes)),
   (λ all. absurd (false≢true (sym c.if-not-is_free_besides.true ∙ (c.is_free_besides.ensures h past).1
-      (rw c.from.ensures (all c.loop-number.number-index 0 c.loop-number-test.true))))),
+      (all c.loop-number.number-index 0 c.loop-number-test.true)))),
 )
