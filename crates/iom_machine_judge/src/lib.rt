@@ -26,7 +26,7 @@ mod line;
 mod messages;
 mod polls;
 mod processor;
-mod questions;
+pub mod questions;
 pub mod reasons;
 mod recovery;
 pub mod requests;

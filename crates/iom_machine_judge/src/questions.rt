@@ -213,7 +213,7 @@ fn tells_attached(mode: Mode, kept: &KeptState, id: DeviceId, page: u64, told: T
 }
 
 /// Whether a device that is attached so may be told so of the page.
-pub(crate) fn may_tell(
+pub fn may_tell(
     attachment: Attachment,
     kept: &KeptState,
     id: DeviceId,

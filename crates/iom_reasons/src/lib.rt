@@ -1,23 +1,36 @@
 //! Why a line of a trace isn't lawful, in words, and what is noted of the lines for that.
 //!
-//! A reason says what is known of what the line is about, and which answers could have come: [`Facts::reason`] puts it
-//! together. What is known of the machine's state says what is held and whose frames are; which messages are under way,
-//! under which tickets what was released, and in which lines that was, is noted here, line by line. No verdict rests on
-//! these words, and no certificate: the judge of traces finds its verdict first, and asks for them afterwards.
+//! A reason says what the machine knows of what the line is about, and which answers could have come: [`Facts::reason`]
+//! puts it together. What is held, what lingers and whose the frames are is looked up in the state that the judge keeps, and
+//! what could have come is asked of the judge's own rules. Which messages are under way, and which lines granted, released,
+//! accepted and confirmed what a reason speaks of, is noted in [`Notes`], line by line. No verdict rests on these words: the
+//! judge of traces finds its verdict first, and asks for them afterwards.
 #![tactic(auto)]
 
-mod accepted;
-mod explain;
-mod granted;
+mod asked;
+mod causes;
+mod could_accept;
+mod facts;
+mod flights;
+mod leaves;
 mod messages;
 mod notes;
-mod places;
+mod pages;
+mod phrases;
 mod releases;
-mod subject;
+mod say_accesses;
+mod say_calls;
+mod say_commits;
+mod say_devices;
+mod say_frames;
+mod say_pages;
+mod say_polls;
+mod say_questions;
+mod tally;
+mod tickets;
+mod way;
 mod words;
 
-pub use explain::Facts;
+pub use facts::Facts;
 pub use messages::Sent;
 pub use notes::Notes;
-pub use places::lacks_place;
-pub use subject::Subject;

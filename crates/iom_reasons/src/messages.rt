@@ -1,7 +1,7 @@
 // The messages under way, as far as the lines of a run show them (PCI Express Base Specification, chapter 10, "Address
 // Translation Services"): they stand in a list, one that is taken closes up, and one that is sent goes last.
 use iom_base::DeviceId;
-use iom_machine::{CommandName, Event, Fetched, Outcome};
+use iom_machine::{BlockStep, CommandName, Event, Fetched, Outcome};
 use std::alloc::{AllocError, Global};
 
 /// So many messages are under way at most; one more is lost.
@@ -17,24 +17,24 @@ pub struct Sent {
 
 /// The messages under way, each of them a question or another one.
 #[derive(Drop)]
-pub struct Messages {
+pub(crate) struct Messages {
     under_way: Vec<Option<Sent>>,
 }
 
 impl Messages {
-    pub fn new(alloc: Global) -> Messages {
+    pub(crate) fn new(alloc: Global) -> Messages {
         Messages {
             under_way: Vec::new(alloc),
         }
     }
 
     /// The question at the place, if there is one.
-    pub fn question_at(&self, place: u64) -> Option<Sent> {
+    pub(crate) fn question_at(&self, place: u64) -> Option<Sent> {
         self.at(place).flatten()
     }
 
     /// The question whose delivery the event is, if it is one.
-    pub fn question_of(&self, event: &Event) -> Option<Sent> {
+    pub(crate) fn question_of(&self, event: &Event) -> Option<Sent> {
         match event {
             Event::Deliver { place } => self.question_at(*place),
             _ => None,
@@ -79,8 +79,16 @@ impl Messages {
     }
 
     /// A question of the device is sent: for this page, where that is known.
-    pub fn ask(&mut self, device: DeviceId, page: Option<u64>) -> Result<(), AllocError> {
+    fn ask(&mut self, device: DeviceId, page: Option<u64>) -> Result<(), AllocError> {
         self.send(Some(Sent { device, page }))
+    }
+
+    /// A question of a block device is sent, where its step asked one.
+    fn step(&mut self, device: DeviceId, outcome: &Outcome) -> Result<(), AllocError> {
+        match outcome {
+            Outcome::Stepped(BlockStep::Asked) => self.ask(device, None),
+            _ => Ok(()),
+        }
     }
 
     /// Another message is sent, where the outcome says so.
@@ -119,12 +127,13 @@ impl Messages {
     }
 
     /// Notes what this changes that comes of the event.
-    pub fn note(&mut self, event: &Event, outcome: &Outcome) -> Result<(), AllocError> {
+    pub(crate) fn note(&mut self, event: &Event, outcome: &Outcome) -> Result<(), AllocError> {
         match event {
             Event::Ask { device, page } => match outcome {
                 Outcome::Sent => self.ask(*device, Some(page.number())),
                 _ => Ok(()),
             },
+            Event::Step { device } => self.step(*device, outcome),
             Event::Forge { .. } => self.forge(outcome),
             Event::Fetch => self.fetch(outcome),
             Event::Deliver { place } => self.deliver(*place, outcome),

@@ -1,0 +1,87 @@
+// Why a line isn't lawful: what the words are about, by the event.
+use crate::asked::Asked;
+use crate::notes::Notes;
+use crate::words::Words;
+use iom_base::{DeviceId, PAGE_SIZE};
+use iom_kept_state::KeptState;
+use iom_machine::{Device, Event, Outcome};
+use std::alloc::{AllocError, Global};
+
+/// What the reason why a line isn't lawful is put together of.
+#[derive(Clone, Copy)]
+pub struct Facts<'a> {
+    /// The state before the line.
+    pub kept: &'a KeptState,
+    /// What is noted of the lines before it.
+    pub notes: &'a Notes,
+    /// The frame on which the line shows an access.
+    pub on: Option<u64>,
+}
+
+impl Facts<'_> {
+    /// The plugged device with this id.
+    pub(crate) fn device(&self, id: DeviceId) -> Option<&Device> {
+        self.kept
+            .devices
+            .as_slice()
+            .iter()
+            .find(|device| device.id == id)
+    }
+
+    /// Says what is known of a message, a frame or a poll.
+    fn say_other(
+        &self,
+        words: &mut Words,
+        event: &Event,
+        outcome: &Outcome,
+    ) -> Result<(), AllocError> {
+        match event {
+            Event::Poll => self.say_poll(words),
+            Event::Deliver { place } => self.say_delivery(words, *place),
+            Event::Drop { place } | Event::Repeat { place } => self.say_message(words, *place),
+            Event::Poke { address, bytes } => {
+                self.say_frame(words, *address / PAGE_SIZE)?;
+                self.could_poke(words, *address, bytes.as_slice().len() as u64)
+            }
+            Event::Peek { address, len } => {
+                self.say_frame(words, *address / PAGE_SIZE)?;
+                self.could_peek(words, *address, *len)
+            }
+            Event::Free { frame } => {
+                self.say_frame(words, *frame)?;
+                self.could_free(words, *frame)
+            }
+            event => self.say_call(words, event, outcome),
+        }
+    }
+
+    /// Says what is known of what the line is about.
+    fn say(&self, words: &mut Words, event: &Event, outcome: &Outcome) -> Result<(), AllocError> {
+        if let Some(asked) = Asked::of(event) {
+            return self.say_access(words, asked, outcome);
+        }
+        match event {
+            Event::Commit { device } => self.say_commit(words, *device),
+            Event::Step { device } => self.say_step(words, *device, outcome),
+            Event::Ask { device, .. }
+            | Event::Forge { device, .. }
+            | Event::Reset { device }
+            | Event::Medium { device, .. }
+            | Event::Queue { device, .. }
+            | Event::Status { device } => self.say_device(words, *device),
+            event => self.say_other(words, event, outcome),
+        }
+    }
+
+    /// Why this may not come of the event.
+    pub fn reason(
+        &self,
+        alloc: Global,
+        event: &Event,
+        outcome: &Outcome,
+    ) -> Result<String, AllocError> {
+        let mut words = Words::new(alloc);
+        self.say(&mut words, event, outcome)?;
+        words.finish()
+    }
+}

@@ -1,0 +1,155 @@
+// What is said of a poll.
+use crate::facts::Facts;
+use crate::phrases::{say_in_flight, say_released};
+use crate::releases::Release;
+use crate::tally::Tally;
+use crate::words::Words;
+use iom_base::{AcceptedAccess, DeviceId, PAGE_SIZE};
+use iom_machine::Device;
+use std::alloc::AllocError;
+
+/// A page that was released, and under which ticket.
+#[derive(Clone, Copy)]
+struct Released {
+    page: u64,
+    release: Release,
+}
+
+/// The one whose ticket was given later.
+fn later_of(found: Option<Released>, other: Released) -> Released {
+    match found {
+        None => other,
+        Some(found) => {
+            if found.release.ticket < other.release.ticket {
+                other
+            } else {
+                found
+            }
+        }
+    }
+}
+
+impl Facts<'_> {
+    /// Whether the access may be in flight where the tickets up to the last are confirmed.
+    fn may_fly(&self, id: DeviceId, flight: &AcceptedAccess, last: u32) -> bool {
+        let grants = &self.kept.grants;
+        if last < grants.confirmed {
+            return true;
+        }
+        let page = flight.access.address / PAGE_SIZE;
+        grants.may_once(id, page, flight.frame, flight.access.kind, last)
+    }
+
+    /// Whether each access of the device may.
+    fn may_all_fly(&self, device: &Device, last: u32) -> bool {
+        for flight in device.in_flight.as_slice() {
+            if !self.may_fly(device.id, flight, last) {
+                return false;
+            }
+        }
+        true
+    }
+
+    /// Whether the tickets up to the last may be confirmed.
+    fn may_confirm(&self, last: u32) -> bool {
+        for device in self.kept.devices.as_slice() {
+            if !self.may_all_fly(device, last) {
+                return false;
+            }
+        }
+        true
+    }
+
+    /// The last ticket that may be confirmed. Where one may be, those before it may.
+    fn last_confirmable(&self) -> u32 {
+        let mut may = self.kept.grants.confirmed;
+        let mut given = self.kept.grants.given;
+        for _ in 0..33 {
+            let half = given.saturating_sub(may) / 2;
+            let middle = given.saturating_sub(half);
+            if may < given {
+                if self.may_confirm(middle) {
+                    may = middle;
+                } else {
+                    given = middle.saturating_sub(1);
+                }
+            }
+        }
+        may
+    }
+
+    /// The page whose release leaves the access without a right to its frame, once its ticket is confirmed: of several the last.
+    fn release_behind(&self, id: DeviceId, flight: &AcceptedAccess) -> Option<Released> {
+        let grants = &self.kept.grants;
+        let mut found = None;
+        for index in 0..grants.page_count(id) {
+            if let Some(page) = grants.page_at(id, index) {
+                if self.reaches_at(id, page, flight.frame) {
+                    if let Some(release) = self.pending_of(id, page) {
+                        found = Some(later_of(found, Released { page, release }));
+                    }
+                }
+            }
+        }
+        found
+    }
+
+    /// Says which access it is, and which release forbids that its ticket is confirmed.
+    fn say_flight(
+        &self,
+        words: &mut Words,
+        id: DeviceId,
+        flight: &AcceptedAccess,
+        line: Option<u64>,
+    ) -> Result<(), AllocError> {
+        say_in_flight(words, id, flight.frame, line)?;
+        match self.release_behind(id, flight) {
+            None => Ok(()),
+            Some(found) => say_released(words, found.page, found.release),
+        }
+    }
+
+    /// Says what of the device is in flight on frames that it may not reach any longer, were all tickets confirmed.
+    fn say_flights(
+        &self,
+        words: &mut Words,
+        device: &Device,
+        tally: &mut Tally,
+    ) -> Result<(), AllocError> {
+        let given = self.kept.grants.given;
+        let flights = device.in_flight.as_slice();
+        let mut number = device.accepted.saturating_sub(flights.len() as u64);
+        for flight in flights {
+            number = number.saturating_add(1);
+            if !self.may_fly(device.id, flight, given) && tally.takes() {
+                let line = self.notes.line_of_access(device.id, number);
+                self.say_flight(words, device.id, flight, line)?;
+            }
+        }
+        Ok(())
+    }
+
+    /// Says what could have been confirmed.
+    fn could_confirm(&self, words: &mut Words) -> Result<(), AllocError> {
+        words.could("confirmed -")?;
+        let confirmed = self.kept.grants.confirmed;
+        let last = self.last_confirmable();
+        if last <= confirmed {
+            return Ok(());
+        }
+        let first = confirmed.saturating_add(1);
+        words.could(&format!(in words.alloc; "confirmed {first}-{last}")?)
+    }
+
+    /// Says what is in flight that a confirmation may not leave so, and which tickets there are.
+    pub(crate) fn say_poll(&self, words: &mut Words) -> Result<(), AllocError> {
+        let mut tally = Tally::new();
+        for device in self.kept.devices.as_slice() {
+            self.say_flights(words, device, &mut tally)?;
+        }
+        tally.say_more(words)?;
+        let last = self.kept.grants.given;
+        words.say(&format!(in words.alloc; "the last ticket that was given is {last}")?)?;
+        self.could_confirm(words)
+    }
+}
