@@ -3,7 +3,6 @@ use Rattle.std.proofs.Common.{◌≡◌, ◌≢◌, ◌∙◌, All, ℕ, ◌+◌
 use Rattle.std.proofs.lemmas.List.{length-append}
 use Rattle.std.proofs.lemmas.List.Elements.{All-nil, filter-append}
 use Rattle.std.proofs.KnownBytes.{Consumes-nil}
-use Rattle.iom_base.specs.declared.access.Access.{Access}
 use Rattle.iom_kept_state.specs.Grants.{IsPastOf}
 use Rattle.iom_kept_state.specs.States.{state_of}
 use Rattle.iom_kept_state.specs.declared.state.KeptState.{KeptState}
@@ -16,33 +15,51 @@ use Rattle.iom_script.specs.declared.script.WorldSize.{WorldSize}
 use Rattle.iom_script.specs.Grammar.{is_spoken, spoken, bytes_of_lines}
 use Rattle.iom_script.specs.Words.{IsWithout}
 use Rattle.iom_trace_lines.specs.Taken.{AreLines, BufferHolds, HasTaken}
-use Rattle.iom_trace_lines.specs.TraceLines.{Said, SaysLine, Nothing, World, Step}
+use Rattle.iom_trace_lines.specs.TraceLines.{Said, SaysLine, Nothing, World}
 use Rattle.iom_trace_lines.specs.WorldLimits.{limits_of}
 use Rattle.iom_trace_lines.specs.declared.trace.WorldLimits.{WorldLimits}
-use Rattle.iom_judge.specs.Certificates.{four_disks, named_line, opening_of, SaysStep, SaySteps, AreOfRun, AreLawfulLines, IsLawfulBefore, IsLawfulTrace, IsSoOf}
-use Rattle.iom_judge.specs.Certified.{IsCertifiedBy, Certify, GoesOn, HasJudged, HasTakenAll, Names}
+use Rattle.iom_judge.specs.Certificates.{four_disks, named_line, opening_of, SaysEvents, SayEvents, AreOfRun, AreLawfulLines, IsLawfulBefore, IsLawfulTrace, IsSoOf}
+use Rattle.iom_judge.specs.Certified.{IsCertifiedBy, Certify, GoesOn, GoesOnAs, HasJudged, HasTakenAll, Names}
 use Rattle.iom_judge.specs.declared.judging.Judge.{Judge}
 use Rattle.iom_judge.specs.declared.verdict.Verdict.{Verdict}
 
--- a run with one step more at its end
-run_more : (old : State) (events : List Event) (outcomes : List Outcome) (mid : State) (event : Event) (outcome : Outcome) (new : State)
-    → machine.Run old events outcomes mid → machine.Step mid event outcome new → machine.Run old (events ++ event ∷ []) (outcomes ++ outcome ∷ []) new
-run_more old [] [] mid event outcome new run step = (new, subst (λ (s : State). machine.Step s event outcome new) run step, refl)
-run_more old [] (o ∷ os) mid event outcome new run step = absurd run
-run_more old (e ∷ es) [] mid event outcome new run step = absurd run
-run_more old (e ∷ es) (o ∷ os) mid event outcome new run step = (run.0, run.1, run_more run.0 es os mid event outcome new run.2 step)
+-- a run, and one behind it
+run_on : (old : State) (events : List Event) (outcomes : List Outcome) (mid : State) (later : List Event) (others : List Outcome) (new : State)
+    → machine.Run old events outcomes mid → machine.Run mid later others new → machine.Run old (events ++ later) (outcomes ++ others) new
+run_on old [] [] mid later others new run rest = subst (λ (s : State). machine.Run s later others new) run rest
+run_on old [] (o ∷ os) mid later others new run rest = absurd run
+run_on old (e ∷ es) [] mid later others new run rest = absurd run
+run_on old (e ∷ es) (o ∷ os) mid later others new run rest = (run.0, run.1, run_on run.0 es os mid later others new run.2 rest)
 
--- one line more that says a step
-steps_more : (lines : List (List ℕ)) (line : List ℕ) (events : List Event) (outcomes : List Outcome) (event : Event) (outcome : Outcome)
-    → SaySteps lines events outcomes → SaysStep line event outcome → SaySteps (lines ++ line ∷ []) (events ++ event ∷ []) (outcomes ++ outcome ∷ [])
-steps_more [] line [] [] event outcome say step = (step, tt)
-steps_more (l ∷ ls) line (e ∷ es) (o ∷ os) event outcome say step = (say.0, steps_more ls line es os event outcome say.1 step)
-steps_more [] line [] (o ∷ os) event outcome say step = absurd say
-steps_more [] line (e ∷ es) [] event outcome say step = absurd say
-steps_more [] line (e ∷ es) (o ∷ os) event outcome say step = absurd say
-steps_more (l ∷ ls) line [] [] event outcome say step = absurd say
-steps_more (l ∷ ls) line [] (o ∷ os) event outcome say step = absurd say
-steps_more (l ∷ ls) line (e ∷ es) [] event outcome say step = absurd say
+-- nothing happened
+pub stays_so : (kept : Option KeptState) (k : KeptState) → kept ≡ Some k → GoesOn kept [] [] kept
+stays_so kept k is = subst (λ (o : Option KeptState). GoesOn o [] [] o) (sym is) (λ history past. (history, past, refl))
+
+-- more happened
+pub goes_further : (old mid new : Option KeptState) (events later : List Event) (outcomes others : List Outcome) → GoesOn old events outcomes mid → GoesOn mid later others new
+    → GoesOn old (events ++ later) (outcomes ++ others) new
+goes_further (Some a) (Some b) (Some c) events later outcomes others first rest =
+    λ history past. let half = first history past in let whole = rest half.0 half.1 in
+    (whole.0, whole.1, run_on (state_of a history) events outcomes (state_of b half.0) later others (state_of c whole.0) half.2 whole.2)
+goes_further (Some a) (Some b) None events later outcomes others first rest = absurd rest
+goes_further (Some a) None new events later outcomes others first rest = absurd first
+goes_further None mid new events later outcomes others first rest = absurd first
+
+-- one line more that says events
+says_more : (lines : List (List ℕ)) (line : List ℕ) (events own : List Event) (outcomes its : List Outcome)
+    → SayEvents lines events outcomes → SaysEvents line own its → SayEvents (lines ++ line ∷ []) (events ++ own) (outcomes ++ its)
+says_more [] line events own outcomes its say says =
+    (own, [], its, [], ap (λ (l : List Event). l ++ own) say.0 ∙ sym (append-nil own), ap (λ (l : List Outcome). l ++ its) say.1 ∙ sym (append-nil its), says, refl, refl)
+says_more (l ∷ ls) line events own outcomes its (first, later, came, others, are, them, says_first, rest) says = (
+  first,
+  later ++ own,
+  came,
+  others ++ its,
+  ap (λ (l : List Event). l ++ own) are ∙ sym (append_assoc first later own),
+  ap (λ (l : List Outcome). l ++ its) them ∙ sym (append_assoc came others its),
+  says_first,
+  says_more ls line later own others its rest says,
+)
 
 -- one line more that says something
 spoken_more : (lines : List (List ℕ)) (line : List ℕ) → is_spoken line ≡ true → spoken (lines ++ line ∷ []) ≡ spoken lines ++ line ∷ []
@@ -53,22 +70,22 @@ spoken_same : (lines : List (List ℕ)) (line : List ℕ) → is_spoken line ≡
 spoken_same lines line says = filter-append is_spoken lines (line ∷ []) ∙ ap (λ (l : List (List ℕ)). spoken lines ++ l) (rw says refl) ∙ append-nil (spoken lines)
 
 -- what is certified goes on being so
-certify_more : (old new : KeptState) (lines : List (List ℕ)) (line : List ℕ) (event : Event) (outcome : Outcome)
-    → Certify (Some old) lines → SaysStep line event outcome → GoesOn (Some old) event outcome (Some new)
+certify_more : (old new : KeptState) (lines : List (List ℕ)) (line : List ℕ) (events : List Event) (outcomes : List Outcome)
+    → Certify (Some old) lines → SaysEvents line events outcomes → GoesOn (Some old) events outcomes (Some new)
     → Certify (Some new) (lines ++ line ∷ [])
-certify_more old new [] line event outcome never step goes = absurd never
-certify_more old new (first ∷ rest) line event outcome (size, limits, says, by) step goes =
+certify_more old new [] line events outcomes never says goes = absurd never
+certify_more old new (first ∷ rest) line events outcomes (size, limits, opens, by) says goes =
     let next = goes by.past by.is_past in (
       size,
       limits,
-      says,
+      opens,
       record {
-        events = by.events ++ event ∷ [];
-        outcomes = by.outcomes ++ outcome ∷ [];
-        say = steps_more rest line by.events by.outcomes event outcome by.say step;
+        events = by.events ++ events;
+        outcomes = by.outcomes ++ outcomes;
+        say = says_more rest line by.events events by.outcomes outcomes by.say says;
         past = next.0;
         is_past = next.1;
-        run = run_more (opening_of size limits) by.events by.outcomes (state_of old by.past) event outcome (state_of new next.0) by.run next.2;
+        run = run_on (opening_of size limits) by.events by.outcomes (state_of old by.past) events outcomes (state_of new next.0) by.run next.2;
       },
     )
 
@@ -94,21 +111,21 @@ world_said old new lines line tables size limits spoken_line says none starts be
 }
   where
     begun : (ls : List (List ℕ)) (kept : Option KeptState) → IsSomeAnd kept (λ k. IsPastOf k.grants [] × (state_of k [] ≡ opening_of size limits)) → Certify None ls → Certify kept (ls ++ line ∷ [])
-    begun [] (Some kept) start none = (size, limits, says, record { events = []; outcomes = []; say = tt; past = []; is_past = start.0; run = start.1 })
+    begun [] (Some kept) start none = (size, limits, says, record { events = []; outcomes = []; say = (refl, refl); past = []; is_past = start.0; run = start.1 })
     begun [] None start none = absurd start
     begun (l ∷ ls) kept start never = absurd never
 
--- after one that says a step
-pub step_said : (old : Option KeptState) (new : Judge) (lines : List (List ℕ)) (line tables : List ℕ) (event : Event) (outcome : Outcome) (has_tables : Bool) (on : Option ℕ) (began : Option Access)
-    → is_spoken line ≡ true → SaysLine line (Step event outcome has_tables on began) tables → GoesOn old event outcome new.kept
+-- after one that says events
+pub events_said : (old : Option KeptState) (new : Judge) (lines : List (List ℕ)) (line tables : List ℕ) (said : Said)
+    → is_spoken line ≡ true → SaysLine line said tables → GoesOnAs old said new.kept
     → Certify old (spoken lines) → new.line ≡ length lines + 1 → HasTakenAll new (lines ++ line ∷ [])
-step_said old new lines line tables event outcome has_tables on began spoken_line says goes before counted = record {
+events_said old new lines line tables said spoken_line says (events, outcomes, tells, goes) before counted = record {
   certified = subst (λ (l : List (List ℕ)). Certify new.kept l) (sym (spoken_more lines line spoken_line)) (followed old new.kept goes before);
   counted = counted_more new.line lines line counted;
 }
   where
-    followed : (was is : Option KeptState) → GoesOn was event outcome is → Certify was (spoken lines) → Certify is (spoken lines ++ line ∷ [])
-    followed (Some one) (Some next) goes before = certify_more one next (spoken lines) line event outcome before (has_tables, on, began, tables, says) goes
+    followed : (was is : Option KeptState) → GoesOn was events outcomes is → Certify was (spoken lines) → Certify is (spoken lines ++ line ∷ [])
+    followed (Some one) (Some next) goes before = certify_more one next (spoken lines) line events outcomes before (said, tables, says, tells) goes
     followed (Some one) None goes before = absurd goes
     followed None (Some next) goes before = absurd goes
     followed None None goes before = absurd goes

@@ -1,6 +1,5 @@
 -- What a verdict says of a trace: that its text is the lines of a run of the ledger machine from power-on, or those before the line that it names are.
-use Rattle.std.specs.Prelude.{◌≡◌, ℕ, ◌+◌, Bool, List, [], ◌∷◌, ◌++◌, All, Option, None, Some, MatchOption, length, ⊤}
-use Rattle.iom_base.specs.declared.access.Access.{Access}
+use Rattle.std.specs.Prelude.{◌≡◌, ℕ, ◌+◌, List, [], ◌∷◌, ◌++◌, All, Option, None, Some, MatchOption, length, ⊤}
 use Rattle.iom_machine.specs.declared.event.Event.{Event}
 use Rattle.iom_machine.specs.declared.outcome.Outcome.{Outcome}
 use Rattle.iom_machine.specs.declared.state.State.{State}
@@ -10,7 +9,7 @@ use Rattle.iom_machine.specs.Reclaim.{Reclaims}
 use Rattle.iom_script.specs.declared.script.WorldSize.{WorldSize}
 use Rattle.iom_script.specs.Grammar.{spoken, bytes_of_lines}
 use Rattle.iom_script.specs.Words.{IsWithout}
-use Rattle.iom_trace_lines.specs.TraceLines.{SaysLine, World, Step}
+use Rattle.iom_trace_lines.specs.TraceLines.{Said, SaysLine, Tells, World}
 use Rattle.iom_trace_lines.specs.WorldLimits.{limits_of}
 use Rattle.iom_trace_lines.specs.declared.trace.WorldLimits.{WorldLimits}
 use Rattle.iom_judge.specs.declared.verdict.Verdict.{Verdict}
@@ -32,22 +31,22 @@ four_disks = 0 ∷ 1 ∷ 2 ∷ 3 ∷ []
 abbrev pub opening_of : WorldSize → WorldLimits → State
 opening_of size limits = opening (limits_of limits) size.frames size.levels four_disks
 
--- the line says that this came of the event, with or without what that doesn't show
-abbrev pub SaysStep : List ℕ → Event → Outcome → Type 0
-SaysStep line event outcome =
-    (has_tables : Bool) × (on : Option ℕ) × (began : Option Access) × (tables : List ℕ) × SaysLine line (Step event outcome has_tables on began) tables
+-- the line says that these outcomes came of these events: most say one of one
+abbrev pub SaysEvents : List ℕ → List Event → List Outcome → Type 0
+SaysEvents line events outcomes = (said : Said) × (tables : List ℕ) × SaysLine line said tables × Tells said events outcomes
 
--- each line says that its outcome came of its event
-abbrev pub SaySteps : List (List ℕ) → List Event → List Outcome → Type 0
-SaySteps [] [] [] = ⊤
-SaySteps (line ∷ lines) (event ∷ events) (outcome ∷ outcomes) = SaysStep line event outcome × SaySteps lines events outcomes
-SaySteps _ _ _ = ⊥
+-- the lines say that these outcomes came of these events, each its own ones
+abbrev pub SayEvents : List (List ℕ) → List Event → List Outcome → Type 0
+SayEvents [] events outcomes = (events ≡ []) × (outcomes ≡ [])
+SayEvents (line ∷ lines) events outcomes =
+    (own later : List Event) × (its others : List Outcome) × (events ≡ own ++ later) × (outcomes ≡ its ++ others)
+    × SaysEvents line own its × SayEvents lines later others
 
 -- The lines are those of a run of the machine from power-on of a world of this size, with these limits, and the sentences of the headline hold of it.
 pub record AreOfRun (size : WorldSize) (limits : WorldLimits) (lines : List (List ℕ)) : Type 0 where
   pub events : List Event
   pub outcomes : List Outcome
-  pub say : SaySteps lines events outcomes
+  pub say : SayEvents lines events outcomes
   pub last : State
   pub run : Run (opening_of size limits) events outcomes last
   pub reclaims : Reclaims (opening_of size limits) events outcomes last run

@@ -11,9 +11,9 @@ use Rattle.iom_machine.specs.Machine as machine
 use Rattle.iom_script.specs.declared.script.WorldSize.{WorldSize}
 use Rattle.iom_script.specs.Grammar.{is_spoken, spoken}
 use Rattle.iom_trace_lines.specs.Taken.{HasTaken}
-use Rattle.iom_trace_lines.specs.TraceLines.{Said, SaysLine, Nothing, World}
+use Rattle.iom_trace_lines.specs.TraceLines.{Said, SaysLine, Tells, Nothing, World}
 use Rattle.iom_trace_lines.specs.declared.trace.WorldLimits.{WorldLimits}
-use Rattle.iom_judge.specs.Certificates.{named_line, opening_of, SaySteps}
+use Rattle.iom_judge.specs.Certificates.{named_line, opening_of, SayEvents}
 use Rattle.iom_judge.specs.declared.judging.Judge.{Judge}
 use Rattle.iom_judge.specs.declared.verdict.Verdict.{Verdict}
 
@@ -21,7 +21,7 @@ use Rattle.iom_judge.specs.declared.verdict.Verdict.{Verdict}
 pub record IsCertifiedBy (kept : KeptState) (size : WorldSize) (limits : WorldLimits) (lines : List (List ℕ)) : Type 0 where
   pub events : List Event
   pub outcomes : List Outcome
-  pub say : SaySteps lines events outcomes
+  pub say : SayEvents lines events outcomes
   pub past : History
   pub is_past : IsPastOf kept.grants past
   pub run : machine.Run (opening_of size limits) events outcomes (state_of kept past)
@@ -37,12 +37,16 @@ pub record HasTakenAll (judge : Judge) (lines : List (List ℕ)) : Type 0 where
   pub certified : Certify judge.kept (spoken lines)
   pub counted : judge.line ≡ length lines
 
--- What is kept after the event with this outcome is what the machine comes to by it, from each past of what was kept before.
-abbrev pub GoesOn : Option KeptState → Event → Outcome → Option KeptState → Type 0
-GoesOn (Some old) event outcome (Some new) =
+-- What is kept after these events with these outcomes is what the machine comes to by them, from each past of what was kept before.
+abbrev pub GoesOn : Option KeptState → List Event → List Outcome → Option KeptState → Type 0
+GoesOn (Some old) events outcomes (Some new) =
     (history : History) → IsPastOf old.grants history
-    → (now : History) × IsPastOf new.grants now × machine.Step (state_of old history) event outcome (state_of new now)
-GoesOn _ event outcome _ = ⊥
+    → (now : History) × IsPastOf new.grants now × machine.Run (state_of old history) events outcomes (state_of new now)
+GoesOn _ events outcomes _ = ⊥
+
+-- It goes on so with what the line tells who says this.
+abbrev pub GoesOnAs : Option KeptState → Said → Option KeptState → Type 0
+GoesOnAs old said new = (events : List Event) × (outcomes : List Outcome) × Tells said events outcomes × GoesOn old events outcomes new
 
 -- It names the line with this number.
 abbrev pub Names : ℕ → Verdict → Type 0

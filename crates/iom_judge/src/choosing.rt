@@ -20,6 +20,13 @@ pub(crate) struct Shown<'a> {
     pub(crate) began: Option<&'a Access>,
 }
 
+/// Nothing is shown.
+pub(crate) const NOTHING: Shown<'static> = Shown {
+    tables: None,
+    on: None,
+    began: None,
+};
+
 /// What is chosen for a line, and what of that is a guess.
 #[derive(Drop)]
 pub(crate) struct Chosen {

@@ -4,13 +4,14 @@ ghost use Rattle.iom_kept_state.specs.Grants.{IsPastOf};
 ghost use Rattle.iom_kept_state.specs.States.{state_of};
 ghost use Rattle.iom_machine.specs.PowerOn.{opening};
 ghost use Rattle.iom_script.specs.Grammar.{spoken};
-ghost use Rattle.iom_trace_lines.specs.TraceLines.{said_of};
+ghost use Rattle.iom_trace_lines.specs.TraceLines.{said_of, Handoff, Take};
 ghost use Rattle.iom_trace_lines.specs.WorldLimits.{limits_of};
 ghost use Rattle.iom_judge.specs.Certificates.{four_disks, opening_of, IsLawfulTrace, IsSoOf};
-ghost use Rattle.iom_judge.specs.Certified.{Certify, GoesOn, HasJudged, HasTakenAll, IsReadOf, Names};
+ghost use Rattle.iom_judge.specs.Certified.{Certify, GoesOn, GoesOnAs, HasJudged, HasTakenAll, IsReadOf, Names};
 
-use crate::choosing::{Chosen, Shown, choose};
+use crate::choosing::{Chosen, NOTHING, Shown, choose};
 use crate::guesses::Guesses;
+use crate::handed::Handed;
 use crate::missing::Missing;
 use crate::verdict::{Verdict, quoting};
 use iom_kept_state::KeptState;
@@ -87,11 +88,12 @@ fn may_come_unlimited(
 pub(crate) struct Judge {
     alloc: Global,
     /// The state to which they lead.
-    kept: Option<KeptState>,
+    pub(crate) kept: Option<KeptState>,
     /// How many they were.
-    line: u64,
+    pub(crate) line: u64,
     notes: Notes,
     guesses: Guesses,
+    handed: Handed,
 }
 
 impl Judge {
@@ -104,6 +106,7 @@ impl Judge {
             line: 0,
             notes: Notes::new(alloc),
             guesses: Guesses::new(alloc),
+            handed: Handed::new(alloc),
         }
     }
 
@@ -143,6 +146,7 @@ impl Judge {
         if shown.tables.is_some() {
             self.guesses.note_tables();
         }
+        self.handed.note(event, outcome);
         if let Some(missing) = made {
             self.guesses.make(missing, outcome);
         }
@@ -185,7 +189,7 @@ impl Judge {
     /// Whether this may come of the event, where what the line doesn't show is chosen so. What is kept is then what it leaves.
     fn step(&mut self, event: &Event, outcome: &Outcome, choice: &Choice) -> io::Result<bool>
         ensures line { self.new.line ≡ self.old.line }
-        ensures went { IfOk result (λ may. IsTrue may → GoesOn self.old.kept event.now outcome.now self.new.kept) }
+        ensures went { IfOk result (λ may. IsTrue may → GoesOn self.old.kept (event.now ∷ []) (outcome.now ∷ []) self.new.kept) }
     {
         let Some(kept) = &mut self.kept else {
             return Ok(false);
@@ -210,7 +214,7 @@ impl Judge {
     }
 
     /// What is found where this came of the event, if that ends the trace.
-    fn go_on(
+    pub(crate) fn go_on(
         &mut self,
         event: &Event,
         outcome: &Outcome,
@@ -218,9 +222,12 @@ impl Judge {
         text: &[u8],
     ) -> io::Result<Option<Verdict>>
         ensures { IfOk result (λ found. MatchOption found
-            ((self.new.line ≡ self.old.line) × GoesOn self.old.kept event.now outcome.now self.new.kept)
+            ((self.new.line ≡ self.old.line) × GoesOn self.old.kept (event.now ∷ []) (outcome.now ∷ []) self.new.kept)
             (Names self.old.line)) }
     {
+        if let Some(verdict) = self.refuse_handed(event, outcome, shown, text)? {
+            return Ok(Some(verdict));
+        }
         let Some((chosen, made)) = self.choose(event, outcome, shown)? else {
             return Ok(Some(Verdict::Bad { line: self.line }));
         };
@@ -230,6 +237,64 @@ impl Judge {
         }
         let verdict = self.refuse(event, outcome, shown.on, &chosen.choice, text)?;
         Ok(Some(verdict))
+    }
+
+    /// What is found of a line by which a frame is used that was given to somebody else, if it is one.
+    fn refuse_handed(
+        &self,
+        event: &Event,
+        outcome: &Outcome,
+        shown: Shown<'_>,
+        text: &[u8],
+    ) -> io::Result<Option<Verdict>>
+        ensures { IfOk result (λ found. IfSome found (Names self.now.line)) }
+    {
+        let (alloc, line) = (self.alloc, self.line);
+        match self.handed.reason(alloc, event, outcome, shown)? {
+            None => Ok(None),
+            Some(reason) => Ok(Some(Verdict::Unlawful {
+                line,
+                reason: quoting(alloc, text, &reason)?,
+            })),
+        }
+    }
+
+    /// What is found where the frame is given to somebody else, if that ends the trace.
+    fn hand_off(&mut self, frame: u64, text: &[u8]) -> io::Result<Option<Verdict>>
+        ensures { IfOk result (λ found. MatchOption found
+            ((self.new.line ≡ self.old.line) × GoesOnAs self.old.kept (Handoff frame) self.new.kept)
+            (Names self.old.line)) }
+    {
+        if let Some(verdict) = self.go_on(
+            &Event::Free { frame },
+            &Outcome::Free(true),
+            NOTHING,
+            text,
+        )? {
+            return Ok(Some(verdict));
+        }
+        self.handed.hand_off(frame, self.line)?;
+        Ok(None)
+    }
+
+    /// What is found where the frame is taken back, if that ends the trace.
+    fn take_back(&mut self, frame: u64, text: &[u8]) -> io::Result<Option<Verdict>>
+        ensures { IfOk result (λ found. MatchOption found
+            ((self.new.line ≡ self.old.line) × GoesOnAs self.old.kept (Take frame) self.new.kept)
+            (Names self.old.line)) }
+    {
+        let (alloc, line) = (self.alloc, self.line);
+        if self.kept.is_none() {
+            return Ok(Some(Verdict::Bad { line }));
+        }
+        if self.handed.take_back(frame) {
+            return Ok(None);
+        }
+        let reason = format!(in alloc; "frame {frame} wasn't given to anybody else")?;
+        Ok(Some(Verdict::Unlawful {
+            line,
+            reason: quoting(alloc, text, &reason)?,
+        }))
     }
 
     /// What is found of a line that says this, if it ends the trace.
@@ -261,6 +326,13 @@ impl Judge {
                 };
                 self.go_on(event, outcome, shown, text)
             }
+            TraceLine::Made { device, is_read } => self.make(*device, *is_read, text),
+            TraceLine::Grants(granted, has_tables) => {
+                self.grant_each(*granted, if_shown(*has_tables, tables), text)
+            }
+            TraceLine::Releases(released, ticket) => self.release_each(*released, *ticket, text),
+            TraceLine::Handoff(frame) => self.hand_off(*frame, text),
+            TraceLine::Take(frame) => self.take_back(*frame, text),
         }
     }
 

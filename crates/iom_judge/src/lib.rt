@@ -9,8 +9,11 @@
 
 mod choosing;
 mod guesses;
+mod handed;
 mod judging;
+mod made;
 mod missing;
+mod ranges;
 mod settled;
 mod steps;
 mod verdict;

@@ -48,18 +48,17 @@ pub step_behind : (said answered answer behind : List ℕ) (event : Event) (outc
     → TraceMayShow event outcome has_tables on
     → line_of outcome ≡ answer ++ 10 ∷ [] → answered ≡ answer ++ codes "; " ++ behind → codes "; " ++ behind ≡ tables_text has_tables tables ++ on_text on
     → SaysLine (said ++ codes " => " ++ answered) (Step event outcome has_tables on None) tables
-step_behind said answered answer behind event outcome has_tables on tables says may tells is shown =
-    (
-      may,
-      (
-        said,
-        answer,
-        says,
-        tells,
-        ap (λ (l : List ℕ). said ++ codes " => " ++ l) (is ∙ append_assoc answer (codes "; ") behind ∙ ap (λ (l : List ℕ). answer ++ l) shown)
-            ∙ sym (append_assoc (said ++ codes " => ") answer (tables_text has_tables tables ++ on_text on)),
-      ),
-    )
+step_behind said answered answer behind event outcome has_tables on tables says may tells is shown = (
+  may,
+  (
+    said,
+    answer,
+    says,
+    tells,
+    ap (λ (l : List ℕ). said ++ codes " => " ++ l) (is ∙ append_assoc answer (codes "; ") behind ∙ ap (λ (l : List ℕ). answer ++ l) shown)
+        ∙ sym (append_assoc (said ++ codes " => ") answer (tables_text has_tables tables ++ on_text on)),
+  ),
+)
 
 -- and with an access that a step began behind
 pub step_began : (said answered answer behind : List ℕ) (event : Event) (outcome : Outcome) (access : Access) (tables : List ℕ) → IsEventLine said event

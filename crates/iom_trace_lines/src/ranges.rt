@@ -6,7 +6,9 @@ ghost use Rattle.iom_trace_lines.specs.TraceLines.{said_of, IsPages, IsGrantsLin
 use crate::line::{cut, read_frames};
 use crate::trace::{GrantedPages, ReleasedPages, TraceLine};
 use crate::words::short_number_of;
-use iom_script::words::{after, cut as cut_at, device_and, is_word, number_and, number_of, right_of};
+use iom_script::words::{
+    after, cut as cut_at, device_and, is_word, number_and, number_of, right_of,
+};
 use std::alloc::AllocError;
 
 /// The first of some pages and how many there are, as `P+N` says.

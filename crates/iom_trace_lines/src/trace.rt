@@ -71,7 +71,10 @@ pub enum TraceLine<'a> {
         began: Option<Access>,
     },
     /// The device's oldest access was made: a read, of bytes that aren't shown, or whatever it is.
-    Made { device: DeviceId, is_read: bool },
+    Made {
+        device: DeviceId,
+        is_read: bool,
+    },
     /// Frames were granted at so many pages; and whether it is shown which became tables.
     Grants(GrantedPages, bool),
     /// So many pages were released under the ticket.

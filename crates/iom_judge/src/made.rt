@@ -1,0 +1,68 @@
+// An access that was made, of which a line tells no more.
+ghost use Rattle.std.specs.Prelude.{◌≡◌, IfOk, MatchOption};
+ghost use Rattle.iom_trace_lines.specs.TraceLines.{IsMade, Made};
+ghost use Rattle.iom_judge.specs.Certified.{GoesOnAs, Names};
+
+use crate::choosing::NOTHING;
+use crate::judging::Judge;
+use crate::settled::device_with;
+use crate::verdict::Verdict;
+use arrayvec::ArrayVec;
+use iom_base::{AcceptedAccess, AccessKind, DeviceId, PAGE_SIZE};
+use iom_kept_state::KeptState;
+use iom_machine::{Event, Outcome};
+use std::io;
+
+/// The oldest access of the device in flight, if there is one.
+fn oldest(kept: &KeptState, id: DeviceId) -> Option<&AcceptedAccess> {
+    let device = device_with(kept.devices.as_slice(), id)?;
+    device.in_flight.as_slice().first()
+}
+
+/// What a read gives that is made now.
+fn read_now(kept: &KeptState, made: &AcceptedAccess) -> ArrayVec<u8, 4096> {
+    let mut bytes = ArrayVec::new();
+    let offset = (made.access.address % PAGE_SIZE) as usize;
+    let len = made.access.len.min(PAGE_SIZE) as usize;
+    if let Some(all) = kept
+        .frames
+        .bytes(made.frame)
+        .get(offset..offset.saturating_add(len))
+    {
+        let _fits = bytes.try_extend_from_slice(all);
+    }
+    bytes
+}
+
+/// What comes of the device's oldest access, where it is made now: of a read, or of whatever it is.
+fn made_now(kept: &KeptState, id: DeviceId, is_read: bool) -> Outcome
+    ensures { IsMade is_read result }
+{
+    let Some(made) = oldest(kept, id) else {
+        return Outcome::Read(ArrayVec::new());
+    };
+    if is_read || made.access.kind == AccessKind::Read {
+        return Outcome::Read(read_now(kept, made));
+    }
+    Outcome::Wrote(made.access.len)
+}
+
+impl Judge {
+    /// What is found where the device's oldest access was made, if that ends the trace.
+    pub(crate) fn make(
+        &mut self,
+        device: DeviceId,
+        is_read: bool,
+        text: &[u8],
+    ) -> io::Result<Option<Verdict>>
+        ensures { IfOk result (λ found. MatchOption found
+            ((self.new.line ≡ self.old.line) × GoesOnAs self.old.kept (Made device is_read) self.new.kept)
+            (Names self.old.line)) }
+    {
+        let Some(kept) = &self.kept else {
+            return Ok(Some(Verdict::Bad { line: self.line }));
+        };
+        let outcome = made_now(kept, device, is_read);
+        self.go_on(&Event::Commit { device }, &outcome, NOTHING, text)
+    }
+}

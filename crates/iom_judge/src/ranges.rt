@@ -1,0 +1,104 @@
+// Grants and releases of pages side by side, one after another.
+ghost use Rattle.std.specs.Prelude.{◌≡◌, ◌+◌, Bool, IfOk, IfSome, MatchOption};
+ghost use Rattle.iom_machine.specs.declared.event.Event.TheVariants as events;
+ghost use Rattle.iom_trace_lines.specs.TraceLines.{Grants, Releases};
+ghost use Rattle.iom_judge.specs.Certified.{GoesOnAs, Names};
+
+use crate::choosing::{NOTHING, Shown};
+use crate::judging::Judge;
+use crate::verdict::Verdict;
+use iom_machine::{Event, Outcome};
+use iom_trace_lines::{GrantedPages, ReleasedPages};
+use std::io;
+
+/// The grant of the page with this index, if there is such a page and such a frame.
+fn grant_at(granted: GrantedPages, index: u64) -> Option<Event>
+    ensures { IfSome result (λ event. event ≡ events.Grant granted.device (granted.page + index) (granted.frame + index) granted.rights) }
+{
+    let page = granted.page.checked_add(index)?;
+    let frame = granted.frame.checked_add(index)?;
+    Some(Event::Grant {
+        device: granted.device,
+        page,
+        frame,
+        rights: granted.rights,
+    })
+}
+
+/// The release of the page with this index, if there is such a page.
+fn release_at(released: ReleasedPages, index: u64) -> Option<Event>
+    ensures { IfSome result (λ event. event ≡ events.Release released.device (released.page + index)) }
+{
+    let page = released.page.checked_add(index)?;
+    Some(Event::Release {
+        device: released.device,
+        page,
+    })
+}
+
+/// What is shown of the grant with this index: the first has all tables that are shown.
+fn shown_at(tables: Option<&[u64]>, index: u64) -> Shown<'_> {
+    let tables = match tables {
+        Some(_) if index > 0 => Some([].as_slice()),
+        tables => tables,
+    };
+    Shown { tables, ..NOTHING }
+}
+
+impl Judge {
+    /// What is found of these grants, if one of them ends the trace.
+    pub(crate) fn grant_each(
+        &mut self,
+        granted: GrantedPages,
+        tables: Option<&[u64]>,
+        text: &[u8],
+    ) -> io::Result<Option<Verdict>>
+        ensures { (has_tables : Bool) → IfOk result (λ found. MatchOption found
+            ((self.new.line ≡ self.old.line)
+            × GoesOnAs self.old.kept (Grants granted.device granted.page granted.count granted.frame granted.rights has_tables) self.new.kept)
+            (Names self.old.line)) }
+    {
+        if self.kept.is_none() {
+            return Ok(Some(Verdict::Bad { line: self.line }));
+        }
+        let done = Outcome::Done;
+        for index in 0..granted.count {
+            let Some(event) = grant_at(granted, index) else {
+                return Ok(Some(Verdict::Bad { line: self.line }));
+            };
+            let found = self.go_on(&event, &done, shown_at(tables, index), text)?;
+            if found.is_some() {
+                return Ok(found);
+            }
+        }
+        Ok(None)
+    }
+
+    /// What is found of these releases, if one of them ends the trace.
+    pub(crate) fn release_each(
+        &mut self,
+        released: ReleasedPages,
+        ticket: u32,
+        text: &[u8],
+    ) -> io::Result<Option<Verdict>>
+        ensures { IfOk result (λ found. MatchOption found
+            ((self.new.line ≡ self.old.line)
+            × GoesOnAs self.old.kept (Releases released.device released.page released.count ticket) self.new.kept)
+            (Names self.old.line)) }
+    {
+        if self.kept.is_none() {
+            return Ok(Some(Verdict::Bad { line: self.line }));
+        }
+        let given = Outcome::Ticket(ticket);
+        for index in 0..released.count {
+            let Some(event) = release_at(released, index) else {
+                return Ok(Some(Verdict::Bad { line: self.line }));
+            };
+            let found = self.go_on(&event, &given, NOTHING, text)?;
+            if found.is_some() {
+                return Ok(found);
+            }
+        }
+        Ok(None)
+    }
+}
