@@ -55,8 +55,8 @@ says_more (l ∷ ls) line events own outcomes its (first, later, came, others, a
   later ++ own,
   came,
   others ++ its,
-  ap (λ (l : List Event). l ++ own) are ∙ sym (append_assoc first later own),
-  ap (λ (l : List Outcome). l ++ its) them ∙ sym (append_assoc came others its),
+  ap (λ (l : List Event). l ++ own) are ∙ append_assoc first later own,
+  ap (λ (l : List Outcome). l ++ its) them ∙ append_assoc came others its,
   says_first,
   says_more ls line later own others its rest says,
 )
@@ -162,7 +162,7 @@ begins_with : (lines : List (List ℕ)) (buffer : List ℕ) (start end : ℕ) (t
 begins_with lines buffer start end text None taken = absurd taken.consumed
 begins_with lines buffer start end text (Some left) taken = (
   taken.waiting ++ left,
-  taken.consumed ∙ ap (λ (l : List ℕ). l ++ left) taken.is_read ∙ sym (append_assoc (bytes_of_lines lines) taken.waiting left),
+  taken.consumed ∙ ap (λ (l : List ℕ). l ++ left) taken.is_read ∙ append_assoc (bytes_of_lines lines) taken.waiting left,
 )
 
 -- What names the line behind those that were taken is so of the text.

@@ -14,6 +14,8 @@ pub(crate) struct Guesses {
     shows_tables: bool,
     /// The first line that took some and doesn't show them.
     tables: Option<Missing>,
+    /// Whether a device was detached since: its tables are given back, as frames of zeros.
+    gives_back: bool,
     /// The accesses in flight of which something was guessed.
     in_flight: Vec<Missing>,
     /// The first of them that was a write, and was made: bytes may be elsewhere.
@@ -51,6 +53,7 @@ impl Guesses {
         Guesses {
             shows_tables: false,
             tables: None,
+            gives_back: false,
             in_flight: Vec::new(alloc),
             made: None,
         }
@@ -59,6 +62,13 @@ impl Guesses {
     /// A line shows which frames became tables.
     pub(crate) fn note_tables(&mut self) {
         self.shows_tables = true;
+    }
+
+    /// A device is detached, where this came of the event.
+    pub(crate) fn note_detach(&mut self, event: &Event, outcome: &Outcome) {
+        if matches!(event, Event::Detach { .. }) && matches!(outcome, Outcome::Ticket(_)) {
+            self.gives_back = self.tables.is_some();
+        }
     }
 
     /// Something was guessed.
@@ -114,8 +124,8 @@ impl Guesses {
     /// What bytes in memory depend on.
     fn of_bytes(&self) -> Option<Missing> {
         match self.made {
-            Some(missing) => Some(missing),
-            None => self.tables,
+            None if self.gives_back => self.tables,
+            made => made,
         }
     }
 

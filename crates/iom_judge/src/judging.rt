@@ -147,6 +147,7 @@ impl Judge {
             self.guesses.note_tables();
         }
         self.handed.note(event, outcome);
+        self.guesses.note_detach(event, outcome);
         if let Some(missing) = made {
             self.guesses.make(missing, outcome);
         }

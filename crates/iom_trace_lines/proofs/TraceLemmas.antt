@@ -11,6 +11,7 @@ use Rattle.iom_machine.specs.declared.event.Event.{Event}
 use Rattle.iom_machine.specs.declared.event.Event.TheVariants as events
 use Rattle.iom_machine.specs.declared.outcome.Outcome.{Outcome}
 use Rattle.iom_script.specs.Cuts.{BeginsWithWord}
+use Rattle.iom_script.specs.Reading.{Reads}
 use Rattle.iom_script.specs.Grammar.{IsEventLine}
 use Rattle.iom_script.specs.Lines.{line_of}
 use Rattle.iom_script.specs.Words.{◌␣◌, IsDevice, IsNumber, IsRight}
@@ -144,16 +145,25 @@ pub releases_line : (said words pages id : List ℕ) (device page count : ℕ) �
     → IsReleasesLine said device page count
 releases_line said words pages id device page count is d cut many = (id, pages, d, many, is ∙ ap (λ (l : List ℕ). codes "release " ++ l) cut)
 
+-- words that are joined from the left
+joined : (said a b rest : List ℕ) → said ++ a ++ (b ++ rest) ≡ said ++ (a ++ b) ++ rest
+joined said a b rest = sym (append_assoc (said ++ a) b rest) ∙ ap (λ (l : List ℕ). l ++ rest) (append_assoc said a b)
+
 -- what is told of grants and of releases
 pub grants_say : (said answered answer behind : List ℕ) (device page count frame : ℕ) (rights : GrantRights) (has_tables : Bool) (tables : List ℕ) → IsGrantsLine said device page count frame rights
     → answer ≡ codes "ok" → answered ≡ answer ++ behind → behind ≡ tables_text has_tables tables
     → SaysLine (said ++ codes " => " ++ answered) (Grants device page count frame rights has_tables) tables
-grants_say said answered answer behind device page count frame rights has_tables tables says ok cut shown =
-    (said, says, ap (λ (l : List ℕ). said ++ codes " => " ++ l) (cut ∙ ap (λ (l : List ℕ). l ++ behind) ok ∙ ap (λ (l : List ℕ). codes "ok" ++ l) shown))
+grants_say said answered answer behind device page count frame rights has_tables tables says ok cut shown = (
+  said,
+  says,
+  ap (λ (l : List ℕ). said ++ codes " => " ++ l) (cut ∙ ap (λ (l : List ℕ). l ++ behind) ok ∙ ap (λ (l : List ℕ). codes "ok" ++ l) shown)
+      ∙ joined said (codes " => ") (codes "ok") (tables_text has_tables tables),
+)
 
 pub releases_say : (said answered word : List ℕ) (device page count ticket : ℕ) (tables : List ℕ) → IsReleasesLine said device page count → IsNumber word ticket → answered ≡ codes "ticket " ++ word
     → SaysLine (said ++ codes " => " ++ answered) (Releases device page count ticket) tables
-releases_say said answered word device page count ticket tables says number told = (said, word, says, number, ap (λ (l : List ℕ). said ++ codes " => " ++ l) told)
+releases_say said answered word device page count ticket tables says number told =
+    (said, word, says, number, ap (λ (l : List ℕ). said ++ codes " => " ++ l) told ∙ joined said (codes " => ") (codes "ticket ") word)
 
 -- how large the world is, with the word that says its limits behind
 pub world_says : (said sized answer : List ℕ) (size : WorldSize) (limits : WorldLimits) (tables : List ℕ) → said ≡ sized ++ limits_text limits → SaysSize limits sized size → answer ≡ codes "ok"
@@ -168,3 +178,14 @@ world_says said sized answer size limits tables cut says ok = (
 pub large_world : (line arguments rest : List ℕ) (size : WorldSize) → line ≡ codes "world " ++ arguments → BeginsWithWord IsNumber arguments size.frames rest
     → IsNumber rest size.levels → IsLargeSize size → IsLargeWorldLine line size
 large_world line arguments rest size begins (word, says, cut) levels large = (word, rest, says, levels, large, begins ∙ ap (λ (l : List ℕ). codes "world " ++ l) cut)
+
+-- the ticket that is told
+pub ticket_told : (answered word : List ℕ) (result : Option ℕ) → answered ≡ codes "ticket " ++ word → IfSome result (IsNumber word)
+    → IfSome result (λ ticket. (named : List ℕ) × IsNumber named ticket × (answered ≡ codes "ticket " ++ named))
+ticket_told answered word None is number = tt
+ticket_told answered word (Some ticket) is number = (word, number, is)
+
+-- what is read, is so
+pub if_read : {X : Type 0} (P : X → Type 0) (result : Option X) → Reads result P → IfSome result P
+if_read P None reads = tt
+if_read P (Some x) reads = (reads x).0 refl

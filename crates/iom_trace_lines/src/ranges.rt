@@ -1,5 +1,5 @@
 // Grants and releases of pages side by side, in one line.
-ghost use Rattle.std.specs.Prelude.{◌≡◌, ◌++◌, ℕ, List, [], IfOk, IfSome, codes};
+ghost use Rattle.std.specs.Prelude.{◌≡◌, ◌++◌, ◌<◌, ◌+◌, ◌^◌, ℕ, List, [], IfOk, IfSome, IsTrue, codes};
 ghost use Rattle.iom_script.specs.Words.{IsNumber};
 ghost use Rattle.iom_trace_lines.specs.TraceLines.{said_of, IsPages, IsGrantsLine, IsReleasesLine, SaysLine};
 
@@ -11,6 +11,13 @@ use iom_script::words::{
 };
 use std::alloc::AllocError;
 
+/// Whether so many from the first on are some, and none of them is beyond what 64 bits say.
+fn are_some(first: u64, count: u64) -> bool
+    ensures { IsTrue result → (0 < count) × (first + count < 2 ^ 64) }
+{
+    count > 0 && first <= u64::MAX - count
+}
+
 /// The first of some pages and how many there are, as `P+N` says.
 fn pages_of(text: &[u8]) -> Option<(u64, u64)>
     ensures { IfSome result (λ pages. IsPages text.now pages.0 pages.1) }
@@ -18,7 +25,7 @@ fn pages_of(text: &[u8]) -> Option<(u64, u64)>
     let (first, count) = cut_at(text, b'+')?;
     let page = number_of(first)?;
     let count = number_of(count)?;
-    if count == 0 || page > u64::MAX - count {
+    if !are_some(page, count) {
         return None;
     }
     Some((page, count))
@@ -34,7 +41,7 @@ pub(crate) fn grants_of(said: &[u8]) -> Option<GrantedPages>
     let (page, count) = pages_of(pages)?;
     let (frame, right) = number_and(words)?;
     let rights = right_of(right)?;
-    if frame > u64::MAX - count {
+    if !are_some(frame, count) {
         return None;
     }
     Some(GrantedPages {
