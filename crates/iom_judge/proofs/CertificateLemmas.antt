@@ -1,12 +1,16 @@
 -- A run grows with each line, and what is certified with it.
-use Rattle.std.proofs.Common.{◌≡◌, ◌≢◌, ◌∙◌, All, ℕ, ◌+◌, Bool, true, false, List, [], ◌∷◌, ◌++◌, Option, None, Some, Result, Ok, Err, IfOk, IfSome, IsSomeAnd, MatchOption, refl, sym, ap, subst, append-nil, append_assoc, length, filter}
+use Rattle.std.proofs.Common.{◌≡◌, ◌≢◌, ◌∙◌, All, ℕ, ◌+◌, Bool, true, false, List, [], ◌∷◌, ◌++◌, Option, None, Some, Result, Ok, Err, IfOk, IfSome, IsSomeAnd, MatchOption, refl, sym, ap, subst, append-nil, append_assoc, length, filter, replicate, suc, zero, arith}
 use Rattle.std.proofs.lemmas.List.{length-append}
 use Rattle.std.proofs.lemmas.List.Elements.{All-nil, filter-append}
 use Rattle.std.proofs.KnownBytes.{Consumes-nil}
 use Rattle.iom_kept_state.specs.Grants.{IsPastOf}
-use Rattle.iom_kept_state.specs.States.{state_of}
+use Rattle.iom_kept_state.specs.States.{state_of, Leaves}
 use Rattle.iom_kept_state.specs.declared.state.KeptState.{KeptState}
+use Rattle.iom_base.specs.declared.grant_rights.GrantRights.{GrantRights}
+use Rattle.iom_machine.specs.declared.choice.Choice.{Choice}
 use Rattle.iom_machine.specs.declared.event.Event.{Event}
+use Rattle.iom_machine.specs.declared.event.Event.TheVariants as events
+use Rattle.iom_machine.specs.declared.outcome.Outcome.TheVariants as outcomes
 use Rattle.iom_machine.specs.declared.outcome.Outcome.{Outcome}
 use Rattle.iom_machine.specs.declared.state.State.{State}
 use Rattle.iom_machine.specs.Machine as machine
@@ -15,7 +19,7 @@ use Rattle.iom_script.specs.declared.script.WorldSize.{WorldSize}
 use Rattle.iom_script.specs.Grammar.{is_spoken, spoken, bytes_of_lines}
 use Rattle.iom_script.specs.Words.{IsWithout}
 use Rattle.iom_trace_lines.specs.Taken.{AreLines, BufferHolds, HasTaken}
-use Rattle.iom_trace_lines.specs.TraceLines.{Said, SaysLine, Nothing, World}
+use Rattle.iom_trace_lines.specs.TraceLines.{Said, SaysLine, Nothing, World, granted_events, released_events}
 use Rattle.iom_trace_lines.specs.WorldLimits.{limits_of}
 use Rattle.iom_trace_lines.specs.declared.trace.WorldLimits.{WorldLimits}
 use Rattle.iom_judge.specs.Certificates.{four_disks, named_line, opening_of, SaysEvents, SayEvents, AreOfRun, AreLawfulLines, IsLawfulBefore, IsLawfulTrace, IsSoOf}
@@ -206,3 +210,36 @@ pub nothing_taken : (judge : Judge) (buffer : List ℕ) (start end : ℕ) (first
     → HasJudged judge buffer start end first first
 nothing_taken judge buffer start end first holds taken =
     ([], record { whole = All-nil (IsWithout 10); read = []; consumed = Consumes-nil first; waiting = []; holds = holds; is_read = refl }, taken)
+
+-- so many, and one more
+replicate_more : (n : ℕ) (o : Outcome) → replicate n o ++ o ∷ [] ≡ replicate (suc n) o
+replicate_more zero o = refl
+replicate_more (suc n) o = ap (λ (l : List Outcome). o ∷ l) (replicate_more n o)
+
+-- one grant more, and one release more
+pub granted_more : (old mid new : Option KeptState) (device page frame : ℕ) (rights : GrantRights) (k : ℕ) (event : Event) → event ≡ events.Grant device (page + k) (frame + k) rights
+    → GoesOn old (granted_events device page frame rights k) (replicate k outcomes.Done) mid → GoesOn mid (event ∷ []) (outcomes.Done ∷ []) new
+    → GoesOn old (granted_events device page frame rights (k + 1)) (replicate (k + 1) outcomes.Done) new
+granted_more old mid new device page frame rights k event is so_far goes =
+    let next : suc k ≡ k + 1 = omega arith in
+    let now : GoesOn mid (events.Grant device (page + k) (frame + k) rights ∷ []) (outcomes.Done ∷ []) new = subst (λ (e : Event). GoesOn mid (e ∷ []) (outcomes.Done ∷ []) new) is goes in
+    subst (λ (n : ℕ). GoesOn old (granted_events device page frame rights n) (replicate n outcomes.Done) new) next
+    (subst (λ (l : List Outcome). GoesOn old (granted_events device page frame rights (suc k)) l new) (replicate_more k outcomes.Done)
+    (goes_further old mid new (granted_events device page frame rights k) (events.Grant device (page + k) (frame + k) rights ∷ []) (replicate k outcomes.Done) (outcomes.Done ∷ []) so_far now))
+
+pub released_more : (old mid new : Option KeptState) (device page ticket : ℕ) (k : ℕ) (event : Event) → event ≡ events.Release device (page + k)
+    → GoesOn old (released_events device page k) (replicate k (outcomes.Ticket ticket)) mid → GoesOn mid (event ∷ []) (outcomes.Ticket ticket ∷ []) new
+    → GoesOn old (released_events device page (k + 1)) (replicate (k + 1) (outcomes.Ticket ticket)) new
+released_more old mid new device page ticket k event is so_far goes =
+    let next : suc k ≡ k + 1 = omega arith in
+    let now : GoesOn mid (events.Release device (page + k) ∷ []) (outcomes.Ticket ticket ∷ []) new = subst (λ (e : Event). GoesOn mid (e ∷ []) (outcomes.Ticket ticket ∷ []) new) is goes in
+    subst (λ (n : ℕ). GoesOn old (released_events device page n) (replicate n (outcomes.Ticket ticket)) new) next
+    (subst (λ (l : List Outcome). GoesOn old (released_events device page (suc k)) l new) (replicate_more k (outcomes.Ticket ticket))
+    (goes_further old mid new (released_events device page k) (events.Release device (page + k) ∷ []) (replicate k (outcomes.Ticket ticket)) (outcomes.Ticket ticket ∷ []) so_far now))
+
+-- one event is what the machine comes to by a step
+pub one_step : (old new : KeptState) (event : Event) (outcome : Outcome) (choice : Choice) → Leaves old new (λ before after. machine.ChosenStep choice before event outcome after)
+    → GoesOn (Some old) (event ∷ []) (outcome ∷ []) (Some new)
+one_step old new event outcome choice leaves = λ history past.
+    let next = leaves history past in
+    (next.0, next.1, (state_of new next.0, (choice, (next.2 (state_of new next.0)).0 refl), refl))

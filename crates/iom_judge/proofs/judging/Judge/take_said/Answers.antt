@@ -1,8 +1,8 @@
-use Rattle.std.proofs.Common.{◌≡◌, ◌∙◌, ℕ, List, refl, subst, cc}
-use Rattle.iom_trace_lines.specs.TraceLines.{Said, Nothing, World, Step, said_of}
+use Rattle.std.proofs.Common.{◌≡◌, ◌∙◌, ◌∷◌, [], ℕ, List, refl, subst}
+use Rattle.iom_trace_lines.specs.TraceLines.{Said, Nothing, World, Step, Made, Grants, Releases, Handoff, Take, said_of}
 use Rattle.iom_trace_lines.specs.declared.trace.TraceLine.{TraceLine}
 use Rattle.iom_judge.specs.Certified.{IsReadOf}
-use Rattle.iom_judge.proofs.CertificateLemmas.{nothing_said, world_said, step_said, if_it_goes_on}
+use Rattle.iom_judge.proofs.CertificateLemmas.{nothing_said, world_said, events_said, if_it_goes_on}
 use Rattle.iom_judge.proofs.judging.Judge.take_said.Goals as goal
 
 pub returns-in-Nothing : goal.returns-in-Nothing
@@ -21,9 +21,51 @@ returns-in-World c line lines read before counted =
 
 pub returns-in-Step : goal.returns-in-Step
 returns-in-Step c line lines read before counted =
-    let step : Said = Step c.in-Step.event c.in-Step.outcome.now c.in-Step.has_tables c.in-Step.on c.in-Step.began in
-    let is : IsReadOf line step c.args.tables.now = subst (λ (t : TraceLine). IsReadOf line (said_of t) c.args.tables.now) c.in-Step.is read in
+    let said : Said = Step c.in-Step.event c.in-Step.outcome.now c.in-Step.has_tables c.in-Step.on c.in-Step.began in
+    let is : IsReadOf line said c.args.tables.now = subst (λ (t : TraceLine). IsReadOf line (said_of t) c.args.tables.now) c.in-Step.is read in
     if_it_goes_on c.go_on.result _ _ _
-    (λ went. step_said c.args.self.now.kept c.go_on.new.self lines line c.args.tables.now c.in-Step.event c.in-Step.outcome.now c.in-Step.has_tables
-    c.in-Step.on c.in-Step.began (is.1 (λ e. cc)) is.0 went.1 before (went.0 ∙ counted))
+    (λ went. events_said c.args.self.now.kept c.go_on.new.self lines line c.args.tables.now said (is.1 (λ e. cc)) is.0
+    (c.in-Step.event ∷ [], c.in-Step.outcome.now ∷ [], (refl, refl), went.1) before (went.0 ∙ counted))
     c.go_on.ensures
+
+pub returns-in-Made : goal.returns-in-Made
+returns-in-Made c line lines read before counted =
+    let said : Said = Made c.in-Made.device c.in-Made.is_read in
+    let is : IsReadOf line said c.args.tables.now = subst (λ (t : TraceLine). IsReadOf line (said_of t) c.args.tables.now) c.in-Made.is read in
+    if_it_goes_on c.make.result _ _ _
+    (λ went. events_said c.args.self.now.kept c.make.new.self lines line c.args.tables.now said (is.1 (λ e. cc)) is.0 went.1 before (went.0 ∙ counted))
+    c.make.ensures
+
+pub returns-in-Grants : goal.returns-in-Grants
+returns-in-Grants c line lines read before counted =
+    let granted = c.in-Grants.granted in
+    let said : Said = Grants granted.device granted.page granted.count granted.frame granted.rights c.in-Grants.has_tables in
+    let is : IsReadOf line said c.args.tables.now = subst (λ (t : TraceLine). IsReadOf line (said_of t) c.args.tables.now) c.in-Grants.is read in
+    if_it_goes_on c.grant_each.result _ _ _
+    (λ went. events_said c.args.self.now.kept c.grant_each.new.self lines line c.args.tables.now said (is.1 (λ e. cc)) is.0 went.1 before (went.0 ∙ counted))
+    (c.grant_each.ensures c.in-Grants.has_tables)
+
+pub returns-in-Releases : goal.returns-in-Releases
+returns-in-Releases c line lines read before counted =
+    let released = c.in-Releases.released in
+    let said : Said = Releases released.device released.page released.count c.in-Releases.ticket in
+    let is : IsReadOf line said c.args.tables.now = subst (λ (t : TraceLine). IsReadOf line (said_of t) c.args.tables.now) c.in-Releases.is read in
+    if_it_goes_on c.release_each.result _ _ _
+    (λ went. events_said c.args.self.now.kept c.release_each.new.self lines line c.args.tables.now said (is.1 (λ e. cc)) is.0 went.1 before (went.0 ∙ counted))
+    c.release_each.ensures
+
+pub returns-in-Handoff : goal.returns-in-Handoff
+returns-in-Handoff c line lines read before counted =
+    let said : Said = Handoff c.in-Handoff.frame in
+    let is : IsReadOf line said c.args.tables.now = subst (λ (t : TraceLine). IsReadOf line (said_of t) c.args.tables.now) c.in-Handoff.is read in
+    if_it_goes_on c.hand_off.result _ _ _
+    (λ went. events_said c.args.self.now.kept c.hand_off.new.self lines line c.args.tables.now said (is.1 (λ e. cc)) is.0 went.1 before (went.0 ∙ counted))
+    c.hand_off.ensures
+
+pub returns-in-Take : goal.returns-in-Take
+returns-in-Take c line lines read before counted =
+    let said : Said = Take c.in-Take.frame in
+    let is : IsReadOf line said c.args.tables.now = subst (λ (t : TraceLine). IsReadOf line (said_of t) c.args.tables.now) c.in-Take.is read in
+    if_it_goes_on c.take_back.result _ _ _
+    (λ went. events_said c.args.self.now.kept c.take_back.new.self lines line c.args.tables.now said (is.1 (λ e. cc)) is.0 went.1 before (went.0 ∙ counted))
+    c.take_back.ensures
