@@ -18,8 +18,7 @@ fn no_access(alloc: Global) -> Access {
 }
 
 /// Whether nobody has the frame. Those that are granted are the lowest, and no table comes to be there.
-fn is_free(kept: &KeptState, number: u32) -> bool {
-    let number = u64::from(number);
+fn is_free(kept: &KeptState, number: u64) -> bool {
     number < kept.frames.count() && !kept.frames.is_reserved(number)
 }
 
@@ -31,7 +30,7 @@ fn size_of(kept: &KeptState, asked: DeviceId) -> Option<Size> {
 }
 
 /// So many of the highest free frames.
-fn highest(alloc: Global, kept: &KeptState, count: usize) -> Result<Sequence<u32>, AllocError> {
+fn highest(alloc: Global, kept: &KeptState, count: usize) -> Result<Sequence<u64>, AllocError> {
     let mut all = Sequence::new(alloc);
     for number in (0..64).rev() {
         if all.as_slice().len() < count && is_free(kept, number) {
@@ -42,7 +41,7 @@ fn highest(alloc: Global, kept: &KeptState, count: usize) -> Result<Sequence<u32
 }
 
 /// The highest free frame below the limit.
-fn highest_one(alloc: Global, kept: &KeptState, limit: u32) -> Result<Sequence<u32>, AllocError> {
+fn highest_one(alloc: Global, kept: &KeptState, limit: u64) -> Result<Sequence<u64>, AllocError> {
     for number in (0..limit).rev() {
         if is_free(kept, number) {
             return sequence(alloc, &[number]);
@@ -51,7 +50,7 @@ fn highest_one(alloc: Global, kept: &KeptState, limit: u32) -> Result<Sequence<u
     Ok(Sequence::new(alloc))
 }
 
-fn are_free(kept: &KeptState, numbers: &[u32]) -> bool {
+fn are_free(kept: &KeptState, numbers: &[u64]) -> bool {
     for number in numbers {
         if !is_free(kept, *number) {
             return false;
@@ -61,7 +60,7 @@ fn are_free(kept: &KeptState, numbers: &[u32]) -> bool {
 }
 
 /// The highest four free frames in a row below the limit that begin at a multiple of four.
-fn highest_four(alloc: Global, kept: &KeptState, limit: u32) -> Result<Sequence<u32>, AllocError> {
+fn highest_four(alloc: Global, kept: &KeptState, limit: u64) -> Result<Sequence<u64>, AllocError> {
     for quarter in (0..16).rev() {
         let root = 4 * quarter;
         let four = [root, root + 1, root + 2, root + 3];
@@ -72,7 +71,7 @@ fn highest_four(alloc: Global, kept: &KeptState, limit: u32) -> Result<Sequence<
     Ok(Sequence::new(alloc))
 }
 
-fn sequence(alloc: Global, numbers: &[u32]) -> Result<Sequence<u32>, AllocError> {
+fn sequence(alloc: Global, numbers: &[u64]) -> Result<Sequence<u64>, AllocError> {
     let mut all = Sequence::new(alloc);
     for number in numbers {
         all.push(*number)?;
@@ -118,7 +117,7 @@ impl Choices {
         kept: &KeptState,
         device: DeviceId,
         page: u64,
-    ) -> Result<Sequence<u32>, AllocError> {
+    ) -> Result<Sequence<u64>, AllocError> {
         let most = match size_of(kept, device) {
             Some(Size::Sv39) => 2,
             Some(Size::Sv48) => 3,
@@ -161,7 +160,7 @@ impl Choices {
         kept: &KeptState,
         device: DeviceId,
         mode: Mode,
-    ) -> Result<(Sequence<u32>, Sequence<u32>), AllocError> {
+    ) -> Result<(Sequence<u64>, Sequence<u64>), AllocError> {
         let pages = highest(alloc, kept, self.count_lacking(kept, device))?;
         self.attached.push(device)?;
         self.granted.retain(|(owner, _page)| *owner != device);
@@ -182,7 +181,7 @@ impl Choices {
         alloc: Global,
         kept: &KeptState,
         step: &Step,
-    ) -> Result<(Sequence<u32>, Sequence<u32>), AllocError> {
+    ) -> Result<(Sequence<u64>, Sequence<u64>), AllocError> {
         match (&step.event, &step.outcome) {
             (Event::Attach { device, mode, .. }, Outcome::Done) => {
                 self.attach(alloc, kept, *device, *mode)

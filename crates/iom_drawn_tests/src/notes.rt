@@ -65,7 +65,7 @@ fn noted_delivery(outcome: &Outcome) -> Option<Note> {
 }
 
 /// What this access through a cache is, which was made where it showed on which frame.
-fn noted_access(outcome: &Outcome, frame: Option<u32>) -> Option<Note> {
+fn noted_access(outcome: &Outcome, frame: Option<u64>) -> Option<Note> {
     match outcome {
         Outcome::Miss => Some(Note::Miss),
         Outcome::Accepted(_) => frame.map(|_| Note::Made),

@@ -46,7 +46,7 @@ pub(crate) struct Step {
     pub(crate) event: Event,
     pub(crate) outcome: Outcome,
     /// The frame on which an access was accepted, once it showed.
-    pub(crate) frame: Option<u32>,
+    pub(crate) frame: Option<u64>,
     /// The question that was delivered.
     pub(crate) question: Option<Question>,
     /// Whether this may come of the event, as far as the list of the messages under way says.
@@ -299,7 +299,7 @@ impl Run {
     }
 
     /// The frame in which the write of this step, made just now, put its own word: the processor looks.
-    fn seek(&mut self, place: usize) -> Result<Option<u32>, Fail> {
+    fn seek(&mut self, place: usize) -> Result<Option<u64>, Fail> {
         let Some((offset, word)) = self.mark(place) else {
             return Ok(None);
         };
@@ -309,7 +309,7 @@ impl Run {
                 len: 8,
             })?;
             if self.shown() == Some(word) {
-                return Ok(Some(frame as u32));
+                return Ok(Some(frame));
             }
         }
         Ok(None)
@@ -323,7 +323,7 @@ impl Run {
             return Ok(());
         };
         let frame = match self.shown() {
-            Some(name) => u32::try_from(name / 2).ok(),
+            Some(name) => Some(name / 2),
             None => self.seek(place)?,
         };
         if let Some(step) = self.steps.get_mut(place) {

@@ -45,7 +45,7 @@ fn gives(kept: &KeptState, id: DeviceId, made: &AcceptedAccess, bytes: &[u8]) ->
     }
     let offset = made.access.address % PAGE_SIZE;
     kept.frames
-        .shows(u64::from(made.frame), offset, made.access.len, bytes)
+        .shows(made.frame, offset, made.access.len, bytes)
 }
 
 /// Whether the access is a write of so many bytes that its device may make.
@@ -111,7 +111,7 @@ fn write(
 {
     let made = take_oldest(devices, place);
     frames.store(
-        u64::from(made.frame),
+        made.frame,
         made.access.address % PAGE_SIZE,
         made.access.bytes.as_slice(),
     )

@@ -1,5 +1,5 @@
 // What a device is answered that has no context, or that is quarantined or leaving under a ticket.
-ghost use Rattle.std.specs.Prelude.{◌≡◌, ◌↔◌, IsTrue};
+ghost use Rattle.std.specs.Prelude.{◌≡◌, ◌↔◌, ◌<◌, ◌^◌, IsTrue};
 ghost use Rattle.iom_kept_state.specs.Grants.{IsPastOf};
 ghost use Rattle.iom_kept_state.specs.States.{state_of};
 ghost use Rattle.iom_ledger.specs.History.{History};
@@ -47,7 +47,8 @@ fn accepts_formerly(
     access: &Access,
     frame: u64,
 ) -> bool
-    ensures { (h : History) → IsPastOf grants.now h → IsTrue result ↔ MayAcceptFormerly mode h id access.now frame }
+    ensures accepts { (h : History) → IsPastOf grants.now h → IsTrue result ↔ MayAcceptFormerly mode h id access.now frame }
+    ensures low { IsTrue result → frame < 2 ^ 40 }
 {
     match mode {
         Mode::First(_) => lingers(grants, id, access, frame),
@@ -65,7 +66,8 @@ pub(crate) fn accepts_cut_off(
     access: &Access,
     frame: u64,
 ) -> bool
-    ensures { (h : History) → IsPastOf grants.now h → IsTrue result ↔ MayAcceptCutOff ticket mode h id access.now frame }
+    ensures accepts { (h : History) → IsPastOf grants.now h → IsTrue result ↔ MayAcceptCutOff ticket mode h id access.now frame }
+    ensures low { IsTrue result → frame < 2 ^ 40 }
 {
     if grants.is_confirmed(ticket) {
         return false;

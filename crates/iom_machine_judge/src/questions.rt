@@ -27,7 +27,7 @@ fn is_refused_with(told: Translation, cause: Cause) -> bool
 }
 
 /// Whether the pair is the one of this frame and these rights.
-fn is_pair(pair: (u32, Rights), frame: u64, rights: Rights) -> bool
+fn is_pair(pair: (u64, Rights), frame: u64, rights: Rights) -> bool
     ensures { IsTrue result ↔ (pair ≡ (frame, rights)) }
 {
     pair.0 == frame && pair.1 == rights
@@ -84,7 +84,9 @@ fn tells_in_one_stage(
     ensures { (h : History) → IsPastOf grants.now h → IsTrue result ↔ MayTellInOneStage fault h id page told }
 {
     match told {
-        Translation::Page { frame, rights } => may_show(grants, id, page, frame, rights),
+        Translation::Page { frame, rights } => {
+            may_show(grants, id, page, u64::from(frame), rights)
+        }
         Translation::Refused(cause) => may_hide(grants, id, page, cause, fault),
     }
 }
@@ -126,7 +128,9 @@ fn tells_in_both(grants: &KeptGrants, id: DeviceId, page: u64, told: Translation
     ensures { (h : History) → IsPastOf grants.now h → IsTrue result ↔ MayTellInBoth h id told }
 {
     match told {
-        Translation::Page { frame, rights } => may_each(grants, id, page, frame, rights),
+        Translation::Page { frame, rights } => {
+            may_each(grants, id, page, u64::from(frame), rights)
+        }
         Translation::Refused(cause) => is_page_fault_of_either(AccessKind::Read, cause),
     }
 }
@@ -161,7 +165,12 @@ fn tells_formerly(
 {
     match told {
         Translation::Page { frame, rights } => shows_formerly(
-            mode, grants, id, page, frame, rights,
+            mode,
+            grants,
+            id,
+            page,
+            u64::from(frame),
+            rights,
         ),
         Translation::Refused(cause) => is_page_fault_of(mode, AccessKind::Read, cause),
     }

@@ -205,6 +205,7 @@ pub(crate) fn most_tables(kept: &KeptState, id: DeviceId) -> usize
 }
 
 pub fn grant_refusal(kept: &KeptState, id: DeviceId, page: u64, frame: u64) -> Option<Refusal>
+    ensures low { IsNone result → frame < 2 ^ 40 }
     ensures no_pair { IsNone result → (held_by kept.now.grants id page ≡ None) × (lingering_by kept.now.grants id page ≡ None) }
     ensures first { (h : History) → IsPastOf kept.now.grants h → result ≡ first_that_applies (grant_reasons (state_of kept.now h) id page frame) }
 {
@@ -215,7 +216,10 @@ pub fn grant_refusal(kept: &KeptState, id: DeviceId, page: u64, frame: u64) -> O
         (quarantined(attachment), Refusal::Quarantined),
         (frame >= kept.frames.count(), Refusal::FrameOutOfRange),
         (kept.frames.is_reserved(frame), Refusal::FrameReserved),
-        (page >= kept.limits.page_limit(attachment), Refusal::IovaOutOfRange),
+        (
+            page >= kept.limits.page_limit(attachment),
+            Refusal::IovaOutOfRange,
+        ),
         (busy(kept, id, page), Refusal::IovaBusy),
     ])
 }

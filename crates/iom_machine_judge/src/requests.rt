@@ -1,5 +1,5 @@
 // What a device's request may be answered.
-ghost use Rattle.std.specs.Prelude.{◌≡◌, ◌↔◌, ◌+◌, ◌<◌, IfOk, OnOk, IsTrue, Some, true, slice_get, length};
+ghost use Rattle.std.specs.Prelude.{◌≡◌, ◌↔◌, ◌+◌, ◌<◌, ◌^◌, IfOk, OnOk, IsTrue, Some, true, slice_get, length};
 ghost use Rattle.iom_base.specs.Accesses.{IsWithinPage};
 ghost use Rattle.iom_base.specs.Rights.{allows};
 ghost use Rattle.iom_base.specs.declared.rights.Rights.{Rights};
@@ -56,7 +56,8 @@ fn serves(found: Option<(u64, Rights)>, frame: u64, kind: AccessKind) -> bool
 
 /// Whether the device holds the frame where the access is to, with a right that allows it.
 pub(crate) fn holds(grants: &KeptGrants, id: DeviceId, access: &Access, frame: u64) -> bool
-    ensures { (h : History) → IsPastOf grants.now h → IsTrue result ↔ HoldsFor h id access.now frame }
+    ensures holds { (h : History) → IsPastOf grants.now h → IsTrue result ↔ HoldsFor h id access.now frame }
+    ensures low { IsTrue result → frame < 2 ^ 40 }
 {
     let found = grants.held(id, access.address / PAGE_SIZE);
     serves(found, frame, access.kind)
@@ -64,7 +65,8 @@ pub(crate) fn holds(grants: &KeptGrants, id: DeviceId, access: &Access, frame: u
 
 /// Whether the frame lingers there, with such a right.
 pub(crate) fn lingers(grants: &KeptGrants, id: DeviceId, access: &Access, frame: u64) -> bool
-    ensures { (h : History) → IsPastOf grants.now h → IsTrue result ↔ LingersFor h id access.now frame }
+    ensures lingers { (h : History) → IsPastOf grants.now h → IsTrue result ↔ LingersFor h id access.now frame }
+    ensures low { IsTrue result → frame < 2 ^ 40 }
 {
     let found = grants.lingering(id, access.address / PAGE_SIZE);
     serves(found, frame, access.kind)

@@ -1,9 +1,10 @@
 // What may come of an access through the device's own cache of translations.
-ghost use Rattle.std.specs.Prelude.{◌≡◌, ◌↔◌, ◌+◌, ◌<◌, IfOk, OnOk, IsTrue, Some, slice_get, length};
+ghost use Rattle.std.specs.Prelude.{◌≡◌, ◌↔◌, ◌+◌, ◌<◌, ◌^◌, ℕ, IfOk, OnOk, IsTrue, Some, slice_get, length};
 ghost use Rattle.iom_base.specs.Accesses.{at_frame};
 ghost use Rattle.iom_kept_state.specs.Grants.{IsPastOf};
 ghost use Rattle.iom_kept_state.specs.States.{state_of, Decides};
 ghost use Rattle.iom_ledger.specs.History.{History};
+ghost use Rattle.iom_machine.specs.declared.outcome.Outcome.TheVariants.{Accepted};
 ghost use Rattle.iom_machine.specs.declared.state.Device.{Device};
 ghost use Rattle.iom_machine.specs.Requests.{IsForwarded};
 ghost use Rattle.iom_machine.specs.Translated.{MayFindNoContext};
@@ -21,12 +22,13 @@ use iom_kept_state::{KeptGrants, KeptState};
 use iom_machine::{Attachment, Device, Outcome};
 use std::alloc::AllocError;
 
-/// The access at its physical address, in the frame.
+/// The access at its physical address, in the frame. The number of a frame has 40 bits, so the address is exact.
 fn at_frame(access: Access, frame: u64) -> Access
+    requires { frame < 2 ^ 40 }
     ensures { result ≡ at_frame frame access }
 {
     Access {
-        address: u64::from(frame) * PAGE_SIZE + access.address % PAGE_SIZE,
+        address: frame * PAGE_SIZE + access.address % PAGE_SIZE,
         len: access.len,
         kind: access.kind,
         bytes: access.bytes,
@@ -35,7 +37,8 @@ fn at_frame(access: Access, frame: u64) -> Access
 
 /// Whether a cache may have the frame for the access.
 fn may_have_cached(grants: &KeptGrants, id: DeviceId, access: &Access, frame: u64) -> bool
-    ensures { (h : History) → IsPastOf grants.now h → IsTrue result ↔ MayHaveCached h id access.now frame }
+    ensures cached { (h : History) → IsPastOf grants.now h → IsTrue result ↔ MayHaveCached h id access.now frame }
+    ensures low { IsTrue result → frame < 2 ^ 40 }
 {
     if holds(grants, id, access, frame) {
         return true;
@@ -51,7 +54,8 @@ fn may_go_through(
     access: &Access,
     frame: u64,
 ) -> bool
-    ensures { (h : History) → IsPastOf kept.now.grants h → IsTrue result ↔ MayGoThrough attachment (state_of kept.now h) id access.now frame }
+    ensures goes { (h : History) → IsPastOf kept.now.grants h → IsTrue result ↔ MayGoThrough attachment (state_of kept.now h) id access.now frame }
+    ensures low { IsTrue result → frame < 2 ^ 40 }
 {
     let grants = &kept.grants;
     match attachment {
@@ -71,9 +75,10 @@ fn may_go_through(
 }
 
 fn goes_through(kept: &KeptState, device: &Device, access: &Access, frame: u64, number: u64) -> bool
-    ensures { (h : History) → IsPastOf kept.now.grants h
+    ensures goes { (h : History) → IsPastOf kept.now.grants h
         → IsTrue result ↔ (IsForwarded kept.now.limits.in_flight device.now.in_flight access.now.address access.now.len
         × MayGoThrough device.now.attachment (state_of kept.now h) device.now.id access.now frame × (number ≡ device.now.accepted + 1)) }
+    ensures low { IsTrue result → frame < 2 ^ 40 }
 {
     if !is_forwarded(kept, device, access) {
         return false;
@@ -102,7 +107,8 @@ pub fn may_answer(
     frame: u64,
     outcome: &Outcome,
 ) -> bool
-    ensures { (h : History) → IsPastOf kept.now.grants h → IsTrue result ↔ MayAnswerThroughCache (state_of kept.now h) device.now access.now frame outcome.now }
+    ensures may { (h : History) → IsPastOf kept.now.grants h → IsTrue result ↔ MayAnswerThroughCache (state_of kept.now h) device.now access.now frame outcome.now }
+    ensures low { IsTrue result → (number : ℕ) → outcome.now ≡ Accepted number → frame < 2 ^ 40 }
 {
     match outcome {
         Outcome::BadSpan => !is_within_page(access),
@@ -122,7 +128,8 @@ fn after_answer(
     frame: u64,
     outcome: &Outcome,
 ) -> Result<(), AllocError>
-    requires { place < length kept.old.devices }
+    requires place { place < length kept.old.devices }
+    requires low { (number : ℕ) → outcome.now ≡ Accepted number → frame < 2 ^ 40 }
     ensures grants { OnOk result (kept.new.grants ≡ kept.old.grants) }
     ensures state { OnOk result ((device : Device) → StandsAt kept.old.devices device.id place → slice_get kept.old.devices place ≡ Some device
         → (h : History) → MayAnswerThroughCache (state_of kept.old h) device access frame outcome.now

@@ -31,15 +31,15 @@ pub(crate) enum Does<'a> {
     /// As one with a cache.
     PlugCachedBlock(DeviceId, u64),
     Medium(DeviceId, u64),
-    Attach(DeviceId, &'a [u32]),
+    Attach(DeviceId, &'a [u64]),
     /// The first frames become pages of the device directory.
-    AttachBelow(DeviceId, &'a [u32], &'a [u32]),
+    AttachBelow(DeviceId, &'a [u64], &'a [u64]),
     /// In the mode.
-    AttachIn(DeviceId, Mode, &'a [u32]),
+    AttachIn(DeviceId, Mode, &'a [u64]),
     /// In the mode, with ATS.
-    AttachAts(DeviceId, Mode, &'a [u32]),
+    AttachAts(DeviceId, Mode, &'a [u64]),
     Detach(DeviceId),
-    Grant(DeviceId, u64, u64, GrantRights, &'a [u32]),
+    Grant(DeviceId, u64, u64, GrantRights, &'a [u64]),
     Release(DeviceId, u64),
     Quarantine(DeviceId),
     Revive(DeviceId),
@@ -89,7 +89,7 @@ pub(crate) enum Comes<'a> {
     Fetched(Fetched),
     TimedOut,
     NoEffect,
-    Accepted(u64, u32),
+    Accepted(u64, u64),
     Busy,
     BadSpan,
     Fault(Cause),
@@ -127,7 +127,7 @@ fn bytes_of(rt: &impl Abort, alloc: Global, bytes: &[u8]) -> Sequence<u8> {
     made
 }
 
-fn numbers_of(rt: &impl Abort, alloc: Global, numbers: &[u32]) -> Sequence<u32> {
+fn numbers_of(rt: &impl Abort, alloc: Global, numbers: &[u64]) -> Sequence<u64> {
     let mut made = Sequence::new(alloc);
     for number in numbers {
         made.push(*number).expect(rt, "memory for numbers");
@@ -339,7 +339,7 @@ pub(crate) fn outcome_of(comes: &Comes) -> Outcome {
 }
 
 /// The frames that become the device's tables.
-fn taken_by<'a>(does: &Does<'a>) -> &'a [u32] {
+fn taken_by<'a>(does: &Does<'a>) -> &'a [u64] {
     match *does {
         Does::Attach(_, taken) => taken,
         Does::AttachBelow(_, _, taken) => taken,
@@ -351,14 +351,14 @@ fn taken_by<'a>(does: &Does<'a>) -> &'a [u32] {
 }
 
 /// The frames that become pages of the device directory.
-fn directory_of<'a>(does: &Does<'a>) -> &'a [u32] {
+fn directory_of<'a>(does: &Does<'a>) -> &'a [u64] {
     match *does {
         Does::AttachBelow(_, pages, _) => pages,
         _ => &[],
     }
 }
 
-fn frame_of(comes: &Comes) -> u32 {
+fn frame_of(comes: &Comes) -> u64 {
     match *comes {
         Comes::Accepted(_, frame) => frame,
         _ => 0,

@@ -417,14 +417,14 @@ fn each_mode_has_the_limit_of_its_size(rt: HostRuntime) {
 /// three of the frames that aren't the system's.
 fn push_grants(rt: &impl Abort, alloc: Global, lines: &mut Vec<Line>, count: u64) {
     for number in 0..count {
-        let taken: &[u32] = if number == 0 { &[58, 57] } else { &[] };
+        let taken: &[u64] = if number == 0 { &[58, 57] } else { &[] };
         let grant = Does::Grant(2, number, number, GrantRights::ReadOnly, taken);
         push(rt, alloc, lines, &grant, &Comes::Done);
     }
 }
 
 /// The root of device 1 in the mode, the highest frames below those of device 2.
-fn root_in(mode: Mode) -> &'static [u32] {
+fn root_in(mode: Mode) -> &'static [u64] {
     match mode {
         Mode::First(_) => &[56],
         Mode::Second(_) | Mode::Both(_) => &[52, 53, 54, 55],

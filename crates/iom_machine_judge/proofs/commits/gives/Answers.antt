@@ -11,5 +11,4 @@ returns-then-not-may_make c = λ h past. (
 pub returns : goal.returns
 returns c = λ h past.
     let able = (c.may_make.ensures h past).0 c.if-not-may_make.false in
-    let shown = rw c.from.ensures at c.shows.ensures in
-    ((λ told. (able.0, able.1, shown.0 told)), (λ given. shown.1 given.2))
+    ((λ told. (able.0, able.1, c.shows.ensures.0 told)), (λ given. c.shows.ensures.1 given.2))

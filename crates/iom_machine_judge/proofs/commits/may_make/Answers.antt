@@ -10,6 +10,6 @@ returns-then-not-is_of_kind c = λ h past. (
 
 pub returns : goal.returns
 returns c = λ h past. (
-  (λ told. (c.is_of_kind.ensures.0 c.if-not-is_of_kind.false, (c.may.ensures h past).0 told)),
-  (λ both. (c.may.ensures h past).1 both.1),
+  (λ told. (c.is_of_kind.ensures.0 c.if-not-is_of_kind.false, (c.may.ensures.may h past).0 told)),
+  (λ both. (c.may.ensures.may h past).1 both.1),
 )

@@ -14,17 +14,17 @@ returns-then-not-allows c = λ h past. (
 pub returns-then-not-lingers_somewhere : goal.returns-then-not-lingers_somewhere
 returns-then-not-lingers_somewhere c = λ h past. (
   (λ never. absurd (false≢true never)),
-  (λ each. sym c.if-not-lingers_somewhere.true ∙ (c.lingers_somewhere.ensures h past).1 (each.1 Read each.0)),
+  (λ each. sym c.if-not-lingers_somewhere.true ∙ (c.lingers_somewhere.ensures.lingers h past).1 (each.1 Read each.0)),
 )
 
 pub returns-then-not-allows-2 : goal.returns-then-not-allows-2
 returns-then-not-allows-2 c = λ h past. (
-  (λ yes. each_if_reads c.args.rights (LingersSomewhere h c.args.id c.args.frame) (sym c.allows.ensures ∙ c.if-not-allows.false) ((c.lingers_somewhere.ensures h past).0 c.if-not-lingers_somewhere.false) (sym c.allows-2.ensures ∙ c.if-not-allows-2.true)),
+  (λ yes. each_if_reads c.args.rights (LingersSomewhere h c.args.id c.args.frame) (sym c.allows.ensures ∙ c.if-not-allows.false) ((c.lingers_somewhere.ensures.lingers h past).0 c.if-not-lingers_somewhere.false) (sym c.allows-2.ensures ∙ c.if-not-allows-2.true)),
   (λ each. refl),
 )
 
 pub returns : goal.returns
 returns c = λ h past. (
-  (λ yes. each_if_both c.args.rights (LingersSomewhere h c.args.id c.args.frame) (sym c.allows.ensures ∙ c.if-not-allows.false) ((c.lingers_somewhere.ensures h past).0 c.if-not-lingers_somewhere.false) ((c.lingers_somewhere-2.ensures h past).0 yes)),
-  (λ each. (c.lingers_somewhere-2.ensures h past).1 (each.1 Write (sym c.allows-2.ensures ∙ c.if-not-allows-2.false))),
+  (λ yes. each_if_both c.args.rights (LingersSomewhere h c.args.id c.args.frame) (sym c.allows.ensures ∙ c.if-not-allows.false) ((c.lingers_somewhere.ensures.lingers h past).0 c.if-not-lingers_somewhere.false) ((c.lingers_somewhere-2.ensures.lingers h past).0 yes)),
+  (λ each. (c.lingers_somewhere-2.ensures.lingers h past).1 (each.1 Write (sym c.allows-2.ensures ∙ c.if-not-allows-2.false))),
 )

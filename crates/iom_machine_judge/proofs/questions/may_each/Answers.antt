@@ -14,17 +14,17 @@ returns-then-not-allows c = λ h past. (
 pub returns-then-not-may : goal.returns-then-not-may
 returns-then-not-may c = λ h past. (
   (λ never. absurd (false≢true never)),
-  (λ each. sym c.if-not-may.true ∙ (c.may.ensures h past).1 (each.1 Read each.0)),
+  (λ each. sym c.if-not-may.true ∙ (c.may.ensures.may h past).1 (each.1 Read each.0)),
 )
 
 pub returns-then-not-allows-2 : goal.returns-then-not-allows-2
 returns-then-not-allows-2 c = λ h past. (
-  (λ yes. each_if_reads c.args.rights (May h c.args.id c.args.frame) (sym c.allows.ensures ∙ c.if-not-allows.false) ((c.may.ensures h past).0 c.if-not-may.false) (sym c.allows-2.ensures ∙ c.if-not-allows-2.true)),
+  (λ yes. each_if_reads c.args.rights (May h c.args.id c.args.frame) (sym c.allows.ensures ∙ c.if-not-allows.false) ((c.may.ensures.may h past).0 c.if-not-may.false) (sym c.allows-2.ensures ∙ c.if-not-allows-2.true)),
   (λ each. refl),
 )
 
 pub returns : goal.returns
 returns c = λ h past. (
-  (λ yes. each_if_both c.args.rights (May h c.args.id c.args.frame) (sym c.allows.ensures ∙ c.if-not-allows.false) ((c.may.ensures h past).0 c.if-not-may.false) ((c.may-2.ensures h past).0 yes)),
-  (λ each. (c.may-2.ensures h past).1 (each.1 Write (sym c.allows-2.ensures ∙ c.if-not-allows-2.false))),
+  (λ yes. each_if_both c.args.rights (May h c.args.id c.args.frame) (sym c.allows.ensures ∙ c.if-not-allows.false) ((c.may.ensures.may h past).0 c.if-not-may.false) ((c.may-2.ensures.may h past).0 yes)),
+  (λ each. (c.may-2.ensures.may h past).1 (each.1 Write (sym c.allows-2.ensures ∙ c.if-not-allows-2.false))),
 )

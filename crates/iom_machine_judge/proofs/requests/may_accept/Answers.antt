@@ -7,4 +7,4 @@ pub returns-in-Second : goal.returns-in-Second
 returns-in-Second c = rw (c.in-Attached.is, c.in-Second.is) c.accepts_in_one_stage-in-Second.ensures
 
 pub returns-in-Both : goal.returns-in-Both
-returns-in-Both c = rw (c.in-Attached.is, c.in-Both.is) c.may.ensures
+returns-in-Both c = rw (c.in-Attached.is, c.in-Both.is) c.may.ensures.may

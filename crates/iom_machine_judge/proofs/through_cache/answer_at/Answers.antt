@@ -12,11 +12,11 @@ pub returns-then-not-may_answer : goal.returns-then-not-may_answer
 returns-then-not-may_answer c = λ device at own.
     let same = read_again c.args.kept.now.devices c.args.place device c.index-as_slice-place.result at (rw c.as_slice.ensures at c.index-as_slice-place.is) in
     never_comes c.args.kept.now (λ before. MayAnswerThroughCache before device c.args.access c.args.frame c.args.outcome.now) (λ before. state_after_cached before device c.args.access c.args.frame c.args.outcome.now)
-    (λ h past may. false≢true (sym c.if-not-may_answer.true ∙ (c.may_answer.ensures h past).1 (subst (λ (d : Device). MayAnswerThroughCache (state_of c.args.kept.now h) d c.args.access c.args.frame c.args.outcome.now) same may)))
+    (λ h past may. false≢true (sym c.if-not-may_answer.true ∙ (c.may_answer.ensures.may h past).1 (subst (λ (d : Device). MayAnswerThroughCache (state_of c.args.kept.now h) d c.args.access c.args.frame c.args.outcome.now) same may)))
 
 pub returns : goal.returns
 returns c = λ device at own.
     let same = read_again c.args.kept.now.devices c.args.place device c.index-as_slice-place.result at (rw c.as_slice.ensures at c.index-as_slice-place.is) in
-    let answers = λ (h : _) (past : _). subst (λ (d : Device). MayAnswerThroughCache (state_of c.args.kept.now h) d c.args.access c.args.frame c.args.outcome.now) (sym same) ((c.may_answer.ensures h past).0 c.if-not-may_answer.false) in
+    let answers = λ (h : _) (past : _). subst (λ (d : Device). MayAnswerThroughCache (state_of c.args.kept.now h) d c.args.access c.args.frame c.args.outcome.now) (sym same) ((c.may_answer.ensures.may h past).0 c.if-not-may_answer.false) in
     comes c.args.kept.now c.after_answer.new.kept (λ before. MayAnswerThroughCache before device c.args.access c.args.frame c.args.outcome.now) (λ before. state_after_cached before device c.args.access c.args.frame c.args.outcome.now)
     c.in_ok-after_answer.ensures.grants answers (λ h past. c.in_ok-after_answer.ensures.state device own at h (answers h past))
