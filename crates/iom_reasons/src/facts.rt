@@ -2,7 +2,7 @@
 use crate::asked::Asked;
 use crate::notes::Notes;
 use crate::words::Words;
-use iom_base::{DeviceId, PAGE_SIZE};
+use iom_base::DeviceId;
 use iom_kept_state::KeptState;
 use iom_machine::{Device, Event, Outcome};
 use std::alloc::{AllocError, Global};
@@ -37,20 +37,13 @@ impl Facts<'_> {
     ) -> Result<(), AllocError> {
         match event {
             Event::Poll => self.say_poll(words),
-            Event::Deliver { place } => self.say_delivery(words, *place),
+            Event::Deliver { place } => self.say_delivery(words, *place, outcome),
             Event::Drop { place } | Event::Repeat { place } => self.say_message(words, *place),
             Event::Poke { address, bytes } => {
-                self.say_frame(words, *address / PAGE_SIZE)?;
-                self.could_poke(words, *address, bytes.as_slice().len() as u64)
+                self.say_poke(words, *address, bytes.as_slice().len() as u64)
             }
-            Event::Peek { address, len } => {
-                self.say_frame(words, *address / PAGE_SIZE)?;
-                self.could_peek(words, *address, *len)
-            }
-            Event::Free { frame } => {
-                self.say_frame(words, *frame)?;
-                self.could_free(words, *frame)
-            }
+            Event::Peek { address, len } => { self.say_peek(words, *address, *len) }
+            Event::Free { frame } => { self.say_free(words, *frame) }
             event => self.say_call(words, event, outcome),
         }
     }

@@ -110,6 +110,12 @@ pub(crate) fn say_stale(words: &mut Words, stale: Stale, place: &str) -> Result<
     )?)
 }
 
+/// Says that the bytes aren't some of one page.
+pub(crate) fn say_bad_span(words: &mut Words) -> Result<(), AllocError> {
+    words.say("its bytes are none or too many, or leave their page")?;
+    words.could("badspan")
+}
+
 /// Says how large memory is.
 pub(crate) fn say_memory(words: &mut Words, count: u64) -> Result<(), AllocError> {
     words.say(&format!(in words.alloc; "memory has frames 0 to {count}, less one")?)

@@ -3,7 +3,7 @@ use crate::asked::Asked;
 use crate::causes::CAUSES;
 use crate::could_accept::Request;
 use crate::facts::Facts;
-use crate::phrases::{could_accept_on, could_fault, say_next};
+use crate::phrases::{could_accept_on, could_fault, say_bad_span, say_next};
 use crate::say_devices::{has_other_number, next_number};
 use crate::say_pages::is_in_both;
 use crate::way::Way;
@@ -34,8 +34,7 @@ impl Facts<'_> {
             access: &access,
         };
         if self.may(request, 0, &Outcome::BadSpan) {
-            words.say("its bytes are none or too many, or leave their page")?;
-            return words.could("badspan");
+            return say_bad_span(words);
         }
         if self.may(request, 0, &Outcome::Busy) {
             words.say("as many of its accesses are in flight as may be")?;

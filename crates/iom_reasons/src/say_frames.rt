@@ -1,9 +1,9 @@
 // What is said of a frame that the processor or the driver names.
 use crate::facts::Facts;
-use crate::phrases::{bytes_at, could_refuse, hex_of, say_memory, say_of_frame};
+use crate::phrases::{bytes_at, could_refuse, hex_of, say_bad_span, say_memory, say_of_frame};
 use crate::tally::Tally;
 use crate::words::Words;
-use iom_base::{DeviceId, Owner, PAGE_SIZE, Span};
+use iom_base::{DeviceId, Owner, PAGE_SIZE, Refusal, Span};
 use iom_machine_judge::reasons::frame_refusal;
 use std::alloc::AllocError;
 
@@ -50,8 +50,9 @@ impl Facts<'_> {
         tally.say_more(words)
     }
 
-    /// Says what could have been told of whether the frame is free.
-    pub(crate) fn could_free(&self, words: &mut Words, frame: u64) -> Result<(), AllocError> {
+    /// Says what is known of a frame of which it is told whether it is free, and what could have been told.
+    pub(crate) fn say_free(&self, words: &mut Words, frame: u64) -> Result<(), AllocError> {
+        self.say_frame(words, frame)?;
         if let Some(refusal) = frame_refusal(self.kept, frame) {
             return could_refuse(words, refusal);
         }
@@ -62,41 +63,49 @@ impl Facts<'_> {
         })
     }
 
-    /// Says what could have come where the processor writes so many bytes at the address.
-    pub(crate) fn could_poke(
-        &self,
-        words: &mut Words,
-        address: u64,
-        len: u64,
-    ) -> Result<(), AllocError> {
-        let frame = address / PAGE_SIZE;
+    /// Says what is known of so many bytes at the address, and what could have come of each use of them: if something could,
+    /// and nothing else.
+    fn say_bytes(&self, words: &mut Words, address: u64, len: u64) -> Result<bool, AllocError> {
         if Span::new(address, len).is_none() {
-            return words.could("badspan");
+            say_bad_span(words)?;
+            return Ok(true);
         }
-        if let Some(refusal) = frame_refusal(self.kept, frame) {
-            return could_refuse(words, refusal);
-        }
-        words.could(if self.kept.frames.is_reserved(frame) {
-            "refused 6 FrameReserved"
-        } else {
-            "ok"
-        })
+        let frame = address / PAGE_SIZE;
+        self.say_frame(words, frame)?;
+        let Some(refusal) = frame_refusal(self.kept, frame) else {
+            return Ok(false);
+        };
+        could_refuse(words, refusal)?;
+        Ok(true)
     }
 
-    /// Says what could have come where it reads so many there.
-    pub(crate) fn could_peek(
+    /// Says what is known of a frame into which the processor writes, and what could have come.
+    pub(crate) fn say_poke(
         &self,
         words: &mut Words,
         address: u64,
         len: u64,
     ) -> Result<(), AllocError> {
+        if self.say_bytes(words, address, len)? {
+            return Ok(());
+        }
+        if self.kept.frames.is_reserved(address / PAGE_SIZE) {
+            return could_refuse(words, Refusal::FrameReserved);
+        }
+        words.could("ok")
+    }
+
+    /// Says what is known of a frame that it reads, and what could have come.
+    pub(crate) fn say_peek(
+        &self,
+        words: &mut Words,
+        address: u64,
+        len: u64,
+    ) -> Result<(), AllocError> {
+        if self.say_bytes(words, address, len)? {
+            return Ok(());
+        }
         let frame = address / PAGE_SIZE;
-        if Span::new(address, len).is_none() {
-            return words.could("badspan");
-        }
-        if let Some(refusal) = frame_refusal(self.kept, frame) {
-            return could_refuse(words, refusal);
-        }
         if self.kept.frames.is_reserved(frame) {
             return words.could(&format!(in words.alloc; "any {len} bytes")?);
         }

@@ -150,41 +150,9 @@ impl Facts<'_> {
         )?)
     }
 
-    /// What is stale at the page: the frame that is shown, if that is one, and else what was there, if nothing is there now.
-    fn stale_at(&self, place: Place) -> Option<Stale> {
-        let last = stale_of(self.notes.last_at(place));
-        if let Some(frame) = self.on {
-            if self.reaches_at(place.device, place.page, frame) {
-                return None;
-            }
-            let before = stale_of(self.notes.before_at(place));
-            let shown = with_frame(last, frame).or(with_frame(before, frame));
-            if shown.is_some() {
-                return shown;
-            }
-        }
-        if self.kept.grants.held(place.device, place.page).is_some() {
-            return None;
-        }
-        last
-    }
-
-    /// Says what is stale at the page, if something is.
-    pub(crate) fn say_before(
-        &self,
-        words: &mut Words,
-        id: DeviceId,
-        page: u64,
-    ) -> Result<(), AllocError> {
-        match self.stale_at(Place { device: id, page }) {
-            None => Ok(()),
-            Some(stale) => say_stale(words, stale, "there"),
-        }
-    }
-
-    /// What the device had at the place, if it was the frame, and is stale.
-    fn stale_with(&self, place: Place, id: DeviceId, frame: u64) -> Option<Stale> {
-        if place.device != id {
+    /// How the frame is stale at the page, if it is, and isn't there again.
+    fn stale_with(&self, place: Place, frame: u64) -> Option<Stale> {
+        if self.reaches_at(place.device, place.page, frame) {
             return None;
         }
         let last = stale_of(self.notes.last_at(place));
@@ -192,7 +160,89 @@ impl Facts<'_> {
         with_frame(last, frame).or(with_frame(before, frame))
     }
 
-    /// Says where the frame is stale on which the line shows an access, if the device may reach it no more.
+    /// How the frame is stale at some page of the device, if it is.
+    fn stale_somewhere(&self, id: DeviceId, frame: u64) -> Option<(Place, Stale)> {
+        for index in 0..self.notes.place_count() {
+            if let Some(place) = self.notes.place_at(index) {
+                if place.device == id {
+                    if let Some(stale) = self.stale_with(place, frame) {
+                        return Some((place, stale));
+                    }
+                }
+            }
+        }
+        None
+    }
+
+    /// Says what was at the page last, if nothing is there now.
+    fn say_last(&self, words: &mut Words, place: Place) -> Result<(), AllocError> {
+        if self.kept.grants.held(place.device, place.page).is_some() {
+            return Ok(());
+        }
+        match stale_of(self.notes.last_at(place)) {
+            None => Ok(()),
+            Some(stale) => say_stale(words, stale, "there"),
+        }
+    }
+
+    /// Says what is stale at the page: the frame that the line shows, if that is, and else what was there last.
+    pub(crate) fn say_before(
+        &self,
+        words: &mut Words,
+        id: DeviceId,
+        page: u64,
+    ) -> Result<(), AllocError> {
+        let place = Place { device: id, page };
+        let Some(frame) = self.on else {
+            return self.say_last(words, place);
+        };
+        if self.reaches_at(id, page, frame) {
+            return Ok(());
+        }
+        match self.stale_with(place, frame) {
+            Some(stale) => say_stale(words, stale, "there"),
+            None => {
+                self.say_last(words, place)?;
+                self.say_frame(words, frame)
+            }
+        }
+    }
+
+    /// Says that the frame is stale which the device is told of, if it is.
+    pub(crate) fn say_told(
+        &self,
+        words: &mut Words,
+        id: DeviceId,
+        page: u64,
+        frame: u64,
+    ) -> Result<(), AllocError> {
+        match self.stale_with(Place { device: id, page }, frame) {
+            None => Ok(()),
+            Some(stale) => say_stale(words, stale, "there"),
+        }
+    }
+
+    /// The same, at whichever page. Whether it is.
+    pub(crate) fn say_told_somewhere(
+        &self,
+        words: &mut Words,
+        id: DeviceId,
+        frame: u64,
+        kind: AccessKind,
+    ) -> Result<bool, AllocError> {
+        if self.kept.grants.may(id, 0, frame, kind) {
+            return Ok(false);
+        }
+        let Some((place, stale)) = self.stale_somewhere(id, frame) else {
+            return Ok(false);
+        };
+        let page = place.page;
+        let at = format!(in words.alloc; "at page {page}")?;
+        say_stale(words, stale, &at)?;
+        Ok(true)
+    }
+
+    /// Says what is known of the frame on which the line shows an access, if the device may not reach it so.
     pub(crate) fn say_shown(
         &self,
         words: &mut Words,
@@ -205,15 +255,9 @@ impl Facts<'_> {
         if self.kept.grants.may(id, 0, frame, kind) {
             return Ok(());
         }
-        for index in 0..self.notes.place_count() {
-            if let Some(place) = self.notes.place_at(index) {
-                if let Some(stale) = self.stale_with(place, id, frame) {
-                    let page = place.page;
-                    let at = format!(in words.alloc; "at page {page}")?;
-                    return say_stale(words, stale, &at);
-                }
-            }
+        if self.say_told_somewhere(words, id, frame, kind)? {
+            return Ok(());
         }
-        Ok(())
+        self.say_frame(words, frame)
     }
 }

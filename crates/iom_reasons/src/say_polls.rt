@@ -63,15 +63,15 @@ impl Facts<'_> {
     /// The last ticket that may be confirmed. Where one may be, those before it may.
     fn last_confirmable(&self) -> u32 {
         let mut may = self.kept.grants.confirmed;
-        let mut given = self.kept.grants.given;
-        for _ in 0..33 {
-            let half = given.saturating_sub(may) / 2;
-            let middle = given.saturating_sub(half);
-            if may < given {
+        let mut most = self.kept.grants.given;
+        for _ in 0..u32::BITS {
+            let half = most.saturating_sub(may) / 2;
+            let middle = most.saturating_sub(half);
+            if may < most {
                 if self.may_confirm(middle) {
                     may = middle;
                 } else {
-                    given = middle.saturating_sub(1);
+                    most = middle.saturating_sub(1);
                 }
             }
         }

@@ -7,13 +7,16 @@ use crate::tally::MOST_SAID;
 use crate::words::Words;
 use iom_base::{AccessKind, DeviceId, Rights};
 use iom_fabric::Translation;
-use iom_machine::Device;
+use iom_machine::{Device, Outcome};
 use iom_machine_judge::questions::may_tell;
 use std::alloc::{AllocError, Global};
 
-/// Says that there is no question at the place.
-fn say_no_question(words: &mut Words, place: u64) -> Result<(), AllocError> {
-    words.say(&format!(in words.alloc; "no question is at place {place}")?)
+/// The frame that the answer names, if it names one.
+fn frame_told(outcome: &Outcome) -> Option<u64> {
+    match outcome {
+        Outcome::Answered(Translation::Page { frame, .. }) => Some(u64::from(*frame)),
+        _ => None,
+    }
 }
 
 /// Puts the frame to the others, eight at most.
@@ -125,50 +128,81 @@ impl Facts<'_> {
     }
 
     /// Says what the device has at the page that it asks for.
-    fn say_asked(&self, words: &mut Words, id: DeviceId, page: u64) -> Result<(), AllocError> {
+    fn say_asked(&self, words: &mut Words, device: &Device, page: u64) -> Result<(), AllocError> {
+        if is_in_both(device) {
+            return self.say_reached(words, device.id, AccessKind::Read);
+        }
+        self.say_page(words, device.id, page)
+    }
+
+    /// Says that the frame is stale that the answer names, if it is.
+    fn say_answered(
+        &self,
+        words: &mut Words,
+        device: &Device,
+        page: u64,
+        outcome: &Outcome,
+    ) -> Result<(), AllocError> {
+        let Some(frame) = frame_told(outcome) else {
+            return Ok(());
+        };
+        if is_in_both(device) {
+            self.say_told_somewhere(words, device.id, frame, AccessKind::Read)?;
+            return Ok(());
+        }
+        self.say_told(words, device.id, page, frame)
+    }
+
+    /// Says what the device has at the page that is asked for, where that is known.
+    fn say_question(&self, words: &mut Words, question: Sent) -> Result<(), AllocError> {
+        let id = question.device;
+        let Some(page) = question.page else {
+            return words.say(&format!(in words.alloc;
+                "a step of {id:06x} asked, of a page that isn't shown"
+            )?);
+        };
         match self.device(id) {
             None => self.say_absent(words, id),
-            Some(device) => {
-                if is_in_both(device) {
-                    self.say_reached(words, id, AccessKind::Read)
-                } else {
-                    self.say_page(words, id, page)
-                }
-            }
+            Some(device) => self.say_asked(words, device, page),
         }
     }
 
-    /// Says what is known of the page that is asked for, where that is known.
-    fn say_question(&self, words: &mut Words, question: Sent) -> Result<(), AllocError> {
-        let id = question.device;
-        match question.page {
-            Some(page) => self.say_asked(words, id, page),
-            None => words.say(&format!(in words.alloc;
-                "a step of {id:06x} asked, of a page that isn't shown"
-            )?),
-        }
+    /// Says what could have been answered, where the page is known that is asked for.
+    fn say_answers(
+        &self,
+        words: &mut Words,
+        question: Sent,
+        outcome: &Outcome,
+    ) -> Result<(), AllocError> {
+        let Some(page) = question.page else {
+            return Ok(());
+        };
+        let Some(device) = self.device(question.device) else {
+            return Ok(());
+        };
+        self.say_answered(words, device, page, outcome)?;
+        self.could_answer(words, device, page)
     }
 
     /// Says what is known of the message at the place.
     pub(crate) fn say_message(&self, words: &mut Words, place: u64) -> Result<(), AllocError> {
         match self.notes.question_at(place) {
-            None => say_no_question(words, place),
+            None => words.say(&format!(in words.alloc; "no question is at place {place}")?),
             Some(question) => self.say_question(words, question),
         }
     }
 
-    /// The same where it is delivered, and what it could have been answered.
-    pub(crate) fn say_delivery(&self, words: &mut Words, place: u64) -> Result<(), AllocError> {
+    /// The same where it is delivered, and what could have been answered.
+    pub(crate) fn say_delivery(
+        &self,
+        words: &mut Words,
+        place: u64,
+        outcome: &Outcome,
+    ) -> Result<(), AllocError> {
         self.say_message(words, place)?;
-        let Some(question) = self.notes.question_at(place) else {
-            return Ok(());
-        };
-        let Some(page) = question.page else {
-            return Ok(());
-        };
-        match self.device(question.device) {
+        match self.notes.question_at(place) {
             None => Ok(()),
-            Some(device) => self.could_answer(words, device, page),
+            Some(question) => self.say_answers(words, question, outcome),
         }
     }
 }
