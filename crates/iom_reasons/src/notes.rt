@@ -122,6 +122,7 @@ impl Notes {
             granted: self.line,
             leaves: self.leaves.count(place.device),
             release: None,
+            shared: None,
         };
         self.pages.grant(place, stay)
     }
@@ -143,8 +144,9 @@ impl Notes {
         let Some(release) = self.ticket_of(outcome) else {
             return Ok(());
         };
+        let shared = self.tickets.page_of(release.ticket);
         self.tickets.give(release.ticket, GivenFor::Page(place))?;
-        self.pages.release(place, release);
+        self.pages.release(place, release, shared);
         Ok(())
     }
 

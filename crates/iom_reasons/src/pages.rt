@@ -21,6 +21,8 @@ pub(crate) struct Stay {
     pub leaves: u64,
     /// Its own release, if it had one.
     pub release: Option<Release>,
+    /// The page that was released before it under the same ticket, if one was.
+    pub shared: Option<Place>,
 }
 
 /// The last two at a page.
@@ -50,22 +52,33 @@ impl Pages {
         Ok(())
     }
 
-    /// The page is released.
-    pub(crate) fn release(&mut self, place: Place, release: Release) {
+    /// The page is released, and before it this one under the same ticket, if one was.
+    pub(crate) fn release(&mut self, place: Place, release: Release, shared: Option<Place>) {
         if let Some(stays) = self.stays.get_mut(&place) {
             stays.last.release = Some(release);
+            stays.last.shared = shared;
         }
     }
 
-    /// The ticket of its release is confirmed, by this line.
+    /// The ticket of its release is confirmed, by this line. The page that was released before it under the same ticket.
+    fn confirm_one(&mut self, place: Place, line: u64) -> Option<Place> {
+        let stays = self.stays.get_mut(&place)?;
+        let release = stays.last.release?;
+        stays.last.release = Some(Release {
+            confirmed: Some(line),
+            ticket: release.ticket,
+            line: release.line,
+        });
+        stays.last.shared
+    }
+
+    /// The ticket of its release is confirmed, by this line, and so it is of all that share it.
     pub(crate) fn confirm(&mut self, place: Place, line: u64) {
-        if let Some(stays) = self.stays.get_mut(&place) {
-            if let Some(release) = stays.last.release {
-                stays.last.release = Some(Release {
-                    confirmed: Some(line),
-                    ticket: release.ticket,
-                    line: release.line,
-                });
+        let mut next = Some(place);
+        for _ in 0..self.stays.len() {
+            match next {
+                None => return,
+                Some(place) => next = self.confirm_one(place, line),
             }
         }
     }

@@ -31,6 +31,14 @@ impl Tickets {
         Ok(())
     }
 
+    /// The page that was released last under the ticket, if one was.
+    pub(crate) fn page_of(&self, ticket: u32) -> Option<Place> {
+        match self.pending.get(&ticket) {
+            Some(GivenFor::Page(place)) => Some(*place),
+            _ => None,
+        }
+    }
+
     /// The ticket is confirmed: what it was given for.
     pub(crate) fn confirm(&mut self, ticket: u32) -> Option<GivenFor> {
         self.pending.swap_remove(&ticket)
