@@ -159,8 +159,18 @@ impl Guesses {
     fn of_frame(&self, outcome: &Outcome) -> Option<Missing> {
         match outcome {
             Outcome::Free(false) | Outcome::Refused(Refusal::FrameReserved) => self.tables,
-            Outcome::Bytes(_) => self.of_bytes(),
             _ => None,
+        }
+    }
+
+    /// What the refusal of these bytes of a frame depends on: a frame that no device may reach may be a table.
+    fn of_peek(&self, kept: &KeptState, frame: u64, outcome: &Outcome) -> Option<Missing> {
+        let Outcome::Bytes(_) = outcome else {
+            return None;
+        };
+        match self.of_bytes() {
+            None if kept.grants.is_out_of_reach(frame) => self.tables,
+            found => found,
         }
     }
 
@@ -216,7 +226,8 @@ impl Guesses {
             Event::Attach { device, ats, .. } => {
                 self.of_grant(attach_refusal(kept, *device, *ats), outcome)
             }
-            Event::Free { .. } | Event::Poke { .. } | Event::Peek { .. } => self.of_frame(outcome),
+            Event::Free { .. } | Event::Poke { .. } => self.of_frame(outcome),
+            Event::Peek { address, .. } => self.of_peek(kept, *address / PAGE_SIZE, outcome),
             _ => None,
         }
     }
