@@ -1,5 +1,5 @@
 -- What is kept after an act, of a past of what was kept before.
-use Rattle.std.proofs.Common.{◌≡◌, ℕ, suc, ◌+◌, ◌-◌, ◌<◌, ◌≤◌, Bool, true, false, List, [], ◌∷◌, ◌++◌, map, length, nat_eq, Option, None, Some, Result, Ok, Err, OnOk, IsSome, is_some, refl, sym, ap, ◌∙◌, subst, arith, slice_get, if◌then◌else◌}
+use Rattle.std.proofs.Common.{◌≡◌, ℕ, ◌+◌, ◌<◌, ◌≤◌, Bool, true, false, List, [], ◌∷◌, ◌++◌, map, length, nat_eq, Option, None, Some, Result, Ok, Err, OnOk, IsSome, refl, sym, ap, ◌∙◌, arith, slice_get, if◌then◌else◌}
 use Rattle.std.specs.List.{IsDistinct, list_any}
 use Rattle.std.specs.Option.{option_map}
 use Rattle.std.proofs.lemmas.Bool.{eqb-true}
@@ -9,10 +9,12 @@ use Rattle.indexmap.specs.IndexSet.{insert_key}
 use Rattle.iom_base.specs.declared.rights.Rights.{Rights}
 use Rattle.iom_ledger.specs.declared.entry.HistoryEntry.{HistoryEntry}
 use Rattle.iom_ledger.specs.declared.entry.HistoryEntry.TheVariants.{Granted, Released, AllReleased, Confirmed}
-use Rattle.iom_ledger.specs.History.{History, Pair, confirmed_from}
+use Rattle.iom_ledger.specs.History.{History, Pair}
 use Rattle.iom_ledger.specs.Shown.{held_in, lingering_in, Agrees}
 use Rattle.iom_kept_state.specs.declared.grants.KeptGrants.{KeptGrants}
-use Rattle.iom_kept_state.specs.Grants.{IsPastOf, IsPlaced, ArePlaced, held_by, lingering_by, named_pair, named_entry, frame_at_place, is_up_to}
+use Rattle.iom_kept_state.specs.Grants.{IsPastOf, IsPlaced, ArePlaced, held_by, lingering_by, named_pair, named_entry, frame_at_place}
+use Rattle.iom_kept_state.specs.Tickets.{is_among}
+use Rattle.iom_kept_state.specs.declared.tickets.ConfirmedTickets.{ConfirmedTickets}
 use Rattle.iom_kept_state.proofs.NamedLemmas.{named-grown}
 use Rattle.iom_kept_state.proofs.PastLemmas.{IsNamedAt}
 
@@ -61,9 +63,9 @@ stored_named names frame place within (k, at, same) =
 
 -- a grant
 pub granted_past : (old new : KeptGrants) (h : History) (device page frame place : ℕ) (rights : Rights) (past : IsPastOf old h)
-    → new.names.keys ≡ insert_key nat_eq old.names.keys frame → IsDistinct nat_eq new.names.keys → IsNamedAt new.names.keys place frame → new.confirmed ≡ old.confirmed
+    → new.names.keys ≡ insert_key nat_eq old.names.keys frame → IsDistinct nat_eq new.names.keys → IsNamedAt new.names.keys place frame → new.confirmed ≡ old.confirmed → new.tickets ≡ old.tickets
     → Agrees new.ledger (Granted device page place rights ∷ past.placed) → IsPastOf new (Granted device page frame rights ∷ h)
-granted_past old new h device page frame place rights past keys distinct named confirmed agrees =
+granted_past old new h device page frame place rights past keys distinct named confirmed tickets agrees =
     let (more, grown) = grows old.names.keys frame in
     let all : new.names.keys ≡ old.names.keys ++ more = keys ∙ grown in
     let longer : length new.names.keys ≡ length old.names.keys + length more = ap length all ∙ length-append old.names.keys more in
@@ -76,7 +78,7 @@ granted_past old new h device page frame place rights past keys distinct named c
       unique = distinct;
       within = (named.within, placed_more (length old.names.keys) (length new.names.keys) past.placed (omega (arith, longer)) past.within);
       grants = agrees;
-      confirmed = λ ticket. past.confirmed ticket ∙ ap (λ (last : ℕ). is_up_to last ticket) (sym confirmed);
+      confirmed = λ ticket. past.confirmed ticket ∙ ap (λ (all : ConfirmedTickets). is_among all ticket) (sym tickets);
       last = past.last ∙ sym confirmed;
     }
 

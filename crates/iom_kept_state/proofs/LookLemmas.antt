@@ -1,14 +1,13 @@
 -- What a ledger shows of grants that are kept, said of a past of them.
-use Rattle.std.proofs.Common.{◌≡◌, ◌↔◌, ℕ, zero, suc, ◌+◌, ◌-◌, ◌<◌, ◌≤◌, ◌⊎◌, inl, inr, Bool, true, false, not, ◌==◌, ◌||◌, List, [], ◌∷◌, Contains, filter, map, length, get_or, Option, None, Some, is_some, IsSome, refl, sym, ap, ◌∙◌, subst, arith}
+use Rattle.std.proofs.Common.{◌≡◌, ◌↔◌, ℕ, ◌⊎◌, inl, inr, List, [], ◌∷◌, Contains, map, Option, None, Some, is_some, IsSome, refl, sym, ap, ◌∙◌, subst, arith}
 use Rattle.std.specs.Option.{option_map, option_to_list}
 use Rattle.std.proofs.lemmas.Bool.{false≢true}
 use Rattle.std.proofs.lemmas.List.Elements.{Contains-push, Contains-push_cases}
-use Rattle.iom_base.specs.declared.rights.Rights.{Rights}
-use Rattle.iom_ledger.specs.History.{History, Pair, held_at, released_at, confirms, lingering_at, Holds, Lingers}
-use Rattle.iom_ledger.specs.Shown.{held_in, released_in, lingering_in, Agrees}
+use Rattle.iom_ledger.specs.History.{History, Pair, held_at, confirms, lingering_at, Holds, Lingers}
+use Rattle.iom_ledger.specs.Shown.{held_in, released_in, lingering_in}
 use Rattle.iom_machine.specs.Tickets.{last_confirmed}
 use Rattle.iom_kept_state.specs.declared.grants.KeptGrants.{KeptGrants}
-use Rattle.iom_kept_state.specs.Grants.{IsPastOf, held_by, lingering_by, named_pair, is_up_to}
+use Rattle.iom_kept_state.specs.Grants.{IsPastOf, held_by, lingering_by, named_pair, is_confirmed_in}
 use Rattle.iom_kept_state.proofs.NamedLemmas.{named_release, held_at-named, lingering_at-named, confirms-named, last_confirmed-named}
 
 -- what is held
@@ -28,7 +27,7 @@ lingering_of_past kept h past device page =
     ∙ ap (map (named_release kept.names.keys)) (past.grants.pages device page).lingers
 
 -- which tickets are confirmed
-pub confirmed_of_past : (kept : KeptGrants) (h : History) → IsPastOf kept h → (ticket : ℕ) → is_up_to kept.confirmed ticket ≡ confirms h ticket
+pub confirmed_of_past : (kept : KeptGrants) (h : History) → IsPastOf kept h → (ticket : ℕ) → is_confirmed_in kept ticket ≡ confirms h ticket
 confirmed_of_past kept h past ticket = sym (
     ap (λ g. confirms g ticket) past.named
     ∙ confirms-named kept.names.keys past.placed ticket

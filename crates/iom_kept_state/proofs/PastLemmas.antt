@@ -1,5 +1,5 @@
 -- What a ledger shows as reached, said of a past.
-use Rattle.std.proofs.Common.{◌≡◌, ◌≢◌, ◌↔◌, ℕ, zero, suc, ◌+◌, ◌-◌, ◌<◌, ◌≤◌, ◌⊎◌, inl, inr, Bool, true, false, not, ◌==◌, ◌&&◌, ◌||◌, List, [], ◌∷◌, ◌++◌, Contains, filter, map, length, get_or, nat_eq, nat_lt, nat_le, Option, None, Some, is_some, if◌then◌else◌, refl, sym, ap, ◌∙◌, subst, arith}
+use Rattle.std.proofs.Common.{◌≡◌, ◌↔◌, ℕ, zero, suc, ◌+◌, ◌-◌, ◌<◌, ◌≤◌, inl, inr, Bool, true, false, not, ◌==◌, ◌&&◌, ◌||◌, List, [], ◌∷◌, Contains, map, length, get_or, nat_eq, nat_lt, nat_le, Option, None, Some, if◌then◌else◌, refl, sym, ap, ◌∙◌, subst, arith}
 use Rattle.std.specs.List.{IsDistinct, position, position_or_len}
 use Rattle.std.specs.Option.{option_map, option_to_list}
 use Rattle.std.proofs.lemmas.Bool.{false≢true, eqb-true, eq-eqb}
@@ -14,15 +14,15 @@ use Rattle.iom_base.specs.Rights.{allows}
 use Rattle.iom_ledger.specs.declared.entry.HistoryEntry.{HistoryEntry}
 use Rattle.iom_ledger.specs.declared.entry.HistoryEntry.TheVariants.{Granted, Released, AllReleased, Confirmed}
 use Rattle.iom_ledger.specs.History.{History, Pair, is_about, granted_by, released_by, confirmed_from, confirms, held_at, released_at, lingering_at, Holds, Lingers, May, NoneMayReach}
-use Rattle.iom_ledger.specs.Shown.{held_in, released_in, lingering_in, Agrees}
+use Rattle.iom_ledger.specs.Shown.{held_in, released_in}
 use Rattle.iom_machine.specs.Requests.{LingersSomewhere}
 use Rattle.iom_machine.proofs.ReachLemmas.{cons_cases, contains_head, contains_filter, contains_from_filter}
 use Rattle.iom_kept_state.specs.declared.grants.KeptGrants.{KeptGrants}
 use Rattle.iom_kept_state.specs.declared.wanted.Wanted.{Wanted}
-use Rattle.iom_kept_state.specs.Grants.{IsPastOf, IsPlaced, ArePlaced, held_by, lingering_by, named_pair, frame_at_place, is_up_to}
-use Rattle.iom_kept_state.specs.Wanted.{Counts, ReachesAt, IsReached}
+use Rattle.iom_kept_state.specs.Grants.{IsPastOf, IsPlaced, ArePlaced, held_by, named_pair, frame_at_place}
+use Rattle.iom_kept_state.specs.Wanted.{is_between, IsReached}
 use Rattle.iom_kept_state.proofs.NamedLemmas.{named_release}
-use Rattle.iom_kept_state.proofs.LookLemmas.{held_of_past, lingering_of_past, confirmed_of_past}
+use Rattle.iom_kept_state.proofs.LookLemmas.{held_of_past, lingering_of_past}
 
 -- TICKETS THAT ARE CONFIRMED BESIDES
 
@@ -34,11 +34,20 @@ released_at-confirmed : (first n : ℕ) (h : History) (device page : ℕ) → re
 released_at-confirmed first zero h device page = refl
 released_at-confirmed first (suc n) h device page = released_at-confirmed first n h device page
 
--- the tickets up to the last are confirmed, where those up to an earlier one were
-up_to-more : (c n ticket : ℕ) → ((c + suc n == ticket) || is_up_to (c + n) ticket) ≡ is_up_to (c + suc n) ticket
-up_to-more c n ticket = by (c + suc n == ticket) (nat_lt 0 ticket) (nat_le ticket (c + n)) (nat_le ticket (c + suc n)) refl refl refl refl
+-- a ticket from the first on is confirmed, or was before
+between-none : (first ticket : ℕ) (b : Bool) → ((nat_le first ticket && nat_lt ticket (first + zero)) || b) ≡ b
+between-none first ticket b = by (nat_le first ticket) (nat_lt ticket (first + zero)) refl refl
   where
-    by : (same low up up' : Bool) → (c + suc n == ticket) ≡ same → nat_lt 0 ticket ≡ low → nat_le ticket (c + n) ≡ up → nat_le ticket (c + suc n) ≡ up' → (same || (low && up)) ≡ (low && up')
+    by : (low up : Bool) → nat_le first ticket ≡ low → nat_lt ticket (first + zero) ≡ up → ((low && up) || b) ≡ b
+    by false up e f = refl
+    by true false e f = refl
+    by true true e f = absurd (grind (arith, nat_tests))
+
+between-more : (first n ticket : ℕ) (b : Bool) → ((first + n == ticket) || ((nat_le first ticket && nat_lt ticket (first + n)) || b)) ≡ ((nat_le first ticket && nat_lt ticket (first + suc n)) || b)
+between-more first n ticket b = by (first + n == ticket) (nat_le first ticket) (nat_lt ticket (first + n)) (nat_lt ticket (first + suc n)) refl refl refl refl
+  where
+    by : (same low up up' : Bool) → (first + n == ticket) ≡ same → nat_le first ticket ≡ low → nat_lt ticket (first + n) ≡ up → nat_lt ticket (first + suc n) ≡ up'
+        → (same || ((low && up) || b)) ≡ ((low && up') || b)
     by true true up true e f g i = refl
     by true true up false e f g i = absurd (grind (arith, nat_tests))
     by true false up up' e f g i = absurd (grind (arith, nat_tests))
@@ -48,12 +57,34 @@ up_to-more c n ticket = by (c + suc n == ticket) (nat_lt 0 ticket) (nat_le ticke
     by false true true false e f g i = absurd (grind (arith, nat_tests))
     by false true false true e f g i = absurd (grind (arith, nat_tests))
 
-pub confirms-up_to : (c n : ℕ) (h : History) → ((ticket : ℕ) → is_up_to c ticket ≡ confirms h ticket) → (ticket : ℕ) → confirms (confirmed_from (suc c) n h) ticket ≡ is_up_to (c + n) ticket
-confirms-up_to c zero h known ticket = sym (known ticket) ∙ ap (λ (last : ℕ). is_up_to last ticket) (omega arith)
-confirms-up_to c (suc n) h known ticket =
-    ap (λ (b : Bool). (suc c + n == ticket) || b) (confirms-up_to c n h known ticket)
-    ∙ ap (λ (t : ℕ). (t == ticket) || is_up_to (c + n) ticket) (omega arith)
-    ∙ up_to-more c n ticket
+confirms-from : (first n : ℕ) (h : History) (ticket : ℕ) → confirms (confirmed_from first n h) ticket ≡ ((nat_le first ticket && nat_lt ticket (first + n)) || confirms h ticket)
+confirms-from first zero h ticket = sym (between-none first ticket (confirms h ticket))
+confirms-from first (suc n) h ticket = ap (λ (b : Bool). (first + n == ticket) || b) (confirms-from first n h ticket) ∙ between-more first n ticket (confirms h ticket)
+
+-- as many as there are from the first to the last
+between-is : (first last ticket : ℕ) → first ≤ suc last → (nat_le first ticket && nat_lt ticket (first + (suc last - first))) ≡ is_between first last ticket
+between-is first last ticket range = by (nat_lt ticket (first + (suc last - first))) (nat_le ticket last) refl refl
+  where
+    end : first + (suc last - first) ≡ suc last
+    end = omega (arith, range)
+
+    by : (up up' : Bool) → nat_lt ticket (first + (suc last - first)) ≡ up → nat_le ticket last ≡ up' → (nat_le first ticket && up) ≡ (nat_le first ticket && up')
+    by true true e f = refl
+    by false false e f = refl
+    by true false e f = let e' : nat_lt ticket (suc last) ≡ true = ap (λ (n : ℕ). nat_lt ticket n) (sym end) ∙ e in absurd (grind (arith, nat_tests))
+    by false true e f = let e' : nat_lt ticket (suc last) ≡ false = ap (λ (n : ℕ). nat_lt ticket n) (sym end) ∙ e in absurd (grind (arith, nat_tests))
+
+or_false : (a b : Bool) → a ≡ false → b ≡ false → (a || b) ≡ false
+or_false false b e f = f
+or_false true b e f = absurd (false≢true (sym e))
+
+both_false : (a b : Bool) → (a || b) ≡ false → (a ≡ false) × (b ≡ false)
+both_false false b e = (refl, e)
+both_false true b e = absurd (false≢true (sym e))
+
+not_true : (b : Bool) → not b ≡ true → b ≡ false
+not_true true e = cc
+not_true false e = refl
 
 -- PLACES
 
@@ -134,55 +165,38 @@ nowhere_named names frame place none at =
     by false e none = grind (arith, nat_tests)
 
 -- WHAT IS REACHED, SAID OF A PAST
-module _ (kept : KeptGrants) (h : History) (past : IsPastOf kept h) (last : ℕ) (later : kept.confirmed ≤ last) where
-  -- the past, once the next tickets are confirmed up to the last
+module _ (kept : KeptGrants) (h : History) (past : IsPastOf kept h) (first last : ℕ) (range : first ≤ suc last) where
+  -- the past, once the tickets from the first to the last are confirmed
   abbrev once : History
-  once = confirmed_from (suc kept.confirmed) (last - kept.confirmed) h
+  once = confirmed_from first (suc last - first) h
 
-  confirms_once : (ticket : ℕ) → confirms once ticket ≡ is_up_to last ticket
-  confirms_once ticket =
-      confirms-up_to kept.confirmed (last - kept.confirmed) h (confirmed_of_past kept h past) ticket
-      ∙ ap (λ (to : ℕ). is_up_to to ticket) (omega (arith, later))
+  confirms_once : (ticket : ℕ) → confirms once ticket ≡ (is_between first last ticket || confirms h ticket)
+  confirms_once ticket = confirms-from first (suc last - first) h ticket ∙ ap (λ (b : Bool). b || confirms h ticket) (between-is first last ticket range)
 
-  -- a ticket that isn't confirmed then isn't now
-  not_before : (ticket : ℕ) → is_up_to last ticket ≡ false → is_up_to kept.confirmed ticket ≡ false
-  not_before ticket after = by (nat_lt 0 ticket) (nat_le ticket last) (nat_le ticket kept.confirmed) refl refl refl after
-    where
-      by : (low up up' : Bool) → nat_lt 0 ticket ≡ low → nat_le ticket last ≡ up → nat_le ticket kept.confirmed ≡ up' → (low && up) ≡ false → (low && up') ≡ false
-      by false up up' e f g i = refl
-      by true up false e f g i = refl
-      by true true true e f g i = cc
-      by true false true e f g i = absurd (grind (arith, nat_tests))
-
-  lingers_once : (device page ticket : ℕ) (pair : Pair) → released_in kept.ledger device page ≡ Some (ticket, pair) → is_up_to last ticket ≡ false
+  lingers_once : (device page ticket : ℕ) (pair : Pair) → released_in kept.ledger device page ≡ Some (ticket, pair) → is_between first last ticket ≡ false
       → Lingers once device page (named_pair kept.names.keys pair)
   lingers_once device page ticket pair released open' =
       let there : Contains (lingering_at h device page) (ticket, named_pair kept.names.keys pair) =
       subst (λ (l : List (ℕ × Pair)). Contains l (ticket, named_pair kept.names.keys pair))
       (sym (lingering_of_past kept h past device page ∙ ap (λ (r : Option (ℕ × Pair)). map (named_release kept.names.keys) (option_to_list r)) released))
       (contains_head {X = ℕ × Pair} (ticket, named_pair kept.names.keys pair) []) in
-      let was = (contains_from_filter (λ (r : ℕ × Pair). not (confirms h r.0)) (released_at h device page) (ticket, named_pair kept.names.keys pair) there).0 in
-      let is = subst (λ (l : List (ℕ × Pair)). Contains l (ticket, named_pair kept.names.keys pair)) (sym (released_at-confirmed (suc kept.confirmed) (last - kept.confirmed) h device page)) was in
-      (ticket, contains_filter (λ (r : ℕ × Pair). not (confirms once r.0)) (released_at once device page) (ticket, named_pair kept.names.keys pair) is (ap not (confirms_once ticket ∙ open')))
+      let (was, passes) = contains_from_filter (λ (r : ℕ × Pair). not (confirms h r.0)) (released_at h device page) (ticket, named_pair kept.names.keys pair) there in
+      let is = subst (λ (l : List (ℕ × Pair)). Contains l (ticket, named_pair kept.names.keys pair)) (sym (released_at-confirmed first (suc last - first) h device page)) was in
+      (ticket, contains_filter (λ (r : ℕ × Pair). not (confirms once r.0)) (released_at once device page) (ticket, named_pair kept.names.keys pair) is (ap not (confirms_once ticket ∙ or_false (is_between first last ticket) (confirms h ticket) open' (not_true (confirms h ticket) passes))))
 
   -- what lingers then
   released_from_once : (device page ticket : ℕ) (pair : Pair) → Contains (lingering_at once device page) (ticket, pair)
-      → (own : Pair) × (released_in kept.ledger device page ≡ Some (ticket, own)) × (named_pair kept.names.keys own ≡ pair) × (is_up_to last ticket ≡ false) × (own.0 < length kept.names.keys)
+      → (own : Pair) × (released_in kept.ledger device page ≡ Some (ticket, own)) × (named_pair kept.names.keys own ≡ pair) × (is_between first last ticket ≡ false) × (own.0 < length kept.names.keys)
   released_from_once device page ticket pair lingers =
       let (was, passes) = contains_from_filter (λ (r : ℕ × Pair). not (confirms once r.0)) (released_at once device page) (ticket, pair) lingers in
-      let after : is_up_to last ticket ≡ false = sym (confirms_once ticket) ∙ not_true (confirms once ticket) passes in
-      let now = not_before ticket after in
+      let (after, now) = both_false (is_between first last ticket) (confirms h ticket) (sym (confirms_once ticket) ∙ not_true (confirms once ticket) passes) in
       let there = contains_filter (λ (r : ℕ × Pair). not (confirms h r.0)) (released_at h device page) (ticket, pair)
-      (subst (λ (l : List (ℕ × Pair)). Contains l (ticket, pair)) (released_at-confirmed (suc kept.confirmed) (last - kept.confirmed) h device page) was)
-      (ap not (sym (confirmed_of_past kept h past ticket) ∙ now)) in
+      (subst (λ (l : List (ℕ × Pair)). Contains l (ticket, pair)) (released_at-confirmed first (suc last - first) h device page) was)
+      (ap not now) in
       by (released_in kept.ledger device page) refl (subst (λ (l : List (ℕ × Pair)). Contains l (ticket, pair)) (lingering_of_past kept h past device page) there) after
     where
-      not_true : (b : Bool) → not b ≡ true → b ≡ false
-      not_true true e = cc
-      not_true false e = refl
-
-      by : (released : Option (ℕ × Pair)) → released_in kept.ledger device page ≡ released → Contains (map (named_release kept.names.keys) (option_to_list released)) (ticket, pair) → is_up_to last ticket ≡ false
-          → (own : Pair) × (released_in kept.ledger device page ≡ Some (ticket, own)) × (named_pair kept.names.keys own ≡ pair) × (is_up_to last ticket ≡ false) × (own.0 < length kept.names.keys)
+      by : (released : Option (ℕ × Pair)) → released_in kept.ledger device page ≡ released → Contains (map (named_release kept.names.keys) (option_to_list released)) (ticket, pair) → is_between first last ticket ≡ false
+          → (own : Pair) × (released_in kept.ledger device page ≡ Some (ticket, own)) × (named_pair kept.names.keys own ≡ pair) × (is_between first last ticket ≡ false) × (own.0 < length kept.names.keys)
       by None e (k, below, at) after = absurd (omega arith)
       by (Some (t, own)) e in_it after =
           let (tickets, pairs) = one_element (named_pair kept.names.keys own) t ticket pair in_it in
@@ -197,7 +211,7 @@ module _ (kept : KeptGrants) (h : History) (past : IsPastOf kept h) (last : ℕ)
   unfolding held_by
   held_from_once device page pair held =
       by (held_in kept.ledger device page) refl
-      (held_of_past kept h past device page ∙ sym (held_at-confirmed (suc kept.confirmed) (last - kept.confirmed) h device page) ∙ held)
+      (held_of_past kept h past device page ∙ sym (held_at-confirmed first (suc last - first) h device page) ∙ held)
     where
       by : (own : Option Pair) → held_in kept.ledger device page ≡ own → held_by kept device page ≡ Some pair
           → (own : Pair) × (held_in kept.ledger device page ≡ Some own) × (named_pair kept.names.keys own ≡ pair) × (own.0 < length kept.names.keys)
@@ -206,21 +220,24 @@ module _ (kept : KeptGrants) (h : History) (past : IsPastOf kept h) (last : ℕ)
           let same : Some (named_pair kept.names.keys own) ≡ Some pair = sym (ap (option_map (named_pair kept.names.keys)) e) ∙ held in
           (own, e, cc, placed_held (length kept.names.keys) past.placed past.within device page own ((past.grants.pages device page).holds ∙ e))
 
-  module _ (wanted : Wanted) (frame : ℕ) (last_is : wanted.last ≡ last) (named : IsNamedAt kept.names.keys wanted.place frame) where
+  module _ (wanted : Wanted) (frame : ℕ) (first_is : wanted.first ≡ first) (last_is : wanted.last ≡ last) (named : IsNamedAt kept.names.keys wanted.place frame) where
+    range_is : (ticket : ℕ) → is_between wanted.first wanted.last ticket ≡ is_between first last ticket
+    range_is ticket = ap (λ (n : ℕ). is_between n wanted.last ticket) first_is ∙ ap (λ (n : ℕ). is_between first n ticket) last_is
+
     -- what is reached in the ledger is so once the tickets are confirmed
     pair_is : (rights : Rights) → named_pair kept.names.keys (wanted.place, rights) ≡ (frame, rights)
     pair_is rights = ap (λ (f : ℕ). (f, rights)) named.named
 
-    lingers_from : (page ticket : ℕ) (rights : Rights) → released_in kept.ledger wanted.device page ≡ Some (ticket, (wanted.place, rights)) → is_up_to wanted.last ticket ≡ false
+    lingers_from : (page ticket : ℕ) (rights : Rights) → released_in kept.ledger wanted.device page ≡ Some (ticket, (wanted.place, rights)) → is_between wanted.first wanted.last ticket ≡ false
         → Lingers once wanted.device page (frame, rights)
     lingers_from page ticket rights released counts =
         subst (λ (p : Pair). Lingers once wanted.device page p) (pair_is rights)
-        (lingers_once wanted.device page ticket (wanted.place, rights) released (subst (λ (to : ℕ). is_up_to to ticket ≡ false) last_is counts))
+        (lingers_once wanted.device page ticket (wanted.place, rights) released (sym (range_is ticket) ∙ counts))
 
     holds_from : (page : ℕ) (rights : Rights) → held_in kept.ledger wanted.device page ≡ Some (wanted.place, rights) → Holds once wanted.device page (frame, rights)
     unfolding held_by
     holds_from page rights held =
-        held_at-confirmed (suc kept.confirmed) (last - kept.confirmed) h wanted.device page ∙ sym (held_of_past kept h past wanted.device page)
+        held_at-confirmed first (suc last - first) h wanted.device page ∙ sym (held_of_past kept h past wanted.device page)
         ∙ ap (option_map (named_pair kept.names.keys)) held ∙ ap Some (pair_is rights)
 
     pub may_from_reached : wanted.held ≡ true → IsReached wanted kept.ledger → May once wanted.device frame wanted.kind
@@ -242,7 +259,7 @@ module _ (kept : KeptGrants) (h : History) (past : IsPastOf kept h) (last : ℕ)
     reached_from_lingers : (page : ℕ) (rights : Rights) → Lingers once wanted.device page (frame, rights) → allows rights wanted.kind ≡ true → IsReached wanted kept.ledger
     reached_from_lingers page rights (ticket, lingers) allowed =
         let (own, released, same, after, within) = released_from_once wanted.device page ticket (frame, rights) lingers in
-        (page, rights, Some ticket, released ∙ ap (λ (p : Pair). Some (ticket, p)) (place_is own rights same within), allowed, subst (λ (to : ℕ). is_up_to to ticket ≡ false) (sym last_is) after)
+        (page, rights, Some ticket, released ∙ ap (λ (p : Pair). Some (ticket, p)) (place_is own rights same within), allowed, range_is ticket ∙ after)
 
     pub reached_from_may : wanted.held ≡ true → May once wanted.device frame wanted.kind → IsReached wanted kept.ledger
     reached_from_may with_held (page, rights, inr lingers, allowed) = reached_from_lingers page rights lingers allowed
@@ -266,19 +283,13 @@ module _ (kept : KeptGrants) (h : History) (past : IsPastOf kept h) (last : ℕ)
   none_lingers device frame kind none (page, rights, lingers, allowed) = none_may device frame kind none (page, rights, inr lingers, allowed)
 
 -- what the placed history says is reached
-module _ (kept : KeptGrants) (h : History) (past : IsPastOf kept h) (wanted : Wanted) (last_is : wanted.last ≡ kept.confirmed) (with_held : wanted.held ≡ true) where
+module _ (kept : KeptGrants) (h : History) (past : IsPastOf kept h) (wanted : Wanted) (besides : (ticket : ℕ) → is_between wanted.first wanted.last ticket ≡ false) (with_held : wanted.held ≡ true) where
   pub reached_from_placed : May past.placed wanted.device wanted.place wanted.kind → IsReached wanted kept.ledger
   reached_from_placed (page, rights, inl held, allowed) = (page, rights, None, sym (past.grants.pages wanted.device page).holds ∙ held, allowed, with_held)
   reached_from_placed (page, rights, inr (ticket, lingers), allowed) =
-      let open' = (contains_from_filter (λ (r : ℕ × Pair). not (confirms past.placed r.0)) (released_at past.placed wanted.device page) (ticket, (wanted.place, rights)) lingers).1 in
-      let after : is_up_to wanted.last ticket ≡ false = ap (λ (to : ℕ). is_up_to to ticket) last_is ∙ sym (past.confirmed ticket) ∙ not_true (confirms past.placed ticket) open' in
       let there = subst (λ (l : List (ℕ × Pair)). Contains l (ticket, (wanted.place, rights))) (past.grants.pages wanted.device page).lingers lingers in
-      (page, rights, Some ticket, by (released_in kept.ledger wanted.device page) refl there, allowed, after)
+      (page, rights, Some ticket, by (released_in kept.ledger wanted.device page) refl there, allowed, besides ticket)
     where
-      not_true : (b : Bool) → not b ≡ true → b ≡ false
-      not_true true e = cc
-      not_true false e = refl
-
       by : (released : Option (ℕ × Pair)) → released_in kept.ledger wanted.device page ≡ released → Contains (option_to_list released) (ticket, (wanted.place, rights))
           → released_in kept.ledger wanted.device page ≡ Some (ticket, (wanted.place, rights))
       by None e (k, below, at) = absurd (omega arith)
@@ -299,28 +310,26 @@ module _ (kept : KeptGrants) (h : History) (past : IsPastOf kept h) (wanted : Wa
     allowed,
   )
 
+-- no ticket is one from 1 to 0
+none_between : (ticket : ℕ) → is_between 1 0 ticket ≡ false
+none_between ticket = by (nat_le 1 ticket) (nat_le ticket 0) refl refl
+  where
+    by : (low up : Bool) → nat_le 1 ticket ≡ low → nat_le ticket 0 ≡ up → (low && up) ≡ false
+    by false up e f = refl
+    by true false e f = refl
+    by true true e f = absurd (grind (arith, nat_tests))
+
 -- nobody reaches a frame where nobody reaches its place
 pub none_reaches : (kept : KeptGrants) (h : History) (past : IsPastOf kept h) (place frame : ℕ) → IsNamedAt kept.names.keys place frame → NoneMayReach past.placed place ↔ NoneMayReach h frame
 none_reaches kept h past place frame named = (
-  λ none device kind may. none device kind (placed_from_reached kept h past (wanted device kind) refl refl
-      (reached_from_may kept h past kept.confirmed (omega arith) (wanted device kind) frame refl named refl (to_once device kind may))),
-  λ none device kind may. none device kind (from_once device kind (may_from_reached kept h past kept.confirmed (omega arith) (wanted device kind) frame refl named refl
-      (reached_from_placed kept h past (wanted device kind) refl refl may))),
+  λ none device kind may. none device kind (placed_from_reached kept h past (wanted device kind) none_between refl
+      (reached_from_may kept h past 1 0 (omega arith) (wanted device kind) frame refl refl named refl may)),
+  λ none device kind may. none device kind (may_from_reached kept h past 1 0 (omega arith) (wanted device kind) frame refl refl named refl
+      (reached_from_placed kept h past (wanted device kind) none_between refl may)),
 )
   where
     wanted : ℕ → AccessKind → Wanted
-    wanted device kind = record { device = device; place = place; kind = kind; last = kept.confirmed; held = true }
-
-    no_more : kept.confirmed - kept.confirmed ≡ 0
-    no_more = omega arith
-
-    to_once : (device : ℕ) (kind : AccessKind) → May h device frame kind → May (confirmed_from (suc kept.confirmed) (kept.confirmed - kept.confirmed) h) device frame kind
-    to_once device kind may = subst (λ (n : ℕ). May (confirmed_from (suc kept.confirmed) n h) device frame kind) (sym no_more) may
-
-    from_once : (device : ℕ) (kind : AccessKind) → May (confirmed_from (suc kept.confirmed) (kept.confirmed - kept.confirmed) h) device frame kind → May h device frame kind
-    from_once device kind may = subst (λ (n : ℕ). May (confirmed_from (suc kept.confirmed) n h) device frame kind) no_more may
+    wanted device kind = record { device = device; place = place; kind = kind; first = 1; last = 0; held = true }
 
 pub nobody_reaches : (kept : KeptGrants) (h : History) → IsPastOf kept h → (frame : ℕ) → position (nat_eq frame) kept.names.keys ≡ None → NoneMayReach h frame
-nobody_reaches kept h past frame none device kind may =
-    none_may kept h past kept.confirmed (omega arith) device frame kind none
-    (subst (λ (n : ℕ). May (confirmed_from (suc kept.confirmed) n h) device frame kind) (let more : 0 ≡ kept.confirmed - kept.confirmed = omega arith in more) may)
+nobody_reaches kept h past frame none device kind may = none_may kept h past 1 0 (omega arith) device frame kind none may

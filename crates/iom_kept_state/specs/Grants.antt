@@ -1,5 +1,5 @@
 -- Grants as they are kept: the ledger names each frame by its place among those that were ever granted. Which history they are kept of.
-use Rattle.std.specs.Prelude.{◌≡◌, ◌<◌, ℕ, ◌&&◌, nat_lt, nat_le, Bool, List, [], ◌∷◌, Option, length, map, get_or, nat_eq, ⊤}
+use Rattle.std.specs.Prelude.{◌≡◌, ◌<◌, ℕ, Bool, List, [], ◌∷◌, Option, length, map, get_or, nat_eq, ⊤}
 use Rattle.std.specs.Option.{option_map}
 use Rattle.std.specs.List.{IsDistinct}
 use Rattle.iom_ledger.specs.declared.entry.HistoryEntry.{HistoryEntry}
@@ -8,6 +8,7 @@ use Rattle.iom_ledger.specs.History.{History, Pair, confirms}
 use Rattle.iom_ledger.specs.Shown.{Agrees, held_in, lingering_in, pages_listed}
 use Rattle.iom_machine.specs.Tickets.{last_confirmed}
 use Rattle.iom_kept_state.specs.declared.grants.KeptGrants.{KeptGrants}
+use Rattle.iom_kept_state.specs.Tickets.{is_among}
 
 -- the frame at a place
 abbrev pub frame_at_place : List ℕ → ℕ → ℕ
@@ -36,19 +37,19 @@ abbrev pub ArePlaced : ℕ → History → Type 0
 ArePlaced count [] = ⊤
 ArePlaced count (entry ∷ before) = IsPlaced count entry × ArePlaced count before
 
--- whether the ticket is one of those up to the last that is confirmed
-abbrev pub is_up_to : ℕ → ℕ → Bool
-is_up_to last ticket = nat_lt 0 ticket && nat_le ticket last
+-- whether the ticket is confirmed
+abbrev pub is_confirmed_in : KeptGrants → ℕ → Bool
+is_confirmed_in kept ticket = is_among kept.tickets ticket
 
--- THE HISTORY is one of which these grants are kept: the ledger agrees with it, each frame by its place, of which no two name one frame; and the tickets
--- up to the last that is confirmed are so, and no others.
+-- THE HISTORY is one of which these grants are kept: the ledger agrees with it, each frame by its place, of which no two name one frame; the tickets
+-- that are kept as confirmed are so, and no others; and so is which of them was confirmed last.
 pub record IsPastOf (kept : KeptGrants) (history : History) : Type 0 where
   pub placed : History
   pub named : history ≡ map (named_entry kept.names.keys) placed
   pub unique : IsDistinct nat_eq kept.names.keys
   pub within : ArePlaced (length kept.names.keys) placed
   pub grants : Agrees kept.ledger placed
-  pub confirmed : (ticket : ℕ) → confirms placed ticket ≡ is_up_to kept.confirmed ticket
+  pub confirmed : (ticket : ℕ) → confirms placed ticket ≡ is_confirmed_in kept ticket
   pub last : last_confirmed placed ≡ kept.confirmed
 
 -- what the device holds at the page

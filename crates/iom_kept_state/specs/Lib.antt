@@ -1,3 +1,4 @@
+pub mod Tickets
 pub mod Grants
 pub mod Wanted
 pub mod Frames

@@ -1,6 +1,8 @@
 //! Grants as they are kept, and what is done to them.
-ghost use Rattle.std.specs.Prelude.{◌≤◌, ◌<◌, ◌^◌, All, length};
+ghost use Rattle.std.specs.Prelude.{◌≡◌, ◌≤◌, ◌<◌, ◌^◌, ℕ, true, All, length};
+ghost use Rattle.iom_kept_state.specs.Tickets.{is_among};
 
+use crate::tickets::ConfirmedTickets;
 use indexmap::IndexSet;
 use iom_base::{DeviceId, Rights};
 use iom_ledger::Ledger;
@@ -15,19 +17,22 @@ pub struct KeptGrants {
     pub(crate) ledger: Ledger,
     /// The last ticket that was given; they count from 1.
     pub given: u32,
-    /// The last ticket that is confirmed, and all up to it.
+    /// The ticket that was confirmed last; 0 where none is.
     pub confirmed: u32,
+    /// Which of those that were given are confirmed.
+    pub(crate) tickets: ConfirmedTickets,
     ghost ordered: { confirmed ≤ given },
+    ghost within: { (ticket : ℕ) → is_among tickets ticket ≡ true → ticket ≤ given },
     ghost few: { length names.keys ≤ 4294967295 },
     ghost low: { All (λ frame. frame < 2 ^ 40) names.keys },
 }
 
 impl KeptGrants {
-    ghost use Rattle.std.specs.Prelude.{◌≡◌, ◌<◌, ◌≤◌, ◌-◌, ◌+◌, ◌^◌, suc, [], ◌∷◌, OnOk, IfOk, IsSome, None};
+    ghost use Rattle.std.specs.Prelude.{◌≡◌, ◌<◌, ◌≤◌, ◌-◌, ◌+◌, ◌^◌, ◌⊎◌, suc, [], ◌∷◌, false, OnOk, IfOk, IsSome, None};
     ghost use Rattle.iom_base.specs.Calls.{IsGrantable};
     ghost use Rattle.iom_ledger.specs.History.{History, confirmed_from};
     ghost use Rattle.iom_ledger.specs.declared.entry.HistoryEntry.TheVariants.{Granted, Released, AllReleased, Confirmed};
-    ghost use Rattle.iom_kept_state.specs.Grants.{IsPastOf, held_by, lingering_by};
+    ghost use Rattle.iom_kept_state.specs.Grants.{IsPastOf, held_by, lingering_by, is_confirmed_in};
 
     /// No grants: nothing happened before.
     pub fn new(alloc: Global) -> Result<KeptGrants, AllocError>
@@ -39,6 +44,7 @@ impl KeptGrants {
             ledger: Ledger::new(alloc, 0)?,
             given: 0,
             confirmed: 0,
+            tickets: ConfirmedTickets::new(alloc),
         })
     }
 
@@ -64,10 +70,10 @@ impl KeptGrants {
         self.ledger.grant(device, page, place as u32, rights)
     }
 
-    /// Releases what the device holds at the page, under the next ticket.
+    /// Releases what the device holds at the page, under the next ticket, or under the last one where it isn't confirmed.
     pub fn release(&mut self, device: DeviceId, page: u64, ticket: u32) -> Result<(), AllocError>
         requires held { IsSome (held_by self.old device page) }
-        requires next { ticket ≡ self.old.given + 1 }
+        requires pending { (ticket ≡ self.old.given + 1) ⊎ ((ticket ≡ self.old.given) × (is_confirmed_in self.old ticket ≡ false)) }
         ensures past { OnOk result ((h : History) → IsPastOf self.old h → IsPastOf self.new (Released device page ticket ∷ h)) }
         ensures tickets { OnOk result ((self.new.given ≡ ticket) × (self.new.confirmed ≡ self.old.confirmed)) }
     {
@@ -98,27 +104,30 @@ impl KeptGrants {
         self.given = ticket;
     }
 
-    /// Confirms the next ticket.
-    fn confirm_next(&mut self, ticket: u32)
-        requires next { ticket ≡ self.old.confirmed + 1 }
+    /// Confirms a ticket.
+    fn confirm_one(&mut self, ticket: u32) -> Result<(), AllocError>
+        requires some { 0 < ticket }
         requires given { ticket ≤ self.old.given }
-        ensures past { (h : History) → IsPastOf self.old h → IsPastOf self.new (Confirmed ticket ∷ h) }
-        ensures tickets { (self.new.given ≡ self.old.given) × (self.new.confirmed ≡ ticket) }
+        ensures past { OnOk result ((h : History) → IsPastOf self.old h → IsPastOf self.new (Confirmed ticket ∷ h)) }
+        ensures tickets { OnOk result ((self.new.given ≡ self.old.given) × (self.new.confirmed ≡ ticket)) }
     {
+        self.tickets.note(ticket)?;
         self.ledger.confirm(ticket);
         self.confirmed = ticket;
+        Ok(())
     }
 
-    /// Confirms the next tickets, up to this one.
-    pub fn confirm(&mut self, last: u32)
-        requires later { self.old.confirmed ≤ last }
+    /// Confirms the tickets from the first to the last, one after another.
+    pub fn confirm(&mut self, first: u32, last: u32) -> Result<(), AllocError>
+        requires some { 0 < first }
+        requires later { first ≤ last }
         requires given { last ≤ self.old.given }
-        ensures past { (h : History) → IsPastOf self.old h
-            → IsPastOf self.new (confirmed_from (suc self.old.confirmed) (last - self.old.confirmed) h) }
-        ensures tickets { (self.new.given ≡ self.old.given) × (self.new.confirmed ≡ last) }
+        ensures past { OnOk result ((h : History) → IsPastOf self.old h → IsPastOf self.new (confirmed_from first (suc (last - first)) h)) }
+        ensures tickets { OnOk result ((self.new.given ≡ self.old.given) × (self.new.confirmed ≡ last)) }
     {
-        for ticket in self.confirmed..last {
-            self.confirm_next(ticket + 1);
+        for ticket in first - 1..last {
+            self.confirm_one(ticket + 1)?;
         }
+        Ok(())
     }
 }

@@ -15,8 +15,10 @@ mod grants;
 mod leaving;
 mod looks;
 mod state;
+mod tickets;
 mod wanted;
 
 pub use frames::{KeptFrame, KeptFrames};
 pub use grants::KeptGrants;
 pub use state::KeptState;
+pub use tickets::ConfirmedTickets;

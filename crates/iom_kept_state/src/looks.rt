@@ -1,6 +1,6 @@
 //! What is looked up of grants.
 use crate::grants::KeptGrants;
-use crate::wanted::{Wanted, is_up_to};
+use crate::wanted::Wanted;
 use iom_base::{AccessKind, DeviceId, Rights};
 
 impl KeptGrants {
@@ -8,7 +8,7 @@ impl KeptGrants {
     ghost use Rattle.iom_ledger.specs.History.{History, Pair, Holds, held_at, lingering_at, confirms, confirmed_from, Lingers, May, NoneMayReach};
     ghost use Rattle.iom_machine.specs.Requests.{LingersSomewhere};
     ghost use Rattle.iom_machine.specs.Tickets.{last_confirmed};
-    ghost use Rattle.iom_kept_state.specs.Grants.{IsPastOf, frame_at_place, held_by, lingering_by, pages_by};
+    ghost use Rattle.iom_kept_state.specs.Grants.{IsPastOf, frame_at_place, held_by, lingering_by, pages_by, is_confirmed_in};
 
     /// The frame at a place; 0 where there is no such place.
     fn frame_at(&self, place: u32) -> u64
@@ -61,12 +61,13 @@ impl KeptGrants {
 
     /// Whether the ticket is confirmed.
     pub fn is_confirmed(&self, ticket: u32) -> bool
-        ensures { (h : History) → IsPastOf self.now h → result ≡ confirms h ticket }
+        ensures shown { result ≡ is_confirmed_in self.now ticket }
+        ensures confirmed { (h : History) → IsPastOf self.now h → result ≡ confirms h ticket }
     {
-        is_up_to(self.confirmed, ticket)
+        self.tickets.has(ticket)
     }
 
-    /// The last ticket that is confirmed; 0 where none is.
+    /// The ticket that was confirmed last; 0 where none is.
     pub fn last_confirmed(&self) -> u32
         ensures value { result ≡ self.now.confirmed }
         ensures last { (h : History) → IsPastOf self.now h → result ≡ last_confirmed h }
@@ -82,19 +83,20 @@ impl KeptGrants {
         self.ledger.holds_anything(device) || self.ledger.lingers_anything(device)
     }
 
-    /// Whether the device could reach the frame by an access of this kind, were the next tickets confirmed up to this one. It is
-    /// looked for at this page first, so that the others needn't be.
-    pub fn may_once(
+    /// Whether the device could reach the frame by an access of this kind, were the tickets from the first to the last confirmed:
+    /// none, where the last comes right before the first. It is looked for at this page first, so that the others needn't be.
+    fn may_besides(
         &self,
         device: DeviceId,
         page: u64,
         frame: u64,
         kind: AccessKind,
+        first: u32,
         last: u32,
     ) -> bool
-        requires { self.now.confirmed ≤ last }
+        requires { first ≤ suc last }
         ensures may { (h : History) → IsPastOf self.now h
-            → IsTrue result ↔ May (confirmed_from (suc self.now.confirmed) (last - self.now.confirmed) h) device frame kind }
+            → IsTrue result ↔ May (confirmed_from first (suc last - first) h) device frame kind }
         ensures low { IsTrue result → frame < 2 ^ 40 }
     {
         let Some(place) = self.names.get_index_of(&frame) else {
@@ -104,10 +106,30 @@ impl KeptGrants {
             device,
             place: place as u32,
             kind,
+            first,
             last,
             held: true,
         };
         wanted.is_held_at(&self.ledger, page) || wanted.is_anywhere(&self.ledger)
+    }
+
+    /// Whether the device could reach the frame by an access of this kind, were the tickets from the first to the last confirmed. It
+    /// is looked for at this page first, so that the others needn't be.
+    pub fn may_once(
+        &self,
+        device: DeviceId,
+        page: u64,
+        frame: u64,
+        kind: AccessKind,
+        first: u32,
+        last: u32,
+    ) -> bool
+        requires { first ≤ last }
+        ensures may { (h : History) → IsPastOf self.now h
+            → IsTrue result ↔ May (confirmed_from first (suc (last - first)) h) device frame kind }
+        ensures low { IsTrue result → frame < 2 ^ 40 }
+    {
+        self.may_besides(device, page, frame, kind, first, last)
     }
 
     /// Whether the device may reach the frame by an access of this kind. It is looked for at this page first, so that the others
@@ -116,7 +138,7 @@ impl KeptGrants {
         ensures may { (h : History) → IsPastOf self.now h → IsTrue result ↔ May h device frame kind }
         ensures low { IsTrue result → frame < 2 ^ 40 }
     {
-        self.may_once(device, page, frame, kind, self.confirmed)
+        self.may_besides(device, page, frame, kind, 1, 0)
     }
 
     /// Whether the frame lingers at some page of the device, with a right that allows the kind.
@@ -131,7 +153,8 @@ impl KeptGrants {
             device,
             place: place as u32,
             kind,
-            last: self.confirmed,
+            first: 1,
+            last: 0,
             held: false,
         };
         wanted.is_anywhere(&self.ledger)

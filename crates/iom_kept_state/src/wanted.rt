@@ -1,15 +1,15 @@
 //! Whether a frame is reached, in a ledger that names it by its place.
 ghost use Rattle.std.specs.Prelude.{◌≡◌};
-ghost use Rattle.iom_kept_state.specs.Grants.{is_up_to};
+ghost use Rattle.iom_kept_state.specs.Wanted.{is_between};
 
 use iom_base::{AccessKind, DeviceId};
 use iom_ledger::{Ledger, Reach};
 
-/// Whether the ticket is one of those up to the last.
-pub(crate) fn is_up_to(last: u32, ticket: u32) -> bool
-    ensures { result ≡ is_up_to last ticket }
+/// Whether the ticket is one from the first to the last.
+fn is_between(first: u32, last: u32, ticket: u32) -> bool
+    ensures { result ≡ is_between first last ticket }
 {
-    0 < ticket && ticket <= last
+    first <= ticket && ticket <= last
 }
 
 /// What is looked for: a way by which the device reaches the frame at this place, with a right that allows the kind.
@@ -18,7 +18,8 @@ pub(crate) struct Wanted {
     pub device: DeviceId,
     pub place: u32,
     pub kind: AccessKind,
-    /// What was released counts, but under a ticket up to this one.
+    /// What was released counts, but under a ticket from this one to the last.
+    pub first: u32,
     pub last: u32,
     /// Whether what is held counts.
     pub held: bool,
@@ -37,7 +38,7 @@ impl Wanted {
         }
         match reach.ticket {
             None => self.held,
-            Some(ticket) => !is_up_to(self.last, ticket),
+            Some(ticket) => !is_between(self.first, self.last, ticket),
         }
     }
 

@@ -1,5 +1,5 @@
 -- The next state, where a step may come.
-use Rattle.std.proofs.Common.{◌≡◌, ◌↔◌, ◌∙◌, ◌+◌, ◌-◌, ◌≤◌, ℕ, suc, Bool, List, [], ◌∷◌, ◌++◌, All, Option, Some, refl, sym, ap, subst, arith}
+use Rattle.std.proofs.Common.{◌≡◌, ◌↔◌, ◌∙◌, ◌-◌, ℕ, suc, Bool, List, [], ◌∷◌, ◌++◌, All, Option, Some, refl, sym, ap, subst}
 use Rattle.iom_base.specs.declared.device_kind.NewDevice.{NewDevice}
 use Rattle.iom_base.specs.DeviceKinds.{disk_of}
 use Rattle.iom_base.specs.Disks.{without_disk}
@@ -14,7 +14,7 @@ use Rattle.iom_machine.specs.Devices.{DeviceMay}
 use Rattle.iom_machine.specs.Leaving.{with_left}
 use Rattle.iom_machine.specs.Machine.{Plugs, plugged_device, Releases, Polls}
 use Rattle.iom_machine.specs.Refusals.{plug_reasons, release_reasons}
-use Rattle.iom_machine.specs.Tickets.{AreNextTickets}
+use Rattle.iom_machine.specs.Tickets.{MayConfirm, MayTake}
 use Rattle.iom_machine.proofs.CallLemmas.{confirmed_as, not_confirmed_as}
 use Rattle.iom_machine.proofs.StepLemmas.{no_state}
 use Rattle.iom_kept_state.specs.declared.state.KeptState.{KeptState}
@@ -51,37 +51,29 @@ plugged_as old id what h devices disks none d k after =
     ((λ same. (none, same ∙ same_state)), (λ step. step.1 ∙ sym same_state))
 
 -- after a release
-pub released_as : (old : KeptState) (id page ticket told : ℕ) (h : History) → NoneApplies (release_reasons (state_of old h) id page) → ticket ≡ old.grants.given + 1 → told ≡ ticket
+pub released_as : (old : KeptState) (id page ticket told : ℕ) (h : History) → NoneApplies (release_reasons (state_of old h) id page) → MayTake (state_of old h) ticket → told ≡ ticket
     → (after : State) → (after ≡ next_state old (frames_in old.frames) (entries.Released id page ticket ∷ h) told old.devices) ↔ Releases (state_of old h) id page (Ticket ticket) after
-released_as old id page ticket told h none next_one is after =
+released_as old id page ticket told h none takes is after =
     let same_state : next_state old (frames_in old.frames) (entries.Released id page ticket ∷ h) told old.devices ≡ next_state old (frames_in old.frames) (entries.Released id page ticket ∷ h) ticket old.devices =
     ap (λ n. next_state old (frames_in old.frames) (entries.Released id page ticket ∷ h) n old.devices) is in
-    ((λ same. (none, next_one, same ∙ same_state)), (λ step. step.2 ∙ sym same_state))
+    ((λ same. (none, takes, same ∙ same_state)), (λ step. step.2 ∙ sym same_state))
 
--- the history, once the tickets up to the last are confirmed
-abbrev pub history_once : KeptState → ℕ → History → History
-history_once old last h = confirmed_from (suc old.grants.confirmed) (last - old.grants.confirmed) h
-
-extended : (old : KeptState) (first last : ℕ) (h : History) → first ≡ old.grants.confirmed + 1 → first ≤ last
-    → history_once old last h ≡ confirmed_from first (suc (last - first)) h
-extended old first last h is later =
-    let one : suc old.grants.confirmed ≡ first = omega (arith, is) in
-    let many : last - old.grants.confirmed ≡ suc (last - first) = omega (arith, is, later) in
-    ap (λ n. confirmed_from n (last - old.grants.confirmed) h) one ∙ ap (λ n. confirmed_from first n h) many
+-- the history, once the tickets from the first to the last are confirmed
+abbrev pub history_once : ℕ → ℕ → History → History
+history_once first last h = confirmed_from first (suc (last - first)) h
 
 -- after a poll that confirms
 pub polled_as : (old : KeptState) (given first last : ℕ) (timed_out : Bool) (h : History) (next : State)
-    → first ≡ old.grants.confirmed + 1 → first ≤ last → AreNextTickets (state_of old h) first last → given ≡ old.grants.given
-    → All (DeviceMay (history_once old last h)) old.devices
-    → next ≡ with_left (next_state old (frames_in old.frames) (history_once old last h) given old.devices)
+    → MayConfirm (state_of old h) first last → given ≡ old.grants.given
+    → All (DeviceMay (history_once first last h)) old.devices
+    → next ≡ with_left (next_state old (frames_in old.frames) (history_once first last h) given old.devices)
     → (after : State) → (after ≡ next) ↔ Polls (state_of old h) (Confirmed first last timed_out) after
-polled_as old given first last timed_out h next is later tickets same_given may left =
+polled_as old given first last timed_out h next tickets same_given may left =
     leaves_as next (λ after. Polls (state_of old h) (Confirmed first last timed_out) after)
-    (confirmed_as (state_of old h) first last timed_out (history_once old last h) tickets (extended old first last h is later) may next
-    (left ∙ ap (λ n. with_left (next_state old (frames_in old.frames) (history_once old last h) n old.devices)) same_given))
+    (confirmed_as (state_of old h) first last timed_out (history_once first last h) tickets refl may next
+    (left ∙ ap (λ n. with_left (next_state old (frames_in old.frames) (history_once first last h) n old.devices)) same_given))
 
 pub not_polled_as : (old : KeptState) (first last : ℕ) (timed_out : Bool) (h : History) (after : State)
-    → first ≡ old.grants.confirmed + 1 → first ≤ last → ¬ All (DeviceMay (history_once old last h)) old.devices
-    → ¬ Polls (state_of old h) (Confirmed first last timed_out) after
-not_polled_as old first last timed_out h after is later never step =
-    no_state after ((not_confirmed_as (state_of old h) first last timed_out (history_once old last h) (extended old first last h is later) never after).1 step)
+    → ¬ All (DeviceMay (history_once first last h)) old.devices → ¬ Polls (state_of old h) (Confirmed first last timed_out) after
+not_polled_as old first last timed_out h after never step =
+    no_state after ((not_confirmed_as (state_of old h) first last timed_out (history_once first last h) refl never after).1 step)

@@ -1,10 +1,11 @@
 // The driver's calls.
-ghost use Rattle.std.specs.Prelude.{◌≡◌, ◌↔◌, ◌+◌, ◌++◌, All, IfOk, IsTrue, None};
+ghost use Rattle.std.specs.Prelude.{◌≡◌, ◌↔◌, ◌+◌, ◌++◌, ◌⊎◌, false, All, IfOk, IsTrue, None};
 ghost use Rattle.iom_ledger.specs.History.{History};
 ghost use Rattle.iom_machine.specs.Frames.{IsFree};
 ghost use Rattle.iom_machine.specs.Refusals.{MayRefusePlug, MayRefuseAttach, MayRefuseGrant, MayFindNoPlace};
 ghost use Rattle.iom_machine.specs.Machine.{Plugs, Attaches, Detaches, Grants, Releases, Fetches, TakesRecord};
-ghost use Rattle.iom_kept_state.specs.Grants.{IsPastOf};
+ghost use Rattle.iom_machine.specs.Tickets.{IsLastPending, MayTake};
+ghost use Rattle.iom_kept_state.specs.Grants.{IsPastOf, is_confirmed_in};
 ghost use Rattle.iom_kept_state.specs.States.{state_of, Decides, DecidesStaying};
 
 use crate::devices::{place_of, set_attachment, start_leaving};
@@ -62,6 +63,38 @@ pub(crate) fn may_give(kept: &KeptState, first: Option<Refusal>, ticket: u32) ->
         return false;
     }
     u64::from(ticket) == u64::from(kept.grants.given) + 1
+}
+
+/// Whether the ticket was given last, and isn't confirmed.
+fn is_last_pending(kept: &KeptState, ticket: u32) -> bool
+    ensures shown { IsTrue result → (ticket ≡ kept.now.grants.given) × (is_confirmed_in kept.now.grants ticket ≡ false) }
+    ensures pending { (h : History) → IsPastOf kept.now.grants h → IsTrue result ↔ IsLastPending (state_of kept.now h) ticket }
+{
+    if ticket == 0 {
+        return false;
+    }
+    if ticket != kept.grants.given {
+        return false;
+    }
+    !kept.grants.is_confirmed(ticket)
+}
+
+/// Whether a release may take this ticket, where nothing is refused: the next one, or the last one, where no order is asked for.
+fn may_take(kept: &KeptState, first: Option<Refusal>, ticket: u32) -> bool
+    ensures shown { IsTrue result → (first ≡ None)
+        × ((ticket ≡ kept.now.grants.given + 1) ⊎ ((ticket ≡ kept.now.grants.given) × (is_confirmed_in kept.now.grants ticket ≡ false))) }
+    ensures take { (h : History) → IsPastOf kept.now.grants h → IsTrue result ↔ ((first ≡ None) × MayTake (state_of kept.now h) ticket) }
+{
+    if may_give(kept, first, ticket) {
+        return true;
+    }
+    if first.is_some() {
+        return false;
+    }
+    if kept.limits.in_order {
+        return false;
+    }
+    is_last_pending(kept, ticket)
 }
 
 /// Whether a plug may come so; the next state is then kept.
@@ -216,7 +249,7 @@ pub(crate) fn judge_release(
     let first = release_refusal(kept, id, page);
     match outcome {
         Outcome::Ticket(ticket) => {
-            if !may_give(kept, first, *ticket) {
+            if !may_take(kept, first, *ticket) {
                 return Ok(false);
             }
             kept.grants.release(id, page, *ticket)?;

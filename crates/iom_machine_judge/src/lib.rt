@@ -24,7 +24,7 @@ mod disks;
 mod ids;
 mod line;
 mod messages;
-mod polls;
+pub mod polls;
 mod processor;
 pub mod questions;
 pub mod reasons;

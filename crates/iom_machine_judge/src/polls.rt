@@ -1,8 +1,8 @@
 // Which tickets a poll may confirm.
-ghost use Rattle.std.specs.Prelude.{◌≡◌, ◌↔◌, ◌+◌, ◌-◌, ◌≤◌, suc, IfOk, IsTrue, All};
-ghost use Rattle.iom_ledger.specs.History.{History, May, confirmed_from};
+ghost use Rattle.std.specs.Prelude.{◌≡◌, ◌↔◌, ◌+◌, ◌-◌, ◌<◌, ◌≤◌, ℕ, suc, false, IfOk, IsTrue, All};
+ghost use Rattle.iom_ledger.specs.History.{History, May, confirms, confirmed_from};
 ghost use Rattle.iom_machine.specs.Devices.{DeviceMay};
-ghost use Rattle.iom_machine.specs.Tickets.{AreNextTickets};
+ghost use Rattle.iom_machine.specs.Tickets.{AreNextTickets, ArePending, MayConfirm};
 ghost use Rattle.iom_machine.specs.Machine.{Polls};
 ghost use Rattle.iom_kept_state.specs.Grants.{IsPastOf};
 ghost use Rattle.iom_kept_state.specs.States.{state_of, Decides};
@@ -12,37 +12,43 @@ use iom_kept_state::{KeptGrants, KeptState};
 use iom_machine::{Device, Outcome};
 use std::alloc::AllocError;
 
-/// Whether each of the accesses of the device may reach its frame, once the tickets up to this one are confirmed.
-fn each_may(grants: &KeptGrants, id: DeviceId, in_flight: &[AcceptedAccess], last: u32) -> bool
-    requires { grants.now.confirmed ≤ last }
+/// Whether each of the accesses of the device may reach its frame, once the tickets from the first to the last are confirmed.
+fn each_may(
+    grants: &KeptGrants,
+    id: DeviceId,
+    in_flight: &[AcceptedAccess],
+    first: u32,
+    last: u32,
+) -> bool
+    requires { first ≤ last }
     ensures { (h : History) → IsPastOf grants.now h
-        → IsTrue result ↔ All (λ flight. May (confirmed_from (suc grants.now.confirmed) (last - grants.now.confirmed) h) id flight.frame flight.access.kind) in_flight.now }
+        → IsTrue result ↔ All (λ flight. May (confirmed_from first (suc (last - first)) h) id flight.frame flight.access.kind) in_flight.now }
 {
     match in_flight {
         [] => true,
         [flight, later @ ..] => {
             let page = flight.access.address / PAGE_SIZE;
-            if !grants.may_once(id, page, flight.frame, flight.access.kind, last) {
+            if !grants.may_once(id, page, flight.frame, flight.access.kind, first, last) {
                 return false;
             }
-            each_may(grants, id, later, last)
+            each_may(grants, id, later, first, last)
         }
     }
 }
 
-/// Whether each access in flight of these devices may reach its frame, once the tickets up to this one are confirmed.
-fn all_may(grants: &KeptGrants, devices: &[Device], last: u32) -> bool
-    requires { grants.now.confirmed ≤ last }
+/// Whether each access in flight of these devices may reach its frame, once the tickets from the first to the last are confirmed.
+fn all_may(grants: &KeptGrants, devices: &[Device], first: u32, last: u32) -> bool
+    requires { first ≤ last }
     ensures { (h : History) → IsPastOf grants.now h
-        → IsTrue result ↔ All (DeviceMay (confirmed_from (suc grants.now.confirmed) (last - grants.now.confirmed) h)) devices.now }
+        → IsTrue result ↔ All (DeviceMay (confirmed_from first (suc (last - first)) h)) devices.now }
 {
     match devices {
         [] => true,
         [device, others @ ..] => {
-            if !each_may(grants, device.id, device.in_flight.as_slice(), last) {
+            if !each_may(grants, device.id, device.in_flight.as_slice(), first, last) {
                 return false;
             }
-            all_may(grants, others, last)
+            all_may(grants, others, first, last)
         }
     }
 }
@@ -61,19 +67,64 @@ fn are_next_tickets(kept: &KeptState, first: u32, last: u32) -> bool
     last <= kept.grants.given
 }
 
+/// Whether none of the tickets from the first to the last is confirmed.
+fn none_confirmed(grants: &KeptGrants, first: u32, last: u32) -> bool
+    requires { 0 < first }
+    ensures { (h : History) → IsPastOf grants.now h
+        → IsTrue result ↔ ((ticket : ℕ) → first ≤ ticket → ticket ≤ last → confirms h ticket ≡ false) }
+{
+    for before in first - 1..last {
+        if grants.is_confirmed(before + 1) {
+            return false;
+        }
+    }
+    true
+}
+
+/// Whether these tickets were given, and none of them is confirmed.
+fn are_pending(kept: &KeptState, first: u32, last: u32) -> bool
+    ensures shown { IsTrue result → (0 < first) × (first ≤ last) × (last ≤ kept.now.grants.given) }
+    ensures pending { (h : History) → IsPastOf kept.now.grants h → IsTrue result ↔ ArePending (state_of kept.now h) first last }
+{
+    if first == 0 {
+        return false;
+    }
+    if first > last {
+        return false;
+    }
+    if last > kept.grants.given {
+        return false;
+    }
+    none_confirmed(&kept.grants, first, last)
+}
+
+/// Whether these tickets may be confirmed: the next ones, or any that are pending, where no order is asked for.
+pub fn may_confirm(kept: &KeptState, first: u32, last: u32) -> bool
+    ensures shown { IsTrue result → (0 < first) × (first ≤ last) × (last ≤ kept.now.grants.given) }
+    ensures may { (h : History) → IsPastOf kept.now.grants h → IsTrue result ↔ MayConfirm (state_of kept.now h) first last }
+{
+    if are_next_tickets(kept, first, last) {
+        return true;
+    }
+    if kept.limits.in_order {
+        return false;
+    }
+    are_pending(kept, first, last)
+}
+
 /// Whether a poll may come so; the next state is then kept.
 pub(crate) fn judge_poll(kept: &mut KeptState, outcome: &Outcome) -> Result<bool, AllocError>
     ensures { IfOk result (λ may. Decides may kept.old kept.new (λ before after. Polls before outcome.now after)) }
 {
     match outcome {
         Outcome::Confirmed { first, last, .. } => {
-            if !are_next_tickets(kept, *first, *last) {
+            if !may_confirm(kept, *first, *last) {
                 return Ok(false);
             }
-            if !all_may(&kept.grants, kept.devices.as_slice(), *last) {
+            if !all_may(&kept.grants, kept.devices.as_slice(), *first, *last) {
                 return Ok(false);
             }
-            kept.grants.confirm(*last);
+            kept.grants.confirm(*first, *last)?;
             kept.take_leave()?;
             Ok(true)
         }

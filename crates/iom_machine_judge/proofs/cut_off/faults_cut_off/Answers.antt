@@ -10,13 +10,13 @@ returns-then-is_confirmed c = λ h past. (
   (λ never. absurd (false≢true never)),
   (λ may. elim may [
     | inl same ↦ sym c.if-is_same_cause.false ∙ c.is_same_cause.ensures.1 (same ∙ sym (c.cause_without_context.ensures h))
-    | inr pending ↦ sym pending.0 ∙ sym (c.is_confirmed.ensures h past) ∙ c.if-is_confirmed.true
+    | inr pending ↦ sym pending.0 ∙ sym (c.is_confirmed.ensures.confirmed h past) ∙ c.if-is_confirmed.true
   ]),
 )
 
 pub returns : goal.returns
 returns c = λ h past. (
-  (λ yes. inr (sym (c.is_confirmed.ensures h past) ∙ c.if-is_confirmed.false, c.is_page_fault_of.ensures.0 yes)),
+  (λ yes. inr (sym (c.is_confirmed.ensures.confirmed h past) ∙ c.if-is_confirmed.false, c.is_page_fault_of.ensures.0 yes)),
   (λ may. elim may [
     | inl same ↦ absurd (false≢true (sym c.if-is_same_cause.false ∙ c.is_same_cause.ensures.1 (same ∙ sym (c.cause_without_context.ensures h))))
     | inr pending ↦ c.is_page_fault_of.ensures.1 pending.1

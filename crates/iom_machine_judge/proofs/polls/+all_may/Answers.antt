@@ -14,7 +14,7 @@ returns-then-not-each_may t c = λ h past.
     let decides = rw c.as_slice.ensures at (c.each_may.ensures h past) in (
       (λ yes. absurd (false≢true yes)),
       (λ all. absurd (false≢true (sym c.if-not-each_may.true ∙ decides.1
-          (All-at (DeviceMay (confirmed_from (suc c.args.grants.now.confirmed) (c.args.last - c.args.grants.now.confirmed) h)) c.args.devices.now 0 c.device-item.result all first)))),
+          (All-at (DeviceMay (confirmed_from c.args.first (suc (c.args.last - c.args.first)) h)) c.args.devices.now 0 c.device-item.result all first)))),
     )
 
 pub returns-else-not-each_may : goal.returns-else-not-each_may
@@ -23,5 +23,5 @@ returns-else-not-each_may t c = λ h past.
     let first : slice_get c.args.devices.now 0 ≡ Some c.device-item.result =
     slice_get_read c.args.devices.now _ 0 c.device-item.result refl some c.device-item.is in
     let decides = rw c.as_slice.ensures at (c.each_may.ensures h past) in
-    let parts = All-by_parts (DeviceMay (confirmed_from (suc c.args.grants.now.confirmed) (c.args.last - c.args.grants.now.confirmed) h)) c.args.devices.now c.device-item.result first in
+    let parts = All-by_parts (DeviceMay (confirmed_from c.args.first (suc (c.args.last - c.args.first)) h)) c.args.devices.now c.device-item.result first in
     ((λ yes. parts.0 (decides.0 c.if-not-each_may.false) ((c.all_may.ensures h past).0 yes)), (λ all. (c.all_may.ensures h past).1 (parts.1 all)))

@@ -5,32 +5,30 @@ use Rattle.iom_kept_state.specs.Grants.{IsPastOf}
 use Rattle.iom_machine_judge.proofs.NextLemmas.{history_once, polled_as, not_polled_as}
 use Rattle.iom_machine_judge.proofs.polls.judge_poll.Goals as goal
 
-pub returns-then-not-are_next_tickets : goal.returns-then-not-are_next_tickets
-returns-then-not-are_next_tickets c = rw c.in-Confirmed.is
-    (refl, λ h past after step. false≢true (sym c.if-not-are_next_tickets.true ∙ (c.are_next_tickets.ensures.next h past).1 (step.0)))
+pub returns-then-not-may_confirm : goal.returns-then-not-may_confirm
+returns-then-not-may_confirm c = rw c.in-Confirmed.is
+    (refl, λ h past after step. false≢true (sym c.if-not-may_confirm.true ∙ (c.may_confirm.ensures.may h past).1 (step.0)))
 
 pub returns-then-not-all_may : goal.returns-then-not-all_may
 returns-then-not-all_may c =
-    let shown = c.are_next_tickets.ensures.shown c.if-not-are_next_tickets.false in
     let decides = rw c.as_slice.ensures at c.all_may.ensures in
     rw c.in-Confirmed.is (
       refl,
       λ h past after step.
-          not_polled_as c.args.kept.now c.in-Confirmed.first c.in-Confirmed.last c.in-Confirmed.timed_out h after shown.0 shown.1
+          not_polled_as c.args.kept.now c.in-Confirmed.first c.in-Confirmed.last c.in-Confirmed.timed_out h after
           (λ all. false≢true (sym c.if-not-all_may.true ∙ (decides h past).1 all)) step,
     )
 
 pub returns-in_ok-take_leave-in-Confirmed : goal.returns-in_ok-take_leave-in-Confirmed
 returns-in_ok-take_leave-in-Confirmed c =
-    let shown = c.are_next_tickets.ensures.shown c.if-not-are_next_tickets.false in
     let decides = rw c.as_slice.ensures at c.all_may.ensures in
     rw c.in-Confirmed.is (λ h past.
-    let now = history_once c.args.kept.now c.in-Confirmed.last h in
-    let confirmed = c.confirm.ensures.past h past in (
+    let now = history_once c.in-Confirmed.first c.in-Confirmed.last h in
+    let confirmed = c.in_ok-confirm-in-Confirmed.ensures.past h past in (
       now,
       subst (λ (g : KeptGrants). IsPastOf g now) (sym c.in_ok-take_leave-in-Confirmed.ensures.grants) confirmed,
-      polled_as c.args.kept.now _ c.in-Confirmed.first c.in-Confirmed.last c.in-Confirmed.timed_out h _ shown.0 shown.1
-          ((c.are_next_tickets.ensures.next h past).0 c.if-not-are_next_tickets.false) c.confirm.ensures.tickets.0
+      polled_as c.args.kept.now _ c.in-Confirmed.first c.in-Confirmed.last c.in-Confirmed.timed_out h _
+          ((c.may_confirm.ensures.may h past).0 c.if-not-may_confirm.false) c.in_ok-confirm-in-Confirmed.ensures.tickets.0
           ((decides h past).0 c.if-not-all_may.false)
           (c.in_ok-take_leave-in-Confirmed.ensures.left now confirmed),
     ))

@@ -15,13 +15,13 @@ returns-then-is_confirmed c = λ h past. (
   (λ never. absurd (false≢true never)),
   (λ may. elim may [
     | inl same ↦ sym c.if-is_refused_with.false ∙ c.is_refused_with.ensures.1 (same ∙ ap (λ (cause : Cause). Refused cause) (sym (c.cause_without_context.ensures h)))
-    | inr pending ↦ sym pending.0 ∙ sym (c.is_confirmed.ensures h past) ∙ c.if-is_confirmed.true
+    | inr pending ↦ sym pending.0 ∙ sym (c.is_confirmed.ensures.confirmed h past) ∙ c.if-is_confirmed.true
   ]),
 )
 
 pub returns-then-not-ats : goal.returns-then-not-ats
 returns-then-not-ats c = rw c.if-not-ats.true (λ h past. (
-  (λ yes. inr (sym (c.is_confirmed.ensures h past) ∙ c.if-is_confirmed.false, c.is_refused_with-then-not-ats.ensures.0 yes)),
+  (λ yes. inr (sym (c.is_confirmed.ensures.confirmed h past) ∙ c.if-is_confirmed.false, c.is_refused_with-then-not-ats.ensures.0 yes)),
   (λ may. elim may [
     | inl same ↦ absurd (false≢true (sym c.if-is_refused_with.false ∙ c.is_refused_with.ensures.1 (same ∙ ap (λ (cause : Cause). Refused cause) (sym (c.cause_without_context.ensures h)))))
     | inr pending ↦ c.is_refused_with-then-not-ats.ensures.1 pending.1
@@ -30,7 +30,7 @@ returns-then-not-ats c = rw c.if-not-ats.true (λ h past. (
 
 pub returns : goal.returns
 returns c = rw c.if-not-ats.false (λ h past. (
-  (λ yes. inr (sym (c.is_confirmed.ensures h past) ∙ c.if-is_confirmed.false, (c.tells_formerly.ensures h past).0 yes)),
+  (λ yes. inr (sym (c.is_confirmed.ensures.confirmed h past) ∙ c.if-is_confirmed.false, (c.tells_formerly.ensures h past).0 yes)),
   (λ may. elim may [
     | inl same ↦ absurd (false≢true (sym c.if-is_refused_with.false ∙ c.is_refused_with.ensures.1 (same ∙ ap (λ (cause : Cause). Refused cause) (sym (c.cause_without_context.ensures h)))))
     | inr pending ↦ (c.tells_formerly.ensures h past).1 pending.1

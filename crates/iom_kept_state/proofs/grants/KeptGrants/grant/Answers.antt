@@ -12,5 +12,5 @@ pub returns-clause-past : goal.returns-clause-past
 returns-clause-past c = on_ok c.grant.result (λ agrees h past.
     granted_past c.args.self.now _ h c.args.device c.args.page c.args.frame c.in_ok-place.place c.args.rights past
     c.in_ok-place.ensures.keys c.in_ok-place.ensures.unique
-    (stored_named c.insert_full.new.self.keys c.args.frame c.in_ok-place.place c.in_ok-place.ensures.within c.in_ok-place.ensures.stored) refl (agrees past.placed past.grants))
+    (stored_named c.insert_full.new.self.keys c.args.frame c.in_ok-place.place c.in_ok-place.ensures.within c.in_ok-place.ensures.stored) refl refl (agrees past.placed past.grants))
     c.grant.ensures.agrees
