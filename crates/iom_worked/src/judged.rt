@@ -91,7 +91,10 @@ impl Tally {
         let counter = match (wanted, verdict) {
             (Wanted::Lawful, Verdict::Lawful) => &mut self.lawful,
             (_, Verdict::Uncertified { .. }) => &mut self.uncertified,
-            (Wanted::Unlawful { line, changed }, Verdict::Unlawful { line: at, .. }) => {
+            (
+                Wanted::Unlawful { line, changed },
+                Verdict::Unlawful { line: at, .. } | Verdict::Bad { line: at },
+            ) => {
                 if *at == line {
                     &mut self.unlawful
                 } else if changed <= *at && *at < line {
