@@ -4,6 +4,7 @@ use crate::settled::device_with;
 use iom_base::{AcceptedAccess, DeviceId, PAGE_SIZE, Refusal};
 use iom_kept_state::KeptState;
 use iom_machine::{Device, Event, Outcome};
+use iom_machine_judge::polls::may_confirm;
 use iom_machine_judge::reasons::{attach_refusal, grant_refusal};
 use std::alloc::{AllocError, Global};
 
@@ -38,14 +39,26 @@ fn is_of(missing: Missing, device: DeviceId, number: u64) -> bool {
     }
 }
 
-/// Whether the device may still reach the frame of its access once the tickets are confirmed up to this one.
-fn may_stay(kept: &KeptState, device: &Device, flight: &AcceptedAccess, last: u32) -> bool {
-    if last < kept.grants.last_confirmed() {
+/// Whether the device may still reach the frame of its access once the tickets from this one to the last are confirmed.
+fn may_stay(
+    kept: &KeptState,
+    device: &Device,
+    flight: &AcceptedAccess,
+    from: u32,
+    last: u32,
+) -> bool {
+    if last < from {
         return true;
     }
     let page = flight.access.address / PAGE_SIZE;
-    kept.grants
-        .may_once(device.id, page, flight.frame, flight.access.kind, last)
+    kept.grants.may_once(
+        device.id,
+        page,
+        flight.frame,
+        flight.access.kind,
+        from,
+        last,
+    )
 }
 
 impl Guesses {
@@ -174,17 +187,18 @@ impl Guesses {
         }
     }
 
-    /// The first access of the device that couldn't stay once the tickets are confirmed up to this one: none, where each may; and
-    /// what was guessed of it, if that was.
+    /// The first access of the device that couldn't stay once the tickets from this one to the last are confirmed: none, where each
+    /// may; and what was guessed of it, if that was.
     fn first_to_stay(
         &self,
         kept: &KeptState,
         device: &Device,
+        from: u32,
         last: u32,
     ) -> Option<Option<Missing>> {
         let first = oldest_number(device);
         for (index, flight) in device.in_flight.as_slice().iter().enumerate() {
-            if !may_stay(kept, device, flight, last) {
+            if !may_stay(kept, device, flight, from, last) {
                 return Some(self.of(device.id, first.saturating_add(index as u64)));
             }
         }
@@ -196,11 +210,11 @@ impl Guesses {
         let Outcome::Confirmed { first, last, .. } = outcome else {
             return None;
         };
-        if *first != kept.grants.last_confirmed().saturating_add(1) || *last > kept.grants.given {
+        if !may_confirm(kept, *first, *last) {
             return None;
         }
         for device in kept.devices.as_slice() {
-            if let Some(found) = self.first_to_stay(kept, device, *last) {
+            if let Some(found) = self.first_to_stay(kept, device, *first, *last) {
                 return found;
             }
         }

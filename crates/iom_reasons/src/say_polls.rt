@@ -37,7 +37,11 @@ impl Facts<'_> {
             return true;
         }
         let page = flight.access.address / PAGE_SIZE;
-        grants.may_once(id, page, flight.frame, flight.access.kind, last)
+        if last == 0 {
+            return grants.may(id, page, flight.frame, flight.access.kind);
+        }
+        // Nothing lingers under a ticket that is confirmed already: so it may be confirmed once more.
+        grants.may_once(id, page, flight.frame, flight.access.kind, 1, last)
     }
 
     /// Whether each access of the device may.
