@@ -170,7 +170,9 @@ fn judge_row(rt: &HostRuntime, row: Row<'_>, told: &Told) -> anyhow::Result<Foun
 fn in_short(alloc: Global, verdict: &Verdict) -> anyhow::Result<String> {
     Ok(match verdict {
         Verdict::Unlawful { line, .. } => format!(in alloc; "unlawful at line {line}")?,
-        Verdict::Uncertified { line, .. } => format!(in alloc; "not certified from line {line} on")?,
+        Verdict::Uncertified { line, .. } => format!(in alloc;
+            "not certified from line {line} on"
+        )?,
         Verdict::Beyond { line, .. } => format!(in alloc; "beyond the limits at line {line}")?,
         _ => format!(in alloc; "{verdict}")?,
     })
