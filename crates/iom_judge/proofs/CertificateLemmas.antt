@@ -53,7 +53,7 @@ goes_further None mid new events later outcomes others first rest = absurd first
 says_more : (lines : List (List ℕ)) (line : List ℕ) (events own : List Event) (outcomes its : List Outcome)
     → SayEvents lines events outcomes → SaysEvents line own its → SayEvents (lines ++ line ∷ []) (events ++ own) (outcomes ++ its)
 says_more [] line events own outcomes its say says =
-    (own, [], its, [], ap (λ (l : List Event). l ++ own) say.0 ∙ sym (append-nil own), ap (λ (l : List Outcome). l ++ its) say.1 ∙ sym (append-nil its), says, refl, refl)
+    (own, [], its, [], ap (λ (l : List Event). l ++ own) say.0 ∙ sym (append-nil own), ap (λ (l : List Outcome). l ++ its) say.1 ∙ sym (append-nil its), says, (refl, refl))
 says_more (l ∷ ls) line events own outcomes its (first, later, came, others, are, them, says_first, rest) says = (
   first,
   later ++ own,

@@ -66,9 +66,9 @@ impl Judge {
             let Some(event) = grant_at(granted, index) else {
                 return Ok(Some(Verdict::Bad { line: self.line }));
             };
-            let found = self.go_on(&event, &done, shown_at(tables, index), text)?;
-            if found.is_some() {
-                return Ok(found);
+            let shown = shown_at(tables, index);
+            if let Some(verdict) = self.go_on(&event, &done, shown, text)? {
+                return Ok(Some(verdict));
             }
         }
         Ok(None)
@@ -94,9 +94,8 @@ impl Judge {
             let Some(event) = release_at(released, index) else {
                 return Ok(Some(Verdict::Bad { line: self.line }));
             };
-            let found = self.go_on(&event, &given, NOTHING, text)?;
-            if found.is_some() {
-                return Ok(found);
+            if let Some(verdict) = self.go_on(&event, &given, NOTHING, text)? {
+                return Ok(Some(verdict));
             }
         }
         Ok(None)

@@ -14,12 +14,12 @@ returns-in-End g c first (lines, read, taken) =
     (subst (λ (next : NextLine). TakesNext lines after.buffer.items after.start after.end first (g.R.Read.remaining c.next_line.new.reader) next) c.in-End.is
     (c.in_ok-next_line.ensures lines first read))
 
-pub returns-in-Broken : goal.returns-in-Broken
-returns-in-Broken g c first (lines, read, taken) =
+pub returns-in_ok-count-in-Broken : goal.returns-in_ok-count-in-Broken
+returns-in_ok-count-in-Broken g c first (lines, read, taken) =
     let before = c.args.lines.now in
     let verdict : Verdict = Bad c.count.new.self.line in
     named_is_so c.args.judge.now verdict lines before.buffer.items before.start before.end first (g.R.Read.remaining c.args.reader.now) read taken
-    (ap (λ (n : ℕ). Some n) (c.in_ok-count.ensures.counted ∙ ap (λ (n : ℕ). n + 1) taken.counted))
+    (ap (λ (n : ℕ). Some n) (c.in_ok-count-in-Broken.ensures.counted ∙ ap (λ (n : ℕ). n + 1) taken.counted))
 
 pub returns-in-Line : goal.returns-in-Line
 returns-in-Line g c first (lines, read, taken) =

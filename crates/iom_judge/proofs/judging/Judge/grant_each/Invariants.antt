@@ -2,7 +2,7 @@ use Rattle.std.proofs.Common.{◌≡◌, ℕ, List, replicate}
 use Rattle.iom_machine.specs.declared.outcome.Outcome.TheVariants.{Done}
 use Rattle.iom_trace_lines.specs.TraceLines.{granted_events}
 use Rattle.iom_judge.specs.Certified.{GoesOn}
-use Rattle.iom_judge.proofs.ranges.Judge.grant_each.Given as goal
+use Rattle.iom_judge.proofs.judging.Judge.grant_each.Given as goal
 
 -- those so far went on
 abbrev pub invariant-loop-index : goal.invariant-loop-index
