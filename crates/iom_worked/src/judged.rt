@@ -71,7 +71,7 @@ impl fmt::Display for Wanted {
 struct Tally {
     lawful: u32,
     uncertified: u32,
-    unlawful: u32,
+    refused: u32,
     earlier: u32,
     differed: u32,
 }
@@ -81,7 +81,7 @@ impl Tally {
         Tally {
             lawful: 0,
             uncertified: 0,
-            unlawful: 0,
+            refused: 0,
             earlier: 0,
             differed: 0,
         }
@@ -93,10 +93,12 @@ impl Tally {
             (_, Verdict::Uncertified { .. }) => &mut self.uncertified,
             (
                 Wanted::Unlawful { line, changed },
-                Verdict::Unlawful { line: at, .. } | Verdict::Bad { line: at },
+                Verdict::Unlawful { line: at, .. }
+                | Verdict::Beyond { line: at, .. }
+                | Verdict::Bad { line: at },
             ) => {
                 if *at == line {
-                    &mut self.unlawful
+                    &mut self.refused
                 } else if changed <= *at && *at < line {
                     &mut self.earlier
                 } else {
@@ -203,8 +205,8 @@ pub(crate) fn tell(rt: &HostRuntime) -> anyhow::Result<()> {
     let index = fs::read_to_string(rt, "judged/index.tsv")?;
     let (tally, plain) = tell_rows(rt, index.as_str())?;
     println!(rt;
-        "{} lawful, {} not certified, {} unlawful at the checker's line, {} at an earlier one, {} differ",
-        tally.lawful, tally.uncertified, tally.unlawful, tally.earlier, tally.differed
+        "{} lawful, {} not certified, {} refused at the checker's line, {} at an earlier one, {} differ",
+        tally.lawful, tally.uncertified, tally.refused, tally.earlier, tally.differed
     )?;
     println!(rt;
         "the lawful ones as they were printed: {} lawful, {} not certified, {} differ",
