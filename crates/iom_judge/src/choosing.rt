@@ -1,6 +1,6 @@
 // What is chosen of what a line doesn't show.
 use crate::missing::{Begun, Missing};
-use crate::settled::{frame_of_access, page_with, page_without};
+use crate::settled::{frame_of_access, page_showing, page_without};
 use crate::steps::choose_step;
 use iom_base::{Access, AccessKind, DeviceId, Mode, Sequence};
 use iom_fabric::Translation;
@@ -128,11 +128,11 @@ fn choose_frame(
 /// A page of which the device may be told so, if there is one.
 fn page_told(kept: &KeptState, id: DeviceId, told: Translation) -> u64 {
     let found = match told {
-        Translation::Page { frame, .. } => page_with(kept, id, Some(u64::from(frame))),
+        Translation::Page { frame, rights } => page_showing(kept, id, u64::from(frame), rights),
         Translation::Refused(_) => None,
     };
     match found {
-        Some((page, _)) => page,
+        Some(page) => page,
         None => page_without(kept, id),
     }
 }

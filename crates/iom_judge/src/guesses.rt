@@ -122,9 +122,10 @@ impl Guesses {
         self.of(*id, oldest_number(device))
     }
 
-    /// The access of which this was guessed was made.
+    /// The access of which this was guessed was made. One that isn't shown may be a write, where the line says no more than that.
     pub(crate) fn make(&mut self, made: Missing, outcome: &Outcome) {
-        if matches!(outcome, Outcome::Wrote(_)) && self.made.is_none() {
+        let may_write = matches!(made, Missing::Access(_)) || matches!(outcome, Outcome::Wrote(_));
+        if may_write && self.made.is_none() {
             self.made = Some(made);
         }
         let (Missing::Frame(begun) | Missing::Access(begun)) = made else {
@@ -172,14 +173,24 @@ impl Guesses {
     fn of_frame(&self, outcome: &Outcome) -> Option<Missing> {
         match outcome {
             Outcome::Free(false) | Outcome::Refused(Refusal::FrameReserved) => self.tables,
-            Outcome::Bytes(_) => self.of_bytes(),
             _ => None,
         }
     }
 
-    /// The first access of the device that couldn't stay once the tickets from this one to the last are confirmed: none, where each
-    /// may; and what was guessed of it, if that was.
-    fn first_to_stay(
+    /// What the refusal of these bytes of a frame depends on: a frame that no device may reach may be a table.
+    fn of_peek(&self, kept: &KeptState, frame: u64, outcome: &Outcome) -> Option<Missing> {
+        let Outcome::Bytes(_) = outcome else {
+            return None;
+        };
+        match self.of_bytes() {
+            None if kept.grants.is_out_of_reach(frame) => self.tables,
+            found => found,
+        }
+    }
+
+    /// What was guessed of the accesses of the device that couldn't stay once the tickets from this one to the last are confirmed: of
+    /// the first of them, or nothing, where there is one that wasn't guessed. None, where each may stay.
+    fn guess_to_stay(
         &self,
         kept: &KeptState,
         device: &Device,
@@ -187,12 +198,19 @@ impl Guesses {
         last: u32,
     ) -> Option<Option<Missing>> {
         let first = oldest_number(device);
+        let mut found = None;
         for (index, flight) in device.in_flight.as_slice().iter().enumerate() {
             if !may_stay(kept, device, flight, from, last) {
-                return Some(self.of(device.id, first.saturating_add(index as u64)));
+                let guessed = self.of(device.id, first.saturating_add(index as u64));
+                if guessed.is_none() {
+                    return Some(None);
+                }
+                if found.is_none() {
+                    found = Some(guessed);
+                }
             }
         }
-        None
+        found
     }
 
     /// What the refusal of a poll depends on: the guesses of accesses that couldn't stay, where there is none that wasn't guessed.
@@ -203,12 +221,19 @@ impl Guesses {
         if !may_confirm(kept, *first, *last) {
             return None;
         }
+        let mut found = None;
         for device in kept.devices.as_slice() {
-            if let Some(found) = self.first_to_stay(kept, device, *first, *last) {
-                return found;
+            match self.guess_to_stay(kept, device, *first, *last) {
+                None => {}
+                Some(None) => return None,
+                Some(guessed) => {
+                    if found.is_none() {
+                        found = guessed;
+                    }
+                }
             }
         }
-        None
+        found
     }
 
     /// What it depends on that this may not come of the event: a guess, if there is one.
@@ -230,7 +255,8 @@ impl Guesses {
             Event::Attach { device, ats, .. } => {
                 self.of_grant(attach_refusal(kept, *device, *ats), outcome)
             }
-            Event::Free { .. } | Event::Poke { .. } | Event::Peek { .. } => self.of_frame(outcome),
+            Event::Free { .. } | Event::Poke { .. } => self.of_frame(outcome),
+            Event::Peek { address, .. } => self.of_peek(kept, *address / PAGE_SIZE, outcome),
             _ => None,
         }
     }

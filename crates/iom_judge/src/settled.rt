@@ -123,6 +123,24 @@ pub(crate) fn page_with(kept: &KeptState, id: DeviceId, named: Option<u64>) -> O
     None
 }
 
+/// The first page at which the device has this frame with these rights.
+pub(crate) fn page_showing(
+    kept: &KeptState,
+    id: DeviceId,
+    frame: u64,
+    rights: Rights,
+) -> Option<u64> {
+    for index in 0..kept.grants.page_count(id) {
+        let page = kept.grants.page_at(id, index)?;
+        if let Some((at, allowed)) = pair_at(kept, id, page) {
+            if at == frame && allowed == rights {
+                return Some(page);
+            }
+        }
+    }
+    None
+}
+
 /// A page at which the device has nothing.
 pub(crate) fn page_without(kept: &KeptState, id: DeviceId) -> u64 {
     let last = u64::MAX / PAGE_SIZE;

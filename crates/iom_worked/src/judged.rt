@@ -4,6 +4,11 @@
 // and the line that was changed to make it unlawful, if one was. Its first line names the columns. Lines of an output
 // count from 1, and the first is that of `world`. A judge that decides the machine exactly refuses an output at its
 // first unlawful line: never before the changed one, and never after the checker's.
+//
+// Each is judged with what its answers don't show, as the model tells its script, where the answers agree; and those that the
+// checker found lawful as they were printed too.
+use crate::annotated::annotated;
+use crate::told::told;
 use anyhow::Context;
 use iom_judge::{Verdict, judge_trace, trace_of};
 use std::alloc::Global;
@@ -61,24 +66,44 @@ impl fmt::Display for Wanted {
     }
 }
 
-/// How the outputs went.
+/// How the outputs went, judged with what their answers don't show.
 #[derive(Clone, Copy)]
 struct Tally {
     lawful: u32,
     uncertified: u32,
-    unlawful: u32,
+    refused: u32,
     earlier: u32,
     differed: u32,
 }
 
 impl Tally {
+    fn new() -> Tally {
+        Tally {
+            lawful: 0,
+            uncertified: 0,
+            refused: 0,
+            earlier: 0,
+            differed: 0,
+        }
+    }
+
     fn count(&mut self, wanted: Wanted, verdict: &Verdict) {
-        let counter = match (wanted, verdict.line()) {
-            (Wanted::Lawful, None) if matches!(verdict, Verdict::Lawful) => &mut self.lawful,
-            (Wanted::Lawful, None) => &mut self.uncertified,
-            (Wanted::Unlawful { line, .. }, Some(at)) if at == line => &mut self.unlawful,
-            (Wanted::Unlawful { line, changed }, Some(at)) if changed <= at && at < line => {
-                &mut self.earlier
+        let counter = match (wanted, verdict) {
+            (Wanted::Lawful, Verdict::Lawful) => &mut self.lawful,
+            (_, Verdict::Uncertified { .. }) => &mut self.uncertified,
+            (
+                Wanted::Unlawful { line, changed },
+                Verdict::Unlawful { line: at, .. }
+                | Verdict::Beyond { line: at, .. }
+                | Verdict::Bad { line: at },
+            ) => {
+                if *at == line {
+                    &mut self.refused
+                } else if changed <= *at && *at < line {
+                    &mut self.earlier
+                } else {
+                    &mut self.differed
+                }
             }
             _ => &mut self.differed,
         };
@@ -86,44 +111,106 @@ impl Tally {
     }
 }
 
+/// A script, and its trace as the model tells it: those of several outputs.
+#[derive(Drop)]
+struct Told {
+    file: String,
+    script: String,
+    trace: String,
+}
+
+impl Told {
+    /// That of no file.
+    fn nothing(alloc: Global) -> Told {
+        Told {
+            file: String::new(alloc),
+            script: String::new(alloc),
+            trace: String::new(alloc),
+        }
+    }
+}
+
+/// The script in the file, told.
+fn tell_script(rt: &HostRuntime, file: &str) -> anyhow::Result<Told> {
+    let alloc = rt.alloc();
+    let script = fs::read_to_string(rt, format!(in alloc; "judged/{file}")?)?;
+    let trace = match told(rt, script.as_bytes(), false)? {
+        Ok(told) => String::from_utf8(told)?,
+        Err(_) => String::new(alloc),
+    };
+    Ok(Told {
+        file: format!(in alloc; "{file}")?,
+        script,
+        trace,
+    })
+}
+
+/// What is found of an output: with what its answers don't show, and without, where the checker found it lawful.
+#[derive(Drop)]
+struct Found {
+    annotated: Verdict,
+    plain: Option<Verdict>,
+}
+
 /// What is found of the output, line by line beside its script.
-fn judge_row(rt: &HostRuntime, row: Row<'_>) -> anyhow::Result<Verdict> {
-    let script = fs::read_to_string(rt, format!(in rt.alloc(); "judged/{}", row.script)?)?;
-    let output = fs::read_to_string(rt, format!(in rt.alloc(); "judged/{}", row.output)?)?;
-    let trace = trace_of(rt.alloc(), script.as_str(), output.as_str())?;
-    Ok(judge_trace(rt.alloc(), &mut trace.as_bytes())?)
+fn judge_row(rt: &HostRuntime, row: Row<'_>, told: &Told) -> anyhow::Result<Found> {
+    let alloc = rt.alloc();
+    let output = fs::read_to_string(rt, format!(in alloc; "judged/{}", row.output)?)?;
+    let trace = trace_of(alloc, told.script.as_str(), output.as_str())?;
+    let fuller = annotated(alloc, trace.as_str(), told.trace.as_str())?;
+    let plain = match row.wanted {
+        Wanted::Lawful => Some(judge_trace(alloc, &mut trace.as_bytes())?),
+        Wanted::Unlawful { .. } => None,
+    };
+    Ok(Found {
+        annotated: judge_trace(alloc, &mut fuller.as_bytes())?,
+        plain,
+    })
 }
 
 /// What was found, without the reason.
 fn in_short(alloc: Global, verdict: &Verdict) -> anyhow::Result<String> {
     Ok(match verdict {
         Verdict::Unlawful { line, .. } => format!(in alloc; "unlawful at line {line}")?,
-        Verdict::Uncertified { line, .. } => format!(in alloc; "not certified from line {line} on")?,
+        Verdict::Uncertified { line, .. } => format!(in alloc;
+            "not certified from line {line} on"
+        )?,
         Verdict::Beyond { line, .. } => format!(in alloc; "beyond the limits at line {line}")?,
         _ => format!(in alloc; "{verdict}")?,
     })
 }
 
+/// What is found of each output of the index, printed beside what the checker found, and how many were found so.
+fn tell_rows(rt: &HostRuntime, index: &str) -> anyhow::Result<(Tally, Tally)> {
+    let (mut tally, mut plain) = (Tally::new(), Tally::new());
+    let mut told = Told::nothing(rt.alloc());
+    for line in index.lines().skip(1) {
+        let row = Row::parse(line).context("index.tsv")?;
+        if row.script != told.file.as_str() {
+            told = tell_script(rt, row.script)?;
+        }
+        let found = judge_row(rt, row, &told)?;
+        let short = in_short(rt.alloc(), &found.annotated)?;
+        println!(rt; "{}: {short}; the checker: {}", row.output, row.wanted)?;
+        tally.count(row.wanted, &found.annotated);
+        if let Some(verdict) = &found.plain {
+            plain.count(row.wanted, verdict);
+        }
+    }
+    Ok((tally, plain))
+}
+
 /// Judges each output, and prints what is found of it beside what the checker found.
 pub(crate) fn tell(rt: &HostRuntime) -> anyhow::Result<()> {
     let index = fs::read_to_string(rt, "judged/index.tsv")?;
-    let mut tally = Tally {
-        lawful: 0,
-        uncertified: 0,
-        unlawful: 0,
-        earlier: 0,
-        differed: 0,
-    };
-    for line in index.as_str().lines().skip(1) {
-        let row = Row::parse(line).context("index.tsv")?;
-        let verdict = judge_row(rt, row)?;
-        let found = in_short(rt.alloc(), &verdict)?;
-        println!(rt; "{}: {found}; the checker: {}", row.output, row.wanted)?;
-        tally.count(row.wanted, &verdict);
-    }
+    let (tally, plain) = tell_rows(rt, index.as_str())?;
     println!(rt;
-        "{} lawful, {} not certified, {} unlawful at the checker's line, {} at an earlier one, {} differ",
-        tally.lawful, tally.uncertified, tally.unlawful, tally.earlier, tally.differed
+        "{} lawful, {} not certified, {} refused at the checker's line, {} at an earlier one, {} differ",
+        tally.lawful, tally.uncertified, tally.refused, tally.earlier, tally.differed
+    )?;
+    println!(rt;
+        "the lawful ones as they were printed: {} lawful, {} not certified, {} differ",
+        plain.lawful, plain.uncertified, plain.differed
     )?;
     Ok(())
 }

@@ -10,6 +10,7 @@
 //! - `data/vectors`: translations that independent implementations confirmed.
 #![tactic(auto)]
 
+mod annotated;
 mod judged;
 mod pictures;
 mod scripts;

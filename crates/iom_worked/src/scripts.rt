@@ -1,5 +1,5 @@
 // Scripts with the lines that they have to print, and what the judge finds of both as a trace.
-use iom_judge::{judge_trace, trace_of};
+use iom_judge::{Verdict, judge_trace, trace_of};
 use iom_runner::run_words;
 use std::alloc::Global;
 use std::fs;
@@ -148,12 +148,14 @@ fn outcomes_of(alloc: Global, wanted: &str) -> anyhow::Result<String> {
     Ok(outcomes)
 }
 
-/// What is found of the script with what is wanted of it, as a trace.
+/// What is found of the script with what is wanted of it, as a trace: without the cause, where it isn't certified.
 fn judged(alloc: Global, script: &str, wanted: &str) -> anyhow::Result<String> {
     let outcomes = outcomes_of(alloc, wanted)?;
     let trace = trace_of(alloc, script, &outcomes)?;
-    let verdict = judge_trace(alloc, &mut trace.as_bytes())?;
-    Ok(format!(in alloc; "{verdict}")?)
+    Ok(match judge_trace(alloc, &mut trace.as_bytes())? {
+        Verdict::Uncertified { .. } => format!(in alloc; "not certified")?,
+        verdict => format!(in alloc; "{verdict}")?,
+    })
 }
 
 /// Runs a script, and tells how what it prints compares with what is wanted, and what is found of both.

@@ -42,7 +42,7 @@ static EXPLAINED: [(&str, &str); 17] = [
 ];
 
 /// The script as a trace, with its answers explained or not, or why there is none.
-fn told(
+pub(crate) fn told(
     rt: &HostRuntime,
     script: &[u8],
     explains: bool,
