@@ -98,9 +98,12 @@ fn judge_row(rt: &HostRuntime, row: Row<'_>) -> anyhow::Result<Verdict> {
 fn in_short(alloc: Global, verdict: &Verdict) -> anyhow::Result<String> {
     Ok(match verdict {
         Verdict::Unlawful { line, .. } => format!(in alloc; "unlawful at line {line}")?,
-        Verdict::Uncertified { line, .. } => format!(in alloc; "not certified from line {line} on")?,
+        Verdict::Uncertified { line, .. } => format!(in alloc;
+            "not certified from line {line} on"
+        )?,
         Verdict::Beyond { line, .. } => format!(in alloc; "beyond the limits at line {line}")?,
-        _ => format!(in alloc; "{verdict}")?,
+        Verdict::Bad { line, .. } => format!(in alloc; "line {line} isn't in the grammar")?,
+        Verdict::Lawful => format!(in alloc; "{verdict}")?,
     })
 }
 
