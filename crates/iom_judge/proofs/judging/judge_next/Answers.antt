@@ -2,8 +2,6 @@ use Rattle.std.proofs.Common.{◌≡◌, ◌+◌, ◌∙◌, List, ℕ, Some, su
 use Rattle.std.specs.List.{slice_range}
 use Rattle.iom_trace_lines.specs.Taken.{TakesNext}
 use Rattle.iom_trace_lines.specs.declared.trace.NextLine.{NextLine}
-use Rattle.iom_judge.specs.declared.verdict.Verdict.{Verdict}
-use Rattle.iom_judge.specs.declared.verdict.Verdict.TheVariants.{Bad}
 use Rattle.iom_judge.proofs.CertificateLemmas.{all_lawful, line_judged, named_is_so}
 use Rattle.iom_judge.proofs.judging.judge_next.Goals as goal
 
@@ -14,12 +12,11 @@ returns-in-End g c first (lines, read, taken) =
     (subst (λ (next : NextLine). TakesNext lines after.buffer.items after.start after.end first (g.R.Read.remaining c.next_line.new.reader) next) c.in-End.is
     (c.in_ok-next_line.ensures lines first read))
 
-pub returns-in_ok-count-in-Broken : goal.returns-in_ok-count-in-Broken
-returns-in_ok-count-in-Broken g c first (lines, read, taken) =
+pub returns-in_ok-bad-in-Broken : goal.returns-in_ok-bad-in-Broken
+returns-in_ok-bad-in-Broken g c first (lines, read, taken) =
     let before = c.args.lines.now in
-    let verdict : Verdict = Bad c.count.new.self.line in
-    named_is_so c.args.judge.now verdict lines before.buffer.items before.start before.end first (g.R.Read.remaining c.args.reader.now) read taken
-    (ap (λ (n : ℕ). Some n) (c.in_ok-count-in-Broken.ensures.counted ∙ ap (λ (n : ℕ). n + 1) taken.counted))
+    named_is_so c.args.judge.now _ lines before.buffer.items before.start before.end first (g.R.Read.remaining c.args.reader.now) read taken
+    (c.in_ok-bad-in-Broken.ensures ∙ ap (λ (n : ℕ). Some n) (c.in_ok-count-in-Broken.ensures.counted ∙ ap (λ (n : ℕ). n + 1) taken.counted))
 
 pub returns-in-Line : goal.returns-in-Line
 returns-in-Line g c first (lines, read, taken) =
