@@ -21,7 +21,7 @@ named_line Lawful = None
 named_line (Uncertified line missing) = Some line
 named_line (Beyond line reason) = Some line
 named_line (Unlawful line reason) = Some line
-named_line (Bad line) = Some line
+named_line (Bad line wrong) = Some line
 
 -- the numbers of the disks that a world has at power-on
 abbrev pub four_disks : List ℕ

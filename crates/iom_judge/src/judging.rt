@@ -9,6 +9,7 @@ ghost use Rattle.iom_trace_lines.specs.WorldLimits.{limits_of};
 ghost use Rattle.iom_judge.specs.Certificates.{four_disks, opening_of, IsLawfulTrace, IsSoOf};
 ghost use Rattle.iom_judge.specs.Certified.{Certify, GoesOn, GoesOnAs, HasJudged, HasTakenAll, IsReadOf, Names};
 
+use crate::bad::{NO_END, NO_WORLD, bad, bad_text};
 use crate::choosing::{Chosen, NOTHING, Shown, choose};
 use crate::guesses::Guesses;
 use crate::handed::Handed;
@@ -86,7 +87,7 @@ fn may_come_unlimited(
 /// The judge of a trace, after the lines so far.
 #[derive(Drop)]
 pub(crate) struct Judge {
-    alloc: Global,
+    pub(crate) alloc: Global,
     /// The state to which they lead.
     pub(crate) kept: Option<KeptState>,
     /// How many they were.
@@ -118,10 +119,11 @@ impl Judge {
             (Names self.old.line)) }
     {
         if self.kept.is_some() {
-            return Ok(Some(Verdict::Bad { line: self.line }));
+            let verdict = bad(self.alloc, self.line, "the world has its size already")?;
+            return Ok(Some(verdict));
         }
         match power_on(self.alloc, size, limits)? {
-            None => Ok(Some(Verdict::Bad { line: self.line })),
+            None => Ok(Some(bad(self.alloc, self.line, "no world has this size")?)),
             Some(kept) => {
                 self.kept = Some(kept);
                 Ok(None)
@@ -170,7 +172,7 @@ impl Judge {
     {
         let (alloc, line) = (self.alloc, self.line);
         let Some(kept) = &mut self.kept else {
-            return Ok(Verdict::Bad { line });
+            return bad(alloc, line, NO_WORLD);
         };
         if let Some(missing) = self.guesses.behind(kept, event, outcome) {
             return Ok(Verdict::Uncertified { line, missing });
@@ -230,7 +232,7 @@ impl Judge {
             return Ok(Some(verdict));
         }
         let Some((chosen, made)) = self.choose(event, outcome, shown)? else {
-            return Ok(Some(Verdict::Bad { line: self.line }));
+            return Ok(Some(bad(self.alloc, self.line, NO_WORLD)?));
         };
         if self.step(event, outcome, &chosen.choice)? {
             self.note(event, outcome, shown, chosen.missing, made)?;
@@ -286,7 +288,7 @@ impl Judge {
     {
         let (alloc, line) = (self.alloc, self.line);
         if self.kept.is_none() {
-            return Ok(Some(Verdict::Bad { line }));
+            return Ok(Some(bad(alloc, line, NO_WORLD)?));
         }
         if self.handed.take_back(frame) {
             return Ok(None);
@@ -311,7 +313,10 @@ impl Judge {
     {
         match said {
             TraceLine::Nothing => Ok(None),
-            TraceLine::Bad => Ok(Some(Verdict::Bad { line: self.line })),
+            TraceLine::Bad => {
+                let is_first = self.kept.is_none();
+                Ok(Some(bad_text(self.alloc, self.line, text, is_first)?))
+            }
             TraceLine::World(size, limits) => self.begin(*size, *limits),
             TraceLine::Step {
                 event,
@@ -384,7 +389,7 @@ fn judge_next<R: Read>(
         NextLine::End => Ok(Some(Verdict::Lawful)),
         NextLine::Broken => {
             judge.count()?;
-            Ok(Some(Verdict::Bad { line: judge.line }))
+            Ok(Some(bad(judge.alloc, judge.line, NO_END)?))
         }
         NextLine::Line(start, end) => judge.take(reading, lines.between(start, end)),
     }

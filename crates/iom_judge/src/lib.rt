@@ -7,6 +7,7 @@
 //! any other verdict names are. That an unlawful line is none of a run is tested only.
 #![tactic(auto)]
 
+mod bad;
 mod choosing;
 mod guesses;
 mod handed;

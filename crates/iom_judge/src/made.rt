@@ -3,6 +3,7 @@ ghost use Rattle.std.specs.Prelude.{◌≡◌, IfOk, MatchOption};
 ghost use Rattle.iom_trace_lines.specs.TraceLines.{IsMade, Made};
 ghost use Rattle.iom_judge.specs.Certified.{GoesOnAs, Names};
 
+use crate::bad::{NO_WORLD, bad};
 use crate::choosing::NOTHING;
 use crate::judging::Judge;
 use crate::settled::device_with;
@@ -60,7 +61,7 @@ impl Judge {
             (Names self.old.line)) }
     {
         let Some(kept) = &self.kept else {
-            return Ok(Some(Verdict::Bad { line: self.line }));
+            return Ok(Some(bad(self.alloc, self.line, NO_WORLD)?));
         };
         let outcome = made_now(kept, device, is_read);
         self.go_on(&Event::Commit { device }, &outcome, NOTHING, text)

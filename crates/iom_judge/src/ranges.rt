@@ -4,12 +4,16 @@ ghost use Rattle.iom_machine.specs.declared.event.Event.TheVariants as events;
 ghost use Rattle.iom_trace_lines.specs.TraceLines.{Grants, Releases};
 ghost use Rattle.iom_judge.specs.Certified.{GoesOnAs, Names};
 
+use crate::bad::{NO_WORLD, bad};
 use crate::choosing::{NOTHING, Shown};
 use crate::judging::Judge;
 use crate::verdict::Verdict;
 use iom_machine::{Event, Outcome};
 use iom_trace_lines::{GrantedPages, ReleasedPages};
 use std::io;
+
+/// The line names pages or frames beyond what 64 bits say.
+const BEYOND: &str = "it goes beyond 2^64";
 
 /// The grant of the page with this index, if there is such a page and such a frame.
 fn grant_at(granted: GrantedPages, index: u64) -> Option<Event>
@@ -59,12 +63,12 @@ impl Judge {
             (Names self.old.line)) }
     {
         if self.kept.is_none() {
-            return Ok(Some(Verdict::Bad { line: self.line }));
+            return Ok(Some(bad(self.alloc, self.line, NO_WORLD)?));
         }
         let done = Outcome::Done;
         for index in 0..granted.count {
             let Some(event) = grant_at(granted, index) else {
-                return Ok(Some(Verdict::Bad { line: self.line }));
+                return Ok(Some(bad(self.alloc, self.line, BEYOND)?));
             };
             let shown = shown_at(tables, index);
             if let Some(verdict) = self.go_on(&event, &done, shown, text)? {
@@ -87,12 +91,12 @@ impl Judge {
             (Names self.old.line)) }
     {
         if self.kept.is_none() {
-            return Ok(Some(Verdict::Bad { line: self.line }));
+            return Ok(Some(bad(self.alloc, self.line, NO_WORLD)?));
         }
         let given = Outcome::Ticket(ticket);
         for index in 0..released.count {
             let Some(event) = release_at(released, index) else {
-                return Ok(Some(Verdict::Bad { line: self.line }));
+                return Ok(Some(bad(self.alloc, self.line, BEYOND)?));
             };
             if let Some(verdict) = self.go_on(&event, &given, NOTHING, text)? {
                 return Ok(Some(verdict));

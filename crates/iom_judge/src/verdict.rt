@@ -18,12 +18,12 @@ pub enum Verdict {
     Beyond { line: u64, reason: String },
     /// It may not come, and why.
     Unlawful { line: u64, reason: String },
-    /// It isn't in the grammar.
-    Bad { line: u64 },
+    /// It isn't in the grammar, and what is wrong with it.
+    Bad { line: u64, wrong: String },
 }
 
-/// The line as a reason quotes it: whole, where it isn't long.
-fn quoted(alloc: Global, line: &[u8]) -> Result<String, AllocError> {
+/// The line as a reason quotes it, or a part of it: whole, where it isn't long.
+pub(crate) fn quoted(alloc: Global, line: &[u8]) -> Result<String, AllocError> {
     let front = line.get(..MOST_QUOTED).unwrap_or(line);
     let more = if front.len() < line.len() { ".." } else { "" };
     let text = str::from_utf8(front).unwrap_or("");
@@ -52,7 +52,7 @@ impl Verdict {
             Verdict::Uncertified { line, .. }
             | Verdict::Beyond { line, .. }
             | Verdict::Unlawful { line, .. }
-            | Verdict::Bad { line } => Some(*line),
+            | Verdict::Bad { line, .. } => Some(*line),
         }
     }
 }
@@ -75,7 +75,9 @@ impl fmt::Display for Verdict {
                 )
             }
             Verdict::Unlawful { line, reason } => write!(f, "line {line}: unlawful: {reason}"),
-            Verdict::Bad { line } => write!(f, "line {line} isn't in the grammar"),
+            Verdict::Bad { line, wrong } => {
+                write!(f, "line {line} isn't in the grammar: {wrong}")
+            }
         }
     }
 }

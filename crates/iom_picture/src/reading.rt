@@ -1,7 +1,10 @@
 // What a reader has, as a timeline.
+use iom_machine::{Event, Outcome};
 use iom_script::LineBuffer;
 use iom_timeline::{Follower, Shown, Timeline};
-use iom_trace_lines::{KeptOutcomes, Lines, NextLine, TraceLine, read_line};
+use iom_trace_lines::{
+    GrantedPages, KeptOutcomes, Lines, NextLine, ReleasedPages, TraceLine, read_line,
+};
 use std::alloc::{AllocError, Global};
 use std::io::{self, ErrorKind, Read};
 
@@ -12,6 +15,75 @@ pub enum Reading {
     Trace(Timeline),
     /// The line with this number isn't in the grammar of traces.
     BadLine(u64),
+}
+
+/// Nothing is shown behind an answer.
+const NOTHING: Shown<'static> = Shown {
+    on: None,
+    began: None,
+};
+
+/// Tells grants of pages side by side.
+fn tell_grants(
+    follower: &mut Follower,
+    line: &[u8],
+    granted: GrantedPages,
+) -> Result<(), AllocError> {
+    follower.begin(line)?;
+    let done = Outcome::Done;
+    for index in 0..granted.count {
+        let event = Event::Grant {
+            device: granted.device,
+            page: granted.page.saturating_add(index),
+            frame: granted.frame.saturating_add(index),
+            rights: granted.rights,
+        };
+        follower.tell(line, &event, &done, NOTHING)?;
+    }
+    Ok(())
+}
+
+/// Tells releases of pages side by side.
+fn tell_releases(
+    follower: &mut Follower,
+    line: &[u8],
+    released: ReleasedPages,
+    ticket: u32,
+) -> Result<(), AllocError> {
+    follower.begin(line)?;
+    let given = Outcome::Ticket(ticket);
+    for index in 0..released.count {
+        let event = Event::Release {
+            device: released.device,
+            page: released.page.saturating_add(index),
+        };
+        follower.tell(line, &event, &given, NOTHING)?;
+    }
+    Ok(())
+}
+
+/// Tells a line that says something else than an event with its outcome. False where it isn't in the grammar.
+fn tell_other(
+    follower: &mut Follower,
+    line: &[u8],
+    read: &TraceLine<'_>,
+) -> Result<bool, AllocError> {
+    match read {
+        TraceLine::Nothing => follower.pass(),
+        TraceLine::World(_, _) | TraceLine::Take(_) => follower.begin(line)?,
+        TraceLine::Made { device, .. } => {
+            let event = Event::Commit { device: *device };
+            follower.take(line, &event, &Outcome::Wrote(0), NOTHING)?;
+        }
+        TraceLine::Grants(granted, _) => tell_grants(follower, line, *granted)?,
+        TraceLine::Releases(released, ticket) => tell_releases(follower, line, *released, *ticket)?,
+        TraceLine::Handoff(frame) => {
+            let event = Event::Free { frame: *frame };
+            follower.take(line, &event, &Outcome::Free(true), NOTHING)?;
+        }
+        _ => return Ok(false),
+    }
+    Ok(true)
 }
 
 /// What the reading of lines takes, for line after line.
@@ -45,17 +117,8 @@ impl Desk {
             self.has_world,
             line,
         )?;
+        self.has_world = self.has_world || matches!(read, TraceLine::World(_, _));
         match read {
-            TraceLine::Nothing => {
-                follower.pass();
-                Ok(true)
-            }
-            TraceLine::Bad => Ok(false),
-            TraceLine::World(_, _) => {
-                self.has_world = true;
-                follower.begin(line)?;
-                Ok(true)
-            }
             TraceLine::Step {
                 event,
                 outcome,
@@ -70,6 +133,7 @@ impl Desk {
                 follower.take(line, &event, outcome, shown)?;
                 Ok(true)
             }
+            other => tell_other(follower, line, &other),
         }
     }
 }

@@ -132,7 +132,7 @@ impl Follower {
             device: id,
             page: shown.began.map(|access| access.address / PAGE_SIZE),
             kind: shown.began.map(|access| access.kind),
-            frame: shown.on.map(u64::from),
+            frame: shown.on,
             is_translated,
         };
         self.answer(asked, outcome)
@@ -152,7 +152,7 @@ impl Follower {
             device: id,
             page: Some(address / PAGE_SIZE),
             kind: Some(kind),
-            frame: shown.on.map(u64::from),
+            frame: shown.on,
             is_translated,
         };
         self.answer(asked, outcome)

@@ -12,7 +12,7 @@ use std::alloc::{AllocError, Global};
 /// What is shown behind an answer: the frame on which an access was accepted, or the access that a step began.
 #[derive(Clone, Copy)]
 pub struct Shown<'a> {
-    pub on: Option<u32>,
+    pub on: Option<u64>,
     pub began: Option<&'a Access>,
 }
 
@@ -118,6 +118,17 @@ impl Follower {
         shown: Shown<'_>,
     ) -> Result<(), AllocError> {
         self.begin(text)?;
+        self.tell(text, event, outcome, shown)
+    }
+
+    /// The line that was begun tells this too.
+    pub fn tell(
+        &mut self,
+        text: &[u8],
+        event: &Event,
+        outcome: &Outcome,
+        shown: Shown<'_>,
+    ) -> Result<(), AllocError> {
         match (event, outcome) {
             (Event::Plug { device, new }, Outcome::Done) => {
                 self.devices.plug(self.alloc, *device, new.kind())

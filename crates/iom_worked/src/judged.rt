@@ -95,7 +95,7 @@ impl Tally {
                 Wanted::Unlawful { line, changed },
                 Verdict::Unlawful { line: at, .. }
                 | Verdict::Beyond { line: at, .. }
-                | Verdict::Bad { line: at },
+                | Verdict::Bad { line: at, .. },
             ) => {
                 if *at == line {
                     &mut self.refused
@@ -176,7 +176,8 @@ fn in_short(alloc: Global, verdict: &Verdict) -> anyhow::Result<String> {
             "not certified from line {line} on"
         )?,
         Verdict::Beyond { line, .. } => format!(in alloc; "beyond the limits at line {line}")?,
-        _ => format!(in alloc; "{verdict}")?,
+        Verdict::Bad { line, .. } => format!(in alloc; "line {line} isn't in the grammar")?,
+        Verdict::Lawful => format!(in alloc; "{verdict}")?,
     })
 }
 

@@ -10,9 +10,7 @@
 ghost use Rattle.std.specs.Prelude.{◌≤◌, length, IfSome};
 ghost use Rattle.iom_script.specs.Grammar.{IsWorldSize};
 
-mod bad_line;
-
-use bad_line::explain;
+use iom_bad_lines::{FIRST, SCRIPT_FORMS, explain};
 use iom_programs::{INPUT, cause_of, is_file, why_no_words, words_of};
 use iom_runner::program_disks;
 use iom_script::{Script, ScriptFault, is_spoken, parse};
@@ -90,7 +88,12 @@ fn complain_of_line(rt: &HostRuntime, name: &str, bytes: &[u8], number: u64) {
         return;
     };
     let line = text.lines().nth(place.saturating_sub(1)).unwrap_or("");
-    let wrong = explain(line, is_first_spoken(text, place));
+    let forms: &[&'static str] = if is_first_spoken(text, place) {
+        &FIRST
+    } else {
+        &SCRIPT_FORMS
+    };
+    let wrong = explain(line, forms);
     let (column, found, expected, form) = (wrong.column, wrong.found, wrong.expected, wrong.form);
     let _ = eprintln!(rt;
         "iommu-tell: {name}: line {number}, column {column}: bad script: `{found}` stands where {expected} was expected ({form})"

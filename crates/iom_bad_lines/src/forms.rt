@@ -1,0 +1,66 @@
+// The forms that lines have.
+
+/// The forms of lines, as docs/LANGUAGE.md names their words. Those in capitals stand for others. The last one is no event.
+pub static SCRIPT_FORMS: [&str; 37] = [
+    "device ID raw",
+    "device ID ats",
+    "device ID blk K",
+    "device ID ablk K",
+    "medium ID K",
+    "attach ID MODE",
+    "attach ID MODE ats",
+    "detach ID",
+    "grant ID PAGE FRAME RIGHT",
+    "release ID PAGE",
+    "quarantine ID",
+    "revive ID",
+    "restart",
+    "fetch",
+    "timeout",
+    "poll",
+    "faults",
+    "read ID ADDR LEN",
+    "write ID ADDR HEX",
+    "tread ID ADDR LEN",
+    "twrite ID ADDR HEX",
+    "aread ID ADDR LEN",
+    "awrite ID ADDR HEX",
+    "ask ID PAGE",
+    "forge ID SERIAL",
+    "deliver K",
+    "drop K",
+    "repeat K",
+    "reset ID",
+    "queue ID SIZE DESC AVAIL USED",
+    "step ID",
+    "status ID",
+    "commit ID",
+    "poke ADDR HEX",
+    "peek ADDR LEN",
+    "free FRAME",
+    "settle",
+];
+
+/// How many of them are events.
+pub(crate) const EVENTS: usize = 36;
+
+/// The form of the first line of a script that says something.
+pub static FIRST: [&str; 1] = ["world F L"];
+
+/// Those of the first line of a trace that says something, before its answer.
+pub(crate) static TRACE_FIRST: [&str; 2] = ["world F L", UNLIMITED];
+
+/// The one that sets limits aside.
+pub(crate) const UNLIMITED: &str = "world F L unlimited";
+
+/// Those that a trace has beside the events of scripts, before their answers.
+pub(crate) static TRACE_FORMS: [&str; 4] = [GRANTS, RELEASES, "handoff FRAME", "take FRAME"];
+
+/// The grant of pages side by side.
+pub(crate) const GRANTS: &str = "grant ID PAGE+N FRAME RIGHT";
+
+/// The release of pages side by side.
+pub(crate) const RELEASES: &str = "release ID PAGE+N";
+
+/// The question, whose page has a limit.
+pub(crate) const QUESTION: &str = "ask ID PAGE";

@@ -1,0 +1,16 @@
+//! What is wrong with a line that isn't in the grammar of scripts, or of traces: where, what stands there, and what was
+//! expected there.
+//!
+//! A line is held against the forms that lines have, as `docs/LANGUAGE.md` and `docs/JUDGE.md` of the repository name their
+//! words, and the one with which it agrees for longest is the one that was meant. Whoever calls knows already that the line
+//! isn't in the grammar: that isn't decided here.
+#![tactic(auto)]
+
+mod forms;
+mod places;
+mod traces;
+mod words;
+
+pub use forms::{FIRST, SCRIPT_FORMS};
+pub use places::{WrongPlace, explain};
+pub use traces::explain_trace_line;

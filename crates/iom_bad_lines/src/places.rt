@@ -1,0 +1,109 @@
+// Where a line leaves the forms that lines have.
+use crate::words::is_such;
+
+/// What is expected behind the last word of a form.
+pub(crate) const END: &str = "the end of the line, or a number within its limits";
+
+/// Where a line leaves its form.
+#[derive(Clone, Copy, Debug)]
+pub struct WrongPlace<'a> {
+    /// The byte at which that begins, counted from 1.
+    pub column: usize,
+    /// The word that stands there; none at the end of the line.
+    pub found: &'a str,
+    /// What was expected there.
+    pub expected: &'static str,
+    /// The whole form.
+    pub form: &'static str,
+}
+
+/// The line goes wrong with its first word.
+pub(crate) fn at_start<'a>(
+    line: &'a str,
+    expected: &'static str,
+    form: &'static str,
+) -> WrongPlace<'a> {
+    WrongPlace {
+        column: 1,
+        found: line.split(' ').next().unwrap_or(""),
+        expected,
+        form,
+    }
+}
+
+/// Where the line leaves the form.
+fn compare_with<'a>(line: &'a str, form: &'static str) -> WrongPlace<'a> {
+    let mut column: usize = 1;
+    let mut words = line.split(' ');
+    for expected in form.split(' ') {
+        let found = words.next().unwrap_or("");
+        if !is_such(found, expected) {
+            return WrongPlace {
+                column,
+                found,
+                expected,
+                form,
+            };
+        }
+        column = column.saturating_add(found.len()).saturating_add(1);
+    }
+    WrongPlace {
+        column,
+        found: words.next().unwrap_or(""),
+        expected: END,
+        form,
+    }
+}
+
+/// Whether the line has a word for each of the form, and no other.
+fn fits(line: &str, form: &str) -> bool {
+    let mut words = line.split(' ');
+    for expected in form.split(' ') {
+        match words.next() {
+            Some(word) if is_such(word, expected) => {}
+            _ => return false,
+        }
+    }
+    words.next().is_none()
+}
+
+/// The first of the forms that the line has.
+pub(crate) fn form_of(line: &str, forms: &[&'static str]) -> Option<&'static str> {
+    for form in forms {
+        if fits(line, form) {
+            return Some(*form);
+        }
+    }
+    None
+}
+
+/// Whether pages side by side were meant where the line leaves a form.
+fn means_pages(place: &WrongPlace<'_>) -> bool {
+    place.expected == "PAGE+N" && place.found.contains('+')
+}
+
+/// Where the line leaves the one of these forms with which it agrees for longest, if it agrees for longer than up to there.
+pub(crate) fn closest<'a>(
+    line: &'a str,
+    forms: &[&'static str],
+    there: WrongPlace<'a>,
+) -> WrongPlace<'a> {
+    let mut best = there;
+    for form in forms {
+        let other = compare_with(line, form);
+        if other.column > best.column || (other.column == best.column && means_pages(&other)) {
+            best = other;
+        }
+    }
+    best
+}
+
+/// Where the line leaves the one of these forms with which it agrees for longest.
+pub fn explain<'a>(line: &'a str, forms: &[&'static str]) -> WrongPlace<'a> {
+    let start = at_start(
+        line,
+        "the name of an event",
+        "docs/LANGUAGE.md has the names",
+    );
+    closest(line, forms, start)
+}

@@ -1,0 +1,54 @@
+// The words that stand in forms, and what may stand for them.
+use iom_script::words::{address_of, attaching_of, device_of, number_of, right_of};
+
+/// The hexadecimal digits of the most bytes that a line names.
+const MOST_DIGITS: usize = 8192;
+
+/// Whether the word is bytes: two digits for each, one at least.
+fn is_hex(word: &str) -> bool {
+    let digits = word.as_bytes();
+    !digits.is_empty()
+        && digits.len() % 2 == 0
+        && digits.len() <= MOST_DIGITS
+        && digits
+            .iter()
+            .all(|digit| matches!(*digit, b'0'..=b'9' | b'a'..=b'f'))
+}
+
+/// How many stand side by side from the first on, as `FIRST+N` says.
+pub(crate) fn count_of(word: &str) -> Option<u64> {
+    let (_, count) = word.split_once('+')?;
+    number_of(count.as_bytes())
+}
+
+/// Whether so many from this one on are some, and none of them is beyond what 64 bits say.
+pub(crate) fn are_some(first: &str, count: u64) -> bool {
+    match number_of(first.as_bytes()) {
+        None => false,
+        Some(first) => count > 0 && first <= u64::MAX - count,
+    }
+}
+
+/// Whether the word names pages side by side.
+fn is_pages(word: &str) -> bool {
+    match (word.split_once('+'), count_of(word)) {
+        (Some((first, _)), Some(count)) => are_some(first, count),
+        _ => false,
+    }
+}
+
+/// Whether the word may stand for the one of a form.
+pub(crate) fn is_such(word: &str, expected: &str) -> bool {
+    match expected {
+        "ID" => device_of(word.as_bytes()).is_some(),
+        "ADDR" | "DESC" | "AVAIL" | "USED" => address_of(word.as_bytes()).is_some(),
+        "PAGE" | "FRAME" | "LEN" | "SERIAL" | "K" | "SIZE" | "F" | "L" => {
+            number_of(word.as_bytes()).is_some()
+        }
+        "PAGE+N" => is_pages(word),
+        "RIGHT" => right_of(word.as_bytes()).is_some(),
+        "HEX" => is_hex(word),
+        "MODE" => attaching_of(word.as_bytes()).is_some(),
+        _ => word == expected,
+    }
+}
