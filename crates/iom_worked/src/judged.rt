@@ -95,7 +95,7 @@ impl Tally {
                 Wanted::Unlawful { line, changed },
                 Verdict::Unlawful { line: at, .. }
                 | Verdict::Beyond { line: at, .. }
-                | Verdict::Bad { line: at },
+                | Verdict::Bad { line: at, .. },
             ) => {
                 if *at == line {
                     &mut self.refused
