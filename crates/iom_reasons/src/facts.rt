@@ -36,7 +36,7 @@ impl Facts<'_> {
         outcome: &Outcome,
     ) -> Result<(), AllocError> {
         match event {
-            Event::Poll => self.say_poll(words),
+            Event::Poll => self.say_poll(words, outcome),
             Event::Deliver { place } => self.say_delivery(words, *place, outcome),
             Event::Drop { place } | Event::Repeat { place } => self.say_message(words, *place),
             Event::Poke { address, bytes } => {
