@@ -1,5 +1,5 @@
 -- A run grows with each line, and what is certified with it.
-use Rattle.std.proofs.Common.{◌≡◌, ◌≢◌, ◌∙◌, All, ℕ, ◌+◌, Bool, true, false, List, [], ◌∷◌, ◌++◌, Option, None, Some, Result, Ok, Err, IfOk, IfSome, IsSomeAnd, MatchOption, refl, sym, ap, subst, append-nil, append_assoc, length, filter, replicate, suc, zero, arith}
+use Rattle.std.proofs.Common.{◌≡◌, ◌≢◌, ◌∙◌, ℕ, ◌+◌, true, false, List, [], ◌∷◌, ◌++◌, Option, None, Some, Result, Ok, Err, IfOk, IfSome, IsSomeAnd, MatchOption, refl, sym, ap, subst, append-nil, append_assoc, length, replicate, suc, zero, arith}
 use Rattle.std.proofs.lemmas.List.{length-append}
 use Rattle.std.proofs.lemmas.List.Elements.{All-nil, filter-append}
 use Rattle.std.proofs.KnownBytes.{Consumes-nil}
@@ -22,7 +22,7 @@ use Rattle.iom_trace_lines.specs.Taken.{AreLines, BufferHolds, HasTaken}
 use Rattle.iom_trace_lines.specs.TraceLines.{Said, SaysLine, Nothing, World, granted_events, released_events}
 use Rattle.iom_trace_lines.specs.WorldLimits.{limits_of}
 use Rattle.iom_trace_lines.specs.declared.trace.WorldLimits.{WorldLimits}
-use Rattle.iom_judge.specs.Certificates.{four_disks, named_line, opening_of, SaysEvents, SayEvents, AreOfRun, AreLawfulLines, IsLawfulBefore, IsLawfulTrace, IsSoOf}
+use Rattle.iom_judge.specs.Certificates.{four_disks, opening_of, SaysEvents, SayEvents, AreOfRun, AreLawfulLines, IsLawfulTrace, IsSoOf}
 use Rattle.iom_judge.specs.Certified.{IsCertifiedBy, Certify, GoesOn, GoesOnAs, HasJudged, HasTakenAll, Names}
 use Rattle.iom_judge.specs.declared.judging.Judge.{Judge}
 use Rattle.iom_judge.specs.declared.verdict.Verdict.{Verdict}

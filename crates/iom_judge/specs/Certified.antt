@@ -1,6 +1,6 @@
 -- What is certified of a trace before its end, line after line.
 -- For the judge's own functions alone; no public contract cites these.
-use Rattle.std.specs.Prelude.{◌≡◌, ◌≢◌, ℕ, ◌+◌, true, List, [], ◌∷◌, Option, None, Some, length, ⊤}
+use Rattle.std.specs.Prelude.{◌≡◌, ◌≢◌, ℕ, true, List, [], ◌∷◌, Option, None, Some, length, ⊤}
 use Rattle.iom_kept_state.specs.Grants.{IsPastOf}
 use Rattle.iom_kept_state.specs.States.{state_of}
 use Rattle.iom_kept_state.specs.declared.state.KeptState.{KeptState}

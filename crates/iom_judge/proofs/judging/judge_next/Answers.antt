@@ -1,4 +1,4 @@
-use Rattle.std.proofs.Common.{◌≡◌, ◌+◌, ◌∙◌, List, ℕ, Some, subst, ap}
+use Rattle.std.proofs.Common.{◌≡◌, ◌+◌, ◌∙◌, ℕ, Some, subst, ap}
 use Rattle.std.specs.List.{slice_range}
 use Rattle.iom_trace_lines.specs.Taken.{TakesNext}
 use Rattle.iom_trace_lines.specs.declared.trace.NextLine.{NextLine}

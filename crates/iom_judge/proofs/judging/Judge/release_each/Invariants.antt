@@ -1,4 +1,4 @@
-use Rattle.std.proofs.Common.{◌≡◌, ℕ, List, replicate}
+use Rattle.std.proofs.Common.{◌≡◌, replicate}
 use Rattle.iom_machine.specs.declared.outcome.Outcome.TheVariants.{Ticket}
 use Rattle.iom_trace_lines.specs.TraceLines.{released_events}
 use Rattle.iom_judge.specs.Certified.{GoesOn}

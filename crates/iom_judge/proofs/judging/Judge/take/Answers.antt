@@ -1,4 +1,4 @@
-use Rattle.std.proofs.Common.{◌≡◌, ◌+◌, ◌∙◌, ◌++◌, ◌∷◌, [], ℕ, List, Option, IfOk, MatchOption, ap, length, subst, sym}
+use Rattle.std.proofs.Common.{◌≡◌, ◌+◌, ◌∙◌, ◌++◌, ◌∷◌, [], ℕ, Option, IfOk, MatchOption, ap, length, subst, sym}
 use Rattle.iom_kept_state.specs.declared.state.KeptState.{KeptState}
 use Rattle.iom_script.specs.Grammar.{spoken}
 use Rattle.iom_judge.specs.Certified.{Certify, HasTakenAll, Names}

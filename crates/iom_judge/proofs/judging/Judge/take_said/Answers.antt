@@ -1,4 +1,4 @@
-use Rattle.std.proofs.Common.{◌≡◌, ◌∙◌, ◌∷◌, [], ℕ, List, refl, subst}
+use Rattle.std.proofs.Common.{◌∙◌, ◌∷◌, [], refl, subst}
 use Rattle.iom_trace_lines.specs.TraceLines.{Said, Nothing, World, Step, Made, Grants, Releases, Handoff, Take, said_of}
 use Rattle.iom_trace_lines.specs.declared.trace.TraceLine.{TraceLine}
 use Rattle.iom_judge.specs.Certified.{IsReadOf}
