@@ -16,7 +16,7 @@ use Rattle.iom_script.specs.Grammar.{IsEventLine}
 use Rattle.iom_script.specs.Lines.{line_of}
 use Rattle.iom_script.specs.Words.{◌␣◌, IsDevice, IsNumber, IsRight}
 use Rattle.iom_script.specs.declared.script.WorldSize.{WorldSize}
-use Rattle.iom_trace_lines.specs.TraceLines.{EventAsksFor, frames_text, is_accepted, tables_text, on_text, made_text, IsPages, IsGrantsLine, IsReleasesLine, IsHandingLine, TraceMayShow, SaysLine, World, Step, Made, Grants, Releases, Handoff, Take}
+use Rattle.iom_trace_lines.specs.TraceLines.{access_text, EventAsksFor, frames_text, is_accepted, tables_text, on_text, made_text, IsPages, IsGrantsLine, IsReleasesLine, IsHandingLine, TraceMayShow, SaysLine, World, Step, Made, Grants, Releases, Handoff, Take}
 use Rattle.iom_trace_lines.specs.WorldLimits.{limits_text, IsLargeSize, IsLargeWorldLine, SaysSize}
 use Rattle.iom_trace_lines.specs.declared.trace.WorldLimits.{WorldLimits}
 
@@ -62,25 +62,26 @@ step_behind said answered answer behind event outcome has_tables on tables says 
 )
 
 -- and with an access that a step began behind
-pub step_began : (said answered answer behind : List ℕ) (event : Event) (outcome : Outcome) (access : Access) (tables : List ℕ) → IsEventLine said event
+pub step_began : (said answered answer behind : List ℕ) (event : Event) (outcome : Outcome) (access : Access) (on : Option ℕ) (tables : List ℕ) → IsEventLine said event
     → line_of outcome ≡ answer ++ 10 ∷ [] → answered ≡ answer ++ codes "; " ++ behind
-    → (device : ℕ) × (event ≡ events.Step device) × IsTrue (is_accepted outcome) × (asks : Event) × IsEventLine behind asks × EventAsksFor asks device access
-    → SaysLine (said ++ codes " => " ++ answered) (Step event outcome false None (Some access)) tables
-step_began said answered answer behind event outcome access tables says tells is (device, stepped, accepted, asks, asked, wants) = (
+    → (device : ℕ) × (event ≡ events.Step device) × IsTrue (is_accepted outcome) × (asked : List ℕ) × (asks : Event) × IsEventLine asked asks × EventAsksFor asks device access
+    × (codes "; " ++ behind ≡ access_text asked on)
+    → SaysLine (said ++ codes " => " ++ answered) (Step event outcome false on (Some access)) tables
+step_began said answered answer behind event outcome access on tables says tells is (device, stepped, accepted, asked, asks, line, wants, shown) = (
   device,
   stepped,
   accepted,
-  behind,
-  asks,
   asked,
+  asks,
+  line,
   wants,
   (
     said,
     answer,
     says,
     tells,
-    ap (λ (l : List ℕ). said ++ codes " => " ++ l) (is ∙ append_assoc answer (codes "; ") behind)
-        ∙ sym (append_assoc (said ++ codes " => ") answer (codes "; " ++ behind)),
+    ap (λ (l : List ℕ). said ++ codes " => " ++ l) (is ∙ append_assoc answer (codes "; ") behind ∙ ap (λ (l : List ℕ). answer ++ l) shown)
+        ∙ sym (append_assoc (said ++ codes " => ") answer (access_text asked on)),
   ),
 )
 

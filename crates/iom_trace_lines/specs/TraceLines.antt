@@ -101,17 +101,23 @@ EventAsksFor (events.Read id address len) device access = (id ≡ device) × (ac
 EventAsksFor (events.Write id address bytes) device access = (id ≡ device) × (access ≡ write_of address bytes)
 EventAsksFor _ device access = ⊥
 
--- The line of a step that began this access, which was accepted, with the line by which its device would ask for it behind the answer.
-abbrev pub ShowsAccess : List ℕ → Event → Outcome → Access → Type 0
-ShowsAccess line event outcome access =
+-- the access that a step began, as its device would ask for it, and the frame on which it was accepted, where that is shown
+abbrev pub access_text : List ℕ → Option ℕ → List ℕ
+access_text asked None = codes "; " ++ asked
+access_text asked (Some frame) = codes "; " ++ asked ++ codes "; on " ++ decimal frame
+
+-- The line of a step that began this access, which was accepted, with the line by which its device would ask for it behind the answer,
+-- and this frame behind that.
+abbrev pub ShowsAccess : List ℕ → Event → Outcome → Access → Option ℕ → Type 0
+ShowsAccess line event outcome access on =
     (device : ℕ) × (event ≡ events.Step device) × IsTrue (is_accepted outcome) × (asked : List ℕ) × (asks : Event) × IsEventLine asked asks × EventAsksFor asks device access
-    × IsStepLine line event outcome (codes "; " ++ asked)
+    × IsStepLine line event outcome (access_text asked on)
 
 -- The line says that this came of the event, with what is shown behind it.
 abbrev pub SaysWhat : List ℕ → Event → Outcome → Bool → Option ℕ → Option Access → List ℕ → Type 0
 SaysWhat line event outcome has_tables on None tables =
     TraceMayShow event outcome has_tables on × IsStepLine line event outcome (tables_text has_tables tables ++ on_text on)
-SaysWhat line event outcome has_tables on (Some access) tables = ShowsAccess line event outcome access
+SaysWhat line event outcome has_tables on (Some access) tables = ShowsAccess line event outcome access on
 
 -- The line, without its line feed, says this. The frames of its tables stand beside.
 abbrev pub SaysLine : List ℕ → Said → List ℕ → Type 0

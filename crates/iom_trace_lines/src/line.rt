@@ -6,7 +6,7 @@ ghost use Rattle.iom_machine.specs.declared.outcome.Outcome.TheVariants as outco
 ghost use Rattle.iom_script.specs.Grammar.{IsEventLine, is_spoken};
 ghost use Rattle.iom_script.specs.Words.{◌␣◌, IsNumber};
 ghost use Rattle.iom_trace_lines.specs.WorldLimits.{limits_text};
-ghost use Rattle.iom_trace_lines.specs.TraceLines.{EventAsksFor, frames_text, is_accepted, takes_frames, tables_text, on_text, TraceMayShow, said_of, SaysLine, Nothing, Step, Bad};
+ghost use Rattle.iom_trace_lines.specs.TraceLines.{access_text, EventAsksFor, frames_text, is_accepted, takes_frames, tables_text, on_text, TraceMayShow, said_of, SaysLine, Nothing, Step, Bad};
 
 use crate::handing::read_handing;
 use crate::kept::KeptOutcomes;
@@ -14,7 +14,7 @@ use crate::made::read_made;
 use crate::outcomes::read_outcome;
 use crate::ranges::{grants_of, read_grants, read_releases};
 use crate::sizes::size_of;
-use crate::trace::{Behind, TraceLine, WorldLimits};
+use crate::trace::{Began, Behind, TraceLine, WorldLimits};
 use crate::words::frame_of;
 use iom_base::{Access, AccessKind, DeviceId, Sequence};
 use iom_machine::{Event, Outcome};
@@ -162,16 +162,30 @@ fn access_of(alloc: Global, event: Event, id: DeviceId) -> Option<Access>
     }
 }
 
-/// Reads the access that is shown behind `accepted N` of a step: by the line by which its device would ask for it. None
-/// where it is no such line.
+/// The text of an access, and the frame that is shown behind it. None where what stands there is no frame.
+fn cut_on(behind: &[u8]) -> Option<(&[u8], Option<u64>)>
+    ensures { IfSome result (λ parts. codes "; " ++ behind.now ≡ access_text parts.0.now parts.1) }
+{
+    let (asked, shown) = cut(behind, b"; on ", 0);
+    let Some(word) = shown else {
+        return Some((asked, None));
+    };
+    match frame_of(word) {
+        None => None,
+        Some(frame) => Some((asked, Some(frame))),
+    }
+}
+
+/// Reads the access that is shown behind `accepted N` of a step, by the line by which its device would ask for it, and
+/// `on F` behind that. None where it is no such line.
 fn read_began(
     alloc: Global,
     event: &Event,
     outcome: &Outcome,
     behind: &[u8],
-) -> Result<Option<Access>, AllocError>
-    ensures { IfOk result (λ read. IfSome read (λ access. (device : ℕ) × (event.now ≡ events.Step device) × IsTrue (is_accepted outcome.now)
-        × (asks : Event) × IsEventLine behind.now asks × EventAsksFor asks device access)) }
+) -> Result<Option<Began>, AllocError>
+    ensures { IfOk result (λ read. IfSome read (λ began. (device : ℕ) × (event.now ≡ events.Step device) × IsTrue (is_accepted outcome.now)
+        × (asked : List ℕ) × (asks : Event) × IsEventLine asked asks × EventAsksFor asks device began.access × (codes "; " ++ behind.now ≡ access_text asked began.on))) }
 {
     let Event::Step { device } = event else {
         return Ok(None);
@@ -179,9 +193,15 @@ fn read_began(
     if !is_accepted(outcome) {
         return Ok(None);
     }
-    match event_of(alloc, behind)? {
+    let Some((asked, on)) = cut_on(behind) else {
+        return Ok(None);
+    };
+    let Some(asks) = event_of(alloc, asked)? else {
+        return Ok(None);
+    };
+    match access_of(alloc, asks, *device) {
         None => Ok(None),
-        Some(asks) => Ok(access_of(alloc, asks, *device)),
+        Some(access) => Ok(Some(Began { access, on })),
     }
 }
 
@@ -213,13 +233,13 @@ fn read_step<'a>(
             began: None,
         });
     };
-    if let Some(access) = read_began(alloc, &event, outcome, behind)? {
+    if let Some(began) = read_began(alloc, &event, outcome, behind)? {
         return Ok(TraceLine::Step {
             event,
             outcome,
             has_tables: false,
-            on: None,
-            began: Some(access),
+            on: began.on,
+            began: Some(began.access),
         });
     }
     match read_behind(&event, outcome, behind, tables)? {

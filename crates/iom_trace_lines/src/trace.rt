@@ -61,7 +61,7 @@ pub enum TraceLine<'a> {
     Nothing,
     /// The world has this size, and its machine these limits.
     World(WorldSize, WorldLimits),
-    /// This came of the event; and the frame on which it was accepted, or the access that a step began, where that is
+    /// This came of the event; and the frame on which it was accepted, and the access that a step began, where they are
     /// shown. The frames that were taken for tables, where they are shown, stand in the list that was lent.
     Step {
         event: Event,
@@ -102,5 +102,12 @@ pub enum NextLine {
 #[derive(Clone, Copy)]
 pub(crate) struct Behind {
     pub(crate) has_tables: bool,
+    pub(crate) on: Option<u64>,
+}
+
+/// What is shown of an access that a step began.
+#[derive(Drop)]
+pub(crate) struct Began {
+    pub(crate) access: Access,
     pub(crate) on: Option<u64>,
 }

@@ -8,9 +8,9 @@ returns-in_default-behind c =
 
 pub returns-in-Some-2 : goal.returns-in-Some-2
 returns-in-Some-2 c =
-    step_began c.args.said.now c.args.answered.now c.cut.result.0.now c.in-Some-behind.behind.now c.in-Some.event c.in-Some-read_outcome.outcome.now c.in-Some-2.access c.args.tables.now.items
+    step_began c.args.said.now c.args.answered.now c.cut.result.0.now c.in-Some-behind.behind.now c.in-Some.event c.in-Some-read_outcome.outcome.now c.in-Some-2.began.access c.in-Some-2.began.on c.args.tables.now.items
     ((c.in_ok-event.ensures c.in-Some.event).0 c.in-Some.is) c.in-Some-read_outcome.ensures (rw c.in-Some-behind.is at c.cut.ensures)
-    (rw c.in-Some-2.is at c.in_ok-access.ensures)
+    (rw c.in-Some-2.is at c.in_ok-began.ensures)
 
 pub returns : goal.returns
 returns c =
