@@ -104,7 +104,7 @@ fn choose_grant(alloc: Global, line: u64, tables: Option<&[u64]>) -> Result<Chos
 }
 
 /// The frame of a request that was accepted: the one that is shown, or else what the grants say.
-fn choose_frame(
+pub(crate) fn choose_frame(
     alloc: Global,
     kept: &KeptState,
     begun: Begun,

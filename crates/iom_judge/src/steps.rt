@@ -1,7 +1,7 @@
 // The access of a block device's step, of which a line may show no more than what came of it.
-use crate::choosing::{Chosen, Shown, nothing_chosen, read_at};
+use crate::choosing::{Chosen, Shown, choose_frame, nothing_chosen, read_at};
 use crate::missing::{Begun, Missing};
-use crate::settled::{frame_of_access, page_with, page_without};
+use crate::settled::{page_with, page_without};
 use iom_base::{Access, AccessKind, Cause, DeviceId, PAGE_SIZE, Sequence};
 use iom_kept_state::KeptState;
 use iom_machine::Outcome;
@@ -40,20 +40,16 @@ fn refused_access(
     Ok(access)
 }
 
-/// The access that the line shows.
+/// The access that the line shows, on the frame that is shown, or else on the one that the grants say.
 fn choose_shown(
     alloc: Global,
     kept: &KeptState,
     begun: Begun,
     access: &Access,
+    on: Option<u64>,
 ) -> Result<Chosen, AllocError> {
-    let mut chosen = nothing_chosen(alloc);
-    let settled = frame_of_access(kept, begun.device, access.address, access.kind);
-    chosen.choice.frame = settled.frame;
+    let mut chosen = choose_frame(alloc, kept, begun, access.address, access.kind, on);
     chosen.choice.access = copy_of(alloc, access)?;
-    if !settled.is_certain {
-        chosen.missing = Some(Missing::Frame(begun));
-    }
     Ok(chosen)
 }
 
@@ -85,7 +81,7 @@ pub(crate) fn choose_step(
                 line,
             };
             match shown.began {
-                Some(access) => choose_shown(alloc, kept, begun, access),
+                Some(access) => choose_shown(alloc, kept, begun, access, shown.on),
                 None => Ok(choose_unshown(alloc, kept, begun, shown.on)),
             }
         }

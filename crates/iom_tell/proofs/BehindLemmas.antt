@@ -31,15 +31,15 @@ same_text : (these those : List ℕ) (behind : Behind) → ShowsNoTables behind 
 same_text these those Nothing shown = refl
 same_text these those Tables shown = absurd shown
 same_text these those (On frame) shown = refl
-same_text these those (Began asks) shown = refl
+same_text these those (Began asks on) shown = refl
 
 asked_shows_none : (frame : Option ℕ) → ShowsNoTables (behind_asked frame)
 asked_shows_none None = tt
 asked_shows_none (Some frame) = tt
 
-began_shows_none : (device : ℕ) (access : Option Access) → ShowsNoTables (began_by device access)
-began_shows_none device None = tt
-began_shows_none device (Some access) = tt
+began_shows_none : (device : ℕ) (frame : Option ℕ) (access : Option Access) → ShowsNoTables (began_by device frame access)
+began_shows_none device frame None = tt
+began_shows_none device frame (Some access) = tt
 
 -- behind an `accepted` no tables are shown
 accepted_shows_none : (now : Seen) (event : Event) → ShowsNoTables (behind_accepted now event)
@@ -69,7 +69,7 @@ accepted_shows_none now (events.Drop place) = tt
 accepted_shows_none now (events.Repeat place) = tt
 accepted_shows_none now (events.Reset device) = tt
 accepted_shows_none now (events.Queue device size descriptors available used) = tt
-accepted_shows_none now (events.Step device) = began_shows_none device (wanted_of (block_with now.blocks device))
+accepted_shows_none now (events.Step device) = began_shows_none device (newest_frame now device) (wanted_of (block_with now.blocks device))
 accepted_shows_none now (events.Status device) = tt
 accepted_shows_none now (events.Commit device) = tt
 accepted_shows_none now (events.Poke address bytes) = tt

@@ -1,6 +1,6 @@
 -- The line that tells an event is one of the grammar of traces, and says what is told.
 use Rattle.std.specs.Bool.{⊤}
-use Rattle.std.proofs.Common.{◌≡◌, ℕ, Bool, true, false, List, [], ◌∷◌, ◌++◌, Option, None, Some, codes, inl, refl, sym, subst, append-nil, if◌then◌else◌}
+use Rattle.std.proofs.Common.{◌≡◌, ℕ, Bool, true, false, List, [], ◌∷◌, ◌++◌, Option, None, Some, codes, refl, sym, subst, append-nil, if◌then◌else◌}
 use Rattle.std.proofs.lemmas.Bool.{false≢true}
 use Rattle.iom_base.specs.declared.access.Access.{Access}
 use Rattle.iom_base.specs.declared.access.AccessKind.{AccessKind}
@@ -24,15 +24,16 @@ abbrev pub MayBeShown : Event → Outcome → Behind → Type 0
 MayBeShown event outcome Nothing = ⊤
 MayBeShown event outcome Tables = takes_frames event outcome ≡ true
 MayBeShown event outcome (On frame) = is_accepted outcome ≡ true
-MayBeShown event outcome (Began asks) = (device : ℕ) × (access : Access) × (event ≡ events.Step device) × (is_accepted outcome ≡ true) × (asks ≡ asking device access)
+MayBeShown event outcome (Began asks on) = (device : ℕ) × (access : Access) × (event ≡ events.Step device) × (is_accepted outcome ≡ true) × (asks ≡ asking device access)
 
 asked_may : (event : Event) (outcome : Outcome) (frame : Option ℕ) → is_accepted outcome ≡ true → MayBeShown event outcome (behind_asked frame)
 asked_may event outcome None accepted = tt
 asked_may event outcome (Some frame) accepted = accepted
 
-began_may : (outcome : Outcome) (device : ℕ) (access : Option Access) → is_accepted outcome ≡ true → MayBeShown (events.Step device) outcome (began_by device access)
-began_may outcome device None accepted = tt
-began_may outcome device (Some access) accepted = (device, access, refl, accepted, refl)
+began_may : (outcome : Outcome) (device : ℕ) (frame : Option ℕ) (access : Option Access) → is_accepted outcome ≡ true
+    → MayBeShown (events.Step device) outcome (began_by device frame access)
+began_may outcome device frame None accepted = tt
+began_may outcome device frame (Some access) accepted = (device, access, refl, accepted, refl)
 
 accepted_may : (now : Seen) (event : Event) (outcome : Outcome) → is_accepted outcome ≡ true → MayBeShown event outcome (behind_accepted now event)
 accepted_may now (events.Plug device new) outcome accepted = tt
@@ -61,7 +62,7 @@ accepted_may now (events.Drop place) outcome accepted = tt
 accepted_may now (events.Repeat place) outcome accepted = tt
 accepted_may now (events.Reset device) outcome accepted = tt
 accepted_may now (events.Queue device size descriptors available used) outcome accepted = tt
-accepted_may now (events.Step device) outcome accepted = began_may outcome device (wanted_of (block_with now.blocks device)) accepted
+accepted_may now (events.Step device) outcome accepted = began_may outcome device (newest_frame now device) (wanted_of (block_with now.blocks device)) accepted
 accepted_may now (events.Status device) outcome accepted = tt
 accepted_may now (events.Commit device) outcome accepted = tt
 accepted_may now (events.Poke address bytes) outcome accepted = tt
@@ -87,28 +88,27 @@ step_line event outcome behind says = (event_text event, outcome_text outcome, s
 abbrev behind_line : List ℕ → Event → Outcome → Behind → List ℕ
 behind_line taken event outcome behind = event_text event ++ codes " => " ++ outcome_text outcome ++ behind_text taken behind
 
-says_began : (taken : List ℕ) (event : Event) (outcome : Outcome) (device : ℕ) (access : Access) (kind : AccessKind) → IsEventLine (event_text event) event → event ≡ events.Step device
+says_began : (taken : List ℕ) (event : Event) (outcome : Outcome) (device : ℕ) (access : Access) (kind : AccessKind) (on : Option ℕ) → IsEventLine (event_text event) event → event ≡ events.Step device
     → is_accepted outcome ≡ true → IsEventLine (event_text (asking_so kind device access)) (asking_so kind device access)
-    → SaysLine (behind_line taken event outcome (Began (asking_so kind device access))) (said_behind taken event outcome (Began (asking_so kind device access))) taken
-says_began taken event outcome device access kinds.Read says is accepted asked =
+    → SaysLine (behind_line taken event outcome (Began (asking_so kind device access) on)) (said_behind taken event outcome (Began (asking_so kind device access) on)) taken
+says_began taken event outcome device access kinds.Read on says is accepted asked =
     (device, is, accepted, event_text (events.Read device access.address access.len), events.Read device access.address access.len, asked, (refl, refl), step_line event outcome _ says)
-says_began taken event outcome device access kinds.Write says is accepted asked =
+says_began taken event outcome device access kinds.Write on says is accepted asked =
     (device, is, accepted, event_text (events.Write device access.address access.bytes), events.Write device access.address access.bytes, asked, (refl, refl), step_line event outcome _ says)
 
 says_behind : (taken : List ℕ) (event : Event) (outcome : Outcome) (behind : Behind) → IsEventLine (event_text event) event → MayBeShown event outcome behind → SaysBehind behind
     → SaysLine (behind_line taken event outcome behind) (said_behind taken event outcome behind) taken
-says_behind taken event outcome Nothing says may asked = inl (((λ shown. absurd (false≢true shown)), tt), step_line event outcome [] says)
-says_behind [] event outcome Tables says may asked = inl (((λ shown. absurd (false≢true shown)), tt), step_line event outcome [] says)
-says_behind (frame ∷ frames) event outcome Tables says may asked =
-    inl (
-      ((λ shown. may), tt),
-      subst (λ (b : List ℕ). IsStepLine (behind_line (frame ∷ frames) event outcome Tables) event outcome b) (sym (append-nil (tables_text true (frame ∷ frames))))
-          (step_line event outcome (tables_text true (frame ∷ frames)) says),
-    )
-says_behind taken event outcome (On frame) says may asked = inl (((λ shown. absurd (false≢true shown)), may), step_line event outcome _ says)
-says_behind taken event outcome (Began asks) says (device, access, is, accepted, asks_is) asked =
-    subst (λ (e : Event). SaysLine (behind_line taken event outcome (Began e)) (said_behind taken event outcome (Began e)) taken) (sym asks_is)
-    (says_began taken event outcome device access access.kind says is accepted (subst (λ (e : Event). IsEventLine (event_text e) e) asks_is asked))
+says_behind taken event outcome Nothing says may asked = (((λ shown. absurd (false≢true shown)), tt), step_line event outcome [] says)
+says_behind [] event outcome Tables says may asked = (((λ shown. absurd (false≢true shown)), tt), step_line event outcome [] says)
+says_behind (frame ∷ frames) event outcome Tables says may asked = (
+  ((λ shown. may), tt),
+  subst (λ (b : List ℕ). IsStepLine (behind_line (frame ∷ frames) event outcome Tables) event outcome b) (sym (append-nil (tables_text true (frame ∷ frames))))
+      (step_line event outcome (tables_text true (frame ∷ frames)) says),
+)
+says_behind taken event outcome (On frame) says may asked = (((λ shown. absurd (false≢true shown)), may), step_line event outcome _ says)
+says_behind taken event outcome (Began asks on) says (device, access, is, accepted, asks_is) asked =
+    subst (λ (e : Event). SaysLine (behind_line taken event outcome (Began e on)) (said_behind taken event outcome (Began e on)) taken) (sym asks_is)
+    (says_began taken event outcome device access access.kind on says is accepted (subst (λ (e : Event). IsEventLine (event_text e) e) asks_is asked))
 
 -- THE LINE says what is told
 pub says_told : (old new : Seen) (event : Event) (outcome : Outcome) → IsEventLine (event_text event) event → SaysBehind (behind_of new event outcome)

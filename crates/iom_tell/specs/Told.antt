@@ -18,7 +18,7 @@ use Rattle.iom_platform.specs.Seen.{Seen}
 use Rattle.iom_script.specs.Grammar.{IsEventLine}
 use Rattle.iom_script.specs.Lines.{outcome_text}
 use Rattle.iom_table_frames.specs.Marks.{is_marked}
-use Rattle.iom_trace_lines.specs.TraceLines.{Said, Step, is_accepted, on_text, tables_text, takes_frames}
+use Rattle.iom_trace_lines.specs.TraceLines.{Said, Step, access_text, is_accepted, on_text, tables_text, takes_frames}
 use Rattle.iom_tell.specs.declared.behind.Behind.{Behind}
 use Rattle.iom_tell.specs.declared.behind.Behind.TheVariants.{Nothing, Tables, On, Began}
 
@@ -45,14 +45,14 @@ asking_so kinds.Write device access = events.Write device access.address access.
 abbrev pub asking : ℕ → Access → Event
 asking device access = asking_so access.kind device access
 
--- the access that the device's step began
-abbrev pub began_by : ℕ → Option Access → Behind
-began_by device None = Nothing
-began_by device (Some access) = Began (asking device access)
+-- the access that the device's step began, and its frame
+abbrev pub began_by : ℕ → Option ℕ → Option Access → Behind
+began_by device frame None = Nothing
+began_by device frame (Some access) = Began (asking device access) frame
 
--- where an access was accepted: of a step the access; of a request its frame
+-- where an access was accepted: of a step the access and its frame; of a request its frame
 abbrev pub behind_accepted : Seen → Event → Behind
-behind_accepted now (events.Step device) = began_by device (wanted_of (block_with now.blocks device))
+behind_accepted now (events.Step device) = began_by device (newest_frame now device) (wanted_of (block_with now.blocks device))
 behind_accepted now (events.Read device address len) = behind_asked (newest_frame now device)
 behind_accepted now (events.Write device address bytes) = behind_asked (newest_frame now device)
 behind_accepted now (events.ReadTranslated device address len) = behind_asked (newest_frame now device)
@@ -89,7 +89,7 @@ abbrev pub behind_text : List ℕ → Behind → List ℕ
 behind_text taken Nothing = []
 behind_text taken Tables = shown_tables taken
 behind_text taken (On frame) = on_text (Some frame)
-behind_text taken (Began asks) = codes "; " ++ event_text asks
+behind_text taken (Began asks on) = access_text (event_text asks) on
 
 -- THE LINE THAT TELLS AN EVENT, without its line feed: the event, ` => `, what came of it, and what that doesn't show
 abbrev pub told_line : Seen → Event → Outcome → Seen → List ℕ
@@ -98,10 +98,10 @@ told_line old event outcome new =
 
 -- a line can say what is shown
 abbrev pub IsSayableBehind : Behind → Type 0
-IsSayableBehind (Began asks) = IsSayable asks
+IsSayableBehind (Began asks on) = IsSayable asks
 IsSayableBehind _ = ⊤
 
--- WHAT THE LINE SAYS in the grammar of traces: that this came of the event, with these tables, on this frame, or of this access
+-- WHAT THE LINE SAYS in the grammar of traces: that this came of the event, with these tables, on this frame, of this access
 
 abbrev pub shows_tables : Behind → List ℕ → Bool
 shows_tables Tables (frame ∷ frames) = true
@@ -110,6 +110,7 @@ shows_tables _ _ = false
 
 abbrev pub frame_shown : Behind → Option ℕ
 frame_shown (On frame) = Some frame
+frame_shown (Began asks on) = on
 frame_shown _ = None
 
 abbrev pub access_asked : Event → Option Access
@@ -118,7 +119,7 @@ access_asked (events.Write device address bytes) = Some (write_of address bytes)
 access_asked _ = None
 
 abbrev pub access_shown : Behind → Option Access
-access_shown (Began asks) = access_asked asks
+access_shown (Began asks on) = access_asked asks
 access_shown _ = None
 
 abbrev pub said_behind : List ℕ → Event → Outcome → Behind → Said
@@ -145,5 +146,5 @@ may_take _ = false
 
 -- the access that is shown is shown by a line that says it
 abbrev pub SaysBehind : Behind → Type 0
-SaysBehind (Began asks) = IsEventLine (event_text asks) asks
+SaysBehind (Began asks on) = IsEventLine (event_text asks) asks
 SaysBehind _ = ⊤

@@ -8,6 +8,6 @@ pub enum Behind {
     Tables,
     /// The frame on which an access was accepted.
     On(u32),
-    /// The access that a step began, as the event by which its device would ask for it.
-    Began(Event),
+    /// The access that a step began, as the event by which its device would ask for it, and the frame on which it was accepted.
+    Began(Event, Option<u32>),
 }

@@ -46,17 +46,29 @@ fn asking(device: DeviceId, access: Access) -> Event
     }
 }
 
-/// What is shown of the access that the device's step began.
+/// The frame of the device's newest access.
+fn newest_frame<D: Disk>(platform: &Platform<D>, device: DeviceId) -> Option<u32>
+    ensures { result ≡ newest_frame (platform_seen D.seen platform.now) device }
+{
+    match platform.newest(device) {
+        None => None,
+        Some(made) => Some(made.frame),
+    }
+}
+
+/// What is shown of the access that the device's step began: it, and its frame.
 fn began_by<D: Disk>(
     alloc: Global,
     platform: &Platform<D>,
     device: DeviceId,
 ) -> Result<Behind, AllocError>
-    ensures { IfOk result (λ behind. behind ≡ began_by device (wanted_of (block_with (platform_seen D.seen platform.now).blocks device))) }
+    ensures { IfOk result (λ behind. behind ≡ began_by device (newest_frame (platform_seen D.seen platform.now) device)
+        (wanted_of (block_with (platform_seen D.seen platform.now).blocks device))) }
 {
+    let on = newest_frame(platform, device);
     match platform.wanted(alloc, device)? {
         None => Ok(Behind::Nothing),
-        Some(access) => Ok(Behind::Began(asking(device, access))),
+        Some(access) => Ok(Behind::Began(asking(device, access), on)),
     }
 }
 
@@ -64,9 +76,9 @@ fn began_by<D: Disk>(
 fn frame_of<D: Disk>(platform: &Platform<D>, device: DeviceId) -> Behind
     ensures { result ≡ behind_asked (newest_frame (platform_seen D.seen platform.now) device) }
 {
-    match platform.newest(device) {
+    match newest_frame(platform, device) {
         None => Behind::Nothing,
-        Some(made) => Behind::On(made.frame),
+        Some(frame) => Behind::On(frame),
     }
 }
 

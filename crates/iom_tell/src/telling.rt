@@ -1,11 +1,11 @@
 // An event, and its line.
-ghost use Rattle.std.specs.Prelude.{◌≡◌, ◌+◌, ◌<◌, ◌≤◌, ◌^◌, ◌++◌, ◌∷◌, [], true, codes, ◌↔◌, length, IsTrue, OnOk, OnErr, IfErr};
+ghost use Rattle.std.specs.Prelude.{◌≡◌, ◌+◌, ◌<◌, ◌≤◌, ◌^◌, ◌++◌, ◌∷◌, [], true, codes, ◌↔◌, length, Some, IsTrue, OnOk, OnErr, IfErr};
 ghost use Rattle.iom_platform.specs.Happens.{HappensHere};
 ghost use Rattle.iom_platform.specs.Seen.{platform_seen};
 ghost use Rattle.iom_script.specs.Grammar.{IsEventLine};
 ghost use Rattle.iom_script.specs.Lines.{outcome_text};
 ghost use Rattle.iom_event_text.specs.Texts.{event_text, IsSayable};
-ghost use Rattle.iom_trace_lines.specs.TraceLines.{SaysLine};
+ghost use Rattle.iom_trace_lines.specs.TraceLines.{access_text, on_text, SaysLine};
 ghost use Rattle.iom_tell.specs.Told.{AreMarksOf, IsSayableBehind, behind_of, behind_text, is_taken_since, may_take, SaysBehind, taken_below, taken_by, told_line, told_said};
 
 use crate::behind::Behind;
@@ -46,7 +46,7 @@ fn is_sayable_behind(behind: &Behind) -> bool
 {
     match behind {
         Behind::Nothing | Behind::Tables | Behind::On(_) => true,
-        Behind::Began(asks) => is_sayable(asks),
+        Behind::Began(asks, _) => is_sayable(asks),
     }
 }
 
@@ -62,6 +62,32 @@ fn append_answered(out: &mut LineBuffer, event: &Event, outcome: &Outcome)
     out.append(b" => ");
     out.append_line(outcome);
     out.take_line_feed();
+}
+
+/// Appends the frame on which an access was accepted.
+fn append_on(out: &mut LineBuffer, frame: u32)
+    requires room { length out.old + 25 ≤ BUFFER_SIZE }
+    ensures text { out.new ≡ out.old ++ on_text (Some frame) }
+    ensures short { length out.new ≤ length out.old + 25 }
+{
+    out.append(b"; on ");
+    out.append_decimal(u64::from(frame));
+}
+
+/// Appends the access that a step began, and the frame on which it was accepted.
+fn append_began(out: &mut LineBuffer, asks: &Event, on: Option<u32>)
+    requires sayable { IsSayable asks.now }
+    requires room { length out.old + 20488 ≤ BUFFER_SIZE }
+    ensures text { out.new ≡ out.old ++ access_text (event_text asks.now) on }
+    ensures says { IsEventLine (event_text asks.now) asks.now }
+    ensures short { length out.new ≤ length out.old + 20488 }
+{
+    out.append(b"; ");
+    append_event_line(out, asks);
+    match on {
+        None => {}
+        Some(frame) => append_on(out, frame),
+    }
 }
 
 /// Appends what is shown behind an answer.
@@ -80,14 +106,8 @@ fn append_behind<D: Disk>(
     match behind {
         Behind::Nothing => {}
         Behind::Tables => append_tables(out, platform, before),
-        Behind::On(frame) => {
-            out.append(b"; on ");
-            out.append_decimal(u64::from(*frame));
-        }
-        Behind::Began(asks) => {
-            out.append(b"; ");
-            append_event_line(out, asks);
-        }
+        Behind::On(frame) => append_on(out, *frame),
+        Behind::Began(asks, on) => append_began(out, asks, *on),
     }
 }
 
@@ -143,7 +163,7 @@ fn append_outcome<D: Disk>(
 /// One event happens to the platform, and its line is appended, with its line feed: at most [`TELL_ROOM`] bytes, which have to be
 /// free. With the outcome, why nothing was appended, where that is so. What the line shows behind the answer is what the platform
 /// knows then: the frames that became reserved by an attach or a grant, if any did; the frame of the access that was accepted last;
-/// or the access that the block device wants. `before` is a place for what was reserved before.
+/// or the access that the block device wants, with that frame. `before` is a place for what was reserved before.
 pub fn tell_event<D: Disk>(
     alloc: Global,
     platform: &mut Platform<D>,
