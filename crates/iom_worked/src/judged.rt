@@ -66,6 +66,44 @@ impl fmt::Display for Wanted {
     }
 }
 
+/// How the verdict on one output stands to what the checker found.
+#[derive(Clone, Copy)]
+enum Agreement {
+    Lawful,
+    Uncertified,
+    /// At the checker's line.
+    Refused,
+    /// At the changed line, or behind it, before the checker's.
+    Earlier,
+    Differs,
+}
+
+impl Agreement {
+    fn at(at: u64, line: u64, changed: u64) -> Agreement {
+        if at == line {
+            Agreement::Refused
+        } else if changed <= at && at < line {
+            Agreement::Earlier
+        } else {
+            Agreement::Differs
+        }
+    }
+
+    fn of(wanted: Wanted, verdict: &Verdict) -> Agreement {
+        match (wanted, verdict) {
+            (Wanted::Lawful, Verdict::Lawful) => Agreement::Lawful,
+            (_, Verdict::Uncertified { .. }) => Agreement::Uncertified,
+            (
+                Wanted::Unlawful { line, changed },
+                Verdict::Unlawful { line: at, .. }
+                | Verdict::Beyond { line: at, .. }
+                | Verdict::Bad { line: at, .. },
+            ) => Agreement::at(*at, line, changed),
+            _ => Agreement::Differs,
+        }
+    }
+}
+
 /// How the outputs went, judged with what their answers don't show.
 #[derive(Clone, Copy)]
 struct Tally {
@@ -87,27 +125,14 @@ impl Tally {
         }
     }
 
-    fn count(&mut self, wanted: Wanted, verdict: &Verdict) {
-        let counter = match (wanted, verdict) {
-            (Wanted::Lawful, Verdict::Lawful) => &mut self.lawful,
-            (_, Verdict::Uncertified { .. }) => &mut self.uncertified,
-            (
-                Wanted::Unlawful { line, changed },
-                Verdict::Unlawful { line: at, .. }
-                | Verdict::Beyond { line: at, .. }
-                | Verdict::Bad { line: at, .. },
-            ) => {
-                if *at == line {
-                    &mut self.refused
-                } else if changed <= *at && *at < line {
-                    &mut self.earlier
-                } else {
-                    &mut self.differed
-                }
-            }
-            _ => &mut self.differed,
-        };
-        *counter = counter.saturating_add(1);
+    fn count(&mut self, agreement: Agreement) {
+        match agreement {
+            Agreement::Lawful => self.lawful = self.lawful.saturating_add(1),
+            Agreement::Uncertified => self.uncertified = self.uncertified.saturating_add(1),
+            Agreement::Refused => self.refused = self.refused.saturating_add(1),
+            Agreement::Earlier => self.earlier = self.earlier.saturating_add(1),
+            Agreement::Differs => self.differed = self.differed.saturating_add(1),
+        }
     }
 }
 
@@ -193,9 +218,9 @@ fn tell_rows(rt: &HostRuntime, index: &str) -> anyhow::Result<(Tally, Tally)> {
         let found = judge_row(rt, row, &told)?;
         let short = in_short(rt.alloc(), &found.annotated)?;
         println!(rt; "{}: {short}; the checker: {}", row.output, row.wanted)?;
-        tally.count(row.wanted, &found.annotated);
+        tally.count(Agreement::of(row.wanted, &found.annotated));
         if let Some(verdict) = &found.plain {
-            plain.count(row.wanted, verdict);
+            plain.count(Agreement::of(row.wanted, verdict));
         }
     }
     Ok((tally, plain))
