@@ -1,7 +1,9 @@
 // Why a line isn't lawful: what the words are about, by the event.
-use crate::asked::Asked;
+ghost use Rattle.std.specs.Prelude.{IfOk, Contains, string_bytes};
+
+use crate::accesses::Asked;
 use crate::notes::Notes;
-use crate::words::Words;
+use crate::words::{Said, Words};
 use iom_base::DeviceId;
 use iom_kept_state::KeptState;
 use iom_machine::{Device, Event, Outcome};
@@ -21,37 +23,14 @@ pub struct Facts<'a> {
 impl Facts<'_> {
     /// The plugged device with this id.
     pub(crate) fn device(&self, id: DeviceId) -> Option<&Device> {
-        self.kept
-            .devices
-            .as_slice()
-            .iter()
-            .find(|device| device.id == id)
+        let devices = self.kept.devices.as_slice();
+        devices.iter().find(|device| device.id == id)
     }
 
-    /// Says what is known of a message, a frame or a poll.
-    fn say_other(
-        &self,
-        words: &mut Words,
-        event: &Event,
-        outcome: &Outcome,
-    ) -> Result<(), AllocError> {
-        match event {
-            Event::Poll => self.say_poll(words, outcome),
-            Event::Deliver { place } => self.say_delivery(words, *place, outcome),
-            Event::Drop { place } | Event::Repeat { place } => self.say_message(words, *place),
-            Event::Poke { address, bytes } => {
-                self.say_poke(words, *address, bytes.as_slice().len() as u64)
-            }
-            Event::Peek { address, len } => { self.say_peek(words, *address, *len) }
-            Event::Free { frame } => { self.say_free(words, *frame) }
-            event => self.say_call(words, event, outcome),
-        }
-    }
-
-    /// Says what is known of what the line is about.
-    fn say(&self, words: &mut Words, event: &Event, outcome: &Outcome) -> Result<(), AllocError> {
-        if let Some(asked) = Asked::of(event) {
-            return self.say_access(words, asked, outcome);
+    /// Says what is known of what the line is about, and what could have come.
+    fn say(&self, words: &mut Words, event: &Event, outcome: &Outcome) -> Said {
+        if let Some(asked) = Asked::of(words.alloc, event) {
+            return self.say_access(words, &asked, outcome);
         }
         match event {
             Event::Commit { device } => self.say_commit(words, *device),
@@ -62,17 +41,29 @@ impl Facts<'_> {
             | Event::Medium { device, .. }
             | Event::Queue { device, .. }
             | Event::Status { device } => self.say_device(words, *device),
-            event => self.say_other(words, event, outcome),
+            Event::Poll => self.say_poll(words, outcome),
+            Event::Deliver { place } => self.say_message(words, *place, Some(outcome)),
+            Event::Drop { place } | Event::Repeat { place } => {
+                self.say_message(words, *place, None)
+            }
+            Event::Poke { address, bytes } => {
+                self.say_poke(words, *address, bytes.as_slice().len() as u64)
+            }
+            Event::Peek { address, len } => self.say_peek(words, *address, *len),
+            Event::Free { frame } => self.say_free(words, *frame),
+            event => self.say_call(words, event, outcome),
         }
     }
 
-    /// Why this may not come of the event.
+    /// Why this may not come of the event, in one line.
     pub fn reason(
         &self,
         alloc: Global,
         event: &Event,
         outcome: &Outcome,
-    ) -> Result<String, AllocError> {
+    ) -> Result<String, AllocError>
+        ensures { IfOk result (λ reason. ¬ Contains (string_bytes reason) 10) }
+    {
         let mut words = Words::new(alloc);
         self.say(&mut words, event, outcome)?;
         words.finish()

@@ -7,28 +7,19 @@
 //! judge of traces finds its verdict first, and asks for them afterwards.
 #![tactic(auto)]
 
-mod asked;
-mod causes;
-mod could_accept;
+mod accesses;
+mod calls;
+mod devices;
 mod facts;
-mod flights;
-mod leaves;
+mod frames;
+mod lists;
 mod messages;
 mod notes;
 mod pages;
+mod past;
 mod phrases;
-mod releases;
-mod say_accesses;
-mod say_calls;
-mod say_commits;
-mod say_devices;
-mod say_frames;
-mod say_pages;
-mod say_polls;
-mod say_questions;
-mod tally;
-mod tickets;
-mod way;
+mod polls;
+mod questions;
 mod words;
 
 pub use facts::Facts;
