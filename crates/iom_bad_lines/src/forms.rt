@@ -54,13 +54,33 @@ pub(crate) static TRACE_FIRST: [&str; 2] = ["world F L", UNLIMITED];
 pub(crate) const UNLIMITED: &str = "world F L unlimited";
 
 /// Those that a trace has beside the events of scripts, before their answers.
-pub(crate) static TRACE_FORMS: [&str; 4] = [GRANTS, RELEASES, "handoff FRAME", "take FRAME"];
+pub(crate) static TRACE_FORMS: [&str; 7] = [
+    GRANTS,
+    RELEASES,
+    JOINS,
+    JOINS_WITH_ATS,
+    "handoff FRAME",
+    "take FRAME",
+    FREED,
+];
 
 /// The grant of pages side by side.
 pub(crate) const GRANTS: &str = "grant ID PAGE+N FRAME RIGHT";
 
 /// The release of pages side by side.
 pub(crate) const RELEASES: &str = "release ID PAGE+N";
+
+/// The attach to the domain of another device.
+pub(crate) const JOINS: &str = "attach ID with ID";
+
+/// The same, where it has ATS.
+pub(crate) const JOINS_WITH_ATS: &str = "attach ID with ID ats";
+
+/// Tables that are given back.
+pub(crate) const FREED: &str = "tables-freed FRAME ..";
+
+/// The last word of a form with as many frames as there are.
+pub(crate) const MORE: &str = "..";
 
 /// The question, whose page has a limit.
 pub(crate) const QUESTION: &str = "ask ID PAGE";

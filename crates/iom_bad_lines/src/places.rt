@@ -1,4 +1,5 @@
 // Where a line leaves the forms that lines have.
+use crate::forms::MORE;
 use crate::words::is_such;
 
 /// What is expected behind the last word of a form.
@@ -36,6 +37,9 @@ fn compare_with<'a>(line: &'a str, form: &'static str) -> WrongPlace<'a> {
     let mut column: usize = 1;
     let mut words = line.split(' ');
     for expected in form.split(' ') {
+        if expected == MORE {
+            return compare_frames(line, column, form);
+        }
         let found = words.next().unwrap_or("");
         if !is_such(found, expected) {
             return WrongPlace {
@@ -55,16 +59,34 @@ fn compare_with<'a>(line: &'a str, form: &'static str) -> WrongPlace<'a> {
     }
 }
 
-/// Whether the line has a word for each of the form, and no other.
-fn fits(line: &str, form: &str) -> bool {
-    let mut words = line.split(' ');
-    for expected in form.split(' ') {
-        match words.next() {
-            Some(word) if is_such(word, expected) => {}
-            _ => return false,
+/// Where the line leaves a form that goes on with frames, from the column on.
+fn compare_frames<'a>(line: &'a str, start: usize, form: &'static str) -> WrongPlace<'a> {
+    let mut column = start;
+    if let Some(frames) = line.get(start.saturating_sub(1)..) {
+        for found in frames.split(' ') {
+            if !is_such(found, "FRAME") {
+                return WrongPlace {
+                    column,
+                    found,
+                    expected: "FRAME",
+                    form,
+                };
+            }
+            column = column.saturating_add(found.len()).saturating_add(1);
         }
     }
-    words.next().is_none()
+    WrongPlace {
+        column,
+        found: "",
+        expected: END,
+        form,
+    }
+}
+
+/// Whether the line has a word for each of the form, and no other: then it leaves it behind its end alone.
+fn fits(line: &str, form: &'static str) -> bool {
+    let place = compare_with(line, form);
+    place.expected == END && place.column > line.len().saturating_add(1)
 }
 
 /// The first of the forms that the line has.

@@ -1,6 +1,7 @@
 // What is wrong with a line that isn't in the grammar of traces.
 use crate::forms::{
-    EVENTS, GRANTS, QUESTION, RELEASES, SCRIPT_FORMS, TRACE_FIRST, TRACE_FORMS, UNLIMITED,
+    EVENTS, FREED, GRANTS, JOINS, JOINS_WITH_ATS, QUESTION, RELEASES, SCRIPT_FORMS, TRACE_FIRST,
+    TRACE_FORMS, UNLIMITED,
 };
 use crate::places::{END, WrongPlace, at_start, closest, form_of};
 use crate::words::{are_some, count_of};
@@ -163,7 +164,7 @@ enum Answers {
 fn answers_to(form: &str) -> Answers {
     match form {
         "world F L" | "world F L unlimited" | "handoff FRAME" | "take FRAME" => Answers::Ok,
-        GRANTS => Answers::Ok,
+        GRANTS | JOINS | JOINS_WITH_ATS | FREED => Answers::Ok,
         RELEASES => Answers::Ticket,
         _ => Answers::Any,
     }

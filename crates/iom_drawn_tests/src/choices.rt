@@ -209,6 +209,7 @@ impl Choices {
         Ok(Choice {
             directory,
             taken,
+            returned: Sequence::new(alloc),
             frame: step.frame.unwrap_or(0),
             device,
             page,

@@ -1,10 +1,10 @@
 -- A run grows with each line, and what is certified with it.
-use Rattle.std.proofs.Common.{◌≡◌, ◌≢◌, ◌∙◌, ℕ, ◌+◌, true, false, List, [], ◌∷◌, ◌++◌, Option, None, Some, Result, Ok, Err, IfOk, IfSome, IsSomeAnd, MatchOption, refl, sym, ap, subst, append-nil, append_assoc, length, replicate, suc, zero, arith}
+use Rattle.std.proofs.Common.{◌≡◌, ◌≢◌, ◌∙◌, ◌<◌, ℕ, ◌+◌, ◌&&◌, ◌||◌, Bool, true, false, not, nat_eq, List, [], ◌∷◌, ◌++◌, Option, None, Some, Result, Ok, Err, IfOk, IfSome, IsSomeAnd, MatchOption, IsTrue, refl, sym, ap, subst, append-nil, append_assoc, length, suc, zero, arith}
 use Rattle.std.proofs.lemmas.List.{length-append}
 use Rattle.std.proofs.lemmas.List.Elements.{All-nil, filter-append}
 use Rattle.std.proofs.KnownBytes.{Consumes-nil}
 use Rattle.iom_kept_state.specs.Grants.{IsPastOf}
-use Rattle.iom_kept_state.specs.States.{state_of, Leaves}
+use Rattle.iom_kept_state.specs.States.{state_of}
 use Rattle.iom_kept_state.specs.declared.state.KeptState.{KeptState}
 use Rattle.iom_base.specs.declared.grant_rights.GrantRights.{GrantRights}
 use Rattle.iom_machine.specs.declared.choice.Choice.{Choice}
@@ -19,51 +19,52 @@ use Rattle.iom_script.specs.declared.script.WorldSize.{WorldSize}
 use Rattle.iom_script.specs.Grammar.{is_spoken, spoken, bytes_of_lines}
 use Rattle.iom_script.specs.Words.{IsWithout}
 use Rattle.iom_trace_lines.specs.Taken.{AreLines, BufferHolds, HasTaken}
-use Rattle.iom_trace_lines.specs.TraceLines.{Said, SaysLine, Nothing, World, granted_events, released_events}
+use Rattle.iom_trace_lines.specs.TraceLines.{Said, SaysLine, Nothing, World, Handoff, Take}
 use Rattle.iom_trace_lines.specs.WorldLimits.{limits_of}
 use Rattle.iom_trace_lines.specs.declared.trace.WorldLimits.{WorldLimits}
-use Rattle.iom_judge.specs.Certificates.{four_disks, opening_of, SaysEvents, SayEvents, AreOfRun, AreLawfulLines, IsLawfulTrace, IsSoOf}
-use Rattle.iom_judge.specs.Certified.{IsCertifiedBy, Certify, GoesOn, GoesOnAs, HasJudged, HasTakenAll, Names}
+use Rattle.iom_judge.specs.Certificates.{four_disks, opening_of, SaysHappened, SayHappened, AreOfRun, AreLawfulLines, IsLawfulTrace, IsSoOf}
+use Rattle.iom_judge.specs.Certified.{is_given, trace_state, IsCertifiedBy, Certify, Continues, ContinuesAs, GoesOn, HasJudged, HasTakenAll, KeptLeaves, Names}
+use Rattle.iom_judge.specs.Happenings.{Happening, TraceState, Came, GivenAway, TakenBack, HappenInTurn, AreGrants, AreReleases, events_of, outcomes_of, is_used}
+use Rattle.iom_judge.specs.declared.handed.Handed.{Handed}
 use Rattle.iom_judge.specs.declared.judging.Judge.{Judge}
 use Rattle.iom_judge.specs.declared.verdict.Verdict.{Verdict}
 
--- a run, and one behind it
-run_on : (old : State) (events : List Event) (outcomes : List Outcome) (mid : State) (later : List Event) (others : List Outcome) (new : State)
-    → machine.Run old events outcomes mid → machine.Run mid later others new → machine.Run old (events ++ later) (outcomes ++ others) new
-run_on old [] [] mid later others new run rest = subst (λ (s : State). machine.Run s later others new) run rest
-run_on old [] (o ∷ os) mid later others new run rest = absurd run
-run_on old (e ∷ es) [] mid later others new run rest = absurd run
-run_on old (e ∷ es) (o ∷ os) mid later others new run rest = (run.0, run.1, run_on run.0 es os mid later others new run.2 rest)
+-- what happened, and more behind it
+happen_on : (old : TraceState) (happened : List Happening) (mid : TraceState) (later : List Happening) (new : TraceState)
+    → HappenInTurn old happened mid → HappenInTurn mid later new → HappenInTurn old (happened ++ later) new
+happen_on old [] mid later new first rest = subst (λ (s : TraceState). HappenInTurn s later new) first rest
+happen_on old (h ∷ hs) mid later new (next, does, others) rest = (next, does, happen_on next hs mid later new others rest)
 
--- nothing happened
-pub stays_so : (kept : Option KeptState) (k : KeptState) → kept ≡ Some k → GoesOn kept [] [] kept
-stays_so kept k is = subst (λ (o : Option KeptState). GoesOn o [] [] o) (sym is) (λ history past. (history, past, refl))
+-- what happened is a run of the ledger machine
+run_of : (old : TraceState) (happened : List Happening) (new : TraceState) → HappenInTurn old happened new
+    → machine.Run old.machine (events_of happened) (outcomes_of happened) new.machine
+run_of old [] new stays = ap (λ (s : TraceState). s.machine) stays
+run_of old (Came event outcome choice ∷ others) new (mid, comes, rest) = (mid.machine, (choice, comes.step), run_of mid others new rest)
+run_of old (GivenAway frame ∷ others) new (mid, given, rest) =
+    subst (λ (s : State). machine.Run s (events_of others) (outcomes_of others) new.machine) given.0 (run_of mid others new rest)
+run_of old (TakenBack frame ∷ others) new (mid, taken, rest) =
+    subst (λ (s : State). machine.Run s (events_of others) (outcomes_of others) new.machine) taken.1 (run_of mid others new rest)
 
 -- more happened
-pub goes_further : (old mid new : Option KeptState) (events later : List Event) (outcomes others : List Outcome) → GoesOn old events outcomes mid → GoesOn mid later others new
-    → GoesOn old (events ++ later) (outcomes ++ others) new
-goes_further (Some a) (Some b) (Some c) events later outcomes others first rest =
+pub goes_further : (old mid new : Option KeptState) (a b c : Handed) (happened later : List Happening) → GoesOn old a happened mid b → GoesOn mid b later new c
+    → GoesOn old a (happened ++ later) new c
+goes_further (Some x) (Some y) (Some z) a b c happened later first rest =
     λ history past. let half = first history past in let whole = rest half.0 half.1 in
-    (whole.0, whole.1, run_on (state_of a history) events outcomes (state_of b half.0) later others (state_of c whole.0) half.2 whole.2)
-goes_further (Some a) (Some b) None events later outcomes others first rest = absurd rest
-goes_further (Some a) None new events later outcomes others first rest = absurd first
-goes_further None mid new events later outcomes others first rest = absurd first
+    (whole.0, whole.1, happen_on (trace_state x a history) happened (trace_state y b half.0) later (trace_state z c whole.0) half.2 whole.2)
+goes_further (Some x) (Some y) None a b c happened later first rest = absurd rest
+goes_further (Some x) None new a b c happened later first rest = absurd first
+goes_further None mid new a b c happened later first rest = absurd first
 
--- one line more that says events
-says_more : (lines : List (List ℕ)) (line : List ℕ) (events own : List Event) (outcomes its : List Outcome)
-    → SayEvents lines events outcomes → SaysEvents line own its → SayEvents (lines ++ line ∷ []) (events ++ own) (outcomes ++ its)
-says_more [] line events own outcomes its say says =
-    (own, [], its, [], ap (λ (l : List Event). l ++ own) say.0 ∙ sym (append-nil own), ap (λ (l : List Outcome). l ++ its) say.1 ∙ sym (append-nil its), says, (refl, refl))
-says_more (l ∷ ls) line events own outcomes its (first, later, came, others, are, them, says_first, rest) says = (
-  first,
-  later ++ own,
-  came,
-  others ++ its,
-  ap (λ (l : List Event). l ++ own) are ∙ append_assoc first later own,
-  ap (λ (l : List Outcome). l ++ its) them ∙ append_assoc came others its,
-  says_first,
-  says_more ls line later own others its rest says,
-)
+-- nothing happened yet
+pub stays_so : (kept : Option KeptState) (handed : Handed) (k : KeptState) → kept ≡ Some k → GoesOn kept handed [] kept handed
+stays_so kept handed k is = subst (λ (o : Option KeptState). GoesOn o handed [] o handed) (sym is) (λ history past. (history, past, refl))
+
+-- one line more that says what happened
+says_more : (lines : List (List ℕ)) (line : List ℕ) (happened own : List Happening) → SayHappened lines happened → SaysHappened line own
+    → SayHappened (lines ++ line ∷ []) (happened ++ own)
+says_more [] line happened own say says = (own, [], ap (λ (l : List Happening). l ++ own) say ∙ sym (append-nil own), says, refl)
+says_more (l ∷ ls) line happened own (first, later, are, says_first, rest) says =
+    (first, later ++ own, ap (λ (l : List Happening). l ++ own) are ∙ append_assoc first later own, says_first, says_more ls line later own rest says)
 
 -- one line more that says something
 spoken_more : (lines : List (List ℕ)) (line : List ℕ) → is_spoken line ≡ true → spoken (lines ++ line ∷ []) ≡ spoken lines ++ line ∷ []
@@ -74,22 +75,21 @@ spoken_same : (lines : List (List ℕ)) (line : List ℕ) → is_spoken line ≡
 spoken_same lines line says = filter-append is_spoken lines (line ∷ []) ∙ ap (λ (l : List (List ℕ)). spoken lines ++ l) (rw says refl) ∙ append-nil (spoken lines)
 
 -- what is certified goes on being so
-certify_more : (old new : KeptState) (lines : List (List ℕ)) (line : List ℕ) (events : List Event) (outcomes : List Outcome)
-    → Certify (Some old) lines → SaysEvents line events outcomes → GoesOn (Some old) events outcomes (Some new)
-    → Certify (Some new) (lines ++ line ∷ [])
-certify_more old new [] line events outcomes never says goes = absurd never
-certify_more old new (first ∷ rest) line events outcomes (size, limits, opens, by) says goes =
+certify_more : (old new : KeptState) (before after : Handed) (lines : List (List ℕ)) (line : List ℕ) (happened : List Happening)
+    → Certify (Some old) before lines → SaysHappened line happened → GoesOn (Some old) before happened (Some new) after
+    → Certify (Some new) after (lines ++ line ∷ [])
+certify_more old new before after [] line happened never says goes = absurd never
+certify_more old new before after (first ∷ rest) line happened (size, limits, opens, by) says goes =
     let next = goes by.past by.is_past in (
       size,
       limits,
       opens,
       record {
-        events = by.events ++ events;
-        outcomes = by.outcomes ++ outcomes;
-        say = says_more rest line by.events events by.outcomes outcomes by.say says;
+        happened = by.happened ++ happened;
+        say = says_more rest line by.happened happened by.say says;
         past = next.0;
         is_past = next.1;
-        run = run_on (opening_of size limits) by.events by.outcomes (state_of old by.past) events outcomes (state_of new next.0) by.run next.2;
+        happen = happen_on (opening_of size limits) by.happened (trace_state old before by.past) happened (trace_state new after next.0) by.happen next.2;
       },
     )
 
@@ -98,63 +98,75 @@ counted_more : (counted : ℕ) (lines : List (List ℕ)) (line : List ℕ) → c
 counted_more counted lines line is = is ∙ sym (length-append lines (line ∷ []))
 
 -- after a line that says nothing
-pub nothing_said : (judge : Judge) (lines : List (List ℕ)) (line : List ℕ) → is_spoken line ≡ false → Certify judge.kept (spoken lines) → judge.line ≡ length lines + 1
+pub nothing_said : (judge : Judge) (lines : List (List ℕ)) (line : List ℕ) → is_spoken line ≡ false → Certify judge.kept judge.handed (spoken lines) → judge.line ≡ length lines + 1
     → HasTakenAll judge (lines ++ line ∷ [])
 nothing_said judge lines line says before counted = record {
-  certified = subst (λ (l : List (List ℕ)). Certify judge.kept l) (sym (spoken_same lines line says)) before;
+  certified = subst (λ (l : List (List ℕ)). Certify judge.kept judge.handed l) (sym (spoken_same lines line says)) before;
   counted = counted_more judge.line lines line counted;
 }
 
 -- after one that says how large the world is
-pub world_said : (old : Option KeptState) (new : Judge) (lines : List (List ℕ)) (line tables : List ℕ) (size : WorldSize) (limits : WorldLimits) → is_spoken line ≡ true
-    → SaysLine line (World size limits) tables → old ≡ None → IsSomeAnd new.kept (λ kept. IsPastOf kept.grants [] × (state_of kept [] ≡ opening_of size limits))
-    → Certify old (spoken lines) → new.line ≡ length lines + 1 → HasTakenAll new (lines ++ line ∷ [])
-world_said old new lines line tables size limits spoken_line says none starts before counted = record {
-  certified = subst (λ (l : List (List ℕ)). Certify new.kept l) (sym (spoken_more lines line spoken_line)) (begun (spoken lines) new.kept starts (subst (λ (o : Option KeptState). Certify o (spoken lines)) none before));
+pub world_said : (old new : Judge) (lines : List (List ℕ)) (line tables : List ℕ) (size : WorldSize) (limits : WorldLimits) → is_spoken line ≡ true
+    → SaysLine line (World size limits) tables → old.kept ≡ None → ((frame : ℕ) → is_given new.handed frame ≡ false) → new.handed.takes_back ≡ false
+    → IsSomeAnd new.kept (λ kept. IsPastOf kept.grants [] × (state_of kept [] ≡ (opening_of size limits).machine))
+    → Certify old.kept old.handed (spoken lines) → new.line ≡ length lines + 1 → HasTakenAll new (lines ++ line ∷ [])
+world_said old new lines line tables size limits spoken_line says none given takes starts before counted = record {
+  certified = subst (λ (l : List (List ℕ)). Certify new.kept new.handed l) (sym (spoken_more lines line spoken_line))
+      (begun (spoken lines) new.kept starts (subst (λ (o : Option KeptState). Certify o old.handed (spoken lines)) none before));
   counted = counted_more new.line lines line counted;
 }
   where
-    begun : (ls : List (List ℕ)) (kept : Option KeptState) → IsSomeAnd kept (λ k. IsPastOf k.grants [] × (state_of k [] ≡ opening_of size limits)) → Certify None ls → Certify kept (ls ++ line ∷ [])
-    begun [] (Some kept) start none = (size, limits, says, record { events = []; outcomes = []; say = (refl, refl); past = []; is_past = start.0; run = start.1 })
+    opens : (k : KeptState) → state_of k [] ≡ (opening_of size limits).machine → trace_state k new.handed [] ≡ opening_of size limits
+    opens k is = λ i. record { machine = is i; is_given = λ frame. given frame i; takes_back = takes i }
+
+    begun : (ls : List (List ℕ)) (kept : Option KeptState) → IsSomeAnd kept (λ k. IsPastOf k.grants [] × (state_of k [] ≡ (opening_of size limits).machine))
+        → Certify None old.handed ls → Certify kept new.handed (ls ++ line ∷ [])
+    begun [] (Some kept) start none = (size, limits, says, record { happened = []; say = refl; past = []; is_past = start.0; happen = opens kept start.1 })
     begun [] None start none = absurd start
     begun (l ∷ ls) kept start never = absurd never
 
--- after one that says events
-pub events_said : (old : Option KeptState) (new : Judge) (lines : List (List ℕ)) (line tables : List ℕ) (said : Said)
-    → is_spoken line ≡ true → SaysLine line said tables → GoesOnAs old said new.kept
-    → Certify old (spoken lines) → new.line ≡ length lines + 1 → HasTakenAll new (lines ++ line ∷ [])
-events_said old new lines line tables said spoken_line says (events, outcomes, tells, goes) before counted = record {
-  certified = subst (λ (l : List (List ℕ)). Certify new.kept l) (sym (spoken_more lines line spoken_line)) (followed old new.kept goes before);
-  counted = counted_more new.line lines line counted;
+-- after one that says what happened
+pub happened_said : (old new : Judge) (lines : List (List ℕ)) (line tables : List ℕ) (said : Said)
+    → is_spoken line ≡ true → SaysLine line said tables → ContinuesAs old said tables new
+    → Certify old.kept old.handed (spoken lines) → old.line ≡ length lines + 1 → HasTakenAll new (lines ++ line ∷ [])
+happened_said old new lines line tables said spoken_line says (happened, tells, went) before counted = record {
+  certified = subst (λ (l : List (List ℕ)). Certify new.kept new.handed l) (sym (spoken_more lines line spoken_line)) (followed old.kept new.kept went.1 before);
+  counted = counted_more new.line lines line (went.0 ∙ counted);
 }
   where
-    followed : (was is : Option KeptState) → GoesOn was events outcomes is → Certify was (spoken lines) → Certify is (spoken lines ++ line ∷ [])
-    followed (Some one) (Some next) goes before = certify_more one next (spoken lines) line events outcomes before (said, tables, says, tells) goes
+    followed : (was is : Option KeptState) → GoesOn was old.handed happened is new.handed → Certify was old.handed (spoken lines)
+        → Certify is new.handed (spoken lines ++ line ∷ [])
+    followed (Some one) (Some next) goes before = certify_more one next old.handed new.handed (spoken lines) line happened before (said, tables, says, tells) goes
     followed (Some one) None goes before = absurd goes
     followed None (Some next) goes before = absurd goes
     followed None None goes before = absurd goes
 
 -- what is certified is of a run
-of_run : (kept : KeptState) (size : WorldSize) (limits : WorldLimits) (lines : List (List ℕ)) → IsCertifiedBy kept size limits lines → AreOfRun size limits lines
-of_run kept size limits lines by = record {
-  events = by.events;
-  outcomes = by.outcomes;
-  say = by.say;
-  last = state_of kept by.past;
-  run = by.run;
-  reclaims = reclaims (opening_of size limits) by.events by.outcomes (state_of kept by.past) ([], [], (limits_of limits, size.frames, size.levels, four_disks, refl)) by.run;
-}
+of_run : (kept : KeptState) (handed : Handed) (size : WorldSize) (limits : WorldLimits) (lines : List (List ℕ)) → IsCertifiedBy kept handed size limits lines
+    → AreOfRun size limits lines
+of_run kept handed size limits lines by =
+    let last = trace_state kept handed by.past in
+    let run = run_of (opening_of size limits) by.happened last by.happen in
+    record {
+      happened = by.happened;
+      say = by.say;
+      last = last;
+      happen = by.happen;
+      run = run;
+      reclaims = reclaims (opening_of size limits).machine (events_of by.happened) (outcomes_of by.happened) last.machine
+          ([], [], (limits_of limits, size.frames, size.levels, four_disks, refl)) run;
+    }
 
 -- so the lines are lawful
-lawful_lines : (kept : Option KeptState) (lines : List (List ℕ)) → Certify kept lines → AreLawfulLines lines
-lawful_lines None [] told = tt
-lawful_lines None (l ∷ ls) never = absurd never
-lawful_lines (Some k) [] never = absurd never
-lawful_lines (Some k) (l ∷ ls) (size, limits, says, it) = (size, limits, says, of_run k size limits ls it)
+lawful_lines : (kept : Option KeptState) (handed : Handed) (lines : List (List ℕ)) → Certify kept handed lines → AreLawfulLines lines
+lawful_lines None handed [] told = tt
+lawful_lines None handed (l ∷ ls) never = absurd never
+lawful_lines (Some k) handed [] never = absurd never
+lawful_lines (Some k) handed (l ∷ ls) (size, limits, says, it) = (size, limits, says, of_run k handed size limits ls it)
 
 -- and their text, after the last of them
 lawful_text : (judge : Judge) (lines : List (List ℕ)) (text : List ℕ) → HasTakenAll judge lines → AreLines lines text → IsLawfulTrace text
-lawful_text judge lines text taken are = record { lines = lines; whole = are.0; is_text = are.1; lawful = lawful_lines judge.kept (spoken lines) taken.certified }
+lawful_text judge lines text taken are = record { lines = lines; whole = are.0; is_text = are.1; lawful = lawful_lines judge.kept judge.handed (spoken lines) taken.certified }
 
 pub all_lawful : (judge : Judge) (lines : List (List ℕ)) (first : Option (List ℕ)) → HasTakenAll judge lines → IfSome first (AreLines lines) → IfSome first IsLawfulTrace
 all_lawful judge lines None taken are = tt
@@ -190,6 +202,13 @@ if_it_goes_on (Ok None) P Q N so found = so found
 if_it_goes_on (Ok (Some verdict)) P Q N so found = found
 if_it_goes_on (Err error) P Q N so found = tt
 
+-- what is always refused is so
+pub refused_is_named : {E : Type 0} (result : Result (Option Verdict) E) (Q : Type 0) (N : Verdict → Type 0) → IfOk result (λ found. IsSomeAnd found N)
+    → IfOk result (λ found. MatchOption found Q N)
+refused_is_named (Ok None) Q N found = absurd found
+refused_is_named (Ok (Some verdict)) Q N found = found
+refused_is_named (Err error) Q N found = tt
+
 -- a line that says something is spoken
 pub is_something : (line : List ℕ) (read : Said) → (read ≢ Nothing → is_spoken line ≡ true) → (other : Said) → read ≡ other → other ≢ Nothing → is_spoken line ≡ true
 is_something line read spoken_line other same something = spoken_line (λ e. something (sym same ∙ e))
@@ -211,35 +230,102 @@ pub nothing_taken : (judge : Judge) (buffer : List ℕ) (start end : ℕ) (first
 nothing_taken judge buffer start end first holds taken =
     ([], record { whole = All-nil (IsWithout 10); read = []; consumed = Consumes-nil first; waiting = []; holds = holds; is_read = refl }, taken)
 
--- so many, and one more
-replicate_more : (n : ℕ) (o : Outcome) → replicate n o ++ o ∷ [] ≡ replicate (suc n) o
-replicate_more zero o = refl
-replicate_more (suc n) o = ap (λ (l : List Outcome). o ∷ l) (replicate_more n o)
+-- one grant more, with the tables that it took, and one release more
+pub granted_more : (old mid new : Judge) (device page frame : ℕ) (rights : GrantRights) (k : ℕ) (event : Event) (choice : Choice) (taken : List ℕ) (happened : List Happening)
+    → event ≡ events.Grant device (page + k) (frame + k) rights
+    → AreGrants device page frame rights k taken happened → Continues old happened mid → Continues mid (Came event outcomes.Done choice ∷ []) new
+    → AreGrants device page frame rights (k + 1) (taken ++ choice.taken) (happened ++ Came event outcomes.Done choice ∷ [])
+    × Continues old (happened ++ Came event outcomes.Done choice ∷ []) new
+granted_more old mid new device page frame rights k event choice taken happened is are so_far goes =
+    let next : suc k ≡ k + 1 = omega arith in (
+      subst (λ (n : ℕ). AreGrants device page frame rights n (taken ++ choice.taken) (happened ++ Came event outcomes.Done choice ∷ [])) next
+          (taken, happened, choice, are, refl, ap (λ (e : Event). happened ++ Came e outcomes.Done choice ∷ []) is),
+      (
+        goes.0 ∙ so_far.0,
+        goes_further old.kept mid.kept new.kept old.handed mid.handed new.handed happened (Came event outcomes.Done choice ∷ []) so_far.1 goes.1,
+      ),
+    )
 
--- one grant more, and one release more
-pub granted_more : (old mid new : Option KeptState) (device page frame : ℕ) (rights : GrantRights) (k : ℕ) (event : Event) → event ≡ events.Grant device (page + k) (frame + k) rights
-    → GoesOn old (granted_events device page frame rights k) (replicate k outcomes.Done) mid → GoesOn mid (event ∷ []) (outcomes.Done ∷ []) new
-    → GoesOn old (granted_events device page frame rights (k + 1)) (replicate (k + 1) outcomes.Done) new
-granted_more old mid new device page frame rights k event is so_far goes =
-    let next : suc k ≡ k + 1 = omega arith in
-    let now : GoesOn mid (events.Grant device (page + k) (frame + k) rights ∷ []) (outcomes.Done ∷ []) new = subst (λ (e : Event). GoesOn mid (e ∷ []) (outcomes.Done ∷ []) new) is goes in
-    subst (λ (n : ℕ). GoesOn old (granted_events device page frame rights n) (replicate n outcomes.Done) new) next
-    (subst (λ (l : List Outcome). GoesOn old (granted_events device page frame rights (suc k)) l new) (replicate_more k outcomes.Done)
-    (goes_further old mid new (granted_events device page frame rights k) (events.Grant device (page + k) (frame + k) rights ∷ []) (replicate k outcomes.Done) (outcomes.Done ∷ []) so_far now))
+pub released_more : (old mid new : Judge) (device page ticket : ℕ) (k : ℕ) (event : Event) (choice : Choice) (happened : List Happening)
+    → event ≡ events.Release device (page + k)
+    → AreReleases device page ticket k happened → Continues old happened mid → Continues mid (Came event (outcomes.Ticket ticket) choice ∷ []) new
+    → AreReleases device page ticket (k + 1) (happened ++ Came event (outcomes.Ticket ticket) choice ∷ [])
+    × Continues old (happened ++ Came event (outcomes.Ticket ticket) choice ∷ []) new
+released_more old mid new device page ticket k event choice happened is are so_far goes =
+    let next : suc k ≡ k + 1 = omega arith in (
+      subst (λ (n : ℕ). AreReleases device page ticket n (happened ++ Came event (outcomes.Ticket ticket) choice ∷ [])) next
+          (happened, choice, are, ap (λ (e : Event). happened ++ Came e (outcomes.Ticket ticket) choice ∷ []) is),
+      (
+        goes.0 ∙ so_far.0,
+        goes_further old.kept mid.kept new.kept old.handed mid.handed new.handed happened (Came event (outcomes.Ticket ticket) choice ∷ []) so_far.1 goes.1,
+      ),
+    )
 
-pub released_more : (old mid new : Option KeptState) (device page ticket : ℕ) (k : ℕ) (event : Event) → event ≡ events.Release device (page + k)
-    → GoesOn old (released_events device page k) (replicate k (outcomes.Ticket ticket)) mid → GoesOn mid (event ∷ []) (outcomes.Ticket ticket ∷ []) new
-    → GoesOn old (released_events device page (k + 1)) (replicate (k + 1) (outcomes.Ticket ticket)) new
-released_more old mid new device page ticket k event is so_far goes =
-    let next : suc k ≡ k + 1 = omega arith in
-    let now : GoesOn mid (events.Release device (page + k) ∷ []) (outcomes.Ticket ticket ∷ []) new = subst (λ (e : Event). GoesOn mid (e ∷ []) (outcomes.Ticket ticket ∷ []) new) is goes in
-    subst (λ (n : ℕ). GoesOn old (released_events device page n) (replicate n (outcomes.Ticket ticket)) new) next
-    (subst (λ (l : List Outcome). GoesOn old (released_events device page (suc k)) l new) (replicate_more k (outcomes.Ticket ticket))
-    (goes_further old mid new (released_events device page k) (events.Release device (page + k) ∷ []) (replicate k (outcomes.Ticket ticket)) (outcomes.Ticket ticket ∷ []) so_far now))
-
--- one event is what the machine comes to by a step
-pub one_step : (old new : KeptState) (event : Event) (outcome : Outcome) (choice : Choice) → Leaves old new (λ before after. machine.ChosenStep choice before event outcome after)
-    → GoesOn (Some old) (event ∷ []) (outcome ∷ []) (Some new)
-one_step old new event outcome choice leaves = λ history past.
+-- One event is what the machine of the trace comes to by a step, where no frame is used that was given away.
+pub one_step : (old : Option KeptState) (new : Option KeptState) (before after : Handed) (event : Event) (outcome : Outcome) (choice : Choice)
+    → KeptLeaves old event outcome choice new
+    → (IsTrue before.takes_back → (frame : ℕ) → IsTrue (is_used event outcome choice frame) → is_given before frame ≡ false)
+    → ((frame : ℕ) → is_given after frame ≡ (is_given before frame && not (is_used event outcome choice frame))) → after.takes_back ≡ before.takes_back
+    → GoesOn old before (Came event outcome choice ∷ []) new after
+one_step (Some old) (Some new) before after event outcome choice leaves unused given takes = λ history past.
     let next = leaves history past in
-    (next.0, next.1, (state_of new next.0, (choice, (next.2 (state_of new next.0)).0 refl), refl))
+    let now = trace_state new after next.0 in
+    (next.0, next.1, (now, record { step = (next.2 (state_of new next.0)).0 refl; unused = unused; given = given; takes_back = takes }, refl))
+one_step (Some old) None before after event outcome choice leaves unused given takes = absurd leaves
+one_step None new before after event outcome choice leaves unused given takes = absurd leaves
+
+-- a frame was given away, and one was taken back
+pub one_given : (old new : Option KeptState) (before after : Handed) (k : KeptState) (frame : ℕ) → new ≡ old → old ≡ Some k
+    → ((f : ℕ) → is_given after f ≡ (nat_eq frame f || is_given before f)) → after.takes_back ≡ before.takes_back
+    → GoesOn old before (GivenAway frame ∷ []) new after
+one_given old new before after k frame same is given takes =
+    subst (λ (o : Option KeptState). GoesOn old before (GivenAway frame ∷ []) o after) (sym same)
+    (subst (λ (o : Option KeptState). GoesOn o before (GivenAway frame ∷ []) o after) (sym is)
+    (λ history past. (history, past, (trace_state k after history, (refl, given, takes), refl))))
+
+pub one_taken : (old new : Option KeptState) (before after : Handed) (k : KeptState) (frame : ℕ) → new ≡ old → old ≡ Some k → is_given before frame ≡ true
+    → ((f : ℕ) → is_given after f ≡ (is_given before f && not (nat_eq frame f))) → after.takes_back ≡ true
+    → GoesOn old before (TakenBack frame ∷ []) new after
+one_taken old new before after k frame same is was given takes =
+    subst (λ (o : Option KeptState). GoesOn old before (TakenBack frame ∷ []) o after) (sym same)
+    (subst (λ (o : Option KeptState). GoesOn o before (TakenBack frame ∷ []) o after) (sym is)
+    (λ history past. (history, past, (trace_state k after history, (was, refl, given, takes), refl))))
+
+-- what went on is kept
+pub kept_after : (old : Option KeptState) (before after : Handed) (happened : List Happening) (new : Option KeptState) → GoesOn old before happened new after
+    → (k : KeptState) × (new ≡ Some k)
+kept_after (Some old) before after happened (Some new) goes = (new, refl)
+kept_after (Some old) before after happened None goes = absurd goes
+kept_after None before after happened new goes = absurd goes
+
+-- what is told of a frame that is given to somebody else
+pub given_away : (old mid new : Judge) (frame : ℕ) (choice : Choice) → Continues old (Came (events.Free frame) (outcomes.Free true) choice ∷ []) mid
+    → new.kept ≡ mid.kept → new.line ≡ mid.line → ((f : ℕ) → is_given new.handed f ≡ (nat_eq frame f || is_given mid.handed f))
+    → new.handed.takes_back ≡ mid.handed.takes_back → ContinuesAs old (Handoff frame) [] new
+given_away old mid new frame choice goes kept line given takes =
+    let came = Came (events.Free frame) (outcomes.Free true) choice ∷ [] in
+    let k = kept_after old.kept old.handed mid.handed came mid.kept goes.1 in (
+      Came (events.Free frame) (outcomes.Free true) choice ∷ GivenAway frame ∷ [],
+      (choice, refl),
+      (
+        line ∙ goes.0,
+        goes_further old.kept mid.kept new.kept old.handed mid.handed new.handed came (GivenAway frame ∷ []) goes.1
+            (one_given mid.kept new.kept mid.handed new.handed k.0 frame kept k.1 given takes),
+      ),
+    )
+
+-- and of one that is taken back
+pub taken_back : (old new : Judge) (k : KeptState) (frame : ℕ) → new.kept ≡ old.kept → old.kept ≡ Some k → new.line ≡ old.line → is_given old.handed frame ≡ true
+    → ((f : ℕ) → is_given new.handed f ≡ (is_given old.handed f && not (nat_eq frame f))) → new.handed.takes_back ≡ true → ContinuesAs old (Take frame) [] new
+taken_back old new k frame kept is line was given takes =
+    (TakenBack frame ∷ [], refl, (line, one_taken old.kept new.kept old.handed new.handed k frame kept is was given takes))
+
+-- the tables that were taken so far, where they are shown: all of them by the first grant
+pub tables_so_far : (device page frame : ℕ) (rights : GrantRights) (k : ℕ) (has : Bool) (taken more tables shown : List ℕ) (happened : List Happening)
+    → AreGrants device page frame rights k taken happened → (0 < k → IsTrue has → taken ≡ tables) → (IsTrue has → more ≡ shown) → (k ≡ 0 → shown ≡ tables)
+    → (0 < k → shown ≡ []) → 0 < k + 1 → IsTrue has → taken ++ more ≡ tables
+tables_so_far device page frame rights zero has taken more tables shown happened are so_far takes first later some its =
+    ap (λ (l : List ℕ). l ++ more) are.0 ∙ takes its ∙ first refl
+tables_so_far device page frame rights (suc k) has taken more tables shown happened are so_far takes first later some its =
+    let before : 0 < suc k = omega arith in
+    ap (λ (l : List ℕ). taken ++ l) (takes its ∙ later before) ∙ append-nil taken ∙ so_far before its

@@ -1,1 +1,2 @@
 mod CertificateLemmas
+mod HandedLemmas

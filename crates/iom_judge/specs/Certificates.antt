@@ -1,17 +1,15 @@
 -- What a verdict says of a trace: that its text is the lines of a run of the ledger machine from power-on, or those before the line that it names are.
-use Rattle.std.specs.Prelude.{◌≡◌, ℕ, ◌+◌, List, [], ◌∷◌, ◌++◌, All, Option, None, Some, MatchOption, length, ⊤}
-use Rattle.iom_machine.specs.declared.event.Event.{Event}
-use Rattle.iom_machine.specs.declared.outcome.Outcome.{Outcome}
-use Rattle.iom_machine.specs.declared.state.State.{State}
+use Rattle.std.specs.Prelude.{◌≡◌, ℕ, ◌+◌, false, List, [], ◌∷◌, ◌++◌, All, Option, None, Some, MatchOption, length, ⊤}
 use Rattle.iom_machine.specs.Machine.{Run}
 use Rattle.iom_machine.specs.PowerOn.{opening}
 use Rattle.iom_machine.specs.Reclaim.{Reclaims}
 use Rattle.iom_script.specs.declared.script.WorldSize.{WorldSize}
 use Rattle.iom_script.specs.Grammar.{spoken, bytes_of_lines}
 use Rattle.iom_script.specs.Words.{IsWithout}
-use Rattle.iom_trace_lines.specs.TraceLines.{Said, SaysLine, Tells, World}
+use Rattle.iom_trace_lines.specs.TraceLines.{Said, SaysLine, World}
 use Rattle.iom_trace_lines.specs.WorldLimits.{limits_of}
 use Rattle.iom_trace_lines.specs.declared.trace.WorldLimits.{WorldLimits}
+use Rattle.iom_judge.specs.Happenings.{Happening, TraceState, HappenInTurn, Tells, events_of, outcomes_of}
 use Rattle.iom_judge.specs.declared.verdict.Verdict.{Verdict}
 use Rattle.iom_judge.specs.declared.verdict.Verdict.TheVariants.{Lawful, Uncertified, Beyond, Unlawful, Bad}
 
@@ -27,29 +25,30 @@ named_line (Bad line wrong) = Some line
 abbrev pub four_disks : List ℕ
 four_disks = 0 ∷ 1 ∷ 2 ∷ 3 ∷ []
 
--- power-on of a world of this size, with these limits
-abbrev pub opening_of : WorldSize → WorldLimits → State
-opening_of size limits = opening (limits_of limits) size.frames size.levels four_disks
+-- power-on of a world of this size, with these limits, when nothing was given away
+abbrev pub opening_of : WorldSize → WorldLimits → TraceState
+opening_of size limits =
+    record { machine = opening (limits_of limits) size.frames size.levels four_disks; is_given = λ frame. false; takes_back = false }
 
--- the line says that these outcomes came of these events: most say one of one
-abbrev pub SaysEvents : List ℕ → List Event → List Outcome → Type 0
-SaysEvents line events outcomes = (said : Said) × (tables : List ℕ) × SaysLine line said tables × Tells said events outcomes
+-- the line says that this happened
+abbrev pub SaysHappened : List ℕ → List Happening → Type 0
+SaysHappened line happened = (said : Said) × (tables : List ℕ) × SaysLine line said tables × Tells said tables happened
 
--- the lines say that these outcomes came of these events, each its own ones
-abbrev pub SayEvents : List (List ℕ) → List Event → List Outcome → Type 0
-SayEvents [] events outcomes = (events ≡ []) × (outcomes ≡ [])
-SayEvents (line ∷ lines) events outcomes =
-    (own later : List Event) × (its others : List Outcome) × (events ≡ own ++ later) × (outcomes ≡ its ++ others)
-    × SaysEvents line own its × SayEvents lines later others
+-- the lines say that this happened, each its own part
+abbrev pub SayHappened : List (List ℕ) → List Happening → Type 0
+SayHappened [] happened = happened ≡ []
+SayHappened (line ∷ lines) happened =
+    (own later : List Happening) × (happened ≡ own ++ later) × SaysHappened line own × SayHappened lines later
 
--- The lines are those of a run of the machine from power-on of a world of this size, with these limits, and the sentences of the headline hold of it.
+-- The lines say what happened in a trace from power-on of a world of this size, with these limits: with what they show chosen so, its events are a run of
+-- the ledger machine, and the sentences of the headline hold of it.
 pub record AreOfRun (size : WorldSize) (limits : WorldLimits) (lines : List (List ℕ)) : Type 0 where
-  pub events : List Event
-  pub outcomes : List Outcome
-  pub say : SayEvents lines events outcomes
-  pub last : State
-  pub run : Run (opening_of size limits) events outcomes last
-  pub reclaims : Reclaims (opening_of size limits) events outcomes last run
+  pub happened : List Happening
+  pub say : SayHappened lines happened
+  pub last : TraceState
+  pub happen : HappenInTurn (opening_of size limits) happened last
+  pub run : Run (opening_of size limits).machine (events_of happened) (outcomes_of happened) last.machine
+  pub reclaims : Reclaims (opening_of size limits).machine (events_of happened) (outcomes_of happened) last.machine run
 
 -- Lines that all say something are lawful: none of them, or one that says how large the world is and which limits it has, and then those of a run.
 abbrev pub AreLawfulLines : List (List ℕ) → Type 0

@@ -1,2 +1,3 @@
+pub mod Happenings
 pub mod Certificates
 pub mod Certified

@@ -1,4 +1,9 @@
 // What is chosen of what a line doesn't show.
+ghost use Rattle.std.specs.Prelude.{◌≡◌, IfOk, IfSome, OnOk};
+ghost use Rattle.std.specs.Option.{option_copied};
+ghost use Rattle.iom_judge.specs.Certified.{ShowsChoice};
+ghost use Rattle.iom_judge.specs.Happenings.{tables_chosen};
+
 use crate::missing::{Begun, Missing};
 use crate::settled::{frame_of_access, page_showing, page_without};
 use crate::steps::choose_step;
@@ -12,8 +17,11 @@ use std::alloc::{AllocError, Global};
 /// What a line shows of what its answer doesn't.
 #[derive(Clone, Copy)]
 pub(crate) struct Shown<'a> {
-    /// The frames that were taken for tables.
-    pub(crate) tables: Option<&'a [u64]>,
+    /// Whether it shows which frames were taken for tables, and which they are.
+    pub(crate) has_tables: bool,
+    pub(crate) tables: &'a [u64],
+    /// The tables that were given back.
+    pub(crate) freed: &'a [u64],
     /// The frame on which an access was accepted.
     pub(crate) on: Option<u64>,
     /// The access that a step began.
@@ -22,7 +30,9 @@ pub(crate) struct Shown<'a> {
 
 /// Nothing is shown.
 pub(crate) const NOTHING: Shown<'static> = Shown {
-    tables: None,
+    has_tables: false,
+    tables: &[],
+    freed: &[],
     on: None,
     began: None,
 };
@@ -53,6 +63,7 @@ pub(crate) fn nothing_chosen(alloc: Global) -> Chosen {
         choice: Choice {
             directory: Sequence::new(alloc),
             taken: Sequence::new(alloc),
+            returned: Sequence::new(alloc),
             frame: 0,
             device: NOBODY,
             page: 0,
@@ -63,8 +74,22 @@ pub(crate) fn nothing_chosen(alloc: Global) -> Chosen {
 }
 
 /// The frames, in a list of their own.
-fn list_of(alloc: Global, frames: &[u64]) -> Result<Sequence<u64>, AllocError> {
+fn list_of(alloc: Global, frames: &[u64]) -> Result<Sequence<u64>, AllocError>
+    ensures { IfOk result (λ list. list ≡ frames.now) }
+{
     Ok(Sequence::from_vec(Vec::from_slice(alloc, frames)?))
+}
+
+/// The access, once more.
+fn copy_of(alloc: Global, access: &Access) -> Result<Access, AllocError>
+    ensures { IfOk result (λ copy. copy ≡ access.now) }
+{
+    Ok(Access {
+        address: access.address,
+        len: access.len,
+        kind: access.kind,
+        bytes: Sequence::from_vec(Vec::from_slice(alloc, access.bytes.as_slice())?),
+    })
 }
 
 /// How many frames the root of a device's tables has.
@@ -75,35 +100,83 @@ fn root_size(mode: Mode) -> usize {
     }
 }
 
-/// The frames that an attach took: those of the root stand first, and behind them pages of the device directory.
-fn choose_attach(
+/// These frames are chosen as tables: of an attach those of the root stand first, and behind them pages of the device directory.
+fn choose_tables(
     alloc: Global,
-    line: u64,
-    mode: Mode,
-    tables: Option<&[u64]>,
-) -> Result<Chosen, AllocError> {
-    let mut chosen = nothing_chosen(alloc);
-    let Some(frames) = tables else {
-        chosen.missing = Some(Missing::Tables { line });
-        return Ok(chosen);
-    };
-    let (root, pages) = frames.split_at(root_size(mode).min(frames.len()));
-    chosen.choice.taken = list_of(alloc, root)?;
-    chosen.choice.directory = list_of(alloc, pages)?;
-    Ok(chosen)
-}
-
-/// The frames that a grant took.
-fn choose_grant(alloc: Global, line: u64, tables: Option<&[u64]>) -> Result<Chosen, AllocError> {
-    let mut chosen = nothing_chosen(alloc);
-    match tables {
-        None => chosen.missing = Some(Missing::Tables { line }),
-        Some(frames) => chosen.choice.taken = list_of(alloc, frames)?,
+    choice: &mut Choice,
+    event: &Event,
+    tables: &[u64],
+) -> Result<(), AllocError>
+    ensures tables { OnOk result (tables_chosen event.now choice.new ≡ tables.now) }
+    ensures frame { OnOk result (choice.new.frame ≡ choice.old.frame) }
+    ensures access { OnOk result (choice.new.access ≡ choice.old.access) }
+    ensures returned { OnOk result (choice.new.returned ≡ choice.old.returned) }
+{
+    match event {
+        Event::Attach { mode, .. } => {
+            let (root, pages) = tables.split_at(root_size(*mode).min(tables.len()));
+            choice.taken = list_of(alloc, root)?;
+            choice.directory = list_of(alloc, pages)?;
+        }
+        _ => choice.taken = list_of(alloc, tables)?,
     }
-    Ok(chosen)
+    Ok(())
 }
 
-/// The frame of a request that was accepted: the one that is shown, or else what the grants say.
+/// The frame is chosen that is shown, if one is.
+fn choose_on(choice: &mut Choice, on: Option<u64>)
+    ensures frame { IfSome on (λ frame. choice.new.frame ≡ frame) }
+    ensures access { choice.new.access ≡ choice.old.access }
+    ensures returned { choice.new.returned ≡ choice.old.returned }
+{
+    if let Some(frame) = on {
+        choice.frame = frame;
+    }
+}
+
+/// The access is chosen that is shown, if one is.
+fn choose_began(
+    alloc: Global,
+    choice: &mut Choice,
+    began: Option<&Access>,
+) -> Result<(), AllocError>
+    ensures access { OnOk result (IfSome (option_copied began.entry) (λ access. choice.new.access ≡ access)) }
+    ensures returned { OnOk result (choice.new.returned ≡ choice.old.returned) }
+{
+    if let Some(access) = began {
+        choice.access = copy_of(alloc, access)?;
+    }
+    Ok(())
+}
+
+/// What the line shows is chosen as it shows it.
+fn choose_shown(
+    alloc: Global,
+    choice: &mut Choice,
+    event: &Event,
+    shown: Shown<'_>,
+) -> Result<(), AllocError>
+    ensures { OnOk result (ShowsChoice shown.entry event.now choice.new) }
+{
+    choice.returned = list_of(alloc, shown.freed)?;
+    choose_began(alloc, choice, shown.began)?;
+    choose_on(choice, shown.on);
+    if shown.has_tables {
+        choose_tables(alloc, choice, event, shown.tables)?;
+    }
+    Ok(())
+}
+
+/// The choice of a line that takes frames for tables, if it shows which.
+fn choose_taken(alloc: Global, line: u64, is_shown: bool) -> Chosen {
+    let mut chosen = nothing_chosen(alloc);
+    if !is_shown {
+        chosen.missing = Some(Missing::Tables { line });
+    }
+    chosen
+}
+
+/// The frame of a request that was accepted, where it isn't shown: the one that the grants say.
 pub(crate) fn choose_frame(
     alloc: Global,
     kept: &KeptState,
@@ -113,8 +186,7 @@ pub(crate) fn choose_frame(
     on: Option<u64>,
 ) -> Chosen {
     let mut chosen = nothing_chosen(alloc);
-    if let Some(frame) = on {
-        chosen.choice.frame = frame;
+    if on.is_some() {
         return chosen;
     }
     let settled = frame_of_access(kept, begun.device, address, kind);
@@ -196,7 +268,7 @@ fn choose_access(
 }
 
 /// What is chosen of what this line doesn't show: nothing that isn't lawful, where something else is.
-pub(crate) fn choose(
+fn choose_unshown(
     alloc: Global,
     kept: &KeptState,
     notes: &Notes,
@@ -205,14 +277,13 @@ pub(crate) fn choose(
     outcome: &Outcome,
     shown: Shown<'_>,
 ) -> Result<Chosen, AllocError> {
-    if let Event::Step { device } = event {
-        return choose_step(alloc, kept, line, *device, outcome, shown);
-    }
     match (event, outcome) {
-        (Event::Attach { mode, .. }, Outcome::Done) => {
-            choose_attach(alloc, line, *mode, shown.tables)
+        (Event::Step { device }, outcome) => {
+            choose_step(alloc, kept, line, *device, outcome, shown)
         }
-        (Event::Grant { .. }, Outcome::Done) => choose_grant(alloc, line, shown.tables),
+        (Event::Attach { .. } | Event::Grant { .. }, Outcome::Done) => {
+            Ok(choose_taken(alloc, line, shown.has_tables))
+        }
         (event, Outcome::Accepted(number)) => {
             Ok(choose_access(alloc, kept, line, event, *number, shown.on))
         }
@@ -222,4 +293,21 @@ pub(crate) fn choose(
         }
         _ => Ok(nothing_chosen(alloc)),
     }
+}
+
+/// What is chosen for a line: what it shows, and of the rest nothing that isn't lawful, where something else is.
+pub(crate) fn choose(
+    alloc: Global,
+    kept: &KeptState,
+    notes: &Notes,
+    line: u64,
+    event: &Event,
+    outcome: &Outcome,
+    shown: Shown<'_>,
+) -> Result<Chosen, AllocError>
+    ensures { IfOk result (λ chosen. ShowsChoice shown.entry event.now chosen.choice) }
+{
+    let mut chosen = choose_unshown(alloc, kept, notes, line, event, outcome, shown)?;
+    choose_shown(alloc, &mut chosen.choice, event, shown)?;
+    Ok(chosen)
 }

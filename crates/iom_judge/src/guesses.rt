@@ -32,7 +32,7 @@ fn oldest_number(device: &Device) -> u64 {
 /// Whether this is missing of the device's access with this number.
 fn is_of(missing: Missing, device: DeviceId, number: u64) -> bool {
     match missing {
-        Missing::Tables { .. } => false,
+        Missing::Tables { .. } | Missing::Domain { .. } => false,
         Missing::Frame(begun) | Missing::Access(begun) => {
             begun.device == device && begun.number == number
         }
@@ -133,6 +133,11 @@ impl Guesses {
         };
         let Begun { device, number, .. } = begun;
         self.in_flight.retain(|missing: &Missing| -> bool { !is_of(*missing, device, number) });
+    }
+
+    /// What was guessed of tables, if something was.
+    pub(crate) fn of_tables(&self) -> Option<Missing> {
+        self.tables
     }
 
     /// What bytes in memory depend on.

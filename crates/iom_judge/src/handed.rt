@@ -1,71 +1,133 @@
 // Frames that were given to somebody else, and aren't taken back.
-use crate::choosing::Shown;
+ghost use Rattle.std.specs.Prelude.{◌≡◌, ◌&&◌, ◌||◌, ℕ, not, false, true, nat_eq, IfOk, IsNone, IsTrue, OnOk};
+ghost use Rattle.iom_judge.specs.Certified.{is_given};
+ghost use Rattle.iom_judge.specs.Happenings.{frame_granted, is_in, is_used, tables_chosen};
+ghost use Rattle.iom_trace_lines.specs.TraceLines.{takes_frames};
+
 use indexmap::IndexMap;
-use iom_machine::{Event, Outcome};
+use iom_machine::{Choice, Event, Outcome};
 use std::alloc::{AllocError, Global};
 
 /// Frames that were given to somebody else, with the lines that did it.
 #[derive(Drop)]
 pub(crate) struct Handed {
-    frames: IndexMap<u64, u64>,
+    pub(crate) frames: IndexMap<u64, u64>,
     /// Whether a line has taken one back. From then on a frame has to be taken back before it is used.
-    lasts: bool,
+    pub(crate) takes_back: bool,
 }
 
 /// The frame that is granted, if one is.
-fn granted(event: &Event, outcome: &Outcome) -> Option<u64> {
+fn granted(event: &Event, outcome: &Outcome) -> Option<u64>
+    ensures { result ≡ frame_granted event.now outcome.now }
+{
     match (event, outcome) {
         (Event::Grant { frame, .. }, Outcome::Done) => Some(*frame),
         _ => None,
     }
 }
 
+/// The frames that became tables of the device, and those that became pages of the device directory.
+fn tables<'a>(event: &Event, outcome: &Outcome, choice: &'a Choice) -> (&'a [u64], &'a [u64])
+    ensures { (frame : ℕ)
+        → (takes_frames event.now outcome.now && is_in frame (tables_chosen event.now choice.now)) ≡ (is_in frame result.0.now || is_in frame result.1.now) }
+{
+    match (event, outcome) {
+        (Event::Grant { .. }, Outcome::Done) => (choice.taken.as_slice(), &[]),
+        (Event::Attach { .. }, Outcome::Done) => {
+            (choice.taken.as_slice(), choice.directory.as_slice())
+        }
+        _ => (&[], &[]),
+    }
+}
+
 impl Handed {
-    pub(crate) fn new(alloc: Global) -> Handed {
+    /// Nothing was given away.
+    pub(crate) fn new(alloc: Global) -> Handed
+        ensures none { (frame : ℕ) → is_given result frame ≡ false }
+        ensures takes { result.takes_back ≡ false }
+    {
         Handed {
             frames: IndexMap::new(alloc),
-            lasts: false,
+            takes_back: false,
         }
     }
 
     /// The frame is given to somebody else in this line.
-    pub(crate) fn hand_off(&mut self, frame: u64, line: u64) -> Result<(), AllocError> {
+    pub(crate) fn hand_off(&mut self, frame: u64, line: u64) -> Result<(), AllocError>
+        ensures given { OnOk result ((k : ℕ) → is_given self.new k ≡ (nat_eq frame k || is_given self.old k)) }
+        ensures takes { OnOk result (self.new.takes_back ≡ self.old.takes_back) }
+    {
         self.frames.insert(frame, line)?;
         Ok(())
     }
 
     /// The frame is taken back. False where it wasn't given away.
-    pub(crate) fn take_back(&mut self, frame: u64) -> bool {
-        self.lasts = true;
+    pub(crate) fn take_back(&mut self, frame: u64) -> bool
+        ensures was { result ≡ is_given self.old frame }
+        ensures given { (k : ℕ) → is_given self.new k ≡ (is_given self.old k && not (nat_eq frame k)) }
+        ensures takes { self.new.takes_back ≡ true }
+    {
+        self.takes_back = true;
         self.frames.swap_remove(&frame).is_some()
     }
 
-    /// The frame that is granted is used from here on.
-    pub(crate) fn note(&mut self, event: &Event, outcome: &Outcome) {
+    /// The first of the frames that was given away.
+    fn first_of(&self, frames: &[u64]) -> Option<u64>
+        ensures { IsNone result → (frame : ℕ) → IsTrue (is_in frame frames.now) → is_given self.now frame ≡ false }
+    {
+        match frames {
+            [] => None,
+            [first, rest @ ..] => {
+                if self.frames.contains_key(first) {
+                    return Some(*first);
+                }
+                self.first_of(rest)
+            }
+        }
+    }
+
+    /// The first of the frames that are used where this came of the event and was given away.
+    fn first_used(&self, event: &Event, outcome: &Outcome, choice: &Choice) -> Option<u64>
+        ensures { IsNone result
+            → (frame : ℕ) → IsTrue (is_used event.now outcome.now choice.now frame) → is_given self.now frame ≡ false }
+    {
+        if let Some(frame) = granted(event, outcome) {
+            if self.frames.contains_key(&frame) {
+                return Some(frame);
+            }
+        }
+        let (taken, directory) = tables(event, outcome, choice);
+        match self.first_of(taken) {
+            None => self.first_of(directory),
+            found => found,
+        }
+    }
+
+    /// The frames are used from here on.
+    fn forget(&mut self, frames: &[u64])
+        ensures given { (frame : ℕ) → is_given self.new frame ≡ (is_given self.old frame && not (is_in frame frames.now)) }
+        ensures takes { self.new.takes_back ≡ self.old.takes_back }
+    {
+        match frames {
+            [] => {}
+            [first, rest @ ..] => {
+                let _line = self.frames.swap_remove(first);
+                self.forget(rest);
+            }
+        }
+    }
+
+    /// The frames that are used where this came of the event are used from here on.
+    pub(crate) fn note(&mut self, event: &Event, outcome: &Outcome, choice: &Choice)
+        ensures given { (frame : ℕ) → is_given self.new frame ≡ (is_given self.old frame && not (is_used event.now outcome.now choice.now frame)) }
+        ensures takes { self.new.takes_back ≡ self.old.takes_back }
+    {
         if let Some(frame) = granted(event, outcome) {
             let _line = self.frames.swap_remove(&frame);
         }
-    }
-
-    /// The first of the frames that was given away.
-    fn first_of(&self, frames: &[u64]) -> Option<u64> {
-        for frame in frames {
-            if self.frames.contains_key(frame) {
-                return Some(*frame);
-            }
-        }
-        None
-    }
-
-    /// The frame that is used though it was given away.
-    fn used(&self, event: &Event, outcome: &Outcome, tables: Option<&[u64]>) -> Option<u64> {
-        if !self.lasts {
-            return None;
-        }
-        match granted(event, outcome) {
-            Some(frame) if self.frames.contains_key(&frame) => Some(frame),
-            _ => self.first_of(tables?),
-        }
+        let (taken, directory) = tables(event, outcome, choice);
+        self.forget(taken);
+        self.forget(directory);
     }
 
     /// Why this may not come, if it uses a frame that was given away.
@@ -74,9 +136,15 @@ impl Handed {
         alloc: Global,
         event: &Event,
         outcome: &Outcome,
-        shown: Shown<'_>,
-    ) -> Result<Option<String>, AllocError> {
-        let Some(frame) = self.used(event, outcome, shown.tables) else {
+        choice: &Choice,
+    ) -> Result<Option<String>, AllocError>
+        ensures { IfOk result (λ found. IsNone found → IsTrue self.now.takes_back
+            → (frame : ℕ) → IsTrue (is_used event.now outcome.now choice.now frame) → is_given self.now frame ≡ false) }
+    {
+        if !self.takes_back {
+            return Ok(None);
+        }
+        let Some(frame) = self.first_used(event, outcome, choice) else {
             return Ok(None);
         };
         let line = self.frames.get(&frame).copied().unwrap_or(0);

@@ -1,13 +1,16 @@
 // A trace, judged line by line.
-ghost use Rattle.std.specs.Prelude.{◌≡◌, ◌+◌, ◌++◌, ◌∷◌, [], ℕ, List, Option, None, IfOk, IfSome, IsSomeAnd, MatchOption, OnOk, IsTrue, length};
+ghost use Rattle.std.specs.Prelude.{◌≡◌, ◌+◌, ◌++◌, ◌∷◌, ◌&&◌, [], ℕ, List, Option, None, IfOk, IfSome, IsSomeAnd, MatchOption, OnOk, IsTrue, false, not, length};
 ghost use Rattle.iom_kept_state.specs.Grants.{IsPastOf};
-ghost use Rattle.iom_kept_state.specs.States.{state_of};
+ghost use Rattle.iom_kept_state.specs.States.{state_of, Leaves};
+ghost use Rattle.iom_machine.specs.Machine.{ChosenStep};
+ghost use Rattle.iom_machine.specs.declared.choice.Choice as spec;
 ghost use Rattle.iom_machine.specs.PowerOn.{opening};
 ghost use Rattle.iom_script.specs.Grammar.{spoken};
 ghost use Rattle.iom_trace_lines.specs.TraceLines.{said_of, Handoff, Take};
 ghost use Rattle.iom_trace_lines.specs.WorldLimits.{limits_of};
 ghost use Rattle.iom_judge.specs.Certificates.{four_disks, opening_of, IsLawfulTrace, IsSoOf};
-ghost use Rattle.iom_judge.specs.Certified.{Certify, GoesOn, GoesOnAs, HasJudged, HasTakenAll, IsReadOf, Names};
+ghost use Rattle.iom_judge.specs.Certified.{is_given, Certify, Continues, ContinuesAs, HasJudged, HasTakenAll, IsReadOf, KeptLeaves, Names, ShowsChoice};
+ghost use Rattle.iom_judge.specs.Happenings.{is_used, Came};
 
 use crate::bad::{NO_END, NO_WORLD, bad, bad_text};
 use crate::choosing::{Chosen, NOTHING, Shown, choose};
@@ -15,6 +18,7 @@ use crate::guesses::Guesses;
 use crate::handed::Handed;
 use crate::missing::Missing;
 use crate::verdict::{Verdict, quoting};
+use iom_base::DeviceId;
 use iom_kept_state::KeptState;
 use iom_machine::{Choice, Event, Outcome};
 use iom_machine_judge::judge;
@@ -39,7 +43,7 @@ pub(crate) struct Reading {
 }
 
 impl Reading {
-    fn new(alloc: Global) -> io::Result<Reading> {
+    pub(crate) fn new(alloc: Global) -> io::Result<Reading> {
         Ok(Reading {
             printed: LineBuffer::new(alloc)?,
             kept: KeptOutcomes::new(),
@@ -48,18 +52,13 @@ impl Reading {
     }
 }
 
-/// The tables, where they are shown.
-fn if_shown(has_tables: bool, tables: &[u64]) -> Option<&[u64]> {
-    if has_tables { Some(tables) } else { None }
-}
-
 /// The state at power-on of a world of this size, with these limits. None where there is no such world.
 fn power_on(
     alloc: Global,
     size: WorldSize,
     limits: WorldLimits,
 ) -> Result<Option<KeptState>, AllocError>
-    ensures { IfOk result (λ found. IfSome found (λ kept. IsPastOf kept.grants [] × (state_of kept [] ≡ opening_of size limits))) }
+    ensures { IfOk result (λ found. IfSome found (λ kept. IsPastOf kept.grants [] × (state_of kept [] ≡ (opening_of size limits).machine))) }
 {
     if size.frames < 4 || size.frames > MOST_FRAMES || size.levels > 3 {
         return Ok(None);
@@ -80,8 +79,11 @@ fn may_come_unlimited(
     if kept.limits.pages.is_some() {
         return Ok(false);
     }
+    let limits = kept.limits;
     kept.limits = WorldLimits::Unlimited.to_limits();
-    judge(alloc, kept, event, outcome, choice)
+    let may_come = judge(alloc, kept, event, outcome, choice)?;
+    kept.limits = limits;
+    Ok(may_come)
 }
 
 /// The judge of a trace, after the lines so far.
@@ -93,12 +95,12 @@ pub(crate) struct Judge {
     /// How many they were.
     pub(crate) line: u64,
     notes: Notes,
-    guesses: Guesses,
-    handed: Handed,
+    pub(crate) guesses: Guesses,
+    pub(crate) handed: Handed,
 }
 
 impl Judge {
-    fn new(alloc: Global) -> Judge
+    pub(crate) fn new(alloc: Global) -> Judge
         ensures { HasTakenAll result [] }
     {
         Judge {
@@ -115,7 +117,8 @@ impl Judge {
     fn begin(&mut self, size: WorldSize, limits: WorldLimits) -> io::Result<Option<Verdict>>
         ensures line { self.new.line ≡ self.old.line }
         ensures begun { IfOk result (λ found. MatchOption found
-            ((self.old.kept ≡ None) × IsSomeAnd self.new.kept (λ kept. IsPastOf kept.grants [] × (state_of kept [] ≡ opening_of size limits)))
+            ((self.old.kept ≡ None) × ((frame : ℕ) → is_given self.new.handed frame ≡ false) × (self.new.handed.takes_back ≡ false)
+            × IsSomeAnd self.new.kept (λ kept. IsPastOf kept.grants [] × (state_of kept [] ≡ (opening_of size limits).machine)))
             (Names self.old.line)) }
     {
         if self.kept.is_some() {
@@ -126,6 +129,7 @@ impl Judge {
             None => Ok(Some(bad(self.alloc, self.line, "no world has this size")?)),
             Some(kept) => {
                 self.kept = Some(kept);
+                self.handed = Handed::new(self.alloc);
                 Ok(None)
             }
         }
@@ -137,23 +141,26 @@ impl Judge {
         event: &Event,
         outcome: &Outcome,
         shown: Shown<'_>,
-        missing: Option<Missing>,
+        chosen: &Chosen,
         made: Option<Missing>,
     ) -> Result<(), AllocError>
         ensures kept { self.new.kept ≡ self.old.kept }
         ensures line { self.new.line ≡ self.old.line }
+        ensures given { OnOk result ((frame : ℕ) → is_given self.new.handed frame
+            ≡ (is_given self.old.handed frame && not (is_used event.now outcome.now chosen.now.choice frame))) }
+        ensures takes { OnOk result (self.new.handed.takes_back ≡ self.old.handed.takes_back) }
     {
         self.notes.begin_line(self.line);
         self.notes.note(event, outcome)?;
-        if shown.tables.is_some() {
+        if shown.has_tables {
             self.guesses.note_tables();
         }
-        self.handed.note(event, outcome);
+        self.handed.note(event, outcome, &chosen.choice);
         self.guesses.note_detach(event, outcome);
         if let Some(missing) = made {
             self.guesses.make(missing, outcome);
         }
-        if let Some(missing) = missing {
+        if let Some(missing) = chosen.missing {
             self.guesses.note(missing)?;
         }
         Ok(())
@@ -192,7 +199,8 @@ impl Judge {
     /// Whether this may come of the event, where what the line doesn't show is chosen so. What is kept is then what it leaves.
     fn step(&mut self, event: &Event, outcome: &Outcome, choice: &Choice) -> io::Result<bool>
         ensures line { self.new.line ≡ self.old.line }
-        ensures went { IfOk result (λ may. IsTrue may → GoesOn self.old.kept (event.now ∷ []) (outcome.now ∷ []) self.new.kept) }
+        ensures handed { self.new.handed ≡ self.old.handed }
+        ensures went { IfOk result (λ may. IsTrue may → KeptLeaves self.old.kept event.now outcome.now choice.now self.new.kept) }
     {
         let Some(kept) = &mut self.kept else {
             return Ok(false);
@@ -207,7 +215,9 @@ impl Judge {
         event: &Event,
         outcome: &Outcome,
         shown: Shown<'_>,
-    ) -> io::Result<Option<(Chosen, Option<Missing>)>> {
+    ) -> io::Result<Option<(Chosen, Option<Missing>)>>
+        ensures { IfOk result (λ found. IfSome found (λ it. ShowsChoice shown.entry event.now it.0.choice)) }
+    {
         let Some(kept) = &self.kept else {
             return Ok(None);
         };
@@ -225,17 +235,17 @@ impl Judge {
         text: &[u8],
     ) -> io::Result<Option<Verdict>>
         ensures { IfOk result (λ found. MatchOption found
-            ((self.new.line ≡ self.old.line) × GoesOn self.old.kept (event.now ∷ []) (outcome.now ∷ []) self.new.kept)
+            ((choice : spec.Choice) × ShowsChoice shown.entry event.now choice × Continues self.old (Came event.now outcome.now choice ∷ []) self.new)
             (Names self.old.line)) }
     {
-        if let Some(verdict) = self.refuse_handed(event, outcome, shown, text)? {
-            return Ok(Some(verdict));
-        }
         let Some((chosen, made)) = self.choose(event, outcome, shown)? else {
             return Ok(Some(bad(self.alloc, self.line, NO_WORLD)?));
         };
+        if let Some(verdict) = self.refuse_handed(event, outcome, &chosen.choice, text)? {
+            return Ok(Some(verdict));
+        }
         if self.step(event, outcome, &chosen.choice)? {
-            self.note(event, outcome, shown, chosen.missing, made)?;
+            self.note(event, outcome, shown, &chosen, made)?;
             return Ok(None);
         }
         let verdict = self.refuse(event, outcome, shown.on, &chosen.choice, text)?;
@@ -247,13 +257,16 @@ impl Judge {
         &self,
         event: &Event,
         outcome: &Outcome,
-        shown: Shown<'_>,
+        choice: &Choice,
         text: &[u8],
     ) -> io::Result<Option<Verdict>>
-        ensures { IfOk result (λ found. IfSome found (Names self.now.line)) }
+        ensures { IfOk result (λ found. MatchOption found
+            (IsTrue self.now.handed.takes_back → (frame : ℕ) → IsTrue (is_used event.now outcome.now choice.now frame)
+            → is_given self.now.handed frame ≡ false)
+            (Names self.now.line)) }
     {
         let (alloc, line) = (self.alloc, self.line);
-        match self.handed.reason(alloc, event, outcome, shown)? {
+        match self.handed.reason(alloc, event, outcome, choice)? {
             None => Ok(None),
             Some(reason) => Ok(Some(Verdict::Unlawful {
                 line,
@@ -265,7 +278,7 @@ impl Judge {
     /// What is found where the frame is given to somebody else, if that ends the trace.
     fn hand_off(&mut self, frame: u64, text: &[u8]) -> io::Result<Option<Verdict>>
         ensures { IfOk result (λ found. MatchOption found
-            ((self.new.line ≡ self.old.line) × GoesOnAs self.old.kept (Handoff frame) self.new.kept)
+            (ContinuesAs self.old (Handoff frame) [] self.new)
             (Names self.old.line)) }
     {
         if let Some(verdict) = self.go_on(
@@ -283,7 +296,7 @@ impl Judge {
     /// What is found where the frame is taken back, if that ends the trace.
     fn take_back(&mut self, frame: u64, text: &[u8]) -> io::Result<Option<Verdict>>
         ensures { IfOk result (λ found. MatchOption found
-            ((self.new.line ≡ self.old.line) × GoesOnAs self.old.kept (Take frame) self.new.kept)
+            (ContinuesAs self.old (Take frame) [] self.new)
             (Names self.old.line)) }
     {
         let (alloc, line) = (self.alloc, self.line);
@@ -300,6 +313,18 @@ impl Judge {
         }))
     }
 
+    /// What is found where the device shares the domain of another: that ends the trace.
+    fn refuse_joined(&self, device: DeviceId) -> io::Result<Option<Verdict>>
+        ensures { IfOk result (λ found. IsSomeAnd found (Names self.now.line)) }
+    {
+        let line = self.line;
+        if self.kept.is_none() {
+            return Ok(Some(bad(self.alloc, line, NO_WORLD)?));
+        }
+        let missing = Missing::Domain { device };
+        Ok(Some(Verdict::Uncertified { line, missing }))
+    }
+
     /// What is found of a line that says this, if it ends the trace.
     fn take_said(
         &mut self,
@@ -308,7 +333,7 @@ impl Judge {
         text: &[u8],
     ) -> io::Result<Option<Verdict>>
         ensures { (line : List ℕ) (lines : List (List ℕ)) → IsReadOf line (said_of said.now) tables.now
-            → Certify self.old.kept (spoken lines) → self.old.line ≡ length lines + 1
+            → Certify self.old.kept self.old.handed (spoken lines) → self.old.line ≡ length lines + 1
             → IfOk result (λ found. MatchOption found (HasTakenAll self.new (lines ++ line ∷ [])) (Names self.old.line)) }
     {
         match said {
@@ -326,7 +351,9 @@ impl Judge {
                 began,
             } => {
                 let shown = Shown {
-                    tables: if_shown(*has_tables, tables),
+                    has_tables: *has_tables,
+                    tables,
+                    freed: &[],
                     on: *on,
                     began: began.as_ref(),
                 };
@@ -334,17 +361,20 @@ impl Judge {
             }
             TraceLine::Made { device, is_read } => self.make(*device, *is_read, text),
             TraceLine::Grants(granted, has_tables) => {
-                self.grant_each(*granted, if_shown(*has_tables, tables), text)
+                self.grant_each(*granted, *has_tables, tables, text)
             }
             TraceLine::Releases(released, ticket) => self.release_each(*released, *ticket, text),
             TraceLine::Handoff(frame) => self.hand_off(*frame, text),
             TraceLine::Take(frame) => self.take_back(*frame, text),
+            TraceLine::Joins { device, .. } => self.refuse_joined(*device),
+            TraceLine::TablesFreed => self.free_tables(tables, text),
         }
     }
 
     /// Counts a line more.
     fn count(&mut self) -> io::Result<()>
         ensures kept { self.new.kept ≡ self.old.kept }
+        ensures handed { self.new.handed ≡ self.old.handed }
         ensures counted { OnOk result (self.new.line ≡ self.old.line + 1) }
     {
         if self.line == u64::MAX {
@@ -396,7 +426,7 @@ fn judge_next<R: Read>(
 }
 
 /// What is found of the lines.
-fn judge_lines<R: Read>(
+pub(crate) fn judge_lines<R: Read>(
     judge: &mut Judge,
     reading: &mut Reading,
     lines: &mut Lines,

@@ -1,7 +1,8 @@
 // An access that was made, of which a line tells no more.
-ghost use Rattle.std.specs.Prelude.{◌≡◌, IfOk, MatchOption};
-ghost use Rattle.iom_trace_lines.specs.TraceLines.{IsMade, Made};
-ghost use Rattle.iom_judge.specs.Certified.{GoesOnAs, Names};
+ghost use Rattle.std.specs.Prelude.{[], IfOk, MatchOption};
+ghost use Rattle.iom_trace_lines.specs.TraceLines.{Made};
+ghost use Rattle.iom_judge.specs.Certified.{ContinuesAs, Names};
+ghost use Rattle.iom_judge.specs.Happenings.{MayBeTold};
 
 use crate::bad::{NO_WORLD, bad};
 use crate::choosing::NOTHING;
@@ -37,7 +38,7 @@ fn read_now(kept: &KeptState, made: &AcceptedAccess) -> ArrayVec<u8, 4096> {
 
 /// What comes of the device's oldest access, where it is made now: of a read, or of whatever it is.
 fn made_now(kept: &KeptState, id: DeviceId, is_read: bool) -> Outcome
-    ensures { IsMade is_read result }
+    ensures { MayBeTold is_read result }
 {
     let Some(made) = oldest(kept, id) else {
         return Outcome::Read(ArrayVec::new());
@@ -57,7 +58,7 @@ impl Judge {
         text: &[u8],
     ) -> io::Result<Option<Verdict>>
         ensures { IfOk result (λ found. MatchOption found
-            ((self.new.line ≡ self.old.line) × GoesOnAs self.old.kept (Made device is_read) self.new.kept)
+            (ContinuesAs self.old (Made device is_read) [] self.new)
             (Names self.old.line)) }
     {
         let Some(kept) = &self.kept else {

@@ -21,6 +21,8 @@ pub enum Missing {
     Frame(Begun),
     /// Which access a block device's step began.
     Access(Begun),
+    /// What the device may reach that shares the domain of another: that isn't followed.
+    Domain { device: DeviceId },
 }
 
 /// What `iommu-judge` prints of it, behind what it found.
@@ -42,6 +44,10 @@ impl fmt::Display for Missing {
                 "; access {number} of {device:06x}, accepted in line {line}, may be on several frames: write `; on FRAME` behind its answer"
             ),
             Missing::Access(begun) => write_access(f, *begun),
+            Missing::Domain { device } => write!(
+                f,
+                "; a shared domain isn't followed: attach {device:06x} by itself, and write a `grant` and a `release` for it too"
+            ),
         }
     }
 }

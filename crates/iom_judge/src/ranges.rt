@@ -1,8 +1,8 @@
 // Grants and releases of pages side by side, one after another.
-ghost use Rattle.std.specs.Prelude.{◌≡◌, ◌+◌, Bool, IfOk, IfSome, MatchOption};
+ghost use Rattle.std.specs.Prelude.{◌≡◌, ◌+◌, ◌<◌, [], IfOk, IfSome, MatchOption};
 ghost use Rattle.iom_machine.specs.declared.event.Event.TheVariants as events;
-ghost use Rattle.iom_trace_lines.specs.TraceLines.{Grants, Releases};
-ghost use Rattle.iom_judge.specs.Certified.{GoesOnAs, Names};
+ghost use Rattle.iom_trace_lines.specs.TraceLines.{Releases};
+ghost use Rattle.iom_judge.specs.Certified.{ContinuesAs, ContinuesByGrants, Names};
 
 use crate::bad::{NO_WORLD, bad};
 use crate::choosing::{NOTHING, Shown};
@@ -41,12 +41,18 @@ fn release_at(released: ReleasedPages, index: u64) -> Option<Event>
 }
 
 /// What is shown of the grant with this index: the first has all tables that are shown.
-fn shown_at(tables: Option<&[u64]>, index: u64) -> Shown<'_> {
-    let tables = match tables {
-        Some(_) if index > 0 => Some([].as_slice()),
-        tables => tables,
-    };
-    Shown { tables, ..NOTHING }
+fn shown_at(has_tables: bool, tables: &[u64], index: u64) -> Shown<'_>
+    ensures has { result.has_tables ≡ has_tables }
+    ensures first { index ≡ 0 → result.tables.now ≡ tables.now }
+    ensures later { 0 < index → result.tables.now ≡ [] }
+    ensures freed { result.freed.now ≡ [] }
+{
+    let tables = if index == 0 { tables } else { &[] };
+    Shown {
+        has_tables,
+        tables,
+        ..NOTHING
+    }
 }
 
 impl Judge {
@@ -54,12 +60,12 @@ impl Judge {
     pub(crate) fn grant_each(
         &mut self,
         granted: GrantedPages,
-        tables: Option<&[u64]>,
+        has_tables: bool,
+        tables: &[u64],
         text: &[u8],
     ) -> io::Result<Option<Verdict>>
-        ensures { (has_tables : Bool) → IfOk result (λ found. MatchOption found
-            ((self.new.line ≡ self.old.line)
-            × GoesOnAs self.old.kept (Grants granted.device granted.page granted.count granted.frame granted.rights has_tables) self.new.kept)
+        ensures { IfOk result (λ found. MatchOption found
+            (ContinuesByGrants self.old granted.device granted.page granted.frame granted.rights granted.count has_tables tables.now self.new)
             (Names self.old.line)) }
     {
         if self.kept.is_none() {
@@ -70,7 +76,7 @@ impl Judge {
             let Some(event) = grant_at(granted, index) else {
                 return Ok(Some(bad(self.alloc, self.line, BEYOND)?));
             };
-            let shown = shown_at(tables, index);
+            let shown = shown_at(has_tables, tables, index);
             if let Some(verdict) = self.go_on(&event, &done, shown, text)? {
                 return Ok(Some(verdict));
             }
@@ -86,8 +92,7 @@ impl Judge {
         text: &[u8],
     ) -> io::Result<Option<Verdict>>
         ensures { IfOk result (λ found. MatchOption found
-            ((self.new.line ≡ self.old.line)
-            × GoesOnAs self.old.kept (Releases released.device released.page released.count ticket) self.new.kept)
+            (ContinuesAs self.old (Releases released.device released.page released.count ticket) [] self.new)
             (Names self.old.line)) }
     {
         if self.kept.is_none() {

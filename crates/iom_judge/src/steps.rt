@@ -7,16 +7,6 @@ use iom_kept_state::KeptState;
 use iom_machine::Outcome;
 use std::alloc::{AllocError, Global};
 
-/// The access, once more.
-fn copy_of(alloc: Global, access: &Access) -> Result<Access, AllocError> {
-    Ok(Access {
-        address: access.address,
-        len: access.len,
-        kind: access.kind,
-        bytes: Sequence::from_vec(Vec::from_slice(alloc, access.bytes.as_slice())?),
-    })
-}
-
 /// Whether only a write is refused so.
 fn is_of_write(cause: Cause) -> bool {
     matches!(
@@ -38,19 +28,6 @@ fn refused_access(
         access.bytes.push(0)?;
     }
     Ok(access)
-}
-
-/// The access that the line shows, on the frame that is shown, or else on the one that the grants say.
-fn choose_shown(
-    alloc: Global,
-    kept: &KeptState,
-    begun: Begun,
-    access: &Access,
-    on: Option<u64>,
-) -> Result<Chosen, AllocError> {
-    let mut chosen = choose_frame(alloc, kept, begun, access.address, access.kind, on);
-    chosen.choice.access = copy_of(alloc, access)?;
-    Ok(chosen)
 }
 
 /// An access that isn't shown: a read of one byte, of the frame that is shown, or else of the first.
@@ -81,7 +58,10 @@ pub(crate) fn choose_step(
                 line,
             };
             match shown.began {
-                Some(access) => choose_shown(alloc, kept, begun, access, shown.on),
+                Some(access) => {
+                    let (address, kind) = (access.address, access.kind);
+                    Ok(choose_frame(alloc, kept, begun, address, kind, shown.on))
+                }
                 None => Ok(choose_unshown(alloc, kept, begun, shown.on)),
             }
         }

@@ -8,3 +8,4 @@ mod LowLemmas
 mod NamedLemmas
 mod PastLemmas
 mod ReachLemmas
+mod ReturningLemmas

@@ -48,7 +48,7 @@ fn device_with(devices: &[Device], id: DeviceId) -> Option<&Device>
 }
 
 /// How the device is attached, of these; detached, where it is none of them.
-fn attachment_in(devices: &[Device], id: DeviceId) -> Attachment
+pub(crate) fn attachment_in(devices: &[Device], id: DeviceId) -> Attachment
     ensures { result ≡ attachment_in devices.now id }
 {
     match device_with(devices, id) {

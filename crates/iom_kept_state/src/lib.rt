@@ -14,6 +14,7 @@ mod free;
 mod grants;
 mod leaving;
 mod looks;
+mod returning;
 mod state;
 mod tickets;
 mod wanted;

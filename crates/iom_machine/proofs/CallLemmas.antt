@@ -128,11 +128,11 @@ revived_as old id place device devices none is_place at d new =
     )
 
 -- the state after a poll
-pub confirmed_as : (old : State) (first last : ℕ) (timed_out : Bool) (history : History) → MayConfirm old first last → history ≡ confirmed_from first (suc (last - first)) old.history
+pub confirmed_as : (returned : List ℕ) (old : State) (first last : ℕ) (timed_out : Bool) (history : History) → MayConfirm old first last → history ≡ confirmed_from first (suc (last - first)) old.history
     → All (DeviceMay history) old.devices
     → (next : State) → next ≡ with_left (record { limits = old.limits; levels = old.levels; frames = old.frames; history = history; last_ticket = old.last_ticket; devices = old.devices; disks = old.disks })
-    → (new : State) → (◌≡◌ {A = Option State} (Some next) (Some new)) ↔ Polls old (Confirmed first last timed_out) new
-confirmed_as old first last timed_out history tickets extended may next left new =
+    → (new : State) → (◌≡◌ {A = Option State} (Some next) (Some new)) ↔ Polls returned old (Confirmed first last timed_out) new
+confirmed_as returned old first last timed_out history tickets extended may next left new =
     let confirmed : State = record { limits = old.limits; levels = old.levels; frames = old.frames; history = history; last_ticket = old.last_ticket; devices = old.devices; disks = old.disks } in
     let was : confirmed ≡ with_confirmed old first last = rw extended refl in
     let is : next ≡ with_left (with_confirmed old first last) = left ∙ ap with_left was in
@@ -141,9 +141,9 @@ confirmed_as old first last timed_out history tickets extended may next left new
       (λ step. some_state next new (is ∙ sym step.1)),
     )
 
-pub not_confirmed_as : (old : State) (first last : ℕ) (timed_out : Bool) (history : History) → history ≡ confirmed_from first (suc (last - first)) old.history → ¬ All (DeviceMay history) old.devices
-    → (new : State) → (◌≡◌ {A = Option State} None (Some new)) ↔ Polls old (Confirmed first last timed_out) new
-not_confirmed_as old first last timed_out history extended never new = (
+pub not_confirmed_as : (returned : List ℕ) (old : State) (first last : ℕ) (timed_out : Bool) (history : History) → history ≡ confirmed_from first (suc (last - first)) old.history → ¬ All (DeviceMay history) old.devices
+    → (new : State) → (◌≡◌ {A = Option State} None (Some new)) ↔ Polls returned old (Confirmed first last timed_out) new
+not_confirmed_as returned old first last timed_out history extended never new = (
   (λ same. absurd (no_state new same)),
   (λ step. absurd (never (subst (λ h. All (DeviceMay h) old.devices) (sym extended)
       ((devices_may (with_confirmed old first last).history old.devices).1 (subst EachInFlightMay step.1 step.2))))),

@@ -459,7 +459,7 @@ devices-step old new events.Timeout NoEffect (choice, step) = stays_asking _ _ o
 devices-step old new events.Timeout _ (choice, step) = absurd step
 devices-step old new events.Poll (Confirmed first last timed_out) (choice, step) =
     DevicesChange.leave (λ other. (refl, refl)) (with_confirmed old first last).history (ap (λ (s : State). s.devices) step.1)
-devices-step old new events.Poll (NoneConfirmed timed_out) (choice, step) = stays_asking _ _ old new refl (λ other. refl) (ap (λ (s : State). s.devices) step)
+devices-step old new events.Poll (NoneConfirmed timed_out) (choice, step) = stays_asking _ _ old new refl (λ other. refl) (ap (λ (s : State). s.devices) step.1)
 devices-step old new events.Poll _ (choice, step) = absurd step
 devices-step old new events.Faults (Record taken) (choice, step) = stays_asking _ _ old new refl (λ other. refl) (ap (λ (s : State). s.devices) step)
 devices-step old new events.Faults NoRecord (choice, step) = stays_asking _ _ old new refl (λ other. refl) (ap (λ (s : State). s.devices) step)

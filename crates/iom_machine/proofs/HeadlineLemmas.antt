@@ -306,7 +306,7 @@ pub commits_are_answered : (state : State) (id : ℕ) → IsReached state → (o
 commits_are_answered state id reached = by (device_of state id) refl
   where
     none_chosen : Choice
-    none_chosen = record { directory = []; taken = []; frame = 0; device = 0; page = 0; access = read_of 0 0 }
+    none_chosen = record { directory = []; taken = []; returned = []; frame = 0; device = 0; page = 0; access = read_of 0 0 }
 
     by : (found : Option Device) → device_of state id ≡ found → (outcome : Outcome) × (new : State) × Step state (events.Commit id) outcome new
     by None absent = (Refused NoSuchDevice, state, (none_chosen, rw absent (refl, refl)))

@@ -415,7 +415,7 @@ in_flight-step P old new events.Timeout NoEffect (choice, step) enters all = dev
 in_flight-step P old new events.Timeout _ (choice, step) enters all = absurd step
 in_flight-step P old new events.Poll (Confirmed first last timed_out) (choice, step) enters all =
     devices_leave P old new (with_confirmed old first last).history (ap (λ (s : State). s.devices) step.1) all
-in_flight-step P old new events.Poll (NoneConfirmed timed_out) (choice, step) enters all = devices_stay P old new (ap (λ (s : State). s.devices) step) all
+in_flight-step P old new events.Poll (NoneConfirmed timed_out) (choice, step) enters all = devices_stay P old new (ap (λ (s : State). s.devices) step.1) all
 in_flight-step P old new events.Poll _ (choice, step) enters all = absurd step
 in_flight-step P old new events.Faults (Record taken) (choice, step) enters all = devices_stay P old new (ap (λ (s : State). s.devices) step) all
 in_flight-step P old new events.Faults NoRecord (choice, step) enters all = devices_stay P old new (ap (λ (s : State). s.devices) step) all

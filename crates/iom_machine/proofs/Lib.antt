@@ -15,3 +15,4 @@ pub mod StepLemmas
 pub mod CallLemmas
 pub mod ProcessorLemmas
 pub mod QuestionLemmas
+pub mod ReturningLemmas

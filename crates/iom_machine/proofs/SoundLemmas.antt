@@ -39,7 +39,8 @@ use Rattle.iom_machine.specs.ThroughCache.{state_after_cached}
 use Rattle.iom_machine.specs.Machine.{Requests, RequestsThroughCache, InsertsDisk, Steps, Makes, Commits, Step, Run}
 use Rattle.iom_machine.specs.PowerOn.{opening, empty_frame}
 use Rattle.iom_machine.specs.Leaving.{is_of_left, given_back}
-use Rattle.iom_machine.specs.Tickets.{with_confirmed, IsLastPending, MayConfirm, MayTake}
+use Rattle.iom_machine.specs.Returning.{frames_returned}
+use Rattle.iom_machine.specs.Tickets.{with_confirmed, IsLastPending, MayConfirm, MayTakeTicket}
 use Rattle.iom_machine.specs.Headline.{GrantsFrameTo}
 use Rattle.iom_machine.specs.Laws.{IsReached}
 use Rattle.iom_virtqueue.specs.Layouts.{layout_of}
@@ -228,7 +229,7 @@ same_ledger-steps access chosen old new id outcome step = (
 abbrev TakesTicket : State → ℕ → Type 0
 TakesTicket old ticket = (ticket ≡ old.last_ticket + 1) ⊎ IsLastPending old ticket
 
-taken : (old : State) (ticket : ℕ) → MayTake old ticket → TakesTicket old ticket
+taken : (old : State) (ticket : ℕ) → MayTakeTicket old ticket → TakesTicket old ticket
 taken old ticket (inl next) = inl next
 taken old ticket (inr shared) = inr shared.1
 
@@ -301,7 +302,7 @@ change-step old new events.Timeout _ (choice, step) = absurd step
 change-step old new events.Poll (Confirmed first last timed_out) (choice, step) =
     let within = confirmable old first last step.0 in let upward : first ≤ last = within.0 in let most : last ≤ old.last_ticket = within.1 in
     Change.confirms_some first (suc (last - first)) (omega arith) (ap (λ (s : State). s.history) step.1) (ap (λ (s : State). s.last_ticket) step.1) step.2
-change-step old new events.Poll (NoneConfirmed timed_out) (choice, step) = unchanged _ _ old new step
+change-step old new events.Poll (NoneConfirmed timed_out) (choice, step) = Change.ledger_stays (ap (λ (s : State). s.history) step.1, ap (λ (s : State). s.last_ticket) step.1)
 change-step old new events.Poll _ (choice, step) = absurd step
 change-step old new events.Faults (Record taken) (choice, step) = unchanged _ _ old new step
 change-step old new events.Faults NoRecord (choice, step) = unchanged _ _ old new step
@@ -449,6 +450,14 @@ KeptByPokes P = (frames : List Frame) (number offset : ℕ) (bytes : List ℕ) �
 abbrev pub KeptByReturns : (List Frame → Type 0) → Type 0
 KeptByReturns P = (frames : List Frame) (has_left : Option Owner → Bool) → P frames → P (map (λ frame. given_back (has_left frame.owner) frame) frames)
 
+-- what is kept where a frame is emptied
+abbrev pub KeptByEmptying : (List Frame → Type 0) → Type 0
+KeptByEmptying P = (frames : List Frame) (number : ℕ) → P frames → P (with_frame frames number (λ frame. empty_frame))
+
+kept-emptied : (P : List Frame → Type 0) → KeptByEmptying P → (numbers : List ℕ) (frames : List Frame) → P frames → P (frames_returned numbers frames)
+kept-emptied P emptied [] frames its = its
+kept-emptied P emptied (number ∷ numbers) frames its = kept-emptied P emptied numbers _ (emptied frames number its)
+
 kept-reserved : (P : List Frame → Type 0) → KeptByOwners P → (owner : Owner) (numbers : List ℕ) (frames : List Frame) → P frames → P (reserved_for owner numbers frames)
 kept-reserved P owned owner [] frames its = its
 kept-reserved P owned owner (number ∷ numbers) frames its = kept-reserved P owned owner numbers _ (owned frames number owner its)
@@ -473,84 +482,85 @@ frames-commits W P written old new id outcome all step its = elim (act_cases is_
     by device at _ makes = absurd makes
 
 -- A step keeps what reserving frames keeps, and giving them back, and making the writes in flight, and the processor's own.
-pub frames-step : (W : AcceptedAccess → Type 0) (P : List Frame → Type 0) → KeptByOwners P → KeptByReturns P → KeptByWrites W P → KeptByPokes P
+pub frames-step : (W : AcceptedAccess → Type 0) (P : List Frame → Type 0) → KeptByOwners P → KeptByReturns P → KeptByEmptying P → KeptByWrites W P → KeptByPokes P
     → (old new : State) (event : Event) (outcome : Outcome) → AllInFlight (λ id flight. W flight) old.devices → Step old event outcome new → P old.frames → P new.frames
-frames-step W P owned returned written poked old new (events.Plug id what) Done all (choice, step) its = subst P (sym (ap (λ (s : State). s.frames) step.1)) its
-frames-step W P owned returned written poked old new (events.Plug id what) (Refused why) all (choice, step) its = subst P (sym (ap (λ (s : State). s.frames) step.1)) its
-frames-step W P owned returned written poked old new (events.Plug id what) _ all (choice, step) its = absurd step
-frames-step W P owned returned written poked old new (events.Medium id disk) outcome all (choice, step) its = subst P (sym (same_frames-inserts disk old new id outcome step)) its
-frames-step W P owned returned written poked old new (events.Attach id mode ats) Done all (choice, step) its =
+frames-step W P owned returned emptied written poked old new (events.Plug id what) Done all (choice, step) its = subst P (sym (ap (λ (s : State). s.frames) step.1)) its
+frames-step W P owned returned emptied written poked old new (events.Plug id what) (Refused why) all (choice, step) its = subst P (sym (ap (λ (s : State). s.frames) step.1)) its
+frames-step W P owned returned emptied written poked old new (events.Plug id what) _ all (choice, step) its = absurd step
+frames-step W P owned returned emptied written poked old new (events.Medium id disk) outcome all (choice, step) its = subst P (sym (same_frames-inserts disk old new id outcome step)) its
+frames-step W P owned returned emptied written poked old new (events.Attach id mode ats) Done all (choice, step) its =
     let found = some_case (device_of old id) _ step.2 in
     subst P (sym (ap (λ (s : State). s.frames) found.2))
     (kept-reserved P owned (OneDevice id) choice.taken _ (kept-reserved P owned System choice.directory old.frames its))
-frames-step W P owned returned written poked old new (events.Attach id mode ats) (Refused why) all (choice, step) its = subst P (sym (ap (λ (s : State). s.frames) step.1)) its
-frames-step W P owned returned written poked old new (events.Attach id mode ats) _ all (choice, step) its = absurd step
-frames-step W P owned returned written poked old new (events.Detach id) (Ticket ticket) all (choice, step) its =
+frames-step W P owned returned emptied written poked old new (events.Attach id mode ats) (Refused why) all (choice, step) its = subst P (sym (ap (λ (s : State). s.frames) step.1)) its
+frames-step W P owned returned emptied written poked old new (events.Attach id mode ats) _ all (choice, step) its = absurd step
+frames-step W P owned returned emptied written poked old new (events.Detach id) (Ticket ticket) all (choice, step) its =
     let found = some_case (device_of old id) _ step.2 in subst P (sym (ap (λ (s : State). s.frames) found.2)) its
-frames-step W P owned returned written poked old new (events.Detach id) (Refused why) all (choice, step) its = subst P (sym (ap (λ (s : State). s.frames) step.1)) its
-frames-step W P owned returned written poked old new (events.Detach id) _ all (choice, step) its = absurd step
-frames-step W P owned returned written poked old new (events.Grant id page frame rights) Done all (choice, step) its =
+frames-step W P owned returned emptied written poked old new (events.Detach id) (Refused why) all (choice, step) its = subst P (sym (ap (λ (s : State). s.frames) step.1)) its
+frames-step W P owned returned emptied written poked old new (events.Detach id) _ all (choice, step) its = absurd step
+frames-step W P owned returned emptied written poked old new (events.Grant id page frame rights) Done all (choice, step) its =
     subst P (sym (ap (λ (s : State). s.frames) step.2)) (kept-reserved P owned (OneDevice id) choice.taken old.frames its)
-frames-step W P owned returned written poked old new (events.Grant id page frame rights) (Refused why) all (choice, step) its = subst P (sym (ap (λ (s : State). s.frames) step.1)) its
-frames-step W P owned returned written poked old new (events.Grant id page frame rights) _ all (choice, step) its = absurd step
-frames-step W P owned returned written poked old new (events.Release id page) (Ticket ticket) all (choice, step) its = subst P (sym (ap (λ (s : State). s.frames) step.2)) its
-frames-step W P owned returned written poked old new (events.Release id page) (Refused why) all (choice, step) its = subst P (sym (ap (λ (s : State). s.frames) step.1)) its
-frames-step W P owned returned written poked old new (events.Release id page) _ all (choice, step) its = absurd step
-frames-step W P owned returned written poked old new (events.Quarantine id) (Ticket ticket) all (choice, step) its =
+frames-step W P owned returned emptied written poked old new (events.Grant id page frame rights) (Refused why) all (choice, step) its = subst P (sym (ap (λ (s : State). s.frames) step.1)) its
+frames-step W P owned returned emptied written poked old new (events.Grant id page frame rights) _ all (choice, step) its = absurd step
+frames-step W P owned returned emptied written poked old new (events.Release id page) (Ticket ticket) all (choice, step) its = subst P (sym (ap (λ (s : State). s.frames) step.2)) its
+frames-step W P owned returned emptied written poked old new (events.Release id page) (Refused why) all (choice, step) its = subst P (sym (ap (λ (s : State). s.frames) step.1)) its
+frames-step W P owned returned emptied written poked old new (events.Release id page) _ all (choice, step) its = absurd step
+frames-step W P owned returned emptied written poked old new (events.Quarantine id) (Ticket ticket) all (choice, step) its =
     let found = some_case (device_of old id) _ step.2 in subst P (sym (ap (λ (s : State). s.frames) found.2)) its
-frames-step W P owned returned written poked old new (events.Quarantine id) (Refused why) all (choice, step) its = subst P (sym (ap (λ (s : State). s.frames) step.1)) its
-frames-step W P owned returned written poked old new (events.Quarantine id) _ all (choice, step) its = absurd step
-frames-step W P owned returned written poked old new (events.Revive id) Done all (choice, step) its =
+frames-step W P owned returned emptied written poked old new (events.Quarantine id) (Refused why) all (choice, step) its = subst P (sym (ap (λ (s : State). s.frames) step.1)) its
+frames-step W P owned returned emptied written poked old new (events.Quarantine id) _ all (choice, step) its = absurd step
+frames-step W P owned returned emptied written poked old new (events.Revive id) Done all (choice, step) its =
     let found = some_case (device_of old id) _ step.1 in subst P (sym (ap (λ (s : State). s.frames) found.2)) its
-frames-step W P owned returned written poked old new (events.Revive id) (Refused why) all (choice, step) its = subst P (sym (ap (λ (s : State). s.frames) step.1)) its
-frames-step W P owned returned written poked old new (events.Revive id) _ all (choice, step) its = absurd step
-frames-step W P owned returned written poked old new events.Restart Done all (choice, step) its = subst P (sym (ap (λ (s : State). s.frames) step)) its
-frames-step W P owned returned written poked old new events.Restart (Refused why) all (choice, step) its = subst P (sym (ap (λ (s : State). s.frames) step.1)) its
-frames-step W P owned returned written poked old new events.Restart _ all (choice, step) its = absurd step
-frames-step W P owned returned written poked old new events.Fetch (Fetched result) all (choice, step) its = subst P (sym (ap (λ (s : State). s.frames) step)) its
-frames-step W P owned returned written poked old new events.Fetch _ all (choice, step) its = absurd step
-frames-step W P owned returned written poked old new events.Timeout TimedOut all (choice, step) its = subst P (sym (ap (λ (s : State). s.frames) step)) its
-frames-step W P owned returned written poked old new events.Timeout NoEffect all (choice, step) its = subst P (sym (ap (λ (s : State). s.frames) step)) its
-frames-step W P owned returned written poked old new events.Timeout _ all (choice, step) its = absurd step
-frames-step W P owned returned written poked old new events.Poll (Confirmed first last timed_out) all (choice, step) its =
+frames-step W P owned returned emptied written poked old new (events.Revive id) (Refused why) all (choice, step) its = subst P (sym (ap (λ (s : State). s.frames) step.1)) its
+frames-step W P owned returned emptied written poked old new (events.Revive id) _ all (choice, step) its = absurd step
+frames-step W P owned returned emptied written poked old new events.Restart Done all (choice, step) its = subst P (sym (ap (λ (s : State). s.frames) step)) its
+frames-step W P owned returned emptied written poked old new events.Restart (Refused why) all (choice, step) its = subst P (sym (ap (λ (s : State). s.frames) step.1)) its
+frames-step W P owned returned emptied written poked old new events.Restart _ all (choice, step) its = absurd step
+frames-step W P owned returned emptied written poked old new events.Fetch (Fetched result) all (choice, step) its = subst P (sym (ap (λ (s : State). s.frames) step)) its
+frames-step W P owned returned emptied written poked old new events.Fetch _ all (choice, step) its = absurd step
+frames-step W P owned returned emptied written poked old new events.Timeout TimedOut all (choice, step) its = subst P (sym (ap (λ (s : State). s.frames) step)) its
+frames-step W P owned returned emptied written poked old new events.Timeout NoEffect all (choice, step) its = subst P (sym (ap (λ (s : State). s.frames) step)) its
+frames-step W P owned returned emptied written poked old new events.Timeout _ all (choice, step) its = absurd step
+frames-step W P owned returned emptied written poked old new events.Poll (Confirmed first last timed_out) all (choice, step) its =
     subst P (sym (ap (λ (s : State). s.frames) step.1)) (returned old.frames (is_of_left (with_confirmed old first last)) its)
-frames-step W P owned returned written poked old new events.Poll (NoneConfirmed timed_out) all (choice, step) its = subst P (sym (ap (λ (s : State). s.frames) step)) its
-frames-step W P owned returned written poked old new events.Poll _ all (choice, step) its = absurd step
-frames-step W P owned returned written poked old new events.Faults (Record taken) all (choice, step) its = subst P (sym (ap (λ (s : State). s.frames) step)) its
-frames-step W P owned returned written poked old new events.Faults NoRecord all (choice, step) its = subst P (sym (ap (λ (s : State). s.frames) step)) its
-frames-step W P owned returned written poked old new events.Faults _ all (choice, step) its = absurd step
-frames-step W P owned returned written poked old new (events.Read id address len) outcome all (choice, step) its = subst P (sym (same_frames-requests choice.frame old new id (read_of address len) outcome step)) its
-frames-step W P owned returned written poked old new (events.Write id address bytes) outcome all (choice, step) its = subst P (sym (same_frames-requests choice.frame old new id (write_of address bytes) outcome step)) its
-frames-step W P owned returned written poked old new (events.ReadTranslated id address len) outcome all (choice, step) its = subst P (sym (ap (λ (s : State). s.frames) (same-translated old new id (read_of address len) outcome step))) its
-frames-step W P owned returned written poked old new (events.WriteTranslated id address bytes) outcome all (choice, step) its = subst P (sym (ap (λ (s : State). s.frames) (same-translated old new id (write_of address bytes) outcome step))) its
-frames-step W P owned returned written poked old new (events.ReadThroughCache id address len) outcome all (choice, step) its =
+frames-step W P owned returned emptied written poked old new events.Poll (NoneConfirmed timed_out) all (choice, step) its =
+    subst P (sym (ap (λ (s : State). s.frames) step.1)) (kept-emptied P emptied choice.returned old.frames its)
+frames-step W P owned returned emptied written poked old new events.Poll _ all (choice, step) its = absurd step
+frames-step W P owned returned emptied written poked old new events.Faults (Record taken) all (choice, step) its = subst P (sym (ap (λ (s : State). s.frames) step)) its
+frames-step W P owned returned emptied written poked old new events.Faults NoRecord all (choice, step) its = subst P (sym (ap (λ (s : State). s.frames) step)) its
+frames-step W P owned returned emptied written poked old new events.Faults _ all (choice, step) its = absurd step
+frames-step W P owned returned emptied written poked old new (events.Read id address len) outcome all (choice, step) its = subst P (sym (same_frames-requests choice.frame old new id (read_of address len) outcome step)) its
+frames-step W P owned returned emptied written poked old new (events.Write id address bytes) outcome all (choice, step) its = subst P (sym (same_frames-requests choice.frame old new id (write_of address bytes) outcome step)) its
+frames-step W P owned returned emptied written poked old new (events.ReadTranslated id address len) outcome all (choice, step) its = subst P (sym (ap (λ (s : State). s.frames) (same-translated old new id (read_of address len) outcome step))) its
+frames-step W P owned returned emptied written poked old new (events.WriteTranslated id address bytes) outcome all (choice, step) its = subst P (sym (ap (λ (s : State). s.frames) (same-translated old new id (write_of address bytes) outcome step))) its
+frames-step W P owned returned emptied written poked old new (events.ReadThroughCache id address len) outcome all (choice, step) its =
     subst P (sym (same_frames-through_cache choice.frame old new id (read_of address len) outcome step)) its
-frames-step W P owned returned written poked old new (events.WriteThroughCache id address bytes) outcome all (choice, step) its =
+frames-step W P owned returned emptied written poked old new (events.WriteThroughCache id address bytes) outcome all (choice, step) its =
     subst P (sym (same_frames-through_cache choice.frame old new id (write_of address bytes) outcome step)) its
-frames-step W P owned returned written poked old new (events.Ask id page) outcome all (choice, step) its = subst P (sym (ap (λ (s : State). s.frames) (same-asks old new id outcome step))) its
-frames-step W P owned returned written poked old new (events.Forge id serial) outcome all (choice, step) its = subst P (sym (ap (λ (s : State). s.frames) (same-forges old new id outcome step))) its
-frames-step W P owned returned written poked old new (events.Deliver place) outcome all (choice, step) its = subst P (sym (ap (λ (s : State). s.frames) (same-delivers choice.device choice.page old new outcome step))) its
-frames-step W P owned returned written poked old new (events.Drop place) outcome all (choice, step) its = subst P (sym (ap (λ (s : State). s.frames) (same-drops old new outcome step))) its
-frames-step W P owned returned written poked old new (events.Repeat place) outcome all (choice, step) its = subst P (sym (ap (λ (s : State). s.frames) (same-repeats old new outcome step))) its
-frames-step W P owned returned written poked old new (events.Reset id) outcome all (choice, step) its = subst P (sym (ap (λ (s : State). s.frames) (same-resets old new id outcome step))) its
-frames-step W P owned returned written poked old new (events.Queue id size descriptors available used) outcome all (choice, step) its =
+frames-step W P owned returned emptied written poked old new (events.Ask id page) outcome all (choice, step) its = subst P (sym (ap (λ (s : State). s.frames) (same-asks old new id outcome step))) its
+frames-step W P owned returned emptied written poked old new (events.Forge id serial) outcome all (choice, step) its = subst P (sym (ap (λ (s : State). s.frames) (same-forges old new id outcome step))) its
+frames-step W P owned returned emptied written poked old new (events.Deliver place) outcome all (choice, step) its = subst P (sym (ap (λ (s : State). s.frames) (same-delivers choice.device choice.page old new outcome step))) its
+frames-step W P owned returned emptied written poked old new (events.Drop place) outcome all (choice, step) its = subst P (sym (ap (λ (s : State). s.frames) (same-drops old new outcome step))) its
+frames-step W P owned returned emptied written poked old new (events.Repeat place) outcome all (choice, step) its = subst P (sym (ap (λ (s : State). s.frames) (same-repeats old new outcome step))) its
+frames-step W P owned returned emptied written poked old new (events.Reset id) outcome all (choice, step) its = subst P (sym (ap (λ (s : State). s.frames) (same-resets old new id outcome step))) its
+frames-step W P owned returned emptied written poked old new (events.Queue id size descriptors available used) outcome all (choice, step) its =
     subst P (sym (ap (λ (s : State). s.frames) (same-sets_queue (layout_of size descriptors available used) old new id outcome step))) its
-frames-step W P owned returned written poked old new (events.Step id) outcome all (choice, step) its =
+frames-step W P owned returned emptied written poked old new (events.Step id) outcome all (choice, step) its =
     subst P (sym (same_frames-steps choice.access choice.frame old new id outcome step)) its
-frames-step W P owned returned written poked old new (events.Status id) outcome all (choice, step) its = subst P (sym (ap (λ (s : State). s.frames) (same-tells_status old new id outcome step))) its
-frames-step W P owned returned written poked old new (events.Commit id) outcome all (choice, step) its = frames-commits W P written old new id outcome all step its
-frames-step W P owned returned written poked old new (events.Poke address bytes) Done all (choice, step) its =
+frames-step W P owned returned emptied written poked old new (events.Status id) outcome all (choice, step) its = subst P (sym (ap (λ (s : State). s.frames) (same-tells_status old new id outcome step))) its
+frames-step W P owned returned emptied written poked old new (events.Commit id) outcome all (choice, step) its = frames-commits W P written old new id outcome all step its
+frames-step W P owned returned emptied written poked old new (events.Poke address bytes) Done all (choice, step) its =
     subst P (sym (ap (λ (s : State). s.frames) step.2)) (poked old.frames (address / 4096) (address % 4096) bytes step.0.1 its)
-frames-step W P owned returned written poked old new (events.Poke address bytes) (Refused why) all (choice, step) its = subst P (sym (ap (λ (s : State). s.frames) step.2)) its
-frames-step W P owned returned written poked old new (events.Poke address bytes) BadSpan all (choice, step) its = subst P (sym (ap (λ (s : State). s.frames) step.1)) its
-frames-step W P owned returned written poked old new (events.Poke address bytes) _ all (choice, step) its = absurd step
-frames-step W P owned returned written poked old new (events.Peek address len) (Bytes bytes) all (choice, step) its = subst P (sym (ap (λ (s : State). s.frames) step.3)) its
-frames-step W P owned returned written poked old new (events.Peek address len) (Refused why) all (choice, step) its = subst P (sym (ap (λ (s : State). s.frames) step.2)) its
-frames-step W P owned returned written poked old new (events.Peek address len) BadSpan all (choice, step) its = subst P (sym (ap (λ (s : State). s.frames) step.1)) its
-frames-step W P owned returned written poked old new (events.Peek address len) _ all (choice, step) its = absurd step
-frames-step W P owned returned written poked old new (events.Free frame) (Free is_free) all (choice, step) its = subst P (sym (ap (λ (s : State). s.frames) step.2)) its
-frames-step W P owned returned written poked old new (events.Free frame) (Refused why) all (choice, step) its = subst P (sym (ap (λ (s : State). s.frames) step.1)) its
-frames-step W P owned returned written poked old new (events.Free frame) _ all (choice, step) its = absurd step
+frames-step W P owned returned emptied written poked old new (events.Poke address bytes) (Refused why) all (choice, step) its = subst P (sym (ap (λ (s : State). s.frames) step.2)) its
+frames-step W P owned returned emptied written poked old new (events.Poke address bytes) BadSpan all (choice, step) its = subst P (sym (ap (λ (s : State). s.frames) step.1)) its
+frames-step W P owned returned emptied written poked old new (events.Poke address bytes) _ all (choice, step) its = absurd step
+frames-step W P owned returned emptied written poked old new (events.Peek address len) (Bytes bytes) all (choice, step) its = subst P (sym (ap (λ (s : State). s.frames) step.3)) its
+frames-step W P owned returned emptied written poked old new (events.Peek address len) (Refused why) all (choice, step) its = subst P (sym (ap (λ (s : State). s.frames) step.2)) its
+frames-step W P owned returned emptied written poked old new (events.Peek address len) BadSpan all (choice, step) its = subst P (sym (ap (λ (s : State). s.frames) step.1)) its
+frames-step W P owned returned emptied written poked old new (events.Peek address len) _ all (choice, step) its = absurd step
+frames-step W P owned returned emptied written poked old new (events.Free frame) (Free is_free) all (choice, step) its = subst P (sym (ap (λ (s : State). s.frames) step.2)) its
+frames-step W P owned returned emptied written poked old new (events.Free frame) (Refused why) all (choice, step) its = subst P (sym (ap (λ (s : State). s.frames) step.1)) its
+frames-step W P owned returned emptied written poked old new (events.Free frame) _ all (choice, step) its = absurd step
 
 -- bytes that are written within a frame keep its length
 whole-poked : KeptByPokes AreWholeFrames
@@ -568,12 +578,17 @@ whole-returned frames has_left all =
     by frame true long = length-replicate {A = ℕ} 4096 0
     by frame false long = long
 
+-- and so has one that is emptied
+whole-emptied : KeptByEmptying AreWholeFrames
+whole-emptied frames number all =
+    All-with_frame (λ (f : Frame). length f.bytes ≡ 4096) frames number (λ frame. empty_frame) (λ frame long. length-replicate {A = ℕ} 4096 0) all
+
 -- and so does a write of a device
 whole-stored : KeptByWrites (IsWhole 0) AreWholeFrames
 whole-stored frames made whole write all =
     whole-poked frames made.frame (offset_of made.access) made.access.bytes (subst (λ n. offset_of made.access + n ≤ 4096) (sym (whole.1 write)) whole.0.1) all
 
-length-with_frame : (frames : List Frame) (number : ℕ) (change : Frame → Frame) → length (with_frame frames number change) ≡ length frames
+pub length-with_frame : (frames : List Frame) (number : ℕ) (change : Frame → Frame) → length (with_frame frames number change) ≡ length frames
 length-with_frame frames number change = by (slice_get frames number)
   where
     by : (found : Option Frame) → length (option_map_or (λ frame. slice_set frames number (change frame)) found frames) ≡ length frames
@@ -595,6 +610,7 @@ same_size-step old new event outcome step =
     frames-step (λ flight. Unit {0}) (λ frames. length frames ≡ length old.frames)
     (λ frames number owner same. length-with_frame frames number (λ frame. record frame { owner = Some owner }) ∙ same)
     (λ frames has_left same. length-map frames (λ frame. given_back (has_left frame.owner) frame) ∙ same)
+    (λ frames number same. length-with_frame frames number (λ frame. empty_frame) ∙ same)
     (λ frames made fact write same. length-with_frame frames made.frame (λ frame. record frame { bytes = with_bytes frame.bytes (offset_of made.access) made.access.bytes }) ∙ same)
     (λ frames number offset bytes fits same. length-with_frame frames number (λ frame. record frame { bytes = with_bytes frame.bytes offset bytes }) ∙ same)
     old new event outcome (λ k d below. all_so _) step refl
@@ -608,7 +624,7 @@ sound-step old new event outcome sound step =
       tickets = tickets-change event outcome old new change sound.tickets;
       frames = frames-step (IsWhole 0) AreWholeFrames
           (λ frames number owner all. All-with_frame (λ (f : Frame). length f.bytes ≡ 4096) frames number (λ frame. record frame { owner = Some owner }) (λ frame its. its) all)
-          whole-returned whole-stored whole-poked old new event outcome sound.whole step sound.frames;
+          whole-returned whole-emptied whole-stored whole-poked old new event outcome sound.whole step sound.frames;
       in_memory = in_memory-change event outcome old new change (same_size-step old new event outcome step) sound.in_memory;
     }
 

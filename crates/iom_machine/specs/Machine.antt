@@ -24,7 +24,7 @@ use Rattle.iom_base.specs.declared.owner.Owner.TheVariants.{System, OneDevice}
 use Rattle.iom_machine.specs.declared.state.State.{State}
 use Rattle.iom_machine.specs.Frames.{is_reserved, IsFree, IsFreeBesides, reserved_for, bytes_of, stored}
 use Rattle.iom_machine.specs.Devices.{device_of, with_device, EachInFlightMay}
-use Rattle.iom_machine.specs.Tickets.{with_confirmed, MayConfirm, MayTake}
+use Rattle.iom_machine.specs.Tickets.{with_confirmed, MayConfirm, MayTakeTicket}
 use Rattle.iom_base.specs.Refusals.{NoneApplies, IsRefusedBy}
 use Rattle.iom_machine.specs.Refusals.{MayRefusePlug, MayRefuseAttach, MayRefuseGrant, MayRefuseRestart, MayFindNoPlace, NeverElse, plug_reasons, attach_reasons, detach_reasons, grant_reasons, release_reasons, quarantine_reasons, revive_reasons, frame_reasons, poke_reasons}
 use Rattle.iom_base.specs.Accesses.{read_of, write_of, offset_of}
@@ -39,6 +39,7 @@ use Rattle.iom_virtqueue.specs.declared.layout.Layout.{Layout}
 use Rattle.iom_virtqueue.specs.Layouts.{layout_of}
 use Rattle.iom_machine.specs.Leaving.{leaving_under, with_left}
 use Rattle.iom_machine.specs.CuttingOff.{cut_off_under, attached_again}
+use Rattle.iom_machine.specs.Returning.{MayGiveBack, with_returned}
 
 -- a device as it is plugged in: detached, with nothing in flight, and with its disk, if it is a block device
 abbrev pub plugged_device : ℕ → NewDevice → Device
@@ -90,7 +91,7 @@ Grants taken old id page frame rights _ new = ⊥
 -- What the device holds at a page is released, under the next ticket, or one that it may share.
 abbrev pub Releases : State → ℕ → ℕ → Outcome → State → Type 0
 Releases old id page (Ticket ticket) new =
-    NoneApplies (release_reasons old id page) × MayTake old ticket
+    NoneApplies (release_reasons old id page) × MayTakeTicket old ticket
     × (new ≡ record old { history = entry.Released id page ticket ∷ old.history; last_ticket = ticket })
 Releases old id page (Refused why) new =
     IsRefusedBy (release_reasons old id page) MayFindNoPlace why × (new ≡ old)
@@ -134,13 +135,15 @@ TimesOut old TimedOut new = new ≡ old
 TimesOut old NoEffect new = new ≡ old
 TimesOut old _ new = ⊥
 
--- Some of the oldest pending tickets are confirmed, or, where no order is asked for, of any that are pending, such that each access in flight may still reach its frame, and devices that were leaving under
--- them are detached, with their frames given back; or none is confirmed.
-abbrev pub Polls : State → Outcome → State → Type 0
-Polls old (Confirmed first last timed_out) new =
+-- Some of the oldest pending tickets are confirmed, or, where no order is asked for, of any that are pending, such that each access in
+-- flight may still reach its frame, and devices that were leaving under them are detached, with their frames given back. Or none is
+-- confirmed; then tables of devices that stay attached may be given back, where no order is asked for. Which may be is said of the state
+-- before, so a table that is named twice is given back once.
+abbrev pub Polls : List ℕ → State → Outcome → State → Type 0
+Polls returned old (Confirmed first last timed_out) new =
     MayConfirm old first last × (new ≡ with_left (with_confirmed old first last)) × EachInFlightMay new
-Polls old (NoneConfirmed timed_out) new = new ≡ old
-Polls old _ new = ⊥
+Polls returned old (NoneConfirmed timed_out) new = All (MayGiveBack old) returned × (new ≡ with_returned returned old)
+Polls returned old _ new = ⊥
 
 -- The driver takes a fault record, or finds none. Nothing changes that the machine knows.
 abbrev pub TakesRecord : State → Outcome → State → Type 0
@@ -277,7 +280,7 @@ ChosenStep choice old (events.Revive id) outcome new = Revives old id outcome ne
 ChosenStep choice old events.Restart outcome new = Restarts old outcome new
 ChosenStep choice old events.Fetch outcome new = Fetches old outcome new
 ChosenStep choice old events.Timeout outcome new = TimesOut old outcome new
-ChosenStep choice old events.Poll outcome new = Polls old outcome new
+ChosenStep choice old events.Poll outcome new = Polls choice.returned old outcome new
 ChosenStep choice old events.Faults outcome new = TakesRecord old outcome new
 ChosenStep choice old (events.Read id address len) outcome new = Requests choice.frame old id (read_of address len) outcome new
 ChosenStep choice old (events.Write id address bytes) outcome new = Requests choice.frame old id (write_of address bytes) outcome new

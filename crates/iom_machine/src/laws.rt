@@ -1,4 +1,5 @@
 ghost use Rattle.iom_machine.specs.Laws.{GrantsAreAtPages, LimitsStay};
+ghost use Rattle.iom_machine.specs.Returning.{ReturnedTablesAreFree};
 
 /// A device has grants exactly where there is a page at which it holds something, or something
 /// lingers.
@@ -9,4 +10,9 @@ pub fn grants_are_at_pages()
 /// No event changes the limits: they are those of power-on.
 pub fn limits_stay()
     ensures { LimitsStay }
+{}
+
+/// Tables that may be given back are free then, where no device may reach them.
+pub fn returned_tables_are_free()
+    ensures { ReturnedTablesAreFree }
 {}

@@ -14,7 +14,7 @@ use Rattle.iom_machine.specs.Devices.{DeviceMay}
 use Rattle.iom_machine.specs.Leaving.{with_left}
 use Rattle.iom_machine.specs.Machine.{Plugs, plugged_device, Releases, Polls}
 use Rattle.iom_machine.specs.Refusals.{plug_reasons, release_reasons}
-use Rattle.iom_machine.specs.Tickets.{MayConfirm, MayTake}
+use Rattle.iom_machine.specs.Tickets.{MayConfirm, MayTakeTicket}
 use Rattle.iom_machine.proofs.CallLemmas.{confirmed_as, not_confirmed_as}
 use Rattle.iom_machine.proofs.StepLemmas.{no_state}
 use Rattle.iom_kept_state.specs.declared.state.KeptState.{KeptState}
@@ -51,7 +51,7 @@ plugged_as old id what h devices disks none d k after =
     ((λ same. (none, same ∙ same_state)), (λ step. step.1 ∙ sym same_state))
 
 -- after a release
-pub released_as : (old : KeptState) (id page ticket told : ℕ) (h : History) → NoneApplies (release_reasons (state_of old h) id page) → MayTake (state_of old h) ticket → told ≡ ticket
+pub released_as : (old : KeptState) (id page ticket told : ℕ) (h : History) → NoneApplies (release_reasons (state_of old h) id page) → MayTakeTicket (state_of old h) ticket → told ≡ ticket
     → (after : State) → (after ≡ next_state old (frames_in old.frames) (entries.Released id page ticket ∷ h) told old.devices) ↔ Releases (state_of old h) id page (Ticket ticket) after
 released_as old id page ticket told h none takes is after =
     let same_state : next_state old (frames_in old.frames) (entries.Released id page ticket ∷ h) told old.devices ≡ next_state old (frames_in old.frames) (entries.Released id page ticket ∷ h) ticket old.devices =
@@ -63,17 +63,17 @@ abbrev pub history_once : ℕ → ℕ → History → History
 history_once first last h = confirmed_from first (suc (last - first)) h
 
 -- after a poll that confirms
-pub polled_as : (old : KeptState) (given first last : ℕ) (timed_out : Bool) (h : History) (next : State)
+pub polled_as : (returned : List ℕ) (old : KeptState) (given first last : ℕ) (timed_out : Bool) (h : History) (next : State)
     → MayConfirm (state_of old h) first last → given ≡ old.grants.given
     → All (DeviceMay (history_once first last h)) old.devices
     → next ≡ with_left (next_state old (frames_in old.frames) (history_once first last h) given old.devices)
-    → (after : State) → (after ≡ next) ↔ Polls (state_of old h) (Confirmed first last timed_out) after
-polled_as old given first last timed_out h next tickets same_given may left =
-    leaves_as next (λ after. Polls (state_of old h) (Confirmed first last timed_out) after)
-    (confirmed_as (state_of old h) first last timed_out (history_once first last h) tickets refl may next
+    → (after : State) → (after ≡ next) ↔ Polls returned (state_of old h) (Confirmed first last timed_out) after
+polled_as returned old given first last timed_out h next tickets same_given may left =
+    leaves_as next (λ after. Polls returned (state_of old h) (Confirmed first last timed_out) after)
+    (confirmed_as returned (state_of old h) first last timed_out (history_once first last h) tickets refl may next
     (left ∙ ap (λ n. with_left (next_state old (frames_in old.frames) (history_once first last h) n old.devices)) same_given))
 
-pub not_polled_as : (old : KeptState) (first last : ℕ) (timed_out : Bool) (h : History) (after : State)
-    → ¬ All (DeviceMay (history_once first last h)) old.devices → ¬ Polls (state_of old h) (Confirmed first last timed_out) after
-not_polled_as old first last timed_out h after never step =
-    no_state after ((not_confirmed_as (state_of old h) first last timed_out (history_once first last h) refl never after).1 step)
+pub not_polled_as : (returned : List ℕ) (old : KeptState) (first last : ℕ) (timed_out : Bool) (h : History) (after : State)
+    → ¬ All (DeviceMay (history_once first last h)) old.devices → ¬ Polls returned (state_of old h) (Confirmed first last timed_out) after
+not_polled_as returned old first last timed_out h after never step =
+    no_state after ((not_confirmed_as returned (state_of old h) first last timed_out (history_once first last h) refl never after).1 step)

@@ -4,7 +4,7 @@ ghost use Rattle.iom_ledger.specs.History.{History};
 ghost use Rattle.iom_machine.specs.Frames.{IsFree};
 ghost use Rattle.iom_machine.specs.Refusals.{MayRefusePlug, MayRefuseAttach, MayRefuseGrant, MayFindNoPlace};
 ghost use Rattle.iom_machine.specs.Machine.{Plugs, Attaches, Detaches, Grants, Releases, Fetches, TakesRecord};
-ghost use Rattle.iom_machine.specs.Tickets.{IsLastPending, MayTake};
+ghost use Rattle.iom_machine.specs.Tickets.{IsLastPending, MayTakeTicket};
 ghost use Rattle.iom_kept_state.specs.Grants.{IsPastOf, is_confirmed_in};
 ghost use Rattle.iom_kept_state.specs.States.{state_of, Decides, DecidesStaying};
 
@@ -83,7 +83,7 @@ fn is_last_pending(kept: &KeptState, ticket: u32) -> bool
 fn may_take(kept: &KeptState, first: Option<Refusal>, ticket: u32) -> bool
     ensures shown { IsTrue result → (first ≡ None)
         × ((ticket ≡ kept.now.grants.given + 1) ⊎ ((ticket ≡ kept.now.grants.given) × (is_confirmed_in kept.now.grants ticket ≡ false))) }
-    ensures take { (h : History) → IsPastOf kept.now.grants h → IsTrue result ↔ ((first ≡ None) × MayTake (state_of kept.now h) ticket) }
+    ensures take { (h : History) → IsPastOf kept.now.grants h → IsTrue result ↔ ((first ≡ None) × MayTakeTicket (state_of kept.now h) ticket) }
 {
     if may_give(kept, first, ticket) {
         return true;

@@ -124,7 +124,7 @@ pub fn judge(
         Event::Medium { .. } | Event::Queue { .. } | Event::Step { .. } | Event::Status { .. } =>
             decide_block_device(alloc, kept, event, outcome, choice),
         Event::Fetch => Ok(judge_fetch(kept, outcome)),
-        Event::Poll => judge_poll(kept, outcome),
+        Event::Poll => judge_poll(kept, outcome, choice),
         Event::Faults => Ok(judge_faults(kept, outcome)),
         Event::Read { .. } | Event::Write { .. } => {
             decide_untranslated(alloc, kept, event, outcome, choice.frame)

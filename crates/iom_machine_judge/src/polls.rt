@@ -1,15 +1,16 @@
-// Which tickets a poll may confirm.
+// Which tickets a poll may confirm, and which tables it may give back.
 ghost use Rattle.std.specs.Prelude.{◌≡◌, ◌↔◌, ◌+◌, ◌-◌, ◌<◌, ◌≤◌, ℕ, suc, false, IfOk, IsTrue, All};
 ghost use Rattle.iom_ledger.specs.History.{History, May, confirms, confirmed_from};
 ghost use Rattle.iom_machine.specs.Devices.{DeviceMay};
 ghost use Rattle.iom_machine.specs.Tickets.{AreNextTickets, ArePending, MayConfirm};
 ghost use Rattle.iom_machine.specs.Machine.{Polls};
+ghost use Rattle.iom_machine.specs.Returning.{MayGiveBack, with_returned};
 ghost use Rattle.iom_kept_state.specs.Grants.{IsPastOf};
 ghost use Rattle.iom_kept_state.specs.States.{state_of, Decides};
 
 use iom_base::{AcceptedAccess, DeviceId, PAGE_SIZE};
 use iom_kept_state::{KeptGrants, KeptState};
-use iom_machine::{Device, Outcome};
+use iom_machine::{Choice, Device, Outcome};
 use std::alloc::AllocError;
 
 /// Whether each of the accesses of the device may reach its frame, once the tickets from the first to the last are confirmed.
@@ -112,9 +113,24 @@ pub fn may_confirm(kept: &KeptState, first: u32, last: u32) -> bool
     are_pending(kept, first, last)
 }
 
+/// Whether these tables may be given back where no ticket is confirmed; the next state is then kept.
+fn judge_returns(kept: &mut KeptState, returned: &[u64]) -> bool
+    ensures { Decides result kept.old kept.new (λ before after. All (MayGiveBack before) returned.now × (after ≡ with_returned returned.now before)) }
+{
+    if !kept.may_give_back_all(returned) {
+        return false;
+    }
+    kept.give_back(returned);
+    true
+}
+
 /// Whether a poll may come so; the next state is then kept.
-pub(crate) fn judge_poll(kept: &mut KeptState, outcome: &Outcome) -> Result<bool, AllocError>
-    ensures { IfOk result (λ may. Decides may kept.old kept.new (λ before after. Polls before outcome.now after)) }
+pub(crate) fn judge_poll(
+    kept: &mut KeptState,
+    outcome: &Outcome,
+    choice: &Choice,
+) -> Result<bool, AllocError>
+    ensures { IfOk result (λ may. Decides may kept.old kept.new (λ before after. Polls choice.now.returned before outcome.now after)) }
 {
     match outcome {
         Outcome::Confirmed { first, last, .. } => {
@@ -128,7 +144,7 @@ pub(crate) fn judge_poll(kept: &mut KeptState, outcome: &Outcome) -> Result<bool
             kept.take_leave()?;
             Ok(true)
         }
-        Outcome::NoneConfirmed { .. } => Ok(true),
+        Outcome::NoneConfirmed { .. } => Ok(judge_returns(kept, choice.returned.as_slice())),
         _ => Ok(false),
     }
 }

@@ -23,6 +23,8 @@ mod modes;
 #[cfg(test)]
 mod recovery;
 #[cfg(test)]
+mod returning;
+#[cfg(test)]
 mod script;
 #[cfg(test)]
 mod sizes;

@@ -47,6 +47,8 @@ pub(crate) enum Does<'a> {
     Fetch,
     Timeout,
     Poll,
+    /// A poll that gives back these tables.
+    PollReturning(&'a [u64]),
     Faults,
     Read(DeviceId, u64, u64),
     Write(DeviceId, u64, &'a [u8]),
@@ -267,7 +269,7 @@ fn look_of(rt: &impl Abort, alloc: Global, does: &Does) -> Event {
     match *does {
         Does::Fetch => Event::Fetch,
         Does::Timeout => Event::Timeout,
-        Does::Poll => Event::Poll,
+        Does::Poll | Does::PollReturning(_) => Event::Poll,
         Does::Faults => Event::Faults,
         Does::Peek(address, len) => Event::Peek { address, len },
         Does::Free(frame) => Event::Free { frame },
@@ -351,6 +353,13 @@ fn taken_by<'a>(does: &Does<'a>) -> &'a [u64] {
 }
 
 /// The frames that become pages of the device directory.
+fn returned_by<'a>(does: &Does<'a>) -> &'a [u64] {
+    match *does {
+        Does::PollReturning(returned) => returned,
+        _ => &[],
+    }
+}
+
 fn directory_of<'a>(does: &Does<'a>) -> &'a [u64] {
     match *does {
         Does::AttachBelow(_, pages, _) => pages,
@@ -406,6 +415,7 @@ fn choice_of(rt: &impl Abort, alloc: Global, does: &Does, comes: &Comes) -> Choi
     Choice {
         directory: numbers_of(rt, alloc, directory_of(does)),
         taken: numbers_of(rt, alloc, taken_by(does)),
+        returned: numbers_of(rt, alloc, returned_by(does)),
         frame: frame_of(comes),
         device,
         page,
@@ -424,13 +434,23 @@ pub(crate) fn line_of(rt: &impl Abort, alloc: Global, does: &Does, comes: &Comes
 /// The numbers of the disks.
 const DISKS: [u64; 4] = [0, 1, 2, 3];
 
-/// The first of the lines that may not come, in a world of 64 frames, one directory level and four disks.
-pub(crate) fn judged(rt: &impl Abort, alloc: Global, lines: &[Line]) -> Option<usize> {
-    let mut kept = KeptState::power_on(alloc, Limits::of_model(), 64, 1, &DISKS).expect(
+/// The first of the lines that may not come, with these limits, in a world of 64 frames, one directory level and four disks.
+pub(crate) fn judged_under(
+    rt: &impl Abort,
+    alloc: Global,
+    limits: Limits,
+    lines: &[Line],
+) -> Option<usize> {
+    let mut kept = KeptState::power_on(alloc, limits, 64, 1, &DISKS).expect(
         rt,
         "memory for a world",
     );
     judge_run(alloc, &mut kept, lines).expect(rt, "memory for the judge")
+}
+
+/// The first of the lines that may not come, with the model's limits.
+pub(crate) fn judged(rt: &impl Abort, alloc: Global, lines: &[Line]) -> Option<usize> {
+    judged_under(rt, alloc, Limits::of_model(), lines)
 }
 
 pub(crate) fn push(

@@ -70,7 +70,15 @@ fn tell_other(
 ) -> Result<bool, AllocError> {
     match read {
         TraceLine::Nothing => follower.pass(),
-        TraceLine::World(_, _) | TraceLine::Take(_) => follower.begin(line)?,
+        TraceLine::World(_, _) | TraceLine::Take(_) | TraceLine::TablesFreed => {
+            follower.begin(line)?
+        }
+        TraceLine::Joins {
+            device,
+            with,
+            ats,
+            ..
+        } => follower.join(line, *device, *with, *ats)?,
         TraceLine::Made { device, .. } => {
             let event = Event::Commit { device: *device };
             follower.take(line, &event, &Outcome::Wrote(0), NOTHING)?;

@@ -42,6 +42,7 @@ use Rattle.iom_base.specs.declared.device_kind.NewDevice.{NewDevice}
 use Rattle.iom_base.specs.Refusals.{first_that_applies, IsRefusedBy}
 use Rattle.iom_machine.specs.Refusals.{MayRefusePlug, MayRefuseAttach, MayRefuseGrant, MayFindNoPlace, NeverElse, plug_reasons, attach_reasons, detach_reasons, grant_reasons, release_reasons, quarantine_reasons, revive_reasons}
 use Rattle.iom_base.specs.Accesses.{read_of, write_of, page_of, IsWithinPage}
+use Rattle.iom_machine.specs.Returning.{MayGiveBack}
 use Rattle.iom_machine.specs.Requests.{cause_without_context, HoldsFor, HoldsNoneFor, MayAccept, MayFault, MayAnswer, IsBusy, IsForwarded, state_after}
 use Rattle.iom_machine.specs.ThroughCache.{MayAnswerThroughCache, state_after_cached}
 use Rattle.iom_machine.specs.Translated.{MayAnswerTranslated}
@@ -350,7 +351,7 @@ is_answered state events.Restart reached = (Done, state, (no_choice, refl))
 is_answered state events.Timeout reached = (NoEffect, state, (no_choice, refl))
 is_answered state (events.Reset id) reached = let told = reset_is_answered state id in (told.1, told.2, (no_choice, told.3))
 is_answered state events.Fetch reached = (Fetched Empty, state, (no_choice, refl))
-is_answered state events.Poll reached = (NoneConfirmed false, state, (no_choice, refl))
+is_answered state events.Poll reached = (NoneConfirmed false, state, (no_choice, (All-nil (MayGiveBack state), refl)))
 is_answered state events.Faults reached = (NoRecord, state, (no_choice, refl))
 is_answered state (events.Read id address len) reached =
     let told = request_is_answered state id (read_of address len) in (told.1, told.2, (frame_chosen told.0, told.3))

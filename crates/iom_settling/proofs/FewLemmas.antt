@@ -272,7 +272,8 @@ few-step old new events.Timeout outcome.NoEffect (choice, step) few = few-stays 
 few-step old new events.Timeout _ (choice, step) few = absurd step
 few-step old new events.Poll (outcome.Confirmed first last timed_out) (choice, step) few =
     few-leaves old new (with_confirmed old first last).history (ap (λ (s : State). s.devices) step.1) few
-few-step old new events.Poll (outcome.NoneConfirmed timed_out) (choice, step) few = few-stays old new step few
+few-step old new events.Poll (outcome.NoneConfirmed timed_out) (choice, step) few =
+    subst (AreFew old.limits) (sym (ap (λ (s : State). s.devices) step.1)) few
 few-step old new events.Poll _ (choice, step) few = absurd step
 few-step old new events.Faults (outcome.Record taken) (choice, step) few = few-stays old new step few
 few-step old new events.Faults outcome.NoRecord (choice, step) few = few-stays old new step few

@@ -61,18 +61,18 @@ fetch_holds : (old new : State) (told : Outcome) → Fetches old told new → Ho
 fetch_holds old new (outcome.Fetched result) fetches = is_same old new fetches
 fetch_holds old new _ fetches = absurd fetches
 
-poll_holds : (old new : State) (told : Outcome) → Polls old told new → HoldAsBefore old.history new.history
-poll_holds old new (outcome.Confirmed first last timed_out) polls = λ device page.
+poll_holds : (returned : List ℕ) (old new : State) (told : Outcome) → Polls returned old told new → HoldAsBefore old.history new.history
+poll_holds returned old new (outcome.Confirmed first last timed_out) polls = λ device page.
     ap (λ (s : State). held_at s.history device page) polls.1 ∙ held_confirmed first (suc (last - first)) old.history device page
-poll_holds old new (outcome.NoneConfirmed timed_out) polls = is_same old new polls
-poll_holds old new _ polls = absurd polls
+poll_holds returned old new (outcome.NoneConfirmed timed_out) polls = same_holds old new (ap (λ (s : State). s.history) polls.1)
+poll_holds returned old new _ polls = absurd polls
 
 step_holds : (old new : State) (event : Event) (told : Outcome) → IsSettling event → Step old event told new → HoldAsBefore old.history new.history
 step_holds old new (events.Commit id) told is (choice, step) = commit_holds old new id told step
 step_holds old new (events.Deliver place) told is (choice, step) = deliver_holds old new choice.device choice.page told step
 step_holds old new events.Restart told is (choice, step) = restart_holds old new told step
 step_holds old new events.Fetch told is (choice, step) = fetch_holds old new told step
-step_holds old new events.Poll told is (choice, step) = poll_holds old new told step
+step_holds old new events.Poll told is (choice, step) = poll_holds choice.returned old new told step
 step_holds old new _ told is step = absurd is
 
 pub run_holds : (old new : State) (events : List Event) (outcomes : List Outcome) → Run old events outcomes new → AreAll IsSettling events → HoldAsBefore old.history new.history

@@ -139,6 +139,14 @@ impl Devices {
         self.all.get(&id)
     }
 
+    /// The mode in which the device was attached last.
+    pub(crate) fn mode_of(&self, id: DeviceId) -> Option<Mode> {
+        match self.get(id) {
+            None => None,
+            Some(device) => device.mode,
+        }
+    }
+
     pub(crate) fn get_mut(&mut self, id: DeviceId) -> Option<&mut Device> {
         self.all.get_mut(&id)
     }

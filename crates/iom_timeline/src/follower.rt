@@ -121,6 +121,21 @@ impl Follower {
         self.tell(text, event, outcome, shown)
     }
 
+    /// The next line has these bytes, and tells that the device was attached to the domain of the other one.
+    pub fn join(
+        &mut self,
+        text: &[u8],
+        device: DeviceId,
+        with: DeviceId,
+        ats: bool,
+    ) -> Result<(), AllocError> {
+        self.begin(text)?;
+        if let Some(mode) = self.devices.mode_of(with) {
+            self.attach(device, mode, ats);
+        }
+        Ok(())
+    }
+
     /// The line that was begun tells this too.
     pub fn tell(
         &mut self,

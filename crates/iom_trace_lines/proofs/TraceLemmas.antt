@@ -1,5 +1,5 @@
 -- Lines of a trace, put together of what was read of them.
-use Rattle.std.proofs.Common.{◌≡◌, ◌∙◌, ℕ, Bool, true, false, List, [], ◌∷◌, ◌++◌, Option, None, Some, MatchOption, IfSome, IsTrue, inl, inr, refl, sym, ap, append-nil, append_assoc}
+use Rattle.std.proofs.Common.{◌≡◌, ◌≢◌, ◌∙◌, ℕ, Bool, true, false, List, [], ◌∷◌, ◌++◌, Option, None, Some, MatchOption, IfSome, IsTrue, inl, inr, refl, sym, ap, append-nil, append_assoc}
 use Rattle.std.specs.Prelude.{codes, ◌<◌, ◌+◌, ◌^◌, ⊤}
 use Rattle.std.specs.Borrow.{Bor}
 use Rattle.std.specs.Fmt.{decimal}
@@ -16,7 +16,7 @@ use Rattle.iom_script.specs.Grammar.{IsEventLine}
 use Rattle.iom_script.specs.Lines.{line_of}
 use Rattle.iom_script.specs.Words.{◌␣◌, IsDevice, IsNumber, IsRight}
 use Rattle.iom_script.specs.declared.script.WorldSize.{WorldSize}
-use Rattle.iom_trace_lines.specs.TraceLines.{access_text, EventAsksFor, frames_text, is_accepted, tables_text, on_text, made_text, IsPages, IsGrantsLine, IsReleasesLine, IsHandingLine, TraceMayShow, SaysLine, World, Step, Made, Grants, Releases, Handoff, Take}
+use Rattle.iom_trace_lines.specs.TraceLines.{access_text, EventAsksFor, frames_text, is_accepted, tables_text, on_text, made_text, ats_text, IsPages, IsGrantsLine, IsJoinsLine, IsReleasesLine, IsHandingLine, TraceMayShow, SaysLine, World, Step, Made, Grants, Joins, Releases, Handoff, Take, TablesFreed}
 use Rattle.iom_trace_lines.specs.WorldLimits.{limits_text, IsLargeSize, IsLargeWorldLine, SaysSize}
 use Rattle.iom_trace_lines.specs.declared.trace.WorldLimits.{WorldLimits}
 
@@ -151,15 +151,21 @@ joined : (said a b rest : List ℕ) → said ++ a ++ (b ++ rest) ≡ said ++ (a 
 joined said a b rest = sym (append_assoc (said ++ a) b rest) ∙ ap (λ (l : List ℕ). l ++ rest) (append_assoc said a b)
 
 -- what is told of grants and of releases
-pub grants_say : (said answered answer behind : List ℕ) (device page count frame : ℕ) (rights : GrantRights) (has_tables : Bool) (tables : List ℕ) → IsGrantsLine said device page count frame rights
-    → answer ≡ codes "ok" → answered ≡ answer ++ behind → behind ≡ tables_text has_tables tables
+done_behind : (said answered : List ℕ) (has_tables : Bool) (tables : List ℕ) → answered ≡ codes "ok" ++ tables_text has_tables tables
+    → said ++ codes " => " ++ answered ≡ said ++ codes " => ok" ++ tables_text has_tables tables
+done_behind said answered has_tables tables is =
+    ap (λ (l : List ℕ). said ++ codes " => " ++ l) is ∙ joined said (codes " => ") (codes "ok") (tables_text has_tables tables)
+
+pub grants_say : (said answered : List ℕ) (device page count frame : ℕ) (rights : GrantRights) (has_tables : Bool) (tables : List ℕ)
+    → IsGrantsLine said device page count frame rights → answered ≡ codes "ok" ++ tables_text has_tables tables
     → SaysLine (said ++ codes " => " ++ answered) (Grants device page count frame rights has_tables) tables
-grants_say said answered answer behind device page count frame rights has_tables tables says ok cut shown = (
-  said,
-  says,
-  ap (λ (l : List ℕ). said ++ codes " => " ++ l) (cut ∙ ap (λ (l : List ℕ). l ++ behind) ok ∙ ap (λ (l : List ℕ). codes "ok" ++ l) shown)
-      ∙ joined said (codes " => ") (codes "ok") (tables_text has_tables tables),
-)
+grants_say said answered device page count frame rights has_tables tables says is =
+    (said, says, done_behind said answered has_tables tables is)
+
+pub joins_say : (said answered : List ℕ) (device other : ℕ) (ats has_tables : Bool) (tables : List ℕ)
+    → IsJoinsLine said device other ats → answered ≡ codes "ok" ++ tables_text has_tables tables
+    → SaysLine (said ++ codes " => " ++ answered) (Joins device other ats has_tables) tables
+joins_say said answered device other ats has_tables tables says is = (said, says, done_behind said answered has_tables tables is)
 
 pub releases_say : (said answered word : List ℕ) (device page count ticket : ℕ) (tables : List ℕ) → IsReleasesLine said device page count → IsNumber word ticket → answered ≡ codes "ticket " ++ word
     → SaysLine (said ++ codes " => " ++ answered) (Releases device page count ticket) tables
@@ -179,6 +185,34 @@ world_says said sized answer size limits tables cut says ok = (
 pub large_world : (line arguments rest : List ℕ) (size : WorldSize) → line ≡ codes "world " ++ arguments → BeginsWithWord IsNumber arguments size.frames rest
     → IsNumber rest size.levels → IsLargeSize size → IsLargeWorldLine line size
 large_world line arguments rest size begins (word, says, cut) levels large = (word, rest, says, levels, large, begins ∙ ap (λ (l : List ℕ). codes "world " ++ l) cut)
+
+-- an attach to the domain of another device
+pub joins_line : (said words how other word id : List ℕ) (device with : ℕ) (ats : Bool) → said ≡ codes "attach " ++ words → IsDevice id device → words ≡ id ␣ how
+    → how ≡ codes "with " ++ other → IsDevice word with → other ≡ word ++ ats_text ats → IsJoinsLine said device with ats
+joins_line said words how other word id device with ats is d cut named w behind = (
+  id,
+  word,
+  d,
+  w,
+  is ∙ ap (λ (l : List ℕ). codes "attach " ++ l) (cut
+      ∙ ap (λ (l : List ℕ). id ␣ l) (named ∙ ap (λ (l : List ℕ). codes "with " ++ l) behind)
+      ∙ sym (append_assoc id (codes " with " ++ word) (ats_text ats))),
+)
+
+-- tables that are given back
+pub freed_says : (line said frames : List ℕ) (answered : Option (Bor (List ℕ))) (tables : List ℕ) → said ≡ codes "tables-freed" ++ frames
+    → MatchOption answered (line ≡ said) (λ behind. line ≡ said ++ codes " => " ++ behind.now)
+    → MatchOption answered ⊤ (λ answer. answer.now ≡ codes "ok") → frames ≡ frames_text tables → tables ≢ []
+    → SaysLine line TablesFreed tables
+freed_says line said frames None tables named is granted named_frames some =
+    (some, inl (is ∙ named ∙ ap (λ (l : List ℕ). codes "tables-freed" ++ l) named_frames))
+freed_says line said frames (Some answer) tables named is granted named_frames some =
+    let first : said ≡ codes "tables-freed" ++ frames_text tables = named ∙ ap (λ (l : List ℕ). codes "tables-freed" ++ l) named_frames in (
+      some,
+      inr (is ∙ ap (λ (l : List ℕ). l ++ codes " => " ++ answer.now) first
+          ∙ ap (λ (l : List ℕ). (codes "tables-freed" ++ frames_text tables) ++ codes " => " ++ l) granted
+          ∙ append_assoc (codes "tables-freed" ++ frames_text tables) (codes " => ") (codes "ok")),
+    )
 
 -- the ticket that is told
 pub ticket_told : (answered word : List ℕ) (result : Option ℕ) → answered ≡ codes "ticket " ++ word → IfSome result (IsNumber word)

@@ -1,5 +1,6 @@
 -- What a line of a trace says: a script's line, ` => `, and the line of what came of it, with what is shown behind that.
-use Rattle.std.specs.Prelude.{◌≡◌, ◌⊎◌, ◌<◌, ◌+◌, ◌^◌, ℕ, zero, suc, Bool, true, false, List, [], ◌∷◌, ◌++◌, Option, None, Some, IfSome, IsTrue, codes, replicate, ⊤}
+use Rattle.std.specs.Prelude.{◌≡◌, ◌≢◌, ◌⊎◌, ◌<◌, ◌+◌, ◌^◌, ℕ}
+use Rattle.std.specs.Prelude.{Bool, true, false, List, [], ◌∷◌, ◌++◌, Option, None, Some, IfSome, IsTrue, codes, ⊤}
 use Rattle.std.specs.List.{flat_map}
 use Rattle.std.specs.Fmt.{decimal}
 use Rattle.iom_base.specs.Accesses.{read_of, write_of}
@@ -18,8 +19,8 @@ use Rattle.iom_trace_lines.specs.declared.trace.TraceLine.{TraceLine}
 use Rattle.iom_trace_lines.specs.declared.trace.TraceLine.TheVariants as lines
 use Rattle.iom_trace_lines.specs.declared.trace.WorldLimits.{WorldLimits}
 
--- What a line says: nothing, how large the world is and how much its machine allows, that this came of an event, with what is shown behind that, more than one
--- event or less than an outcome, or what isn't in the grammar.
+-- What a line says: nothing, how large the world is and how much its machine allows, that this came of an event, with what is shown
+-- behind that, more than one event or less than an outcome, or what isn't in the grammar.
 pub data Said : Type 0 where
   Nothing : Said
   World : WorldSize → WorldLimits → Said
@@ -28,11 +29,16 @@ pub data Said : Type 0 where
   Made : ℕ → Bool → Said
   -- the device was granted so many frames, at so many pages, with this right; whether it is shown which frames became tables
   Grants : (device page count frame : ℕ) → GrantRights → Bool → Said
+  -- the device was attached to the domain of the other one, whose tables it shares; whether with ATS, and whether it is shown which
+  -- frames became tables
+  Joins : (device with : ℕ) → (ats has_tables : Bool) → Said
   -- what it held at so many pages was released under the ticket
   Releases : (device page count ticket : ℕ) → Said
   -- the frame is now given to somebody else, and is taken back
   Handoff : ℕ → Said
   Take : ℕ → Said
+  -- tables were given back, while their device stays attached
+  TablesFreed : Said
   Bad : Said
 
 -- frames, with a space before each
@@ -68,7 +74,8 @@ TraceMayShow event outcome has_tables on =
 -- the event's line, ` => `, and the line of the outcome, with this behind it
 abbrev pub IsStepLine : List ℕ → Event → Outcome → List ℕ → Type 0
 IsStepLine line event outcome behind =
-    (said answer : List ℕ) × IsEventLine said event × (line_of outcome ≡ answer ++ 10 ∷ []) × (line ≡ said ++ codes " => " ++ answer ++ behind)
+    (said answer : List ℕ) × IsEventLine said event × (line_of outcome ≡ answer ++ 10 ∷ [])
+    × (line ≡ said ++ codes " => " ++ answer ++ behind)
 
 -- the name and the frame, with ` => ok` behind or without
 abbrev pub IsHandingLine : List ℕ → List ℕ → ℕ → Type 0
@@ -95,6 +102,22 @@ abbrev pub IsReleasesLine : List ℕ → (device page count : ℕ) → Type 0
 IsReleasesLine said device page count =
     (id pages : List ℕ) × IsDevice id device × IsPages pages page count × (said ≡ codes "release" ␣ id ␣ pages)
 
+-- `ats`, or nothing
+abbrev pub ats_text : Bool → List ℕ
+ats_text true = codes " ats"
+ats_text false = []
+
+-- the line of an attach to the domain of another device
+abbrev pub IsJoinsLine : List ℕ → (device with : ℕ) → Bool → Type 0
+IsJoinsLine said device with ats =
+    (id other : List ℕ) × IsDevice id device × IsDevice other with × (said ≡ (codes "attach" ␣ id ␣ codes "with" ␣ other) ++ ats_text ats)
+
+-- tables that are given back, one at least, with ` => ok` behind or without
+abbrev pub IsFreedLine : List ℕ → List ℕ → Type 0
+IsFreedLine line tables =
+    (tables ≢ [])
+    × ((line ≡ codes "tables-freed" ++ frames_text tables) ⊎ (line ≡ (codes "tables-freed" ++ frames_text tables) ++ codes " => ok"))
+
 -- by this event the device asks for the access
 abbrev pub EventAsksFor : Event → ℕ → Access → Type 0
 EventAsksFor (events.Read id address len) device access = (id ≡ device) × (access ≡ read_of address len)
@@ -110,7 +133,8 @@ access_text asked (Some frame) = codes "; " ++ asked ++ codes "; on " ++ decimal
 -- and this frame behind that.
 abbrev pub ShowsAccess : List ℕ → Event → Outcome → Access → Option ℕ → Type 0
 ShowsAccess line event outcome access on =
-    (device : ℕ) × (event ≡ events.Step device) × IsTrue (is_accepted outcome) × (asked : List ℕ) × (asks : Event) × IsEventLine asked asks × EventAsksFor asks device access
+    (device : ℕ) × (event ≡ events.Step device) × IsTrue (is_accepted outcome)
+    × (asked : List ℕ) × (asks : Event) × IsEventLine asked asks × EventAsksFor asks device access
     × IsStepLine line event outcome (access_text asked on)
 
 -- The line says that this came of the event, with what is shown behind it.
@@ -122,16 +146,20 @@ SaysWhat line event outcome has_tables on (Some access) tables = ShowsAccess lin
 -- The line, without its line feed, says this. The frames of its tables stand beside.
 abbrev pub SaysLine : List ℕ → Said → List ℕ → Type 0
 SaysLine line Nothing tables = is_spoken line ≡ false
-SaysLine line (World size limits) tables = (said : List ℕ) × SaysSize limits said size × (line ≡ said ++ limits_text limits ++ codes " => ok")
+SaysLine line (World size limits) tables =
+    (said : List ℕ) × SaysSize limits said size × (line ≡ said ++ limits_text limits ++ codes " => ok")
 SaysLine line (Step event outcome has_tables on began) tables = SaysWhat line event outcome has_tables on began tables
 SaysLine line (Made device is_read) tables =
     (id : List ℕ) × IsDevice id device × (line ≡ (codes "commit" ␣ id) ++ codes " => " ++ made_text is_read)
 SaysLine line (Grants device page count frame rights has_tables) tables =
     (said : List ℕ) × IsGrantsLine said device page count frame rights × (line ≡ said ++ codes " => ok" ++ tables_text has_tables tables)
+SaysLine line (Joins device with ats has_tables) tables =
+    (said : List ℕ) × IsJoinsLine said device with ats × (line ≡ said ++ codes " => ok" ++ tables_text has_tables tables)
 SaysLine line (Releases device page count ticket) tables =
     (said word : List ℕ) × IsReleasesLine said device page count × IsNumber word ticket × (line ≡ said ++ codes " => ticket " ++ word)
 SaysLine line (Handoff frame) tables = IsHandingLine (codes "handoff") line frame
 SaysLine line (Take frame) tables = IsHandingLine (codes "take") line frame
+SaysLine line TablesFreed tables = IsFreedLine line tables
 SaysLine line Bad tables = ⊤
 
 -- what was read of a line, with the outcome in the place that is lent
@@ -141,35 +169,9 @@ said_of (lines.World size limits) = World size limits
 said_of (lines.Step event outcome has_tables on began) = Step event outcome.now has_tables on began
 said_of (lines.Made device is_read) = Made device is_read
 said_of (lines.Grants granted has_tables) = Grants granted.device granted.page granted.count granted.frame granted.rights has_tables
+said_of (lines.Joins device with ats has_tables) = Joins device with ats has_tables
 said_of (lines.Releases released ticket) = Releases released.device released.page released.count ticket
 said_of (lines.Handoff frame) = Handoff frame
 said_of (lines.Take frame) = Take frame
+said_of lines.TablesFreed = TablesFreed
 said_of lines.Bad = Bad
-
--- the events and outcomes of a grant of so many frames at so many pages, one after another, and of a release of so many
-abbrev pub granted_events : (device page frame : ℕ) → GrantRights → ℕ → List Event
-granted_events device page frame rights zero = []
-granted_events device page frame rights (suc n) = granted_events device page frame rights n ++ events.Grant device (page + n) (frame + n) rights ∷ []
-
-abbrev pub released_events : (device page : ℕ) → ℕ → List Event
-released_events device page zero = []
-released_events device page (suc n) = released_events device page n ++ events.Release device (page + n) ∷ []
-
--- what may be told of an access that was made: of a read its bytes
-abbrev pub IsMade : Bool → Outcome → Type 0
-IsMade is_read (outcomes.Read bytes) = ⊤
-IsMade false (outcomes.Wrote len) = ⊤
-IsMade _ _ = ⊥
-
--- Who says this says that these events had these outcomes, one after another.
-abbrev pub Tells : Said → List Event → List Outcome → Type 0
-Tells (Step event outcome has_tables on began) told came = (told ≡ event ∷ []) × (came ≡ outcome ∷ [])
-Tells (Made device is_read) told came =
-    (outcome : Outcome) × IsMade is_read outcome × (told ≡ events.Commit device ∷ []) × (came ≡ outcome ∷ [])
-Tells (Grants device page count frame rights has_tables) told came =
-    (told ≡ granted_events device page frame rights count) × (came ≡ replicate count outcomes.Done)
-Tells (Releases device page count ticket) told came =
-    (told ≡ released_events device page count) × (came ≡ replicate count (outcomes.Ticket ticket))
-Tells (Handoff frame) told came = (told ≡ events.Free frame ∷ []) × (came ≡ outcomes.Free true ∷ [])
-Tells (Take frame) told came = (told ≡ []) × (came ≡ [])
-Tells _ told came = ⊥

@@ -1,9 +1,16 @@
 // Outcomes that lines tell.
-use crate::words::{short_number_of, word_of};
+ghost use Rattle.std.specs.Prelude.{◌≡◌, ◌++◌, ◌∷◌, [], codes, IfSome, IsTrue};
+ghost use Rattle.std.specs.Fmt.{decimal};
+ghost use Rattle.iom_base.specs.Causes.{code_of};
+ghost use Rattle.iom_script.specs.Digits.{hex_of};
+ghost use Rattle.iom_script.specs.Lines.{command_name, line_of};
+
+use crate::words::{behind, is_feed, long_number_of, short_number_of, word_of};
 use arrayvec::ArrayVec;
 use iom_base::{Cause, Refusal, Rights};
 use iom_fabric::Translation;
 use iom_machine::{BlockStep, CommandName, Event, FaultRecord, Fetched, Outcome};
+use iom_script::LineBuffer;
 use iom_script::words::{after, byte_of, cut, is_word, number_of};
 use iom_virtqueue::ChainFault;
 
@@ -100,6 +107,48 @@ macro_rules! tell {
     }};
 }
 
+/// The place, which is of this kind.
+macro_rules! tell_so {
+    ($place:expr, $kind:pat) => {
+        match &$place {
+            $kind => Some(&$place),
+            _ => None,
+        }
+    };
+}
+
+/// The place, which is one of this kind, with the bytes that these digits say.
+macro_rules! tell_bytes {
+    ($place:expr, $kind:path, $digits:expr) => {{
+        match &mut $place {
+            $kind(list) => {
+                if !put_bytes(list, $digits) {
+                    return None;
+                }
+            }
+            _ => return None,
+        }
+        Some(&$place)
+    }};
+}
+
+/// The outcome, where the text is what is printed of it.
+fn if_printed<'a>(
+    printed: &mut LineBuffer,
+    outcome: &'a Outcome,
+    text: &[u8],
+) -> Option<&'a Outcome>
+    ensures { IfSome result (λ told. line_of told.now ≡ text.now ++ 10 ∷ []) }
+{
+    printed.clear();
+    printed.append_line(outcome);
+    if is_feed(behind(printed.as_slice(), text)?) {
+        Some(outcome)
+    } else {
+        None
+    }
+}
+
 /// The refusal that `N NAME` says.
 fn refusal_of(text: &[u8]) -> Option<Refusal> {
     let (_, name) = cut(text, b' ')?;
@@ -112,8 +161,10 @@ fn refusal_of(text: &[u8]) -> Option<Refusal> {
 }
 
 /// The cause with the number.
-fn cause_of(text: &[u8]) -> Option<Cause> {
-    let code = number_of(text)?;
+fn cause_of(text: &[u8]) -> Option<Cause>
+    ensures { IfSome result (λ cause. text.now ≡ decimal (code_of cause)) }
+{
+    let code = long_number_of(text)?;
     for cause in &CAUSES {
         if u64::from(cause.code()) == code {
             return Some(*cause);
@@ -136,7 +187,10 @@ fn record_of(text: &[u8]) -> Option<FaultRecord> {
     Some(FaultRecord { words })
 }
 
-fn command_of(text: &[u8]) -> Option<CommandName> {
+/// The command that the word names.
+fn command_of(text: &[u8]) -> Option<CommandName>
+    ensures { IfSome result (λ command. text.now ≡ command_name command) }
+{
     if is_word(text, b"iofence.c") {
         Some(CommandName::IofenceC)
     } else if is_word(text, b"iotinval.vma") {
@@ -153,7 +207,9 @@ fn command_of(text: &[u8]) -> Option<CommandName> {
 }
 
 /// Puts the bytes into the list that two hexadecimal digits each say. False where they don't.
-fn put_bytes(list: &mut ArrayVec<u8, 4096>, text: &[u8]) -> bool {
+fn put_bytes(list: &mut ArrayVec<u8, 4096>, text: &[u8]) -> bool
+    ensures { IsTrue result → text.now ≡ hex_of list.new.items }
+{
     list.clear();
     if text.len() % 2 != 0 {
         return false;
@@ -162,8 +218,9 @@ fn put_bytes(list: &mut ArrayVec<u8, 4096>, text: &[u8]) -> bool {
         let Some(byte) = byte_of(text[2 * index], text[2 * index + 1]) else {
             return false;
         };
-        if list.try_push(byte).is_err() {
-            return false;
+        match list.try_push(byte) {
+            Ok(()) => {}
+            Err(_) => return false,
         }
     }
     true
@@ -235,9 +292,6 @@ fn no_tickets() -> Outcome {
 }
 
 impl KeptOutcomes {
-    ghost use Rattle.std.specs.Prelude.{◌≡◌, IfSome, true};
-    ghost use Rattle.iom_machine.specs.declared.outcome.Outcome.TheVariants as outcomes;
-
     /// Places of which each is of its kind.
     pub fn new() -> KeptOutcomes {
         KeptOutcomes {
@@ -279,29 +333,58 @@ impl KeptOutcomes {
         }
     }
 
-    /// That a frame is free.
-    pub(crate) fn is_free(&mut self) -> Option<&Outcome>
-        ensures { IfSome result (λ outcome. outcome.now ≡ outcomes.Free true) }
+    /// The outcome that the text tells of the event. Those that come often are told by their words alone; another is
+    /// printed anew, which shows whether that is the text.
+    pub(crate) fn told(
+        &mut self,
+        printed: &mut LineBuffer,
+        event: &Event,
+        text: &[u8],
+    ) -> Option<&Outcome>
+        ensures { IfSome result (λ told. line_of told.now ≡ text.now ++ 10 ∷ []) }
     {
-        match &mut self.free {
-            Outcome::Free(held) => *held = true,
-            _ => return None,
+        if is_word(text, b"ok") {
+            return tell_so!(self.done, Outcome::Done);
         }
-        Some(&self.free)
+        if let Some(number) = behind(text, b"accepted ") {
+            return tell!(self.accepted, Outcome::Accepted, long_number_of(number)?);
+        }
+        if let Some(ticket) = behind(text, b"ticket ") {
+            return tell!(self.ticket, Outcome::Ticket, short_number_of(ticket)?);
+        }
+        if let Some(count) = behind(text, b"wrote ") {
+            return tell!(self.wrote, Outcome::Wrote, long_number_of(count)?);
+        }
+        if let Some(digits) = behind(text, b"read ") {
+            return tell_bytes!(self.read, Outcome::Read, digits);
+        }
+        if is_word(text, b"empty") {
+            return tell!(self.fetched, Outcome::Fetched, Fetched::Empty);
+        }
+        if let Some(name) = behind(text, b"did ") {
+            return tell!(
+                self.fetched,
+                Outcome::Fetched,
+                Fetched::Did(command_of(name)?)
+            );
+        }
+        if let Some(code) = behind(text, b"fault ") {
+            return tell!(self.fault, Outcome::Fault, cause_of(code)?);
+        }
+        let told = self.told_seldom(event, text)?;
+        if_printed(printed, told, text)
     }
 
-    /// The outcome that the text may tell of the event. Whether it does is seen by printing it. The words are looked up as
-    /// in a dictionary, under their first letter.
-    pub(crate) fn told(&mut self, event: &Event, text: &[u8]) -> Option<&Outcome> {
+    /// The outcome that the text may tell of the event, of those that come less often. The words are looked up as in a
+    /// dictionary, under their first letter.
+    fn told_seldom(&mut self, event: &Event, text: &[u8]) -> Option<&Outcome> {
         match *text.first()? {
-            b'o' => if_word(text, b"ok", &self.done),
             b'a' => self.under_a(text),
             b'c' => self.under_c(text),
             b'r' => self.under_r(text),
             b'w' => self.under_w(event, text),
             b'd' => self.under_d(text),
-            b'e' => self.fetched(Fetched::Empty, text, b"empty"),
-            b't' => self.under_t(text),
+            b't' => if_word(text, b"timed-out", &self.timed_out),
             b'f' => self.under_f(text),
             b'b' => self.under_b(text),
             b'n' => self.under_n(event, text),
@@ -331,9 +414,6 @@ impl KeptOutcomes {
     }
 
     fn under_a(&mut self, text: &[u8]) -> Option<&Outcome> {
-        if let Some(number) = after(text, b"accepted ") {
-            return tell!(self.accepted, Outcome::Accepted, number_of(number)?);
-        }
         if let Some(answer) = after(text, b"answer ") {
             return tell!(self.answered, Outcome::Answered, translation_of(answer)?);
         }
@@ -342,15 +422,7 @@ impl KeptOutcomes {
 
     fn under_b(&mut self, text: &[u8]) -> Option<&Outcome> {
         if let Some(digits) = after(text, b"bytes ") {
-            match &mut self.bytes {
-                Outcome::Bytes(list) => {
-                    if !put_bytes(list, digits) {
-                        return None;
-                    }
-                }
-                _ => return None,
-            }
-            return Some(&self.bytes);
+            return tell_bytes!(self.bytes, Outcome::Bytes, digits);
         }
         if is_word(text, b"busy") {
             return Some(&self.busy);
@@ -399,10 +471,6 @@ impl KeptOutcomes {
     }
 
     fn under_d(&mut self, text: &[u8]) -> Option<&Outcome> {
-        if let Some(name) = after(text, b"did ") {
-            let fetched = Fetched::Did(command_of(name)?);
-            return tell!(self.fetched, Outcome::Fetched, fetched);
-        }
         if is_word(text, b"dropped") {
             return Some(&self.dropped);
         }
@@ -410,9 +478,6 @@ impl KeptOutcomes {
     }
 
     fn under_f(&mut self, text: &[u8]) -> Option<&Outcome> {
-        if let Some(code) = after(text, b"fault ") {
-            return tell!(self.fault, Outcome::Fault, cause_of(code)?);
-        }
         if let Some(request) = after(text, b"finished ") {
             return tell!(self.stepped, Outcome::Stepped, finished_of(request)?);
         }
@@ -453,17 +518,6 @@ impl KeptOutcomes {
     }
 
     fn under_r(&mut self, text: &[u8]) -> Option<&Outcome> {
-        if let Some(digits) = after(text, b"read ") {
-            match &mut self.read {
-                Outcome::Read(list) => {
-                    if !put_bytes(list, digits) {
-                        return None;
-                    }
-                }
-                _ => return None,
-            }
-            return Some(&self.read);
-        }
         if let Some(why) = after(text, b"refused ") {
             return tell!(self.refused, Outcome::Refused, refusal_of(why)?);
         }
@@ -490,19 +544,9 @@ impl KeptOutcomes {
         self.fetched(Fetched::Stopped, text, b"stopped")
     }
 
-    fn under_t(&mut self, text: &[u8]) -> Option<&Outcome> {
-        if let Some(ticket) = after(text, b"ticket ") {
-            return tell!(self.ticket, Outcome::Ticket, short_number_of(ticket)?);
-        }
-        if_word(text, b"timed-out", &self.timed_out)
-    }
-
     /// What is told under `w`: `waiting` says of a step that its access isn't made yet, and else that the IOMMU waits with
     /// a command.
     fn under_w(&mut self, event: &Event, text: &[u8]) -> Option<&Outcome> {
-        if let Some(count) = after(text, b"wrote ") {
-            return tell!(self.wrote, Outcome::Wrote, number_of(count)?);
-        }
         match event {
             Event::Step { .. } => self.stepped(BlockStep::Waiting, text, b"waiting"),
             _ => self.fetched(Fetched::Waiting, text, b"waiting"),

@@ -7,6 +7,7 @@
 #![tactic(auto)]
 
 mod handing;
+mod joins;
 mod kept;
 mod line;
 mod made;

@@ -6,16 +6,18 @@ ghost use Rattle.iom_machine.specs.declared.outcome.Outcome.TheVariants as outco
 ghost use Rattle.iom_script.specs.Grammar.{IsEventLine, is_spoken};
 ghost use Rattle.iom_script.specs.Words.{◌␣◌, IsNumber};
 ghost use Rattle.iom_trace_lines.specs.WorldLimits.{limits_text};
-ghost use Rattle.iom_trace_lines.specs.TraceLines.{access_text, EventAsksFor, frames_text, is_accepted, takes_frames, tables_text, on_text, TraceMayShow, said_of, SaysLine, Nothing, Step, Bad};
+ghost use Rattle.iom_trace_lines.specs.TraceLines.{access_text, EventAsksFor, frames_text, is_accepted, takes_frames, tables_text};
+ghost use Rattle.iom_trace_lines.specs.TraceLines.{on_text, TraceMayShow, said_of, SaysLine, Nothing, Step, Bad};
 
-use crate::handing::read_handing;
+use crate::handing::{read_freed, read_handing};
+use crate::joins::{joined_of, read_joins};
 use crate::kept::KeptOutcomes;
 use crate::made::read_made;
 use crate::outcomes::read_outcome;
-use crate::ranges::{grants_of, read_grants, read_releases};
+use crate::ranges::{name_ranges, read_ranges};
 use crate::sizes::size_of;
 use crate::trace::{Began, Behind, TraceLine, WorldLimits};
-use crate::words::frame_of;
+use crate::words::long_number_of;
 use iom_base::{Access, AccessKind, DeviceId, Sequence};
 use iom_machine::{Event, Outcome};
 use iom_script::words::{after, is_word};
@@ -53,7 +55,7 @@ fn first_word(text: &[u8]) -> (&[u8], &[u8])
 /// The frames that the text names, with a space before each. False where it names none.
 pub(crate) fn read_frames(text: &[u8], frames: &mut Vec<u64>) -> Result<bool, AllocError>
     requires { frames.old.items ≡ [] }
-    ensures { IfOk result (λ read. IsTrue read → text.now ≡ frames_text frames.new.items) }
+    ensures { IfOk result (λ read. IsTrue read → (text.now ≡ frames_text frames.new.items) × (frames.new.items ≢ [])) }
 {
     let mut rest = text;
     for _turn in 0..text.len() {
@@ -64,7 +66,7 @@ pub(crate) fn read_frames(text: &[u8], frames: &mut Vec<u64>) -> Result<bool, Al
             return Ok(false);
         };
         let (word, behind) = first_word(words);
-        let Some(frame) = frame_of(word) else {
+        let Some(frame) = long_number_of(word) else {
             return Ok(false);
         };
         frames.push(frame)?;
@@ -114,7 +116,7 @@ fn read_behind(
     if !is_accepted(outcome) {
         return Ok(None);
     }
-    match frame_of(word) {
+    match long_number_of(word) {
         None => Ok(None),
         Some(frame) => Ok(Some(Behind {
             has_tables: false,
@@ -170,7 +172,7 @@ fn cut_on(behind: &[u8]) -> Option<(&[u8], Option<u64>)>
     let Some(word) = shown else {
         return Some((asked, None));
     };
-    match frame_of(word) {
+    match long_number_of(word) {
         None => None,
         Some(frame) => Some((asked, Some(frame))),
     }
@@ -185,7 +187,8 @@ fn read_began(
     behind: &[u8],
 ) -> Result<Option<Began>, AllocError>
     ensures { IfOk result (λ read. IfSome read (λ began. (device : ℕ) × (event.now ≡ events.Step device) × IsTrue (is_accepted outcome.now)
-        × (asked : List ℕ) × (asks : Event) × IsEventLine asked asks × EventAsksFor asks device began.access × (codes "; " ++ behind.now ≡ access_text asked began.on))) }
+        × (asked : List ℕ) × (asks : Event) × IsEventLine asked asks × EventAsksFor asks device began.access
+        × (codes "; " ++ behind.now ≡ access_text asked began.on))) }
 {
     let Event::Step { device } = event else {
         return Ok(None);
@@ -266,15 +269,15 @@ fn read_answered<'a>(
     requires { tables.old.items ≡ [] }
     ensures { IfOk result (λ read. SaysLine (said.now ++ codes " => " ++ answered.now) (said_of read) tables.new.items) }
 {
-    if let Some(read) = read_made(said, answered) {
-        return Ok(read);
+    if name_ranges(said) {
+        return read_ranges(said, answered, tables);
     }
-    if let Some(read) = read_releases(said, answered) {
-        return Ok(read);
+    if let Some(joined) = joined_of(said) {
+        return read_joins(joined, answered, tables);
     }
-    match grants_of(said) {
+    match read_made(said, answered) {
         None => read_step(alloc, printed, kept, tables, said, answered),
-        Some(granted) => read_grants(granted, answered, tables),
+        Some(read) => Ok(read),
     }
 }
 
@@ -332,6 +335,9 @@ pub fn read_line<'a>(
     }
     if let Some(read) = read_handing(said, answered) {
         return Ok(read);
+    }
+    if let Some(frames) = after(said, b"tables-freed") {
+        return read_freed(frames, answered, tables);
     }
     match answered {
         None => Ok(TraceLine::Bad),

@@ -77,12 +77,22 @@ pub enum TraceLine<'a> {
     },
     /// Frames were granted at so many pages; and whether it is shown which became tables.
     Grants(GrantedPages, bool),
+    /// The device was attached to the domain of the other one, whose tables it shares; and whether it is shown which
+    /// frames became tables.
+    Joins {
+        device: DeviceId,
+        with: DeviceId,
+        ats: bool,
+        has_tables: bool,
+    },
     /// So many pages were released under the ticket.
     Releases(ReleasedPages, u32),
     /// The frame is now given to somebody else.
     Handoff(u64),
     /// It is taken back.
     Take(u64),
+    /// The tables in the list that was lent were given back, while their device stays attached.
+    TablesFreed,
     /// It isn't in the grammar.
     Bad,
 }

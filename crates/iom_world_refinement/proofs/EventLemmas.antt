@@ -14,27 +14,27 @@ no_access = read_of 0 1
 
 -- nothing is left free
 abbrev pub no_choice : Choice
-no_choice = record { directory = []; taken = []; frame = 0; device = 0; page = 0; access = no_access }
+no_choice = record { directory = []; taken = []; returned = []; frame = 0; device = 0; page = 0; access = no_access }
 
 -- a frame is chosen
 abbrev pub frame_chosen : ℕ → Choice
-frame_chosen frame = record { directory = []; taken = []; frame = frame; device = 0; page = 0; access = no_access }
+frame_chosen frame = record { directory = []; taken = []; returned = []; frame = frame; device = 0; page = 0; access = no_access }
 
 -- a block device's access is chosen, and a frame
 abbrev pub access_chosen : Access → ℕ → Choice
-access_chosen access frame = record { directory = []; taken = []; frame = frame; device = 0; page = 0; access = access }
+access_chosen access frame = record { directory = []; taken = []; returned = []; frame = frame; device = 0; page = 0; access = access }
 
 -- a device's question is chosen
 abbrev pub question_chosen : ℕ → ℕ → Choice
-question_chosen device page = record { directory = []; taken = []; frame = 0; device = device; page = page; access = no_access }
+question_chosen device page = record { directory = []; taken = []; returned = []; frame = 0; device = device; page = page; access = no_access }
 
 -- frames are taken
 abbrev pub frames_taken : List ℕ → Choice
-frames_taken taken = record { directory = []; taken = taken; frame = 0; device = 0; page = 0; access = no_access }
+frames_taken taken = record { directory = []; taken = taken; returned = []; frame = 0; device = 0; page = 0; access = no_access }
 
 -- pages of the directory and frames are taken
 abbrev pub pages_taken : List ℕ → List ℕ → Choice
-pages_taken pages taken = record { directory = pages; taken = taken; frame = 0; device = 0; page = 0; access = no_access }
+pages_taken pages taken = record { directory = pages; taken = taken; returned = []; frame = 0; device = 0; page = 0; access = no_access }
 
 -- what is sound stays so where one more event is counted
 pub sound_counted : (parts : Parts) (events : ℕ) → AreSound parts events → AreSound parts (events + 1)

@@ -2,6 +2,7 @@
 use Rattle.std.proofs.Common.{suc, zero, ◌≡◌, ◌≢◌, ◌+◌, ◌-◌, ◌<◌, ◌≤◌, ◌==◌, ◌||◌, ◌∙◌, ℕ, inl, Bool, true, false, not, nat_le, List, [], ◌∷◌, map, Option, Some, None, slice_get, Result, Ok, Err, refl, sym, ap, subst, arith, inl, inr, if◌then◌else◌}
 use Rattle.std.proofs.lemmas.Bool.{false≢true, or_from}
 use Rattle.std.proofs.lemmas.Bool.Decides.{eqb_tells, leb_tells}
+use Rattle.std.proofs.lemmas.List.Elements.{All-nil}
 use Rattle.iom_base.specs.declared.owner.Owner.{Owner}
 use Rattle.iom_base.specs.declared.owner.Owner.TheVariants.{System, OneDevice}
 use Rattle.iom_driver.specs.declared.answers.Polled.{Polled}
@@ -32,6 +33,7 @@ use Rattle.iom_machine.specs.declared.state.State.{State}
 use Rattle.iom_machine.specs.Machine as machine
 use Rattle.iom_machine.specs.Devices.{EachInFlightMay}
 use Rattle.iom_machine.specs.Leaving.{has_left, once_confirmed, device_once_confirmed, is_of_left, with_left}
+use Rattle.iom_machine.specs.Returning.{MayGiveBack}
 use Rattle.iom_machine.specs.Tickets.{last_confirmed, with_confirmed}
 use Rattle.iom_phys_mem.specs.Words.{zeroed}
 use Rattle.iom_device.specs.declared.device.Device.{Device}
@@ -267,8 +269,8 @@ told_of_count first count timed_out = if count == 0 then NoneConfirmed timed_out
 confirmed_so : (old new : Parts) (first count : ℕ) (timed_out : Bool) (state : State) → ((s : State) → PartsShow new s → EachInFlightMay s) → PartsShow old state
     → PartsShow new (with_left (confirmed_state old count state)) → (count ≡ 0 → PartsShow new state) → old.driver.confirmed + count ≤ old.driver.given
     → (n : ℕ) → count ≡ n → first ≡ (if n == 0 then 0 else old.driver.confirmed + 1)
-    → (next : State) × machine.Polls state (told_of_count first n timed_out) next × PartsShow new next
-confirmed_so old new first count timed_out state may shows shows' shows_old most zero none is = (state, refl, shows_old none)
+    → (next : State) × machine.Polls [] state (told_of_count first n timed_out) next × PartsShow new next
+confirmed_so old new first count timed_out state may shows shows' shows_old most zero none is = (state, (All-nil (MayGiveBack state), refl), shows_old none)
 confirmed_so old new first count timed_out state may shows shows' shows_old most (suc m) some is =
     let c = old.driver.confirmed in
     let test : (suc m == 0) ≡ false = differs (suc m) 0 (λ e. absurd (omega (arith, e))) in
@@ -281,7 +283,7 @@ confirmed_so old new first count timed_out state may shows shows' shows_old most
     let confirmed = shows.confirmed in
     let given = shows.given in (
       with_left (with_confirmed state first (first + suc m - 1)),
-      subst (λ b. machine.Polls state (if b then NoneConfirmed timed_out else Confirmed first (first + suc m - 1) timed_out) (with_left (with_confirmed state first (first + suc m - 1)))) (sym test) (
+      subst (λ b. machine.Polls [] state (if b then NoneConfirmed timed_out else Confirmed first (first + suc m - 1) timed_out) (with_left (with_confirmed state first (first + suc m - 1)))) (sym test) (
         inl (omega (arith, begin, confirmed), omega arith, omega (arith, last, most, some, given)),
         refl,
         may (with_left (with_confirmed state first (first + suc m - 1))) shown,
@@ -295,15 +297,15 @@ started_refuses true why on refused = cc
 started_refuses false why on refused = false≢true on
 
 pub poll_step : (old new : Parts) (events after : ℕ) (told : Outcome) → AreSound old events → IsSoundDriver old.driver → AreSound new after → PollsTickets old told new
-    → ((s : State) → PartsShow new s → EachInFlightMay s) → (state : State) → PartsShow old state → (next : State) × machine.Polls state told next × PartsShow new next
+    → ((s : State) → PartsShow new s → EachInFlightMay s) → (state : State) → PartsShow old state → (next : State) × machine.Polls [] state told next × PartsShow new next
 poll_step old new events later told sound sound_driver sound' does may state shows = by does.answer does.told_so does.call
   where
     by : (answer : Result Polled Refusal) → told ≡ polled_told_of answer → AnswersPoll (registers_of old.iommu) old.driver old.memory answer new.driver new.memory
-        → (next : State) × machine.Polls state told next × PartsShow new next
+        → (next : State) × machine.Polls [] state told next × PartsShow new next
     by (Ok polled) tells (admitted, does_confirm) =
         let most = polled_most (registers_of old.iommu) old.driver old.memory polled new.driver new.memory sound_driver does_confirm in
         let done = confirmed_so old new polled.first polled.count polled.timed_out state may shows
         (shows_polled old new events state polled sound sound_driver does.iommu does.devices shows does_confirm)
         (λ none. shows_none old new state polled sound_driver does.iommu does.devices shows does_confirm none) most polled.count refl does_confirm.first in
-        (done.0, subst (λ (o : Outcome). machine.Polls state o done.0) (sym tells) done.1, done.2)
+        (done.0, subst (λ (o : Outcome). machine.Polls [] state o done.0) (sym tells) done.1, done.2)
     by (Err why) tells (refused, driver, memory) = absurd (started_refuses old.driver.started why sound.started refused)

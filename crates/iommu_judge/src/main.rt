@@ -1,6 +1,7 @@
-//! `iommu-judge [--help | --version | FILE]` judges the trace in the file, or on standard input: it prints `lawful`, or the first line that
-//! can't have come, with the reason, or the first of which that depends on what the trace doesn't show, and how it may show
-//! that. The repository's `docs/JUDGE.md` says how a trace is written, and what the verdicts mean.
+//! `iommu-judge [--help | --version | [--keep-going] [FILE]]` judges the trace in the file, or on standard input: it prints `lawful`, or
+//! the first line that can't have come, with the reason, or the first of which that depends on what the trace doesn't show, and
+//! how it may show that. With `--keep-going` a line that can't have come is left out, and what stands behind it is judged too.
+//! The repository's `docs/JUDGE.md` says how a trace is written, and what the verdicts mean.
 //!
 //! The exit status is 0 where the trace is lawful, which is proved then, 1 where it isn't, 2 where a line isn't in the grammar,
 //! 3 where the command line isn't lawful, 4 where reading, writing or memory failed, 5 where no line was found unlawful, and
@@ -10,7 +11,7 @@
 
 mod progress;
 
-use iom_judge::{Verdict, judge_trace};
+use iom_judge::{Findings, Verdict, judge_on};
 use iom_programs::{INPUT, cause_of, is_file, why_no_words, words_of};
 use progress::Watched;
 use std::fs;
@@ -31,16 +32,20 @@ const NOT_CERTIFIED: u8 = 5;
 
 const BEYOND_LIMITS: u8 = 6;
 
-const USAGE: &str = "iommu-judge [--help | --version | FILE]";
+/// So many unlawful lines are left out at most.
+const MOST_LEFT_OUT: usize = 1000;
+
+const USAGE: &str = "iommu-judge [--help | --version | [--keep-going] [FILE]]";
 
 const HELP: &str = "\
-iommu-judge [--help | --version | FILE]
+iommu-judge [--help | --version | [--keep-going] [FILE]]
 
 Judges the trace in the file, or on standard input: prints `lawful`, or the first line that can't have come, with the
 reason.
 
-  --help     prints this
-  --version  prints the version
+  --help        prints this
+  --version     prints the version
+  --keep-going  leaves out a line that can't have come, and judges on: at most a thousand are left out
 ";
 
 const VERSION: &str = "iommu-judge 1.0\n";
@@ -77,21 +82,45 @@ fn tell(rt: &HostRuntime, name: &str, verdict: &Verdict) -> io::Result<u8> {
     }
 }
 
+/// Prints how many lines were left out, behind which no other was found that can't have come.
+fn tell_count(rt: &HostRuntime, count: usize) -> io::Result<u8> {
+    let lines = if count == 1 { "line is" } else { "lines are" };
+    println!(rt; "{count} {lines} unlawful")?;
+    Ok(NOT_LAWFUL)
+}
+
+/// Prints all that is found, one after another, and gives the exit status.
+fn tell_all(rt: &HostRuntime, name: &str, found: &Findings) -> io::Result<u8> {
+    let mut status = tell(rt, name, &found.first)?;
+    for (index, verdict) in found.others.iter().enumerate() {
+        status = match verdict {
+            Verdict::Lawful => tell_count(rt, index.saturating_add(1))?,
+            verdict => tell(rt, name, verdict)?,
+        };
+    }
+    Ok(status)
+}
+
 /// Tells what was found of what has this name, or why it can't be read.
-fn end(rt: &HostRuntime, name: &str, found: io::Result<Verdict>) -> u8 {
+fn end(rt: &HostRuntime, name: &str, found: io::Result<Findings>) -> u8 {
     match found {
         Err(error) => complain(rt, name, cause_of(&error), FAILED),
-        Ok(verdict) => match tell(rt, name, &verdict) {
+        Ok(found) => match tell_all(rt, name, &found) {
             Ok(status) => status,
             Err(_) => complain(rt, "standard output", "writing failed", FAILED),
         },
     }
 }
 
-/// What is found of what the reader has.
-fn judge<R: Read + Drop>(rt: &HostRuntime, name: &str, reader: R) -> io::Result<Verdict> {
+/// What is found of what the reader has, where so many unlawful lines are left out at most.
+fn judge<R: Read + Drop>(
+    rt: &HostRuntime,
+    name: &str,
+    reader: R,
+    most: usize,
+) -> io::Result<Findings> {
     let mut watched = Watched::new(rt, name, reader);
-    judge_trace(rt.alloc(), &mut watched)
+    judge_on(rt.alloc(), &mut watched, most)
 }
 
 /// Writes the text, and gives the exit status.
@@ -103,36 +132,46 @@ fn print(rt: &HostRuntime, text: &str) -> u8 {
 }
 
 /// Judges the trace on standard input. Where that is a terminal, nobody wrote one there: what is wanted is said.
-fn judge_input(rt: &HostRuntime) -> u8 {
+fn judge_input(rt: &HostRuntime, most: usize) -> u8 {
     if rt.stdin().is_terminal() {
         let _ = eprintln!(rt; "{USAGE}");
         return BAD_COMMAND_LINE;
     }
-    end(rt, INPUT, judge(rt, INPUT, rt.stdin()))
+    end(rt, INPUT, judge(rt, INPUT, rt.stdin(), most))
 }
 
 /// Judges the trace in the file.
-fn judge_file(rt: &HostRuntime, file: &str) -> u8 {
+fn judge_file(rt: &HostRuntime, file: &str, most: usize) -> u8 {
     let found = match fs::open(rt, file) {
-        Ok(opened) => judge(rt, file, opened),
+        Ok(opened) => judge(rt, file, opened, most),
         Err(error) => Err(error),
     };
     end(rt, file, found)
 }
 
-/// Does what the words ask for, and gives the exit status.
-fn run(rt: &HostRuntime, words: &[String]) -> u8 {
+/// Judges the trace that the words name, or the one on standard input.
+fn judge_named(rt: &HostRuntime, words: &[String], most: usize) -> u8 {
     match words {
-        [] => judge_input(rt),
-        [word] if word.as_str() == "--help" => print(rt, HELP),
-        [word] if word.as_str() == "--version" => print(rt, VERSION),
-        [file] if is_file(file) => judge_file(rt, file),
+        [] => judge_input(rt, most),
+        [file] if is_file(file) => judge_file(rt, file, most),
         _ => complain(
             rt,
             "command line",
-            "it isn't [--help | --version | FILE]",
+            "it isn't [--help | --version | [--keep-going] [FILE]]",
             BAD_COMMAND_LINE,
         ),
+    }
+}
+
+/// Does what the words ask for, and gives the exit status.
+fn run(rt: &HostRuntime, words: &[String]) -> u8 {
+    match words {
+        [word] if word.as_str() == "--help" => print(rt, HELP),
+        [word] if word.as_str() == "--version" => print(rt, VERSION),
+        [flag, words @ ..] if flag.as_str() == "--keep-going" => {
+            judge_named(rt, words, MOST_LEFT_OUT)
+        }
+        words => judge_named(rt, words, 0),
     }
 }
 

@@ -15,7 +15,7 @@ returns-then-not-all_may c =
     rw c.in-Confirmed.is (
       refl,
       λ h past after step.
-          not_polled_as c.args.kept.now c.in-Confirmed.first c.in-Confirmed.last c.in-Confirmed.timed_out h after
+          not_polled_as c.args.choice.now.returned c.args.kept.now c.in-Confirmed.first c.in-Confirmed.last c.in-Confirmed.timed_out h after
           (λ all. false≢true (sym c.if-not-all_may.true ∙ (decides h past).1 all)) step,
     )
 
@@ -27,8 +27,11 @@ returns-in_ok-take_leave-in-Confirmed c =
     let confirmed = c.in_ok-confirm-in-Confirmed.ensures.past h past in (
       now,
       subst (λ (g : KeptGrants). IsPastOf g now) (sym c.in_ok-take_leave-in-Confirmed.ensures.grants) confirmed,
-      polled_as c.args.kept.now _ c.in-Confirmed.first c.in-Confirmed.last c.in-Confirmed.timed_out h _
+      polled_as c.args.choice.now.returned c.args.kept.now _ c.in-Confirmed.first c.in-Confirmed.last c.in-Confirmed.timed_out h _
           ((c.may_confirm.ensures.may h past).0 c.if-not-may_confirm.false) c.in_ok-confirm-in-Confirmed.ensures.tickets.0
           ((decides h past).0 c.if-not-all_may.false)
           (c.in_ok-take_leave-in-Confirmed.ensures.left now confirmed),
     ))
+
+pub returns-in-NoneConfirmed : goal.returns-in-NoneConfirmed
+returns-in-NoneConfirmed c = rw c.in-NoneConfirmed.is (rw c.as_slice-in-NoneConfirmed.ensures at c.judge_returns.ensures)

@@ -1,11 +1,26 @@
-use Rattle.std.proofs.Common.{◌∙◌}
-use Rattle.iom_judge.proofs.CertificateLemmas.{granted_more}
+use Rattle.std.proofs.Common.{◌≡◌, ◌++◌, ◌∷◌, [], IsTrue, subst, sym}
+use Rattle.iom_machine.specs.declared.event.Event.{Event}
+use Rattle.iom_machine.specs.declared.outcome.Outcome.TheVariants.{Done}
+use Rattle.iom_judge.specs.Happenings.{Came, tables_chosen}
+use Rattle.iom_judge.proofs.CertificateLemmas.{granted_more, tables_so_far}
 use Rattle.iom_judge.proofs.judging.Judge.grant_each.Goals as goal
 
 pub loop-index-preserved : goal.loop-index-preserved
 loop-index-preserved c =
-    let went = rw c.in_default-2.is at c.in_ok-verdict.ensures in (
-      went.0 ∙ c.loop-index.invariant.0,
-      granted_more c.args.self.now.kept c.loop-index.self.kept c.go_on.new.self.kept c.args.granted.device c.args.granted.page c.args.granted.frame c.args.granted.rights c.loop-index.index c.in-Some.event c.in-Some.ensures
-          c.loop-index.invariant.1 went.1,
+    let granted = c.args.granted in
+    let event = c.in-Some.event in
+    let shown = c.shown_at-shown.result in
+    let so_far = c.loop-index.invariant in
+    let went = rw c.in_default-2.is at c.in_ok-verdict.ensures in
+    let choice = went.0 in
+    let more = granted_more c.args.self.now c.loop-index.self c.go_on.new.self granted.device granted.page granted.frame granted.rights c.loop-index.index event choice
+    so_far.0 so_far.1 c.in-Some.ensures so_far.2 so_far.4 went.2 in
+    let takes : IsTrue shown.has_tables → choice.taken ≡ shown.tables.now =
+    subst (λ (e : Event). IsTrue shown.has_tables → tables_chosen e choice ≡ shown.tables.now) c.in-Some.ensures went.1.tables_taken in (
+      so_far.0 ++ choice.taken,
+      so_far.1 ++ Came event Done choice ∷ [],
+      more.0,
+      tables_so_far granted.device granted.page granted.frame granted.rights c.loop-index.index c.args.has_tables so_far.0 choice.taken c.args.tables.now shown.tables.now
+          so_far.1 so_far.2 so_far.3 (λ has. takes (subst IsTrue (sym c.shown_at-shown.ensures.has) has)) c.shown_at-shown.ensures.first c.shown_at-shown.ensures.later,
+      more.1,
     )

@@ -1,10 +1,8 @@
-use Rattle.std.proofs.Common.{◌≡◌, replicate}
-use Rattle.iom_machine.specs.declared.outcome.Outcome.TheVariants.{Done}
-use Rattle.iom_trace_lines.specs.TraceLines.{granted_events}
-use Rattle.iom_judge.specs.Certified.{GoesOn}
+use Rattle.iom_judge.specs.Certified.{ContinuesByGrants}
 use Rattle.iom_judge.proofs.judging.Judge.grant_each.Given as goal
 
--- those so far went on
+-- those so far went on, and took the tables that are shown
 abbrev pub invariant-loop-index : goal.invariant-loop-index
 invariant-loop-index l =
-    (l.self.line ≡ l.initial.self.line) × GoesOn l.initial.self.kept (granted_events l.fn.granted.device l.fn.granted.page l.fn.granted.frame l.fn.granted.rights l.index) (replicate l.index Done) l.self.kept
+    let granted = l.fn.granted in
+    ContinuesByGrants l.initial.self granted.device granted.page granted.frame granted.rights l.index l.fn.has_tables l.fn.tables l.self

@@ -1,0 +1,58 @@
+// All that is found of a trace, where judging goes on behind a line that is unlawful.
+ghost use Rattle.std.specs.Prelude.{IfOk, IfSome};
+ghost use Rattle.iom_judge.specs.Certificates.{IsSoOf};
+
+use crate::judging::{Judge, Reading, judge_lines};
+use crate::verdict::Verdict;
+use iom_trace_lines::Lines;
+use std::alloc::Global;
+use std::io::{self, Read};
+
+/// What the judge finds of a trace: first, and behind lines that are left out.
+#[derive(Drop)]
+pub struct Findings {
+    /// What [`judge_trace`](crate::judge_trace) finds.
+    pub first: Verdict,
+    /// What is found next, one after another, where that is a line which is left out.
+    pub others: Vec<Verdict>,
+}
+
+/// Whether the judging may go on behind what was found: a line is left out that is unlawful, and no other.
+fn is_left_out(verdict: &Verdict) -> bool {
+    matches!(verdict, Verdict::Unlawful { .. })
+}
+
+/// What is found behind a line that was left out, until so many more are.
+fn judge_rest<R: Read>(
+    judge: &mut Judge,
+    reading: &mut Reading,
+    lines: &mut Lines,
+    reader: &mut R,
+    most: usize,
+) -> io::Result<Vec<Verdict>> {
+    let mut found = Vec::new(judge.alloc);
+    for _ in 0..most {
+        let verdict = judge_lines(judge, reading, lines, reader)?;
+        let goes_on = is_left_out(&verdict);
+        found.push(verdict)?;
+        if !goes_on {
+            return Ok(found);
+        }
+    }
+    Ok(found)
+}
+
+/// What the judge finds of the trace that the reader has. A line that is unlawful is left out, and those behind it are judged
+/// as if it weren't there, until so many were left out; any other verdict ends the judging. Of a line of several events those
+/// that came before the unlawful one aren't left out. Nothing is certified of what stands behind a line that was left out.
+pub fn judge_on<R: Read>(alloc: Global, reader: &mut R, most: usize) -> io::Result<Findings>
+    ensures { IfOk result (λ found. IfSome (R.remaining reader.old) (IsSoOf found.first)) }
+{
+    let mut lines = Lines::new(alloc)?;
+    let mut judge = Judge::new(alloc);
+    let mut reading = Reading::new(alloc)?;
+    let first = judge_lines(&mut judge, &mut reading, &mut lines, reader)?;
+    let most = if is_left_out(&first) { most } else { 0 };
+    let others = judge_rest(&mut judge, &mut reading, &mut lines, reader, most)?;
+    Ok(Findings { first, others })
+}

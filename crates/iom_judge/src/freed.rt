@@ -1,0 +1,84 @@
+// Tables that are given back while their device stays attached.
+ghost use Rattle.std.specs.Prelude.{IfOk, MatchOption};
+ghost use Rattle.iom_trace_lines.specs.TraceLines.{TablesFreed};
+ghost use Rattle.iom_judge.specs.Certified.{ContinuesAs, Names};
+
+use crate::bad::{NO_WORLD, bad};
+use crate::choosing::{NOTHING, Shown};
+use crate::judging::Judge;
+use crate::settled::device_with;
+use crate::verdict::{Verdict, quoting};
+use iom_base::{DeviceId, Owner};
+use iom_kept_state::KeptState;
+use iom_machine::{Attachment, Event, Outcome};
+use std::alloc::{AllocError, Global};
+use std::io;
+
+/// The first of the tables that may not be given back.
+fn first_in_use(kept: &KeptState, tables: &[u64]) -> Option<u64> {
+    for (index, table) in tables.iter().enumerate() {
+        if !kept.may_give_back_all(tables.get(index..index + 1)?) {
+            return Some(*table);
+        }
+    }
+    None
+}
+
+/// Why the table of the device may not be given back.
+fn why_not_of(
+    alloc: Global,
+    kept: &KeptState,
+    table: u64,
+    device: DeviceId,
+) -> Result<String, AllocError> {
+    let attachment = match device_with(kept.devices.as_slice(), device) {
+        None => Attachment::Detached,
+        Some(device) => device.attachment,
+    };
+    match attachment {
+        Attachment::Attached { .. } => format!(in alloc;
+            "frame {table} is a table of {device:06x}; what that released isn't all confirmed"
+        ),
+        _ => { format!(in alloc; "frame {table} is a table of {device:06x}, which isn't attached") }
+    }
+}
+
+/// Why the table may not be given back.
+fn why_in_use(alloc: Global, kept: &KeptState, table: u64) -> Result<String, AllocError> {
+    if kept.limits.in_order {
+        return String::from_str(
+            alloc,
+            "tables are given back in a world without limits alone",
+        );
+    }
+    match kept.frames.owner(table) {
+        None => format!(in alloc; "frame {table} is nobody's table"),
+        Some(Owner::System) => format!(in alloc; "frame {table} is the system's"),
+        Some(Owner::OneDevice(device)) => why_not_of(alloc, kept, table, device),
+    }
+}
+
+impl Judge {
+    /// What is found where these tables are given back, if that ends the trace.
+    pub(crate) fn free_tables(&mut self, tables: &[u64], text: &[u8]) -> io::Result<Option<Verdict>>
+        ensures { IfOk result (λ found. MatchOption found (ContinuesAs self.old TablesFreed tables.now self.new) (Names self.old.line)) }
+    {
+        let (alloc, line) = (self.alloc, self.line);
+        let Some(kept) = &self.kept else {
+            return Ok(Some(bad(alloc, line, NO_WORLD)?));
+        };
+        if let Some(table) = first_in_use(kept, tables) {
+            if let Some(missing) = self.guesses.of_tables() {
+                return Ok(Some(Verdict::Uncertified { line, missing }));
+            }
+            let reason = quoting(alloc, text, &why_in_use(alloc, kept, table)?)?;
+            return Ok(Some(Verdict::Unlawful { line, reason }));
+        }
+        let shown = Shown {
+            freed: tables,
+            ..NOTHING
+        };
+        let none = Outcome::NoneConfirmed { timed_out: false };
+        self.go_on(&Event::Poll, &none, shown, text)
+    }
+}

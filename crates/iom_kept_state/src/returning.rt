@@ -1,0 +1,109 @@
+//! Tables that are given back of devices that stay attached.
+ghost use Rattle.std.specs.Prelude.{◌≡◌, ◌↔◌, ℕ, [], All, IsTrue, Some};
+ghost use Rattle.iom_ledger.specs.History.{History, lingering_at};
+ghost use Rattle.iom_base.specs.declared.owner.Owner.TheVariants.{OneDevice};
+ghost use Rattle.iom_machine.specs.PowerOn.{empty_frame};
+ghost use Rattle.iom_machine.specs.Refusals.{is_attached};
+ghost use Rattle.iom_machine.specs.Returning.{frames_returned, MayGiveBack, MayGiveBackOf, with_returned};
+ghost use Rattle.iom_kept_state.specs.Frames.{frames_in, ChangesFrame};
+ghost use Rattle.iom_kept_state.specs.Grants.{IsPastOf};
+ghost use Rattle.iom_kept_state.specs.States.{state_of};
+
+use crate::frames::KeptFrames;
+use crate::grants::KeptGrants;
+use crate::leaving::attachment_in;
+use crate::state::KeptState;
+use iom_base::{DeviceId, Owner};
+use iom_machine::Attachment;
+
+/// Whether the device is attached.
+fn is_attached(attachment: Attachment) -> bool
+    ensures { result ≡ is_attached attachment }
+{
+    match attachment {
+        Attachment::Attached { .. } => true,
+        _ => false,
+    }
+}
+
+impl KeptFrames {
+    /// Nothing is kept of the frame: it is one of zeros that belongs to nobody.
+    fn forget(&mut self, number: u64)
+        ensures { ChangesFrame self.old self.new number (λ frame. empty_frame) }
+    {
+        let _frame = self.named.swap_remove(&number);
+    }
+
+    /// The frames are given back.
+    fn give_back(&mut self, returned: &[u64])
+        ensures { frames_in self.new ≡ frames_returned returned.now (frames_in self.old) }
+    {
+        for number in returned {
+            self.forget(*number);
+        }
+    }
+}
+
+impl KeptGrants {
+    /// Whether nothing lingers for the device.
+    fn nothing_lingers(&self, device: DeviceId) -> bool
+        ensures { (h : History) → IsPastOf self.now h → IsTrue result ↔ ((page : ℕ) → lingering_at h device page ≡ []) }
+    {
+        !self.ledger.lingers_anything(device)
+    }
+}
+
+impl KeptState {
+    /// Whether a device may give back a table.
+    fn device_may_give_back(&self, device: DeviceId) -> bool
+        ensures { (h : History) → IsPastOf self.now.grants h → IsTrue result ↔ MayGiveBackOf (state_of self.now h) (Some (OneDevice device)) }
+    {
+        if !is_attached(attachment_in(self.devices.as_slice(), device)) {
+            return false;
+        }
+        self.grants.nothing_lingers(device)
+    }
+
+    /// Whether what belongs to the owner may be given back.
+    fn owner_may_give_back(&self, owner: Owner) -> bool
+        ensures { (h : History) → IsPastOf self.now.grants h → IsTrue result ↔ MayGiveBackOf (state_of self.now h) (Some owner) }
+    {
+        match owner {
+            Owner::System => false,
+            Owner::OneDevice(device) => self.device_may_give_back(device),
+        }
+    }
+
+    /// Whether the frame may be given back.
+    fn may_give_back(&self, number: u64) -> bool
+        ensures { (h : History) → IsPastOf self.now.grants h → IsTrue result ↔ MayGiveBack (state_of self.now h) number }
+    {
+        if self.limits.in_order {
+            return false;
+        }
+        match self.frames.owner(number) {
+            None => false,
+            Some(owner) => self.owner_may_give_back(owner),
+        }
+    }
+
+    /// Whether each of the frames may be given back.
+    pub fn may_give_back_all(&self, returned: &[u64]) -> bool
+        ensures { (h : History) → IsPastOf self.now.grants h → IsTrue result ↔ All (MayGiveBack (state_of self.now h)) returned.now }
+    {
+        for number in returned {
+            if !self.may_give_back(*number) {
+                return false;
+            }
+        }
+        true
+    }
+
+    /// The frames are given back: nothing is kept of them.
+    pub fn give_back(&mut self, returned: &[u64])
+        ensures grants { self.new.grants ≡ self.old.grants }
+        ensures returned { (h : History) → state_of self.new h ≡ with_returned returned.now (state_of self.old h) }
+    {
+        self.frames.give_back(returned);
+    }
+}
