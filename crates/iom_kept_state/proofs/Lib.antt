@@ -1,4 +1,5 @@
 mod ActLemmas
+mod AlikeLemmas
 mod ByteLemmas
 mod FrameLists
 mod FreeLemmas

@@ -84,7 +84,8 @@ impl KeptFrames {
     pub fn at_power_on(alloc: Global, count: u64) -> Result<KeptFrames, AllocError>
         requires four { 4 ≤ count }
         requires small { count ≤ 2 ^ 40 }
-        ensures { IfOk result (λ frames. frames_in frames ≡ reserved_for System ((count - 4) ∷ (count - 3) ∷ (count - 2) ∷ (count - 1) ∷ []) (replicate count empty_frame)) }
+        ensures { IfOk result (λ frames.
+            frames_in frames ≡ reserved_for System ((count - 4) ∷ (count - 3) ∷ (count - 2) ∷ (count - 1) ∷ []) (replicate count empty_frame)) }
     {
         let mut frames = KeptFrames {
             count,

@@ -2,7 +2,7 @@
 use crate::state::KeptState;
 
 impl KeptState {
-    ghost use Rattle.std.specs.Prelude.{◌≡◌, ◌≢◌, ◌↔◌, ◌≤◌, ◌<◌, ◌*◌, ◌+◌, ◌^◌, All, IsTrue};
+    ghost use Rattle.std.specs.Prelude.{◌↔◌, ◌<◌, ◌*◌, ◌+◌, ◌^◌, All, IsTrue};
     ghost use Rattle.iom_ledger.specs.History.{History};
     ghost use Rattle.iom_machine.specs.Frames.{IsFree, IsFreeBesides, IsFreeRun, FewerThan};
     ghost use Rattle.iom_kept_state.specs.Grants.{IsPastOf};

@@ -62,8 +62,7 @@ fn is_of_left(grants: &KeptGrants, devices: &[Device], owner: Option<Owner>) -> 
     ensures { (h : History) → IsPastOf grants.now h → result ≡ is_of_left_in h devices.now owner }
 {
     match owner {
-        None => false,
-        Some(Owner::System) => false,
+        None | Some(Owner::System) => false,
         Some(Owner::OneDevice(id)) => has_left(grants, attachment_in(devices, id)),
     }
 }

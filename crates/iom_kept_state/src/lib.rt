@@ -8,6 +8,7 @@
 //! one takes no more room than a low one.
 #![tactic(auto)]
 
+mod alike;
 mod bytes;
 mod frames;
 mod free;

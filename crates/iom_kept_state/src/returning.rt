@@ -3,7 +3,7 @@ ghost use Rattle.std.specs.Prelude.{◌≡◌, ◌↔◌, ℕ, [], All, IsTrue, 
 ghost use Rattle.iom_ledger.specs.History.{History, lingering_at};
 ghost use Rattle.iom_base.specs.declared.owner.Owner.TheVariants.{OneDevice};
 ghost use Rattle.iom_machine.specs.PowerOn.{empty_frame};
-ghost use Rattle.iom_machine.specs.Refusals.{is_attached};
+ghost use Rattle.iom_machine.specs.Refusals.{attachment_of, is_attached};
 ghost use Rattle.iom_machine.specs.Returning.{frames_returned, MayGiveBack, MayGiveBackOf, with_returned};
 ghost use Rattle.iom_kept_state.specs.Frames.{frames_in, ChangesFrame};
 ghost use Rattle.iom_kept_state.specs.Grants.{IsPastOf};
@@ -20,10 +20,7 @@ use iom_machine::Attachment;
 fn is_attached(attachment: Attachment) -> bool
     ensures { result ≡ is_attached attachment }
 {
-    match attachment {
-        Attachment::Attached { .. } => true,
-        _ => false,
-    }
+    matches!(attachment, Attachment::Attached { .. })
 }
 
 impl KeptFrames {
@@ -54,14 +51,19 @@ impl KeptGrants {
 }
 
 impl KeptState {
+    /// How the device is attached; detached, where there is none.
+    pub fn attachment(&self, device: DeviceId) -> Attachment
+        ensures { (h : History) → result ≡ attachment_of (state_of self.now h) device }
+    {
+        attachment_in(self.devices.as_slice(), device)
+    }
+
     /// Whether a device may give back a table.
-    fn device_may_give_back(&self, device: DeviceId) -> bool
+    pub fn device_may_give_back(&self, device: DeviceId) -> bool
         ensures { (h : History) → IsPastOf self.now.grants h → IsTrue result ↔ MayGiveBackOf (state_of self.now h) (Some (OneDevice device)) }
     {
-        if !is_attached(attachment_in(self.devices.as_slice(), device)) {
-            return false;
-        }
-        self.grants.nothing_lingers(device)
+        is_attached(attachment_in(self.devices.as_slice(), device))
+            && self.grants.nothing_lingers(device)
     }
 
     /// Whether what belongs to the owner may be given back.

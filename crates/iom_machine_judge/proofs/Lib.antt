@@ -1,3 +1,4 @@
+mod AccessLemmas
 mod BlockLemmas
 pub mod DecidedLemmas
 pub mod LeftLemmas

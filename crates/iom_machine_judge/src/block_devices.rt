@@ -1,14 +1,11 @@
 // What may come of the events of a block device.
-ghost use Rattle.std.specs.Prelude.{◌≡◌, ◌↔◌, ◌<◌, true, [], IfOk, OnOk, IsTrue, Some, length, slice_get};
+ghost use Rattle.std.specs.Prelude.{◌≡◌, ◌↔◌, ◌<◌, [], IfOk, OnOk, IsTrue, Some, length, slice_get};
 ghost use Rattle.iom_base.specs.declared.refusal.Refusal.TheVariants.{BadMedium, BadQueue};
 ghost use Rattle.iom_base.specs.Accesses.{HasBytes, MayWant};
-ghost use Rattle.iom_base.specs.DeviceKinds.{has_cache};
-ghost use Rattle.iom_kept_state.specs.Grants.{IsPastOf};
 ghost use Rattle.iom_kept_state.specs.States.{state_of, Decides, DecidesStaying};
 ghost use Rattle.iom_ledger.specs.History.{History};
 ghost use Rattle.iom_machine.specs.declared.state.Device.{Device};
 ghost use Rattle.iom_machine.specs.BlockDevices.{MayInsert, Inserts, MaySet, IsStatus, MayBe, Begins, TakesStep, with_disk};
-ghost use Rattle.iom_machine.specs.Requests.{IsForwarded};
 ghost use Rattle.iom_machine.specs.Judging.{StandsAt};
 ghost use Rattle.iom_machine.specs.Machine.{InsertsDisk, SetsQueue, Steps, TellsStatus};
 ghost use Rattle.iom_virtqueue.specs.Layouts.{IsLayout, layout_of};
@@ -28,10 +25,7 @@ use std::alloc::{AllocError, Global};
 fn may_insert(kept: &KeptState, device: &Device, disk: u64) -> bool
     ensures { (h : History) → IsTrue result ↔ MayInsert disk (state_of kept.now h) device.now }
 {
-    if device.has_disk {
-        return false;
-    }
-    is_among(kept.disks.as_slice(), disk)
+    !device.has_disk && is_among(kept.disks.as_slice(), disk)
 }
 
 fn is_bad_medium(why: Refusal) -> bool
@@ -125,10 +119,7 @@ fn may_set(size: u64, descriptors: u64, available: u64, used: u64, outcome: &Out
     match outcome {
         Outcome::Done => is_layout(size, descriptors, available, used),
         Outcome::Refused(why) => {
-            if is_layout(size, descriptors, available, used) {
-                return false;
-            }
-            is_bad_queue(*why)
+            !is_layout(size, descriptors, available, used) && is_bad_queue(*why)
         }
         _ => false,
     }
@@ -146,14 +137,12 @@ pub(crate) fn judge_queue(
 ) -> bool
     ensures { DecidesStaying result kept.now (λ before after. SetsQueue (layout_of size descriptors available used) before id outcome.now after) }
 {
-    match device_with(kept.devices.as_slice(), id) {
+    match device_with(kept, id) {
         None => answers_absent(outcome),
-        Some(device) => {
-            if !device.kind.is_block_device() {
-                return answers_unable(outcome);
-            }
+        Some(device) if device.kind.is_block_device() => {
             may_set(size, descriptors, available, used, outcome)
         }
+        Some(_) => answers_unable(outcome),
     }
 }
 
@@ -167,25 +156,11 @@ fn is_status(outcome: &Outcome) -> bool
 pub(crate) fn judge_status(kept: &KeptState, id: DeviceId, outcome: &Outcome) -> bool
     ensures { DecidesStaying result kept.now (λ before after. TellsStatus before id outcome.now after) }
 {
-    match device_with(kept.devices.as_slice(), id) {
+    match device_with(kept, id) {
         None => answers_absent(outcome),
-        Some(device) => {
-            if !device.kind.is_block_device() {
-                return answers_unable(outcome);
-            }
-            is_status(outcome)
-        }
+        Some(device) if device.kind.is_block_device() => is_status(outcome),
+        Some(_) => answers_unable(outcome),
     }
-}
-
-/// Whether the device may ask for a translation, that it may have this access.
-fn may_ask(kept: &KeptState, device: &Device, access: &Access) -> bool
-    ensures { IsTrue result ↔ ((has_cache device.now.kind ≡ true) × IsForwarded kept.now.limits.in_flight device.now.in_flight access.now.address access.now.len) }
-{
-    if !device.kind.has_cache() {
-        return false;
-    }
-    is_forwarded(kept, device, access)
 }
 
 /// Whether a step of the device may be this one, which begins no access.
@@ -193,22 +168,15 @@ fn may_be(kept: &KeptState, device: &Device, access: &Access, step: BlockStep) -
     ensures { (h : History) → IsTrue result ↔ MayBe (state_of kept.now h) device.now access.now step }
 {
     match step {
-        BlockStep::Idle => true,
-        BlockStep::Waiting => true,
-        BlockStep::Asked => may_ask(kept, device, access),
-        BlockStep::Chain(_) => true,
-        BlockStep::Finished { .. } => true,
-        BlockStep::Down => true,
+        BlockStep::Asked => device.kind.has_cache() && is_forwarded(kept, device, access),
+        _ => true,
     }
 }
 
 fn has_none(bytes: &[u8]) -> bool
     ensures { IsTrue result ↔ (bytes.now ≡ []) }
 {
-    match bytes {
-        [] => true,
-        [_, ..] => false,
-    }
+    matches!(bytes, [])
 }
 
 /// Whether a write has as many bytes as it names, and a read has none.
@@ -225,10 +193,7 @@ fn has_bytes(access: &Access) -> bool
 fn may_want(access: &Access) -> bool
     ensures { IsTrue result ↔ MayWant access.now }
 {
-    if !is_within_page(access) {
-        return false;
-    }
-    has_bytes(access)
+    is_within_page(access) && has_bytes(access)
 }
 
 fn copy_of(alloc: Global, access: &Access) -> Result<Access, AllocError>

@@ -31,8 +31,7 @@ pub fn may_refuse_attach(kept: &KeptState, mode: Mode, why: Refusal) -> bool
     match why {
         Refusal::NoFrames => match mode {
             Mode::First(_) => kept.are_fewer_free(None, 3),
-            Mode::Second(_) => kept.are_fewer_runs_free(3),
-            Mode::Both(_) => kept.are_fewer_runs_free(3),
+            Mode::Second(_) | Mode::Both(_) => kept.are_fewer_runs_free(3),
         },
         Refusal::Memory => true,
         _ => false,
@@ -59,10 +58,7 @@ pub(crate) fn may_find_no_place(why: Refusal) -> bool
 pub(crate) fn may_give(kept: &KeptState, first: Option<Refusal>, ticket: u32) -> bool
     ensures { IsTrue result ↔ ((first ≡ None) × (ticket ≡ kept.now.grants.given + 1)) }
 {
-    if first.is_some() {
-        return false;
-    }
-    u64::from(ticket) == u64::from(kept.grants.given) + 1
+    first.is_none() && u64::from(ticket) == u64::from(kept.grants.given) + 1
 }
 
 /// Whether the ticket was given last, and isn't confirmed.
@@ -70,13 +66,7 @@ fn is_last_pending(kept: &KeptState, ticket: u32) -> bool
     ensures shown { IsTrue result → (ticket ≡ kept.now.grants.given) × (is_confirmed_in kept.now.grants ticket ≡ false) }
     ensures pending { (h : History) → IsPastOf kept.now.grants h → IsTrue result ↔ IsLastPending (state_of kept.now h) ticket }
 {
-    if ticket == 0 {
-        return false;
-    }
-    if ticket != kept.grants.given {
-        return false;
-    }
-    !kept.grants.is_confirmed(ticket)
+    ticket != 0 && ticket == kept.grants.given && !kept.grants.is_confirmed(ticket)
 }
 
 /// Whether a release may take this ticket, where nothing is refused: the next one, or the last one, where no order is asked for.
@@ -85,16 +75,8 @@ fn may_take(kept: &KeptState, first: Option<Refusal>, ticket: u32) -> bool
         × ((ticket ≡ kept.now.grants.given + 1) ⊎ ((ticket ≡ kept.now.grants.given) × (is_confirmed_in kept.now.grants ticket ≡ false))) }
     ensures take { (h : History) → IsPastOf kept.now.grants h → IsTrue result ↔ ((first ≡ None) × MayTakeTicket (state_of kept.now h) ticket) }
 {
-    if may_give(kept, first, ticket) {
-        return true;
-    }
-    if first.is_some() {
-        return false;
-    }
-    if kept.limits.in_order {
-        return false;
-    }
-    is_last_pending(kept, ticket)
+    may_give(kept, first, ticket)
+        || first.is_none() && !kept.limits.in_order && is_last_pending(kept, ticket)
 }
 
 /// Whether a plug may come so; the next state is then kept.
@@ -134,10 +116,7 @@ pub(crate) fn judge_plug(
 fn are_both_free(kept: &KeptState, pages: &[u64], taken: &[u64]) -> bool
     ensures { (h : History) → IsPastOf kept.now.grants h → IsTrue result ↔ All (IsFree (state_of kept.now h)) (pages.now ++ taken.now) }
 {
-    if !kept.are_free_besides(None, pages) {
-        return false;
-    }
-    kept.are_free_besides(None, taken)
+    kept.are_free_besides(None, pages) && kept.are_free_besides(None, taken)
 }
 
 /// Whether an attach may come so, by which these frames become pages of the device directory and tables; the next
@@ -162,20 +141,15 @@ pub(crate) fn judge_attach(
             if !are_both_free(kept, pages, taken) {
                 return Ok(false);
             }
-            match place_of(kept.devices.as_slice(), id) {
-                None => Ok(false),
-                Some(place) => {
-                    set_attachment(&mut kept.devices, place, Attachment::Attached { mode, ats });
-                    kept.frames.reserve(pages, Owner::System)?;
-                    kept.frames.reserve(taken, Owner::OneDevice(id))?;
-                    Ok(true)
-                }
-            }
+            let Some(place) = place_of(kept.devices.as_slice(), id) else {
+                return Ok(false);
+            };
+            set_attachment(&mut kept.devices, place, Attachment::Attached { mode, ats });
+            kept.frames.reserve(pages, Owner::System)?;
+            kept.frames.reserve(taken, Owner::OneDevice(id))?;
+            Ok(true)
         }
-        Outcome::Refused(why) => {
-            let may_come = may_refuse_attach(kept, mode, *why);
-            Ok(refuses(first, may_come, *why))
-        }
+        Outcome::Refused(why) => Ok(refuses(first, may_refuse_attach(kept, mode, *why), *why)),
         _ => Ok(false),
     }
 }
@@ -190,14 +164,12 @@ pub(crate) fn judge_detach(kept: &mut KeptState, id: DeviceId, outcome: &Outcome
             if !may_give(kept, first, *ticket) {
                 return false;
             }
-            match place_of(kept.devices.as_slice(), id) {
-                None => false,
-                Some(place) => {
-                    start_leaving(&mut kept.devices, place, *ticket);
-                    kept.grants.give(*ticket);
-                    true
-                }
-            }
+            let Some(place) = place_of(kept.devices.as_slice(), id) else {
+                return false;
+            };
+            start_leaving(&mut kept.devices, place, *ticket);
+            kept.grants.give(*ticket);
+            true
         }
         Outcome::Refused(why) => refuses(first, may_find_no_place(*why), *why),
         _ => false,
@@ -229,10 +201,7 @@ pub(crate) fn judge_grant(
             kept.frames.reserve(taken, Owner::OneDevice(id))?;
             Ok(true)
         }
-        Outcome::Refused(why) => {
-            let may_come = may_refuse_grant(kept, id, frame, *why);
-            Ok(refuses(first, may_come, *why))
-        }
+        Outcome::Refused(why) => Ok(refuses(first, may_refuse_grant(kept, id, frame, *why), *why)),
         _ => Ok(false),
     }
 }
@@ -264,19 +233,12 @@ pub(crate) fn judge_release(
 pub(crate) fn judge_fetch(kept: &KeptState, outcome: &Outcome) -> bool
     ensures { DecidesStaying result kept.now (λ before after. Fetches before outcome.now after) }
 {
-    match outcome {
-        Outcome::Fetched(_) => true,
-        _ => false,
-    }
+    matches!(outcome, Outcome::Fetched(_))
 }
 
 /// Whether this may come where the driver asks for a fault record, which leaves every state as it is.
 pub(crate) fn judge_faults(kept: &KeptState, outcome: &Outcome) -> bool
     ensures { DecidesStaying result kept.now (λ before after. TakesRecord before outcome.now after) }
 {
-    match outcome {
-        Outcome::Record(_) => true,
-        Outcome::NoRecord => true,
-        _ => false,
-    }
+    matches!(outcome, Outcome::Record(_) | Outcome::NoRecord)
 }

@@ -29,33 +29,8 @@ fn is_of_kind(access: &Access, kind: AccessKind) -> bool
 fn may_make(kept: &KeptState, id: DeviceId, made: &AcceptedAccess, kind: AccessKind) -> bool
     ensures { (h : History) → IsPastOf kept.now.grants h → IsTrue result ↔ ((made.now.access.kind ≡ kind) × May h id made.now.frame kind) }
 {
-    if !is_of_kind(&made.access, kind) {
-        return false;
-    }
     let page = made.access.address / PAGE_SIZE;
-    kept.grants.may(id, page, made.frame, kind)
-}
-
-/// Whether the access is a read that its device may make, and gives these bytes.
-fn gives(kept: &KeptState, id: DeviceId, made: &AcceptedAccess, bytes: &[u8]) -> bool
-    ensures { (h : History) → IsPastOf kept.now.grants h → IsTrue result ↔ GivesBytes (state_of kept.now h) id made.now bytes.now }
-{
-    if !may_make(kept, id, made, AccessKind::Read) {
-        return false;
-    }
-    let offset = made.access.address % PAGE_SIZE;
-    kept.frames
-        .shows(made.frame, offset, made.access.len, bytes)
-}
-
-/// Whether the access is a write of so many bytes that its device may make.
-fn writes(kept: &KeptState, id: DeviceId, made: &AcceptedAccess, len: u64) -> bool
-    ensures { (h : History) → IsPastOf kept.now.grants h → IsTrue result ↔ MakesWrite (state_of kept.now h) id made.now len }
-{
-    if !may_make(kept, id, made, AccessKind::Write) {
-        return false;
-    }
-    len == made.access.len
+    is_of_kind(&made.access, kind) && kept.grants.may(id, page, made.frame, kind)
 }
 
 /// The oldest access of the device in flight.
@@ -65,18 +40,22 @@ fn oldest(device: &Device) -> Option<&AcceptedAccess>
     device.in_flight.as_slice().first()
 }
 
-/// Whether the oldest access of the device is such a read.
+/// Whether the oldest access of the device is a read that it may make, and gives these bytes.
 fn makes_read(kept: &KeptState, device: &Device, bytes: &[u8]) -> bool
     ensures { (h : History) → IsPastOf kept.now.grants h
         → IsTrue result ↔ IsSomeAnd (slice_get device.now.in_flight 0) (λ made. GivesBytes (state_of kept.now h) device.now.id made bytes.now) }
 {
     match oldest(device) {
         None => false,
-        Some(made) => gives(kept, device.id, made, bytes),
+        Some(made) => {
+            let (offset, len) = (made.access.address % PAGE_SIZE, made.access.len);
+            may_make(kept, device.id, made, AccessKind::Read)
+                && kept.frames.shows(made.frame, offset, len, bytes)
+        }
     }
 }
 
-/// Whether the oldest access of the device is such a write.
+/// Whether the oldest access of the device is a write of so many bytes that it may make.
 fn makes_write(kept: &KeptState, device: &Device, len: u64) -> bool
     ensures some { IsTrue result → 0 < length device.now.in_flight }
     ensures makes { (h : History) → IsPastOf kept.now.grants h
@@ -84,17 +63,16 @@ fn makes_write(kept: &KeptState, device: &Device, len: u64) -> bool
 {
     match oldest(device) {
         None => false,
-        Some(made) => writes(kept, device.id, made, len),
+        Some(made) => {
+            may_make(kept, device.id, made, AccessKind::Write) && len == made.access.len
+        }
     }
 }
 
 fn has_none_in_flight(device: &Device) -> bool
     ensures { IsTrue result ↔ (device.now.in_flight ≡ []) }
 {
-    match device.in_flight.as_slice() {
-        [] => true,
-        [_, ..] => false,
-    }
+    matches!(device.in_flight.as_slice(), [])
 }
 
 /// Makes the oldest access of the device, a write.

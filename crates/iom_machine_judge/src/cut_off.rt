@@ -51,8 +51,7 @@ fn accepts_formerly(
     ensures low { IsTrue result → frame < 2 ^ 40 }
 {
     match mode {
-        Mode::First(_) => lingers(grants, id, access, frame),
-        Mode::Second(_) => lingers(grants, id, access, frame),
+        Mode::First(_) | Mode::Second(_) => lingers(grants, id, access, frame),
         Mode::Both(_) => grants.lingers_somewhere(id, frame, access.kind),
     }
 }
@@ -69,10 +68,7 @@ pub(crate) fn accepts_cut_off(
     ensures accepts { (h : History) → IsPastOf grants.now h → IsTrue result ↔ MayAcceptCutOff ticket mode h id access.now frame }
     ensures low { IsTrue result → frame < 2 ^ 40 }
 {
-    if grants.is_confirmed(ticket) {
-        return false;
-    }
-    accepts_formerly(mode, grants, id, access, frame)
+    !grants.is_confirmed(ticket) && accepts_formerly(mode, grants, id, access, frame)
 }
 
 /// Whether such a device may have the access refused, with the cause.
@@ -86,11 +82,6 @@ pub(crate) fn faults_cut_off(
 ) -> bool
     ensures { (h : History) → IsPastOf kept.now.grants h → IsTrue result ↔ MayFaultCutOff ticket mode (state_of kept.now h) id access.now cause }
 {
-    if is_same_cause(cause, cause_without_context(kept, id)) {
-        return true;
-    }
-    if kept.grants.is_confirmed(ticket) {
-        return false;
-    }
-    is_page_fault_of(mode, access.kind, cause)
+    is_same_cause(cause, cause_without_context(kept, id))
+        || !kept.grants.is_confirmed(ticket) && is_page_fault_of(mode, access.kind, cause)
 }

@@ -7,13 +7,15 @@ ghost use Rattle.iom_machine.specs.CuttingOff.{cut_off_under, attached_again};
 ghost use Rattle.iom_machine.specs.declared.state.Device.{Device};
 
 use iom_base::{AcceptedAccess, Access, DeviceId, Sequence};
+use iom_kept_state::KeptState;
 use iom_machine::{Attachment, Device};
 use std::alloc::AllocError;
 
 /// The plugged device with this id.
-pub(crate) fn device_with(devices: &[Device], id: DeviceId) -> Option<&Device>
-    ensures { option_copied result ≡ find (λ device. device.id == id) devices.now }
+pub(crate) fn device_with(kept: &KeptState, id: DeviceId) -> Option<&Device>
+    ensures { option_copied result ≡ find (λ device. device.id == id) kept.now.devices }
 {
+    let devices = kept.devices.as_slice();
     devices.iter().find(|device| device.id == id)
 }
 

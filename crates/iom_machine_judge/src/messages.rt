@@ -21,26 +21,17 @@ use iom_machine::{Choice, Outcome};
 fn judge_send(outcome: &Outcome) -> bool
     ensures { (kept : KeptState) → DecidesStaying result kept (λ before after. Sends before outcome.now after) }
 {
-    match outcome {
-        Outcome::Sent => true,
-        Outcome::Lost => true,
-        _ => false,
-    }
+    matches!(outcome, Outcome::Sent | Outcome::Lost)
 }
 
 /// Whether this may come of a question, which leaves the state as it is.
 pub(crate) fn judge_ask(kept: &KeptState, id: DeviceId, outcome: &Outcome) -> bool
     ensures { DecidesStaying result kept.now (λ before after. Asks before id outcome.now after) }
 {
-    match device_with(kept.devices.as_slice(), id) {
+    match device_with(kept, id) {
         None => answers_absent(outcome),
-        Some(device) => {
-            if device.kind.asks_questions() {
-                judge_send(outcome)
-            } else {
-                answers_unable(outcome)
-            }
-        }
+        Some(device) if device.kind.asks_questions() => judge_send(outcome),
+        Some(_) => answers_unable(outcome),
     }
 }
 
@@ -48,23 +39,19 @@ pub(crate) fn judge_ask(kept: &KeptState, id: DeviceId, outcome: &Outcome) -> bo
 pub(crate) fn judge_forge(kept: &KeptState, id: DeviceId, outcome: &Outcome) -> bool
     ensures { DecidesStaying result kept.now (λ before after. Forges before id outcome.now after) }
 {
-    match device_with(kept.devices.as_slice(), id) {
+    match device_with(kept, id) {
         None => answers_absent(outcome),
-        Some(device) => {
-            if device.kind.forges() {
-                judge_send(outcome)
-            } else {
-                answers_unable(outcome)
-            }
-        }
+        Some(device) if device.kind.forges() => judge_send(outcome),
+        Some(_) => answers_unable(outcome),
     }
 }
 
 /// Whether the question of the device for the page may be answered so.
 fn is_told(kept: &KeptState, asker: DeviceId, page: u64, told: Translation) -> bool
-    ensures { (h : History) → IsPastOf kept.now.grants h → IsTrue result ↔ IsSomeAnd (device_of (state_of kept.now h) asker) (λ device. MayTell device.attachment (state_of kept.now h) device.id page told) }
+    ensures { (h : History) → IsPastOf kept.now.grants h → IsTrue result ↔ IsSomeAnd (device_of (state_of kept.now h) asker)
+        (λ device. MayTell device.attachment (state_of kept.now h) device.id page told) }
 {
-    match device_with(kept.devices.as_slice(), asker) {
+    match device_with(kept, asker) {
         None => false,
         Some(device) => may_tell(device.attachment, kept, device.id, page, told),
     }
@@ -76,14 +63,14 @@ pub(crate) fn judge_deliver(kept: &KeptState, outcome: &Outcome, choice: &Choice
 {
     match outcome {
         Outcome::Answered(told) => is_told(kept, choice.device, choice.page, *told),
-        Outcome::Kept => true,
-        Outcome::Stale => true,
-        Outcome::AnswerRefused => true,
-        Outcome::Ignored => true,
-        Outcome::Invalidated(_) => true,
-        Outcome::Closed(_) => true,
-        Outcome::NotClosed(_) => true,
-        Outcome::NoMessage => true,
+        Outcome::Kept
+        | Outcome::Stale
+        | Outcome::AnswerRefused
+        | Outcome::Ignored
+        | Outcome::Invalidated(_)
+        | Outcome::Closed(_)
+        | Outcome::NotClosed(_)
+        | Outcome::NoMessage => true,
         _ => false,
     }
 }
@@ -92,21 +79,15 @@ pub(crate) fn judge_deliver(kept: &KeptState, outcome: &Outcome, choice: &Choice
 pub(crate) fn judge_drop(outcome: &Outcome) -> bool
     ensures { (kept : KeptState) → DecidesStaying result kept (λ before after. Drops before outcome.now after) }
 {
-    match outcome {
-        Outcome::Dropped => true,
-        Outcome::NoMessage => true,
-        _ => false,
-    }
+    matches!(outcome, Outcome::Dropped | Outcome::NoMessage)
 }
 
 /// Whether this may come where a message is repeated, which leaves every state as it is.
 pub(crate) fn judge_repeat(outcome: &Outcome) -> bool
     ensures { (kept : KeptState) → DecidesStaying result kept (λ before after. Repeats before outcome.now after) }
 {
-    match outcome {
-        Outcome::Repeated => true,
-        Outcome::Lost => true,
-        Outcome::NoMessage => true,
-        _ => false,
-    }
+    matches!(
+        outcome,
+        Outcome::Repeated | Outcome::Lost | Outcome::NoMessage
+    )
 }

@@ -29,10 +29,8 @@ fn each_may(
         [] => true,
         [flight, later @ ..] => {
             let page = flight.access.address / PAGE_SIZE;
-            if !grants.may_once(id, page, flight.frame, flight.access.kind, first, last) {
-                return false;
-            }
-            each_may(grants, id, later, first, last)
+            grants.may_once(id, page, flight.frame, flight.access.kind, first, last)
+                && each_may(grants, id, later, first, last)
         }
     }
 }
@@ -46,10 +44,8 @@ fn all_may(grants: &KeptGrants, devices: &[Device], first: u32, last: u32) -> bo
     match devices {
         [] => true,
         [device, others @ ..] => {
-            if !each_may(grants, device.id, device.in_flight.as_slice(), first, last) {
-                return false;
-            }
-            all_may(grants, others, first, last)
+            each_may(grants, device.id, device.in_flight.as_slice(), first, last)
+                && all_may(grants, others, first, last)
         }
     }
 }
@@ -59,13 +55,9 @@ fn are_next_tickets(kept: &KeptState, first: u32, last: u32) -> bool
     ensures shown { IsTrue result → (first ≡ kept.now.grants.confirmed + 1) × (first ≤ last) × (last ≤ kept.now.grants.given) }
     ensures next { (h : History) → IsPastOf kept.now.grants h → IsTrue result ↔ AreNextTickets (state_of kept.now h) first last }
 {
-    if u64::from(first) != u64::from(kept.grants.last_confirmed()) + 1 {
-        return false;
-    }
-    if first > last {
-        return false;
-    }
-    last <= kept.grants.given
+    u64::from(first) == u64::from(kept.grants.last_confirmed()) + 1
+        && first <= last
+        && last <= kept.grants.given
 }
 
 /// Whether none of the tickets from the first to the last is confirmed.
@@ -104,13 +96,7 @@ pub fn may_confirm(kept: &KeptState, first: u32, last: u32) -> bool
     ensures shown { IsTrue result → (0 < first) × (first ≤ last) × (last ≤ kept.now.grants.given) }
     ensures may { (h : History) → IsPastOf kept.now.grants h → IsTrue result ↔ MayConfirm (state_of kept.now h) first last }
 {
-    if are_next_tickets(kept, first, last) {
-        return true;
-    }
-    if kept.limits.in_order {
-        return false;
-    }
-    are_pending(kept, first, last)
+    are_next_tickets(kept, first, last) || !kept.limits.in_order && are_pending(kept, first, last)
 }
 
 /// Whether these tables may be given back where no ticket is confirmed; the next state is then kept.

@@ -55,14 +55,11 @@ pub(crate) fn judge_poke(
 fn shows(kept: &KeptState, address: u64, len: u64, bytes: &[u8]) -> bool
     ensures { (h : History) → IsTrue result ↔ ShowsBytes (state_of kept.now h) address len bytes.now }
 {
+    let (frame, offset) = (address / PAGE_SIZE, address % PAGE_SIZE);
     if bytes.len() as u64 != len {
         return false;
     }
-    if kept.frames.is_reserved(address / PAGE_SIZE) {
-        return true;
-    }
-    kept.frames
-        .shows(address / PAGE_SIZE, address % PAGE_SIZE, len, bytes)
+    kept.frames.is_reserved(frame) || kept.frames.shows(frame, offset, len, bytes)
 }
 
 /// Whether a peek may come so, which leaves the state as it is.
@@ -73,12 +70,7 @@ pub(crate) fn judge_peek(kept: &KeptState, address: u64, len: u64, outcome: &Out
     let first = frame_refusal(kept, address / PAGE_SIZE);
     match outcome {
         Outcome::BadSpan => !fits,
-        Outcome::Refused(why) => {
-            if !fits {
-                return false;
-            }
-            refuses(first, false, *why)
-        }
+        Outcome::Refused(why) => fits && refuses(first, false, *why),
         Outcome::Bytes(bytes) => {
             if !fits {
                 return false;

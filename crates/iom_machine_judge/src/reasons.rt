@@ -1,11 +1,13 @@
 // The first refusal that applies.
-ghost use Rattle.std.specs.Prelude.{◌≡◌, ◌↔◌, ◌<◌, ◌^◌, ◌&&◌, ◌||◌, not, nat_le, is_some, IsTrue, IsNone, IsSome, MatchOption, None};
+ghost use Rattle.std.specs.Prelude.{◌≡◌, ◌↔◌, ◌<◌, ◌^◌, ◌&&◌, ◌||◌, false, not, nat_le, is_some, IsTrue, IsNone, IsSome, MatchOption, None};
+ghost use Rattle.std.specs.Option.{option_copied, option_map_or};
+ghost use Rattle.iom_base.specs.DeviceKinds.{has_cache};
+ghost use Rattle.iom_machine.specs.declared.state.Attachment.TheVariants.{Detached};
 ghost use Rattle.iom_base.specs.Refusals.{first_that_applies};
 ghost use Rattle.iom_ledger.specs.History.{History};
-ghost use Rattle.iom_machine.specs.Judging.{attachment_in};
 ghost use Rattle.iom_machine.specs.Refusals.{plug_reasons, attach_reasons, detach_reasons, grant_reasons, release_reasons, quarantine_reasons, revive_reasons, frame_reasons, poke_reasons};
-ghost use Rattle.iom_machine.specs.Refusals.{is_plugged, attachment_of, is_detached, is_leaving, is_quarantined, is_attached, may_still_reach, table_limit_at};
-ghost use Rattle.iom_machine.specs.Refusals.{is_trusted, is_held, is_lingering, has_grants};
+ghost use Rattle.iom_machine.specs.Refusals.{attachment_of, is_detached, is_leaving, is_quarantined, is_attached, may_still_reach, table_limit_at};
+ghost use Rattle.iom_machine.specs.Refusals.{is_held, is_lingering, has_grants};
 ghost use Rattle.iom_machine.specs.Tickets.{pending_tickets};
 ghost use Rattle.iom_kept_state.specs.Grants.{IsPastOf, held_by, lingering_by};
 ghost use Rattle.iom_kept_state.specs.States.{state_of};
@@ -17,27 +19,20 @@ use iom_base::{DeviceId, NewDevice, Refusal};
 use iom_kept_state::KeptState;
 use iom_machine::{Attachment, Device};
 
-fn plugged(kept: &KeptState, id: DeviceId) -> bool
-    ensures { (h : History) → result ≡ is_plugged (state_of kept.now h) id }
+fn plugged(device: Option<&Device>) -> bool
+    ensures { result ≡ is_some (option_copied device.entry) }
 {
-    device_with(kept.devices.as_slice(), id).is_some()
-}
-
-/// How the device is attached, of these; detached, where it is none of them.
-pub(crate) fn attachment_in(devices: &[Device], id: DeviceId) -> Attachment
-    ensures { result ≡ attachment_in devices.now id }
-{
-    match device_with(devices, id) {
-        None => Attachment::Detached,
-        Some(device) => device.attachment,
-    }
+    device.is_some()
 }
 
 /// How the device is attached; detached, where there is none.
-fn attachment(kept: &KeptState, id: DeviceId) -> Attachment
-    ensures { (h : History) → result ≡ attachment_of (state_of kept.now h) id }
+fn attachment(device: Option<&Device>) -> Attachment
+    ensures { result ≡ option_map_or (λ device. device.attachment) (option_copied device.entry) Detached }
 {
-    attachment_in(kept.devices.as_slice(), id)
+    match device {
+        None => Attachment::Detached,
+        Some(device) => device.attachment,
+    }
 }
 
 fn detached(attachment: Attachment) -> bool
@@ -46,10 +41,11 @@ fn detached(attachment: Attachment) -> bool
     matches!(attachment, Attachment::Detached)
 }
 
-fn leaving(attachment: Attachment) -> bool
-    ensures { result ≡ is_leaving attachment }
+/// Whether nothing is attached any longer, or it ends soon.
+fn not_attached(attachment: Attachment) -> bool
+    ensures { result ≡ (is_detached attachment || is_leaving attachment) }
 {
-    matches!(attachment, Attachment::Leaving { .. })
+    detached(attachment) || matches!(attachment, Attachment::Leaving { .. })
 }
 
 fn quarantined(attachment: Attachment) -> bool
@@ -74,22 +70,11 @@ pub(crate) fn may_still_reach(kept: &KeptState, attachment: Attachment) -> bool
     }
 }
 
-/// Whether the device has a cache of translations.
-fn trusted(kept: &KeptState, id: DeviceId) -> bool
-    ensures { (h : History) → result ≡ is_trusted (state_of kept.now h) id }
-{
-    match device_with(kept.devices.as_slice(), id) {
-        None => false,
-        Some(device) => device.kind.has_cache(),
-    }
-}
-
 /// Whether no more tickets may be pending.
 fn too_many_pending(kept: &KeptState) -> bool
     ensures { (h : History) → IsPastOf kept.now.grants h → result ≡ nat_le kept.now.limits.pending (pending_tickets (state_of kept.now h)) }
 {
-    let pending = kept.grants.given - kept.grants.last_confirmed();
-    u64::from(pending) >= kept.limits.pending
+    u64::from(kept.grants.given - kept.grants.last_confirmed()) >= kept.limits.pending
 }
 
 fn held(kept: &KeptState, id: DeviceId, page: u64) -> bool
@@ -99,13 +84,6 @@ fn held(kept: &KeptState, id: DeviceId, page: u64) -> bool
     kept.grants.held(id, page).is_some()
 }
 
-fn lingering(kept: &KeptState, id: DeviceId, page: u64) -> bool
-    ensures shown { result ≡ is_some (lingering_by kept.now.grants id page) }
-    ensures lingers { (h : History) → IsPastOf kept.now.grants h → result ≡ is_lingering (state_of kept.now h) id page }
-{
-    kept.grants.lingering(id, page).is_some()
-}
-
 /// Whether the device holds something, or something lingers for it.
 fn still_granted(kept: &KeptState, id: DeviceId) -> bool
     ensures { (h : History) → IsPastOf kept.now.grants h → result ≡ has_grants (state_of kept.now h) id }
@@ -113,34 +91,29 @@ fn still_granted(kept: &KeptState, id: DeviceId) -> bool
     kept.grants.has_any(id)
 }
 
-/// Whether nothing is attached any longer, or it ends soon.
-fn not_attached(attachment: Attachment) -> bool
-    ensures { result ≡ (is_detached attachment || is_leaving attachment) }
-{
-    detached(attachment) || leaving(attachment)
-}
-
 /// Whether the page isn't free for a grant.
 fn busy(kept: &KeptState, id: DeviceId, page: u64) -> bool
     ensures shown { result ≡ (is_some (held_by kept.now.grants id page) || is_some (lingering_by kept.now.grants id page)) }
     ensures busy { (h : History) → IsPastOf kept.now.grants h → result ≡ (is_held (state_of kept.now h) id page || is_lingering (state_of kept.now h) id page) }
 {
-    let held = held(kept, id, page);
-    let lingering = lingering(kept, id, page);
-    either(held, lingering)
+    held(kept, id, page) || kept.grants.lingering(id, page).is_some()
 }
 
-fn either(one: bool, other: bool) -> bool
-    ensures { result ≡ (one || other) }
+/// Whether the device has a cache of translations.
+fn trusted(device: Option<&Device>) -> bool
+    ensures { result ≡ option_map_or (λ device. has_cache device.kind) (option_copied device.entry) false }
 {
-    one || other
+    match device {
+        None => false,
+        Some(device) => device.kind.has_cache(),
+    }
 }
 
 /// Whether ATS is asked for, of a device that has no cache of translations.
-fn untrusted(kept: &KeptState, id: DeviceId, ats: bool) -> bool
-    ensures { (h : History) → result ≡ (ats && not (is_trusted (state_of kept.now h) id)) }
+fn untrusted(device: Option<&Device>, ats: bool) -> bool
+    ensures { result ≡ (ats && not (option_map_or (λ device. has_cache device.kind) (option_copied device.entry) false)) }
 {
-    ats && !trusted(kept, id)
+    ats && !trusted(device)
 }
 
 /// The refusal of the first reason that applies.
@@ -149,13 +122,8 @@ fn first_that_applies(reasons: &[(bool, Refusal)]) -> Option<Refusal>
 {
     match reasons {
         [] => None,
-        [(applies, why), later @ ..] => {
-            if *applies {
-                Some(*why)
-            } else {
-                first_that_applies(later)
-            }
-        }
+        [(true, why), ..] => Some(*why),
+        [_, later @ ..] => first_that_applies(later),
     }
 }
 
@@ -163,33 +131,33 @@ pub fn plug_refusal(kept: &KeptState, id: DeviceId, what: NewDevice) -> Option<R
     ensures { (h : History) → IsPastOf kept.now.grants h → result ≡ first_that_applies (plug_reasons (state_of kept.now h) id what) }
 {
     let devices = kept.devices.as_slice().len() as u64;
+    let bad_medium = is_missing(kept.disks.as_slice(), what.disk());
     first_that_applies(&[
-        (plugged(kept, id), Refusal::AlreadyPlugged),
+        (plugged(device_with(kept, id)), Refusal::AlreadyPlugged),
         (devices >= kept.limits.devices, Refusal::TooManyDevices),
-        (
-            is_missing(kept.disks.as_slice(), what.disk()),
-            Refusal::BadMedium,
-        ),
+        (bad_medium, Refusal::BadMedium),
     ])
 }
 
 pub fn attach_refusal(kept: &KeptState, id: DeviceId, ats: bool) -> Option<Refusal>
     ensures { (h : History) → IsPastOf kept.now.grants h → result ≡ first_that_applies (attach_reasons (state_of kept.now h) id ats) }
 {
+    let device = device_with(kept, id);
     first_that_applies(&[
-        (!plugged(kept, id), Refusal::NoSuchDevice),
-        (!detached(attachment(kept, id)), Refusal::AlreadyAttached),
+        (!plugged(device), Refusal::NoSuchDevice),
+        (!detached(attachment(device)), Refusal::AlreadyAttached),
         (too_wide(kept, id), Refusal::IdTooWide),
-        (untrusted(kept, id, ats), Refusal::NotTrusted),
+        (untrusted(device, ats), Refusal::NotTrusted),
     ])
 }
 
 pub fn detach_refusal(kept: &KeptState, id: DeviceId) -> Option<Refusal>
     ensures { (h : History) → IsPastOf kept.now.grants h → result ≡ first_that_applies (detach_reasons (state_of kept.now h) id) }
 {
-    let attachment = attachment(kept, id);
+    let device = device_with(kept, id);
+    let attachment = attachment(device);
     first_that_applies(&[
-        (!plugged(kept, id), Refusal::NoSuchDevice),
+        (!plugged(device), Refusal::NoSuchDevice),
         (not_attached(attachment), Refusal::NotAttached),
         (quarantined(attachment), Refusal::Quarantined),
         (still_granted(kept, id), Refusal::StillGranted),
@@ -201,7 +169,7 @@ pub fn detach_refusal(kept: &KeptState, id: DeviceId) -> Option<Refusal>
 pub(crate) fn most_tables(kept: &KeptState, id: DeviceId) -> usize
     ensures { (h : History) → result ≡ table_limit_at (attachment_of (state_of kept.now h) id) }
 {
-    attachment(kept, id).table_limit() as usize
+    attachment(device_with(kept, id)).table_limit() as usize
 }
 
 pub fn grant_refusal(kept: &KeptState, id: DeviceId, page: u64, frame: u64) -> Option<Refusal>
@@ -209,17 +177,16 @@ pub fn grant_refusal(kept: &KeptState, id: DeviceId, page: u64, frame: u64) -> O
     ensures no_pair { IsNone result → (held_by kept.now.grants id page ≡ None) × (lingering_by kept.now.grants id page ≡ None) }
     ensures first { (h : History) → IsPastOf kept.now.grants h → result ≡ first_that_applies (grant_reasons (state_of kept.now h) id page frame) }
 {
-    let attachment = attachment(kept, id);
+    let device = device_with(kept, id);
+    let attachment = attachment(device);
+    let limit = kept.limits.page_limit(attachment);
     first_that_applies(&[
-        (!plugged(kept, id), Refusal::NoSuchDevice),
+        (!plugged(device), Refusal::NoSuchDevice),
         (not_attached(attachment), Refusal::NotAttached),
         (quarantined(attachment), Refusal::Quarantined),
         (frame >= kept.frames.count(), Refusal::FrameOutOfRange),
         (kept.frames.is_reserved(frame), Refusal::FrameReserved),
-        (
-            page >= kept.limits.page_limit(attachment),
-            Refusal::IovaOutOfRange,
-        ),
+        (page >= limit, Refusal::IovaOutOfRange),
         (busy(kept, id, page), Refusal::IovaBusy),
     ])
 }
@@ -228,9 +195,10 @@ pub fn release_refusal(kept: &KeptState, id: DeviceId, page: u64) -> Option<Refu
     ensures held { IsNone result → IsSome (held_by kept.now.grants id page) }
     ensures first { (h : History) → IsPastOf kept.now.grants h → result ≡ first_that_applies (release_reasons (state_of kept.now h) id page) }
 {
-    let attachment = attachment(kept, id);
+    let device = device_with(kept, id);
+    let attachment = attachment(device);
     first_that_applies(&[
-        (!plugged(kept, id), Refusal::NoSuchDevice),
+        (!plugged(device), Refusal::NoSuchDevice),
         (not_attached(attachment), Refusal::NotAttached),
         (quarantined(attachment), Refusal::Quarantined),
         (!held(kept, id, page), Refusal::NotGranted),
@@ -241,9 +209,10 @@ pub fn release_refusal(kept: &KeptState, id: DeviceId, page: u64) -> Option<Refu
 pub fn quarantine_refusal(kept: &KeptState, id: DeviceId) -> Option<Refusal>
     ensures { (h : History) → IsPastOf kept.now.grants h → result ≡ first_that_applies (quarantine_reasons (state_of kept.now h) id) }
 {
-    let attachment = attachment(kept, id);
+    let device = device_with(kept, id);
+    let attachment = attachment(device);
     first_that_applies(&[
-        (!plugged(kept, id), Refusal::NoSuchDevice),
+        (!plugged(device), Refusal::NoSuchDevice),
         (not_attached(attachment), Refusal::NotAttached),
         (quarantined(attachment), Refusal::Quarantined),
         (too_many_pending(kept), Refusal::TooManyPending),
@@ -253,9 +222,10 @@ pub fn quarantine_refusal(kept: &KeptState, id: DeviceId) -> Option<Refusal>
 pub fn revive_refusal(kept: &KeptState, id: DeviceId) -> Option<Refusal>
     ensures { (h : History) → IsPastOf kept.now.grants h → result ≡ first_that_applies (revive_reasons (state_of kept.now h) id) }
 {
-    let attachment = attachment(kept, id);
+    let device = device_with(kept, id);
+    let attachment = attachment(device);
     first_that_applies(&[
-        (!plugged(kept, id), Refusal::NoSuchDevice),
+        (!plugged(device), Refusal::NoSuchDevice),
         (not_attached(attachment), Refusal::NotAttached),
         (attached(attachment), Refusal::AlreadyAttached),
         (may_still_reach(kept, attachment), Refusal::StillGranted),

@@ -1,7 +1,6 @@
 // Devices that don't answer: they are cut off and attached again, and the queue goes on without them.
 ghost use Rattle.std.specs.Prelude.{◌≡◌, ◌↔◌, IfOk, IsTrue};
 ghost use Rattle.iom_machine.specs.declared.outcome.Outcome.TheVariants.{Done};
-ghost use Rattle.iom_machine.specs.Refusals.{MayRefuseRestart};
 ghost use Rattle.iom_machine.specs.Machine.{Quarantines, Revives, Restarts, TimesOut, Resets};
 ghost use Rattle.iom_kept_state.specs.States.{Decides, DecidesStaying};
 
@@ -28,14 +27,12 @@ pub(crate) fn judge_quarantine(
             if !may_give(kept, first, *ticket) {
                 return Ok(false);
             }
-            match place_of(kept.devices.as_slice(), id) {
-                None => Ok(false),
-                Some(place) => {
-                    kept.grants.release_all(id, *ticket)?;
-                    cut_off(&mut kept.devices, place, *ticket);
-                    Ok(true)
-                }
-            }
+            let Some(place) = place_of(kept.devices.as_slice(), id) else {
+                return Ok(false);
+            };
+            kept.grants.release_all(id, *ticket)?;
+            cut_off(&mut kept.devices, place, *ticket);
+            Ok(true)
         }
         Outcome::Refused(why) => Ok(refuses(first, may_find_no_place(*why), *why)),
         _ => Ok(false),
@@ -52,23 +49,15 @@ pub(crate) fn judge_revive(kept: &mut KeptState, id: DeviceId, outcome: &Outcome
             if first.is_some() {
                 return false;
             }
-            match place_of(kept.devices.as_slice(), id) {
-                None => false,
-                Some(place) => {
-                    attach_again(&mut kept.devices, place);
-                    true
-                }
-            }
+            let Some(place) = place_of(kept.devices.as_slice(), id) else {
+                return false;
+            };
+            attach_again(&mut kept.devices, place);
+            true
         }
         Outcome::Refused(why) => refuses(first, false, *why),
         _ => false,
     }
-}
-
-fn may_refuse_restart(why: Refusal) -> bool
-    ensures { IsTrue result ↔ MayRefuseRestart why }
-{
-    matches!(why, Refusal::NumbersUsedUp)
 }
 
 /// Whether a restart may come so, which leaves every state as it is.
@@ -77,7 +66,7 @@ pub(crate) fn judge_restart(kept: &KeptState, outcome: &Outcome) -> bool
 {
     match outcome {
         Outcome::Done => true,
-        Outcome::Refused(why) => may_refuse_restart(*why),
+        Outcome::Refused(why) => matches!(why, Refusal::NumbersUsedUp),
         _ => false,
     }
 }
@@ -86,11 +75,7 @@ pub(crate) fn judge_restart(kept: &KeptState, outcome: &Outcome) -> bool
 pub(crate) fn judge_timeout(kept: &KeptState, outcome: &Outcome) -> bool
     ensures { DecidesStaying result kept.now (λ before after. TimesOut before outcome.now after) }
 {
-    match outcome {
-        Outcome::TimedOut => true,
-        Outcome::NoEffect => true,
-        _ => false,
-    }
+    matches!(outcome, Outcome::TimedOut | Outcome::NoEffect)
 }
 
 /// Whether the outcome says that it is done.
@@ -104,7 +89,7 @@ fn is_done(outcome: &Outcome) -> bool
 pub(crate) fn judge_reset(kept: &KeptState, id: DeviceId, outcome: &Outcome) -> bool
     ensures { DecidesStaying result kept.now (λ before after. Resets before id outcome.now after) }
 {
-    match device_with(kept.devices.as_slice(), id) {
+    match device_with(kept, id) {
         None => answers_absent(outcome),
         Some(_device) => is_done(outcome),
     }

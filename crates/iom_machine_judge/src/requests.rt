@@ -14,7 +14,8 @@ ghost use Rattle.iom_machine.specs.Judging.{StandsAt};
 
 use crate::absent::{answers_absent, answers_unable};
 use crate::cut_off::{
-    accepts_cut_off, cause_without_context, faults_cut_off, is_page_fault_of_either,
+    accepts_cut_off, cause_without_context, faults_cut_off, is_page_fault_of,
+    is_page_fault_of_either,
 };
 use crate::devices::{accept, place_of};
 use iom_base::{Access, AccessKind, Cause, DeviceId, Mode, PAGE_SIZE, Rights, Span};
@@ -28,7 +29,7 @@ pub(crate) fn is_within_page(access: &Access) -> bool
     Span::new(access.address, access.len).is_some()
 }
 
-fn is_busy(kept: &KeptState, device: &Device) -> bool
+pub(crate) fn is_busy(kept: &KeptState, device: &Device) -> bool
     ensures { IsTrue result ↔ IsBusy kept.now.limits.in_flight device.now.in_flight }
 {
     device.in_flight.as_slice().len() as u64 >= kept.limits.in_flight
@@ -38,10 +39,7 @@ fn is_busy(kept: &KeptState, device: &Device) -> bool
 pub(crate) fn is_forwarded(kept: &KeptState, device: &Device, access: &Access) -> bool
     ensures { IsTrue result ↔ IsForwarded kept.now.limits.in_flight device.now.in_flight access.now.address access.now.len }
 {
-    if !is_within_page(access) {
-        return false;
-    }
-    !is_busy(kept, device)
+    is_within_page(access) && !is_busy(kept, device)
 }
 
 /// Whether a pair was found that is on the frame, with a right that allows the kind.
@@ -95,37 +93,16 @@ pub(crate) fn is_same_cause(cause: Cause, fault: Cause) -> bool
     cause == fault
 }
 
-fn faults_in_one_stage(
-    grants: &KeptGrants,
-    id: DeviceId,
-    access: &Access,
-    cause: Cause,
-    fault: Cause,
-) -> bool
-    ensures { (h : History) → IsPastOf grants.now h → IsTrue result ↔ (HoldsNoneFor h id access.now × (cause ≡ fault)) }
-{
-    if !is_same_cause(cause, fault) {
-        return false;
-    }
-    holds_none(grants, id, access)
-}
-
 /// Whether the IOMMU may accept the access, on the frame.
-fn may_accept(
-    attachment: Attachment,
-    kept: &KeptState,
-    id: DeviceId,
-    access: &Access,
-    frame: u64,
-) -> bool
-    ensures { (h : History) → IsPastOf kept.now.grants h → IsTrue result ↔ MayAccept attachment (state_of kept.now h) id access.now frame }
+fn may_accept(kept: &KeptState, device: &Device, access: &Access, frame: u64) -> bool
+    ensures { (h : History) → IsPastOf kept.now.grants h
+        → IsTrue result ↔ MayAccept device.now.attachment (state_of kept.now h) device.now.id access.now frame }
 {
-    let grants = &kept.grants;
-    match attachment {
+    let (grants, id) = (&kept.grants, device.id);
+    match device.attachment {
         Attachment::Detached => false,
         Attachment::Attached { mode, .. } => match mode {
-            Mode::First(_) => accepts_in_one_stage(grants, id, access, frame),
-            Mode::Second(_) => accepts_in_one_stage(grants, id, access, frame),
+            Mode::First(_) | Mode::Second(_) => accepts_in_one_stage(grants, id, access, frame),
             Mode::Both(_) => grants.may(id, access.address / PAGE_SIZE, frame, access.kind),
         },
         Attachment::Quarantined { ticket, mode, .. } => {
@@ -138,28 +115,18 @@ fn may_accept(
 }
 
 /// Whether the IOMMU may refuse the access, with the cause.
-fn may_fault(
-    attachment: Attachment,
-    kept: &KeptState,
-    id: DeviceId,
-    access: &Access,
-    cause: Cause,
-) -> bool
-    ensures { (h : History) → IsPastOf kept.now.grants h → IsTrue result ↔ MayFault attachment (state_of kept.now h) id access.now cause }
+fn may_fault(kept: &KeptState, device: &Device, access: &Access, cause: Cause) -> bool
+    ensures { (h : History) → IsPastOf kept.now.grants h
+        → IsTrue result ↔ MayFault device.now.attachment (state_of kept.now h) device.now.id access.now cause }
 {
-    let grants = &kept.grants;
-    match attachment {
+    let (kind, id) = (access.kind, device.id);
+    match device.attachment {
         Attachment::Detached => is_same_cause(cause, cause_without_context(kept, id)),
         Attachment::Attached { mode, .. } => match mode {
-            Mode::First(_) => {
-                let fault = Cause::page_fault(access.kind);
-                faults_in_one_stage(grants, id, access, cause, fault)
+            Mode::First(_) | Mode::Second(_) => {
+                is_page_fault_of(mode, kind, cause) && holds_none(&kept.grants, id, access)
             }
-            Mode::Second(_) => {
-                let fault = Cause::guest_page_fault(access.kind);
-                faults_in_one_stage(grants, id, access, cause, fault)
-            }
-            Mode::Both(_) => is_page_fault_of_either(access.kind, cause),
+            Mode::Both(_) => is_page_fault_of_either(kind, cause),
         },
         Attachment::Quarantined { ticket, mode, .. } => {
             faults_cut_off(ticket, mode, kept, id, access, cause)
@@ -170,45 +137,11 @@ fn may_fault(
     }
 }
 
-pub(crate) fn answers_busy(kept: &KeptState, device: &Device, access: &Access) -> bool
-    ensures { IsTrue result ↔ (IsWithinPage access.now × IsBusy kept.now.limits.in_flight device.now.in_flight) }
-{
-    if !is_within_page(access) {
-        return false;
-    }
-    is_busy(kept, device)
-}
-
 /// Whether the number is that of the device's next accepted access.
 pub(crate) fn is_next(device: &Device, number: u64) -> bool
     ensures { IsTrue result ↔ (number ≡ device.now.accepted + 1) }
 {
     u128::from(number) == u128::from(device.accepted) + 1
-}
-
-fn accepts(kept: &KeptState, device: &Device, access: &Access, frame: u64, number: u64) -> bool
-    ensures { (h : History) → IsPastOf kept.now.grants h
-        → IsTrue result ↔ (IsForwarded kept.now.limits.in_flight device.now.in_flight access.now.address access.now.len
-        × MayAccept device.now.attachment (state_of kept.now h) device.now.id access.now frame × (number ≡ device.now.accepted + 1)) }
-{
-    if !is_forwarded(kept, device, access) {
-        return false;
-    }
-    if !is_next(device, number) {
-        return false;
-    }
-    may_accept(device.attachment, kept, device.id, access, frame)
-}
-
-fn faults(kept: &KeptState, device: &Device, access: &Access, cause: Cause) -> bool
-    ensures { (h : History) → IsPastOf kept.now.grants h
-        → IsTrue result ↔ (IsForwarded kept.now.limits.in_flight device.now.in_flight access.now.address access.now.len
-        × MayFault device.now.attachment (state_of kept.now h) device.now.id access.now cause) }
-{
-    if !is_forwarded(kept, device, access) {
-        return false;
-    }
-    may_fault(device.attachment, kept, device.id, access, cause)
 }
 
 /// Whether a plugged device's request may be answered so.
@@ -223,9 +156,15 @@ pub fn may_answer(
 {
     match outcome {
         Outcome::BadSpan => !is_within_page(access),
-        Outcome::Busy => answers_busy(kept, device, access),
-        Outcome::Accepted(number) => accepts(kept, device, access, frame, *number),
-        Outcome::Fault(cause) => faults(kept, device, access, *cause),
+        Outcome::Busy => is_within_page(access) && is_busy(kept, device),
+        Outcome::Accepted(number) => {
+            is_forwarded(kept, device, access)
+                && is_next(device, *number)
+                && may_accept(kept, device, access, frame)
+        }
+        Outcome::Fault(cause) => {
+            is_forwarded(kept, device, access) && may_fault(kept, device, access, *cause)
+        }
         _ => false,
     }
 }

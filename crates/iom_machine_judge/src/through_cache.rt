@@ -1,13 +1,11 @@
 // What may come of an access through the device's own cache of translations.
-ghost use Rattle.std.specs.Prelude.{◌≡◌, ◌↔◌, ◌+◌, ◌<◌, ◌^◌, ℕ, IfOk, OnOk, IsTrue, Some, slice_get, length};
+ghost use Rattle.std.specs.Prelude.{◌≡◌, ◌↔◌, ◌<◌, ◌^◌, ℕ, IfOk, OnOk, IsTrue, Some, slice_get, length};
 ghost use Rattle.iom_base.specs.Accesses.{at_frame};
 ghost use Rattle.iom_kept_state.specs.Grants.{IsPastOf};
 ghost use Rattle.iom_kept_state.specs.States.{state_of, Decides};
 ghost use Rattle.iom_ledger.specs.History.{History};
 ghost use Rattle.iom_machine.specs.declared.outcome.Outcome.TheVariants.{Accepted};
 ghost use Rattle.iom_machine.specs.declared.state.Device.{Device};
-ghost use Rattle.iom_machine.specs.Requests.{IsForwarded};
-ghost use Rattle.iom_machine.specs.Translated.{MayFindNoContext};
 ghost use Rattle.iom_machine.specs.ThroughCache.{MayHaveCached, MayGoThrough, MayAnswerThroughCache, state_after_cached};
 ghost use Rattle.iom_machine.specs.Machine.{RequestsThroughCache};
 ghost use Rattle.iom_machine.specs.Judging.{StandsAt};
@@ -15,9 +13,9 @@ ghost use Rattle.iom_machine.specs.Judging.{StandsAt};
 use crate::absent::{answers_absent, answers_unable};
 use crate::cut_off::accepts_cut_off;
 use crate::devices::{accept, place_of};
-use crate::requests::{answers_busy, holds, is_forwarded, is_next, is_within_page, lingers};
+use crate::requests::{holds, is_busy, is_forwarded, is_next, is_within_page, lingers};
 use crate::translated::may_find_no_context;
-use iom_base::{Access, Cause, DeviceId, Mode, PAGE_SIZE};
+use iom_base::{Access, DeviceId, Mode, PAGE_SIZE};
 use iom_kept_state::{KeptGrants, KeptState};
 use iom_machine::{Attachment, Device, Outcome};
 use std::alloc::AllocError;
@@ -40,29 +38,20 @@ fn may_have_cached(grants: &KeptGrants, id: DeviceId, access: &Access, frame: u6
     ensures cached { (h : History) → IsPastOf grants.now h → IsTrue result ↔ MayHaveCached h id access.now frame }
     ensures low { IsTrue result → frame < 2 ^ 40 }
 {
-    if holds(grants, id, access, frame) {
-        return true;
-    }
-    lingers(grants, id, access, frame)
+    holds(grants, id, access, frame) || lingers(grants, id, access, frame)
 }
 
 /// Whether the access may go through, on the frame.
-fn may_go_through(
-    attachment: Attachment,
-    kept: &KeptState,
-    id: DeviceId,
-    access: &Access,
-    frame: u64,
-) -> bool
-    ensures goes { (h : History) → IsPastOf kept.now.grants h → IsTrue result ↔ MayGoThrough attachment (state_of kept.now h) id access.now frame }
+fn may_go_through(kept: &KeptState, device: &Device, access: &Access, frame: u64) -> bool
+    ensures goes { (h : History) → IsPastOf kept.now.grants h
+        → IsTrue result ↔ MayGoThrough device.now.attachment (state_of kept.now h) device.now.id access.now frame }
     ensures low { IsTrue result → frame < 2 ^ 40 }
 {
-    let grants = &kept.grants;
-    match attachment {
+    let (grants, id) = (&kept.grants, device.id);
+    match device.attachment {
         Attachment::Detached => false,
         Attachment::Attached { mode, .. } => match mode {
-            Mode::First(_) => may_have_cached(grants, id, access, frame),
-            Mode::Second(_) => may_have_cached(grants, id, access, frame),
+            Mode::First(_) | Mode::Second(_) => may_have_cached(grants, id, access, frame),
             Mode::Both(_) => grants.may(id, access.address / PAGE_SIZE, frame, access.kind),
         },
         Attachment::Quarantined { ticket, mode, .. } => {
@@ -74,31 +63,6 @@ fn may_go_through(
     }
 }
 
-fn goes_through(kept: &KeptState, device: &Device, access: &Access, frame: u64, number: u64) -> bool
-    ensures goes { (h : History) → IsPastOf kept.now.grants h
-        → IsTrue result ↔ (IsForwarded kept.now.limits.in_flight device.now.in_flight access.now.address access.now.len
-        × MayGoThrough device.now.attachment (state_of kept.now h) device.now.id access.now frame × (number ≡ device.now.accepted + 1)) }
-    ensures low { IsTrue result → frame < 2 ^ 40 }
-{
-    if !is_forwarded(kept, device, access) {
-        return false;
-    }
-    if !is_next(device, number) {
-        return false;
-    }
-    may_go_through(device.attachment, kept, device.id, access, frame)
-}
-
-fn finds_no_context(kept: &KeptState, device: &Device, access: &Access, cause: Cause) -> bool
-    ensures { (h : History) → IsTrue result ↔ (IsForwarded kept.now.limits.in_flight device.now.in_flight access.now.address access.now.len
-        × MayFindNoContext (state_of kept.now h) device.now cause) }
-{
-    if !is_forwarded(kept, device, access) {
-        return false;
-    }
-    may_find_no_context(kept, device, cause)
-}
-
 /// Whether this may come of a plugged device's access through its cache.
 pub fn may_answer(
     kept: &KeptState,
@@ -107,15 +71,22 @@ pub fn may_answer(
     frame: u64,
     outcome: &Outcome,
 ) -> bool
-    ensures may { (h : History) → IsPastOf kept.now.grants h → IsTrue result ↔ MayAnswerThroughCache (state_of kept.now h) device.now access.now frame outcome.now }
+    ensures may { (h : History) → IsPastOf kept.now.grants h
+        → IsTrue result ↔ MayAnswerThroughCache (state_of kept.now h) device.now access.now frame outcome.now }
     ensures low { IsTrue result → (number : ℕ) → outcome.now ≡ Accepted number → frame < 2 ^ 40 }
 {
     match outcome {
         Outcome::BadSpan => !is_within_page(access),
-        Outcome::Busy => answers_busy(kept, device, access),
+        Outcome::Busy => is_within_page(access) && is_busy(kept, device),
         Outcome::Miss => is_forwarded(kept, device, access),
-        Outcome::Accepted(number) => goes_through(kept, device, access, frame, *number),
-        Outcome::Fault(cause) => finds_no_context(kept, device, access, *cause),
+        Outcome::Accepted(number) => {
+            is_forwarded(kept, device, access)
+                && is_next(device, *number)
+                && may_go_through(kept, device, access, frame)
+        }
+        Outcome::Fault(cause) => {
+            is_forwarded(kept, device, access) && may_find_no_context(kept, device, *cause)
+        }
         _ => false,
     }
 }

@@ -24,8 +24,8 @@ pub returns-then-not-are_both_free : goal.returns-then-not-are_both_free
 returns-then-not-are_both_free c = rw c.in-Done.is
     (refl, λ h past after step. false≢true (sym c.if-not-are_both_free.true ∙ (c.are_both_free.ensures h past).1 step.1))
 
-pub returns-in_ok-reserve-in-Some-2 : goal.returns-in_ok-reserve-in-Some-2
-returns-in_ok-reserve-in-Some-2 c =
+pub returns-in_ok-reserve-in-Done-2 : goal.returns-in_ok-reserve-in-Done-2
+returns-in_ok-reserve-in-Done-2 c =
     let place = rw c.as_slice.ensures at c.in-Some.ensures in
     let found = element_at c.args.kept.now.devices c.in-Some.place place.0 in
     rw c.in-Done.is (λ h past. (
@@ -37,10 +37,10 @@ returns-in_ok-reserve-in-Some-2 c =
           (sym (c.attach_refusal-first.ensures h past) ∙ none_if_not_some _ (sym c.is_some.ensures ∙ c.if-is_some.false))
           ((c.are_both_free.ensures h past).0 c.if-not-are_both_free.false)
           place found.1 (c.set_attachment.ensures found.0 found.1)
-          (c.in_ok-reserve-in-Some-2.ensures ∙ ap (λ (frames : List Frame). reserved_for (OneDevice c.args.id) c.args.taken.now frames) c.in_ok-reserve-in-Some.ensures)),
+          (c.in_ok-reserve-in-Done-2.ensures ∙ ap (λ (frames : List Frame). reserved_for (OneDevice c.args.id) c.args.taken.now frames) c.in_ok-reserve-in-Done.ensures)),
     ))
 
 pub returns-in-Refused : goal.returns-in-Refused
 returns-in-Refused c = rw c.in-Refused.is
-    (refused_by c.attach_refusal-first.result (λ before. attach_reasons before c.args.id c.args.ats) c.may_refuse_attach-may_come.result c.refuses.result (λ before why. MayRefuseAttach before c.args.mode why) c.in-Refused.why c.args.kept.now
-    c.attach_refusal-first.ensures c.may_refuse_attach-may_come.ensures c.refuses.ensures)
+    (refused_by c.attach_refusal-first.result (λ before. attach_reasons before c.args.id c.args.ats) c.may_refuse_attach.result c.refuses.result (λ before why. MayRefuseAttach before c.args.mode why) c.in-Refused.why c.args.kept.now
+    c.attach_refusal-first.ensures c.may_refuse_attach.ensures c.refuses.ensures)

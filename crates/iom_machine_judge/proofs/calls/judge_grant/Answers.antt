@@ -37,5 +37,5 @@ returns-in_ok-reserve-in-Done c = rw c.in-Done.is (λ h past. (
 
 pub returns-in-Refused : goal.returns-in-Refused
 returns-in-Refused c = rw c.in-Refused.is
-    (refused_by c.grant_refusal-first.result (λ before. grant_reasons before c.args.id c.args.page c.args.frame) c.may_refuse_grant-may_come.result c.refuses.result (λ before why. MayRefuseGrant before c.args.id c.args.frame why) c.in-Refused.why c.args.kept.now
-    c.grant_refusal-first.ensures.first c.may_refuse_grant-may_come.ensures c.refuses.ensures)
+    (refused_by c.grant_refusal-first.result (λ before. grant_reasons before c.args.id c.args.page c.args.frame) c.may_refuse_grant.result c.refuses.result (λ before why. MayRefuseGrant before c.args.id c.args.frame why) c.in-Refused.why c.args.kept.now
+    c.grant_refusal-first.ensures.first c.may_refuse_grant.ensures c.refuses.ensures)

@@ -1,5 +1,15 @@
-use Rattle.std.proofs.Common.{sym}
+use Rattle.std.proofs.Common.{◌∙◌, sym}
+use Rattle.std.proofs.lemmas.Bool.{false≢true, eqb-true, eq-eqb}
 use Rattle.iom_machine_judge.proofs.commits.makes_write.Goals as goal
 
-pub returns-in-Some-clause-makes : goal.returns-in-Some-clause-makes
-returns-in-Some-clause-makes c = λ h past. rw (sym c.in-Some.ensures) (c.writes.ensures h past)
+pub returns-else-may_make-clause-makes : goal.returns-else-may_make-clause-makes
+returns-else-may_make-clause-makes c = λ h past. rw (sym c.in-Some.ensures) (
+  (λ told. absurd (false≢true (sym c.if-may_make.false ∙ told))),
+  (λ given. absurd (false≢true (sym c.if-may_make.false ∙ (c.may_make.ensures h past).1 (given.0, given.1)))),
+)
+
+pub returns-then-may_make-clause-makes : goal.returns-then-may_make-clause-makes
+returns-then-may_make-clause-makes c = λ h past. rw (sym c.in-Some.ensures) (
+  (λ told. let able = (c.may_make.ensures h past).0 c.if-may_make.true in (able.0, able.1, eqb-true c.args.len c.in-Some.made.now.access.len told)),
+  (λ given. eq-eqb c.args.len c.in-Some.made.now.access.len given.2),
+)

@@ -1,6 +1,36 @@
 use Rattle.std.proofs.Common.{inl, inr}
 use Rattle.iom_machine_judge.proofs.decide.judge.Goals as goal
 
+pub returns-in-Plug : goal.returns-in-Plug
+returns-in-Plug c = rw c.in-Plug.is c.judge_plug.ensures
+
+pub returns-in-Attach : goal.returns-in-Attach
+returns-in-Attach c = rw c.in-Attach.is (rw (c.as_slice-pages.ensures, c.as_slice-taken.ensures) at c.judge_attach.ensures)
+
+pub returns-in-Detach : goal.returns-in-Detach
+returns-in-Detach c = rw c.in-Detach.is c.judge_detach.ensures
+
+pub returns-in-Grant : goal.returns-in-Grant
+returns-in-Grant c = rw c.in-Grant.is (rw c.as_slice-tables.ensures at c.judge_grant.ensures)
+
+pub returns-in-Release : goal.returns-in-Release
+returns-in-Release c = rw c.in-Release.is c.judge_release.ensures
+
+pub returns-in-Quarantine : goal.returns-in-Quarantine
+returns-in-Quarantine c = rw c.in-Quarantine.is c.judge_quarantine.ensures
+
+pub returns-in-Revive : goal.returns-in-Revive
+returns-in-Revive c = rw c.in-Revive.is c.judge_revive.ensures
+
+pub returns-in-Restart : goal.returns-in-Restart
+returns-in-Restart c = rw c.in-Restart.is c.judge_restart.ensures
+
+pub returns-in-Timeout : goal.returns-in-Timeout
+returns-in-Timeout c = rw c.in-Timeout.is c.judge_timeout.ensures
+
+pub returns-in-Reset : goal.returns-in-Reset
+returns-in-Reset c = rw c.in-Reset.is c.judge_reset.ensures
+
 pub returns-in-Fetch : goal.returns-in-Fetch
 returns-in-Fetch c = rw c.in-Fetch.is c.judge_fetch.ensures
 
@@ -37,33 +67,6 @@ returns-in-Drop c = rw c.in-Drop.is (c.judge_drop.ensures c.args.kept.now)
 pub returns-in-Repeat : goal.returns-in-Repeat
 returns-in-Repeat c = rw c.in-Repeat.is (c.judge_repeat.ensures c.args.kept.now)
 
-pub returns-in-Plug : goal.returns-in-Plug
-returns-in-Plug c = elim c.in-Plug.is [
-  | inl (device, what, is) ↦ rw is (rw is at c.decide_call.ensures)
-  | inr (inl (device, mode, ats, is)) ↦ rw is (rw is at c.decide_call.ensures)
-  | inr (inr (inl (device, is))) ↦ rw is (rw is at c.decide_call.ensures)
-  | inr (inr (inr (inl (device, page, frame, rights, is)))) ↦ rw is (rw is at c.decide_call.ensures)
-  | inr (inr (inr (inr (device, page, is)))) ↦ rw is (rw is at c.decide_call.ensures)
-]
-
-pub returns-in-Read : goal.returns-in-Read
-returns-in-Read c = elim c.in-Read.is [
-  | inl (device, address, len, is) ↦ rw is (rw is at c.decide_untranslated.ensures)
-  | inr (device, address, bytes, is) ↦ rw is (rw is at c.decide_untranslated.ensures)
-]
-
-pub returns-in-ReadTranslated : goal.returns-in-ReadTranslated
-returns-in-ReadTranslated c = elim c.in-ReadTranslated.is [
-  | inl (device, address, len, is) ↦ rw is (rw is at c.decide_translated.ensures)
-  | inr (device, address, bytes, is) ↦ rw is (rw is at c.decide_translated.ensures)
-]
-
-pub returns-in-ReadThroughCache : goal.returns-in-ReadThroughCache
-returns-in-ReadThroughCache c = elim c.in-ReadThroughCache.is [
-  | inl (device, address, len, is) ↦ rw is (rw is at c.decide_through_cache.ensures)
-  | inr (device, address, bytes, is) ↦ rw is (rw is at c.decide_through_cache.ensures)
-]
-
 pub returns-in-Medium : goal.returns-in-Medium
 returns-in-Medium c = elim c.in-Medium.is [
   | inl (device, disk, is) ↦ rw is (rw is at c.decide_block_device.ensures)
@@ -72,11 +75,20 @@ returns-in-Medium c = elim c.in-Medium.is [
   | inr (inr (inr (device, is))) ↦ rw is (rw is at c.decide_block_device.ensures)
 ]
 
-pub returns-in-Quarantine : goal.returns-in-Quarantine
-returns-in-Quarantine c = elim c.in-Quarantine.is [
-  | inl (device, is) ↦ rw is (rw is at c.decide_recovery.ensures)
-  | inr (inl (device, is)) ↦ rw is (rw is at c.decide_recovery.ensures)
-  | inr (inr (inl is)) ↦ rw is (rw is at c.decide_recovery.ensures)
-  | inr (inr (inr (inl is))) ↦ rw is (rw is at c.decide_recovery.ensures)
-  | inr (inr (inr (inr (device, is)))) ↦ rw is (rw is at c.decide_recovery.ensures)
+pub returns-in_ok-access-in-Read : goal.returns-in_ok-access-in-Read
+returns-in_ok-access-in-Read c = elim c.in-Read.is [
+  | inl (address, len, is) ↦ rw is (rw (c.in_ok-access-in-Read.ensures.reads c.in-Read.device address len (inl is)) at c.judge_request.ensures)
+  | inr (address, bytes, is) ↦ rw is (rw (c.in_ok-access-in-Read.ensures.writes c.in-Read.device address bytes (inl is)) at c.judge_request.ensures)
+]
+
+pub returns-in_ok-access-in-ReadTranslated : goal.returns-in_ok-access-in-ReadTranslated
+returns-in_ok-access-in-ReadTranslated c = elim c.in-ReadTranslated.is [
+  | inl (address, len, is) ↦ rw is (rw (c.in_ok-access-in-ReadTranslated.ensures.reads c.in-ReadTranslated.device address len (inr (inl is))) at c.judge_translated.ensures)
+  | inr (address, bytes, is) ↦ rw is (rw (c.in_ok-access-in-ReadTranslated.ensures.writes c.in-ReadTranslated.device address bytes (inr (inl is))) at c.judge_translated.ensures)
+]
+
+pub returns-in_ok-access-in-ReadThroughCache : goal.returns-in_ok-access-in-ReadThroughCache
+returns-in_ok-access-in-ReadThroughCache c = elim c.in-ReadThroughCache.is [
+  | inl (address, len, is) ↦ rw is (rw (c.in_ok-access-in-ReadThroughCache.ensures.reads c.in-ReadThroughCache.device address len (inr (inr is))) at c.judge_through_cache.ensures)
+  | inr (address, bytes, is) ↦ rw is (rw (c.in_ok-access-in-ReadThroughCache.ensures.writes c.in-ReadThroughCache.device address bytes (inr (inr is))) at c.judge_through_cache.ensures)
 ]

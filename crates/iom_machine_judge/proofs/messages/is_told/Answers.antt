@@ -4,8 +4,8 @@ use Rattle.iom_machine_judge.proofs.messages.is_told.Goals as goal
 
 pub returns-in-None : goal.returns-in-None
 returns-in-None c = λ h past.
-    let absent = sym (rw c.as_slice.ensures at c.in-None.ensures) in rw absent ((λ never. absurd (false≢true never)), (λ never. absurd never))
+    let absent = sym c.in-None.ensures in rw absent ((λ never. absurd (false≢true never)), (λ never. absurd never))
 
 pub returns-in-Some : goal.returns-in-Some
 returns-in-Some c = λ h past.
-    let there = sym (rw c.as_slice.ensures at c.in-Some.ensures) in rw there (c.may_tell.ensures h past)
+    let there = sym c.in-Some.ensures in rw there (c.may_tell.ensures h past)

@@ -6,22 +6,22 @@ use Rattle.iom_ledger.specs.History.{May, confirmed_from}
 use Rattle.iom_machine.proofs.InFlightLemmas.{All-at, All-by_parts}
 use Rattle.iom_machine_judge.proofs.polls.+each_may.Goals as goal
 
-pub returns-then-not-may_once : goal.returns-then-not-may_once
-returns-then-not-may_once t c = λ h past.
+pub returns-else-may_once : goal.returns-else-may_once
+returns-else-may_once t c = λ h past.
     let some : 0 < length c.args.in_flight.now = omega (arith, c.in-len1-up.len_at_least) in
     let first : slice_get c.args.in_flight.now 0 ≡ Some c.flight-item.result =
     slice_get_read c.args.in_flight.now _ 0 c.flight-item.result refl some c.flight-item.is in (
-      (λ yes. absurd (false≢true yes)),
-      (λ all. absurd (false≢true (sym c.if-not-may_once.true ∙ (c.may_once.ensures.may h past).1
+      (λ yes. absurd (false≢true (sym c.if-may_once.false ∙ yes))),
+      (λ all. absurd (false≢true (sym c.if-may_once.false ∙ (c.may_once.ensures.may h past).1
           (All-at (λ (flight : AcceptedAccess). May (confirmed_from c.args.first (suc (c.args.last - c.args.first)) h) c.args.id flight.frame flight.access.kind)
           c.args.in_flight.now 0 c.flight-item.result all first)))),
     )
 
-pub returns-else-not-may_once : goal.returns-else-not-may_once
-returns-else-not-may_once t c = λ h past.
+pub returns-then-may_once : goal.returns-then-may_once
+returns-then-may_once t c = λ h past.
     let some : 0 < length c.args.in_flight.now = omega (arith, c.in-len1-up.len_at_least) in
     let first : slice_get c.args.in_flight.now 0 ≡ Some c.flight-item.result =
     slice_get_read c.args.in_flight.now _ 0 c.flight-item.result refl some c.flight-item.is in
     let parts = All-by_parts (λ (flight : AcceptedAccess). May (confirmed_from c.args.first (suc (c.args.last - c.args.first)) h) c.args.id flight.frame flight.access.kind)
     c.args.in_flight.now c.flight-item.result first in
-    ((λ yes. parts.0 ((c.may_once.ensures.may h past).0 c.if-not-may_once.false) ((c.each_may.ensures h past).0 yes)), (λ all. (c.each_may.ensures h past).1 (parts.1 all)))
+    ((λ yes. parts.0 ((c.may_once.ensures.may h past).0 c.if-may_once.true) ((c.each_may.ensures h past).0 yes)), (λ all. (c.each_may.ensures h past).1 (parts.1 all)))

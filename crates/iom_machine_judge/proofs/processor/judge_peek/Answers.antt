@@ -18,16 +18,16 @@ returns-then-is_some c = rw c.in-Bytes.is (
       (c.frame_refusal-first.ensures h) c.is_some.ensures c.if-is_some.true step.1,
 )
 
-pub returns-else-not-fits : goal.returns-else-not-fits
-returns-else-not-fits c = rw c.in-Refused.is
+pub returns-then-fits : goal.returns-then-fits
+returns-then-fits c = rw c.in-Refused.is
     (with_fact (FitsInPage c.args.address c.args.len) (λ (before : State). IsRefusedBy (frame_reasons before (c.args.address / 4096)) NeverElse c.in-Refused.why) c.refuses.result c.args.kept.now
-    (c.is_within_page-fits.ensures.0 c.if-not-fits.false)
+    (c.is_within_page-fits.ensures.0 c.if-fits.true)
     (refused_by c.frame_refusal-first.result (λ before. frame_reasons before (c.args.address / 4096)) false c.refuses.result (λ before why. NeverElse why) c.in-Refused.why c.args.kept.now
     (λ h past. c.frame_refusal-first.ensures h) (λ h past. never_so c.in-Refused.why) c.refuses.ensures))
 
 pub returns-else-is_some : goal.returns-else-is_some
 returns-else-is_some c =
-    let fits = c.is_within_page-fits.ensures.0 c.if-not-fits-2.false in
+    let fits = c.is_within_page-fits.ensures.0 c.if-not-fits.false in
     let none : (h : History) → NoneApplies (frame_reasons (state_of c.args.kept.now h) (c.args.address / 4096)) =
     λ h. sym (c.frame_refusal-first.ensures h) ∙ none_if_not_some _ (sym c.is_some.ensures ∙ c.if-is_some.false) in
     rw c.in-Bytes.is

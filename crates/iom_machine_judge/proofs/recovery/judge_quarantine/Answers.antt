@@ -16,17 +16,17 @@ pub returns-then-not-may_give : goal.returns-then-not-may_give
 returns-then-not-may_give c = rw c.in-Ticket.is
     (refl, λ h past after step. false≢true (sym c.if-not-may_give.true ∙ c.may_give.ensures.1 (c.quarantine_refusal-first.ensures h past ∙ step.0, step.1)))
 
-pub returns-in_ok-release_all-in-Some : goal.returns-in_ok-release_all-in-Some
-returns-in_ok-release_all-in-Some c =
+pub returns-in_ok-release_all-in-Ticket : goal.returns-in_ok-release_all-in-Ticket
+returns-in_ok-release_all-in-Ticket c =
     let place = rw c.as_slice.ensures at c.in-Some.ensures in
     let found = element_at c.args.kept.now.devices c.in-Some.place place.0 in
     let gives = c.may_give.ensures.0 c.if-not-may_give.false in
     rw c.in-Ticket.is (λ h past. (
       AllReleased c.args.id c.in-Ticket.ticket ∷ h,
-      c.in_ok-release_all-in-Some.ensures.past h past,
+      c.in_ok-release_all-in-Ticket.ensures.past h past,
       given_as c.args.kept.now (frames_in c.args.kept.now.frames) (AllReleased c.args.id c.in-Ticket.ticket ∷ h) c.in-Ticket.ticket _ _
           (λ after. Quarantines (state_of c.args.kept.now h) c.args.id (Ticket c.in-Ticket.ticket) after)
-          c.in_ok-release_all-in-Some.ensures.tickets.0
+          c.in_ok-release_all-in-Ticket.ensures.tickets.0
           (cut_off_as c.in-Ticket.ticket (state_of c.args.kept.now h) c.args.id c.in-Some.place found.0 _ _
           (sym (c.quarantine_refusal-first.ensures h past) ∙ gives.0) gives.1 place found.1 refl (c.cut_off.ensures found.0 found.1)),
     ))
