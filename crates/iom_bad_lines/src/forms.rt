@@ -47,40 +47,16 @@ pub(crate) const EVENTS: usize = 36;
 /// The form of the first line of a script that says something.
 pub static FIRST: [&str; 1] = ["world F L"];
 
-/// Those of the first line of a trace that says something, before its answer.
-pub(crate) static TRACE_FIRST: [&str; 2] = ["world F L", UNLIMITED];
-
-/// The one that sets limits aside.
-pub(crate) const UNLIMITED: &str = "world F L unlimited";
+/// Those of the first line of a trace that says something, before its answer. The second one sets limits aside.
+pub(crate) static TRACE_FIRST: [&str; 2] = ["world F L", "world F L unlimited"];
 
 /// Those that a trace has beside the events of scripts, before their answers.
 pub(crate) static TRACE_FORMS: [&str; 7] = [
-    GRANTS,
-    RELEASES,
-    JOINS,
-    JOINS_WITH_ATS,
+    "grant ID PAGE+N FRAME RIGHT",
+    "release ID PAGE+N",
+    "attach ID with ID",
+    "attach ID with ID ats",
     "handoff FRAME",
     "take FRAME",
-    FREED,
+    "tables-freed FRAME ..",
 ];
-
-/// The grant of pages side by side.
-pub(crate) const GRANTS: &str = "grant ID PAGE+N FRAME RIGHT";
-
-/// The release of pages side by side.
-pub(crate) const RELEASES: &str = "release ID PAGE+N";
-
-/// The attach to the domain of another device.
-pub(crate) const JOINS: &str = "attach ID with ID";
-
-/// The same, where it has ATS.
-pub(crate) const JOINS_WITH_ATS: &str = "attach ID with ID ats";
-
-/// Tables that are given back.
-pub(crate) const FREED: &str = "tables-freed FRAME ..";
-
-/// The last word of a form with as many frames as there are.
-pub(crate) const MORE: &str = "..";
-
-/// The question, whose page has a limit.
-pub(crate) const QUESTION: &str = "ask ID PAGE";

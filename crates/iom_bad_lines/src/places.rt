@@ -1,5 +1,4 @@
 // Where a line leaves the forms that lines have.
-use crate::forms::MORE;
 use crate::words::is_such;
 
 /// What is expected behind the last word of a form.
@@ -18,69 +17,55 @@ pub struct WrongPlace<'a> {
     pub form: &'static str,
 }
 
+impl<'a> WrongPlace<'a> {
+    pub(crate) fn new(
+        column: usize,
+        found: &'a str,
+        expected: &'static str,
+        form: &'static str,
+    ) -> WrongPlace<'a> {
+        WrongPlace {
+            column,
+            found,
+            expected,
+            form,
+        }
+    }
+}
+
 /// The line goes wrong with its first word.
 pub(crate) fn at_start<'a>(
     line: &'a str,
     expected: &'static str,
     form: &'static str,
 ) -> WrongPlace<'a> {
-    WrongPlace {
-        column: 1,
-        found: line.split(' ').next().unwrap_or(""),
-        expected,
-        form,
-    }
+    WrongPlace::new(1, line.split(' ').next().unwrap_or(""), expected, form)
 }
 
-/// Where the line leaves the form.
+/// Where the line leaves the form. One that ends with `..` goes on with frames.
 fn compare_with<'a>(line: &'a str, form: &'static str) -> WrongPlace<'a> {
     let mut column: usize = 1;
     let mut words = line.split(' ');
     for expected in form.split(' ') {
-        if expected == MORE {
-            return compare_frames(line, column, form);
+        if expected == ".." {
+            break;
         }
         let found = words.next().unwrap_or("");
         if !is_such(found, expected) {
-            return WrongPlace {
-                column,
-                found,
-                expected,
-                form,
-            };
+            return WrongPlace::new(column, found, expected, form);
         }
         column = column.saturating_add(found.len()).saturating_add(1);
     }
-    WrongPlace {
-        column,
-        found: words.next().unwrap_or(""),
-        expected: END,
-        form,
+    if !form.ends_with("..") {
+        return WrongPlace::new(column, words.next().unwrap_or(""), END, form);
     }
-}
-
-/// Where the line leaves a form that goes on with frames, from the column on.
-fn compare_frames<'a>(line: &'a str, start: usize, form: &'static str) -> WrongPlace<'a> {
-    let mut column = start;
-    if let Some(frames) = line.get(start.saturating_sub(1)..) {
-        for found in frames.split(' ') {
-            if !is_such(found, "FRAME") {
-                return WrongPlace {
-                    column,
-                    found,
-                    expected: "FRAME",
-                    form,
-                };
-            }
-            column = column.saturating_add(found.len()).saturating_add(1);
+    for found in words {
+        if !is_such(found, "FRAME") {
+            return WrongPlace::new(column, found, "FRAME", form);
         }
+        column = column.saturating_add(found.len()).saturating_add(1);
     }
-    WrongPlace {
-        column,
-        found: "",
-        expected: END,
-        form,
-    }
+    WrongPlace::new(column, "", END, form)
 }
 
 /// Whether the line has a word for each of the form, and no other: then it leaves it behind its end alone.

@@ -1,10 +1,7 @@
 // What is wrong with a line that isn't in the grammar of traces.
-use crate::forms::{
-    EVENTS, FREED, GRANTS, JOINS, JOINS_WITH_ATS, QUESTION, RELEASES, SCRIPT_FORMS, TRACE_FIRST,
-    TRACE_FORMS, UNLIMITED,
-};
+use crate::forms::{EVENTS, SCRIPT_FORMS, TRACE_FIRST, TRACE_FORMS};
 use crate::places::{END, WrongPlace, at_start, closest, form_of};
-use crate::words::{are_some, count_of};
+use crate::words::are_some;
 use iom_script::words::{number_of, page_of};
 
 /// What stands between the two parts of a line.
@@ -13,25 +10,10 @@ const ARROW: &str = " => ";
 /// What is expected behind the first.
 const ANSWER: &str = "` => ` and an answer";
 
-/// The frames of the smallest world.
-const FEWEST_FRAMES: u64 = 64;
+/// What may be answered to releases of pages side by side, and to an event.
+const TICKET: &str = "`ticket T`";
 
-/// The frames of the largest world with the limits of the model.
-const MOST_FRAMES: u64 = 4096;
-
-/// The frames of the largest world without limits.
-const MOST_FRAMES_UNLIMITED: u64 = 1 << 40;
-
-/// The levels of the largest device directory.
-const MOST_LEVELS: u64 = 3;
-
-/// A part of a line.
-#[derive(Clone, Copy)]
-struct Part<'a> {
-    /// The byte at which it begins, counted from 1.
-    column: usize,
-    text: &'a str,
-}
+const ANY: &str = "an answer to that";
 
 /// Behind the last word of a form no line ends, but its answer begins.
 fn before_answer(place: WrongPlace<'_>) -> WrongPlace<'_> {
@@ -52,69 +34,53 @@ fn is_between(word: &str, least: u64, most: u64) -> bool {
     }
 }
 
-/// Which number of the size can't be, in a line with this form.
-fn wrong_size<'a>(said: &'a str, form: &'static str) -> Option<WrongPlace<'a>> {
+/// The form, which the line has, unless a number of the size can't be.
+fn within_sizes<'a>(said: &'a str, form: &'static str) -> Result<&'static str, WrongPlace<'a>> {
     let mut words = said.split(' ').skip(1);
     let frames = words.next().unwrap_or("");
     let levels = words.next().unwrap_or("");
-    let (most, expected) = if form == UNLIMITED {
-        (
-            MOST_FRAMES_UNLIMITED,
-            "a number from 64 to 1,099,511,627,776",
-        )
-    } else {
-        (MOST_FRAMES, "a number from 64 to 4,096")
+    let (most, expected) = match form {
+        "world F L" => (4096, "a number from 64 to 4,096"),
+        _ => (1 << 40, "a number from 64 to 1,099,511,627,776"),
     };
-    if !is_between(frames, FEWEST_FRAMES, most) {
-        return Some(WrongPlace {
-            column: 7,
-            found: frames,
-            expected,
-            form,
-        });
+    if !is_between(frames, 64, most) {
+        return Err(WrongPlace::new(7, frames, expected, form));
     }
-    if is_between(levels, 1, MOST_LEVELS) {
-        return None;
+    if !is_between(levels, 1, 3) {
+        let column = frames.len().saturating_add(8);
+        return Err(WrongPlace::new(column, levels, "a number from 1 to 3", form));
     }
-    Some(WrongPlace {
-        column: frames.len().saturating_add(8),
-        found: levels,
-        expected: "a number from 1 to 3",
-        form,
-    })
+    Ok(form)
 }
 
-/// Which number goes beyond what its line may say, in a line with this form.
-fn beyond_limits<'a>(said: &'a str, form: &'static str) -> Option<WrongPlace<'a>> {
+/// The form, which the line has, unless a number goes beyond what it may say.
+fn within_limits<'a>(said: &'a str, form: &'static str) -> Result<&'static str, WrongPlace<'a>> {
     let mut words = said.split(' ').skip(2);
     let pages = words.next().unwrap_or("");
     let frame = words.next().unwrap_or("");
+    let count = pages.split('+').nth(1).unwrap_or("");
     match form {
-        QUESTION if page_of(pages.as_bytes()).is_none() => Some(WrongPlace {
-            column: 12,
-            found: pages,
-            expected: "a number below 4,503,599,627,370,496",
-            form,
-        }),
-        GRANTS if !are_some(frame, count_of(pages).unwrap_or(0)) => Some(WrongPlace {
-            column: pages.len().saturating_add(15),
-            found: frame,
-            expected: "the first of N frames below 2^64",
-            form,
-        }),
-        _ => None,
+        "ask ID PAGE" if page_of(pages.as_bytes()).is_none() => {
+            let expected = "a number below 4,503,599,627,370,496";
+            Err(WrongPlace::new(12, pages, expected, form))
+        }
+        "grant ID PAGE+N FRAME RIGHT" if !are_some(frame, count) => {
+            let column = pages.len().saturating_add(15);
+            let expected = "the first of N frames below 2^64";
+            Err(WrongPlace::new(column, frame, expected, form))
+        }
+        _ => Ok(form),
     }
 }
 
 /// The form of the first line that says something, before its answer; or where that is wrong.
 fn first_form(said: &str) -> Result<&'static str, WrongPlace<'_>> {
-    let Some(form) = form_of(said, &TRACE_FIRST) else {
-        let start = at_start(said, "world", "world F L");
-        return Err(before_answer(closest(said, &TRACE_FIRST, start)));
-    };
-    match wrong_size(said, form) {
-        None => Ok(form),
-        Some(place) => Err(place),
+    match form_of(said, &TRACE_FIRST) {
+        Some(form) => within_sizes(said, form),
+        None => {
+            let start = at_start(said, "world", "world F L");
+            Err(before_answer(closest(said, &TRACE_FIRST, start)))
+        }
     }
 }
 
@@ -139,43 +105,19 @@ fn wrong_event(said: &str) -> WrongPlace<'_> {
 
 /// The form of another line, before its answer; or where that is wrong.
 fn other_form(said: &str) -> Result<&'static str, WrongPlace<'_>> {
-    let found = match form_of(said, &SCRIPT_FORMS[..EVENTS]) {
-        None => form_of(said, &TRACE_FORMS),
-        form => form,
-    };
-    let Some(form) = found else {
-        return Err(wrong_event(said));
-    };
-    match beyond_limits(said, form) {
-        None => Ok(form),
-        Some(place) => Err(place),
+    let event = form_of(said, &SCRIPT_FORMS[..EVENTS]);
+    match event.or(form_of(said, &TRACE_FORMS)) {
+        Some(form) => within_limits(said, form),
+        None => Err(wrong_event(said)),
     }
-}
-
-/// What may be answered to lines of a form.
-#[derive(Clone, Copy)]
-enum Answers {
-    Ok,
-    Ticket,
-    Any,
 }
 
 /// What may be answered to lines of this form.
-fn answers_to(form: &str) -> Answers {
+fn answer_to(form: &str) -> &'static str {
     match form {
-        "world F L" | "world F L unlimited" | "handoff FRAME" | "take FRAME" => Answers::Ok,
-        GRANTS | JOINS | JOINS_WITH_ATS | FREED => Answers::Ok,
-        RELEASES => Answers::Ticket,
-        _ => Answers::Any,
-    }
-}
-
-/// Its name.
-fn name_of(answers: Answers) -> &'static str {
-    match answers {
-        Answers::Ok => "`ok`",
-        Answers::Ticket => "`ticket T`",
-        Answers::Any => "an answer to that",
+        "release ID PAGE+N" => TICKET,
+        _ if TRACE_FIRST.contains(&form) || TRACE_FORMS.contains(&form) => "`ok`",
+        _ => ANY,
     }
 }
 
@@ -206,34 +148,23 @@ fn behind_accepted(form: &str) -> &'static str {
 
 /// What may stand behind the answer, where that is seen to be one to a line of this form.
 fn behind_answer(form: &str, answer: &str) -> Option<&'static str> {
-    match answers_to(form) {
-        Answers::Ok | Answers::Any if answer == "ok" => Some(behind_ok(form)),
-        Answers::Any if is_accepted(answer) => Some(behind_accepted(form)),
+    match answer_to(form) {
+        TICKET => None,
+        _ if answer == "ok" => Some(behind_ok(form)),
+        ANY if is_accepted(answer) => Some(behind_accepted(form)),
         _ => None,
     }
 }
 
-/// What is wrong with the answer to a line of this form.
-fn wrong_answer<'a>(form: &'static str, answered: Part<'a>) -> WrongPlace<'a> {
-    if let Some((answer, behind)) = answered.text.split_once("; ") {
+/// What is wrong with the answer to a line of this form, which begins at the column.
+fn wrong_answer<'a>(form: &'static str, column: usize, answered: &'a str) -> WrongPlace<'a> {
+    if let Some((answer, behind)) = answered.split_once("; ") {
         if let Some(expected) = behind_answer(form, answer) {
-            return WrongPlace {
-                column: answered
-                    .column
-                    .saturating_add(answer.len())
-                    .saturating_add(2),
-                found: behind,
-                expected,
-                form,
-            };
+            let column = column.saturating_add(answer.len()).saturating_add(2);
+            return WrongPlace::new(column, behind, expected, form);
         }
     }
-    WrongPlace {
-        column: answered.column,
-        found: answered.text,
-        expected: name_of(answers_to(form)),
-        form,
-    }
+    WrongPlace::new(column, answered, answer_to(form), form)
 }
 
 /// What is wrong with the line, which isn't in the grammar of traces: with what it says happened, or else with what it says was
@@ -251,15 +182,7 @@ pub fn explain_trace_line(line: &str, is_first: bool) -> WrongPlace<'_> {
     let behind = said.len().saturating_add(1);
     match (form, answered) {
         (Err(place), _) => place,
-        (Ok(form), None) => WrongPlace {
-            column: behind,
-            found: "",
-            expected: ANSWER,
-            form,
-        },
-        (Ok(form), Some(text)) => {
-            let column = behind.saturating_add(ARROW.len());
-            wrong_answer(form, Part { column, text })
-        }
+        (Ok(form), None) => WrongPlace::new(behind, "", ANSWER, form),
+        (Ok(form), Some(text)) => wrong_answer(form, behind.saturating_add(ARROW.len()), text),
     }
 }

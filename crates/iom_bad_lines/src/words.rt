@@ -15,25 +15,19 @@ fn is_hex(word: &str) -> bool {
             .all(|digit| matches!(*digit, b'0'..=b'9' | b'a'..=b'f'))
 }
 
-/// How many stand side by side from the first on, as `FIRST+N` says.
-pub(crate) fn count_of(word: &str) -> Option<u64> {
-    let (_, count) = word.split_once('+')?;
-    number_of(count.as_bytes())
-}
-
 /// Whether so many from this one on are some, and none of them is beyond what 64 bits say.
-pub(crate) fn are_some(first: &str, count: u64) -> bool {
-    match number_of(first.as_bytes()) {
-        None => false,
-        Some(first) => count > 0 && first <= u64::MAX - count,
+pub(crate) fn are_some(first: &str, count: &str) -> bool {
+    match (number_of(first.as_bytes()), number_of(count.as_bytes())) {
+        (Some(first), Some(count)) => count > 0 && first <= u64::MAX - count,
+        _ => false,
     }
 }
 
-/// Whether the word names pages side by side.
+/// Whether the word names pages side by side, as `PAGE+N` does.
 fn is_pages(word: &str) -> bool {
-    match (word.split_once('+'), count_of(word)) {
-        (Some((first, _)), Some(count)) => are_some(first, count),
-        _ => false,
+    match word.split_once('+') {
+        Some((first, count)) => are_some(first, count),
+        None => false,
     }
 }
 

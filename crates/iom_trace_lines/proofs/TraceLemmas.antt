@@ -106,21 +106,10 @@ pub take_says : (line said : List ℕ) (answered : Option (Bor (List ℕ))) (fra
     → SaysLine line (Take frame) tables
 take_says line said answered frame tables is named granted = handing_says (codes "take") line said answered frame is named granted
 
--- the frame that is given away, and the one that is taken back
-pub frame_handed : (said word : List ℕ) (result : Option ℕ) → said ≡ codes "handoff " ++ word → IfSome result (IsNumber word)
-    → IfSome result (λ frame. (named : List ℕ) × IsNumber named frame × (said ≡ codes "handoff" ␣ named))
-frame_handed said word None is number = tt
-frame_handed said word (Some frame) is number = (word, number, is)
-
-pub frame_taken : (said word : List ℕ) (result : Option ℕ) → said ≡ codes "take " ++ word → IfSome result (IsNumber word)
-    → IfSome result (λ frame. (named : List ℕ) × IsNumber named frame × (said ≡ codes "take" ␣ named))
-frame_taken said word None is number = tt
-frame_taken said word (Some frame) is number = (word, number, is)
-
--- an access that was made
-pub made_says : (said answered word : List ℕ) (device : ℕ) (is_read : Bool) (tables : List ℕ) → said ≡ codes "commit " ++ word → IsDevice word device → answered ≡ made_text is_read
+-- an access that was made, by a commit
+pub made_says : (said answered : List ℕ) (device : ℕ) (is_read : Bool) (tables : List ℕ) → IsEventLine said (events.Commit device) → answered ≡ made_text is_read
     → SaysLine (said ++ codes " => " ++ answered) (Made device is_read) tables
-made_says said answered word device is_read tables named id told =
+made_says said answered device is_read tables (word, id, named) told =
     (word, id, ap (λ (l : List ℕ). l ++ codes " => " ++ answered) named ∙ ap (λ (l : List ℕ). (codes "commit" ␣ word) ++ codes " => " ++ l) told)
 
 -- pages side by side
@@ -213,12 +202,6 @@ freed_says line said frames (Some answer) tables named is granted named_frames s
           ∙ ap (λ (l : List ℕ). (codes "tables-freed" ++ frames_text tables) ++ codes " => " ++ l) granted
           ∙ append_assoc (codes "tables-freed" ++ frames_text tables) (codes " => ") (codes "ok")),
     )
-
--- the ticket that is told
-pub ticket_told : (answered word : List ℕ) (result : Option ℕ) → answered ≡ codes "ticket " ++ word → IfSome result (IsNumber word)
-    → IfSome result (λ ticket. (named : List ℕ) × IsNumber named ticket × (answered ≡ codes "ticket " ++ named))
-ticket_told answered word None is number = tt
-ticket_told answered word (Some ticket) is number = (word, number, is)
 
 -- what is read, is so
 pub if_read : {X : Type 0} (P : X → Type 0) (result : Option X) → Reads result P → IfSome result P

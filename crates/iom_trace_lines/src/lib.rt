@@ -6,22 +6,17 @@
 //! read isn't in the grammar is tested only.
 #![tactic(auto)]
 
-mod handing;
-mod joins;
 mod kept;
 mod line;
-mod made;
-mod outcomes;
-mod ranges;
+mod others;
 mod reading;
 mod sizes;
 mod trace;
 mod words;
 mod zipping;
 
-pub use kept::{CAUSES, KeptOutcomes};
+pub use kept::{CAUSES, KeptOutcomes, read_outcome};
 pub use line::read_line;
-pub use outcomes::read_outcome;
 pub use reading::Lines;
 pub use trace::{GrantedPages, NextLine, ReleasedPages, TraceLine, WorldLimits};
 pub use zipping::trace_of;

@@ -107,17 +107,3 @@ pub enum NextLine {
     /// There is no other.
     End,
 }
-
-/// What is shown behind an answer.
-#[derive(Clone, Copy)]
-pub(crate) struct Behind {
-    pub(crate) has_tables: bool,
-    pub(crate) on: Option<u64>,
-}
-
-/// What is shown of an access that a step began.
-#[derive(Drop)]
-pub(crate) struct Began {
-    pub(crate) access: Access,
-    pub(crate) on: Option<u64>,
-}

@@ -1,8 +1,30 @@
-// Words of a line that tells an outcome, beside those of scripts, and what they say.
-ghost use Rattle.std.specs.Prelude.{◌≡◌, ◌∷◌, ◌++◌, [], IfSome, IsTrue};
+// Words of a line of a trace, beside those of scripts, and what they say.
+ghost use Rattle.std.specs.Prelude.{◌≡◌, ◌≢◌, ◌++◌, [], IfOk, IfSome, IsTrue, MatchOption};
 ghost use Rattle.iom_script.specs.Words.{IsNumber};
+ghost use Rattle.iom_trace_lines.specs.TraceLines.{frames_text};
 
-use iom_script::words::{address_of, after, number_of};
+use iom_script::words::{after, number_and, number_of};
+use memchr::memchr_iter;
+use std::alloc::AllocError;
+
+/// What stands before the first separator and behind it; all, and nothing, where there is none. It is found by one of its
+/// bytes, which comes seldom: the one at the place.
+// Written into its caller, where the separator is known.
+#[inline(always)]
+pub(crate) fn cut<'a>(text: &'a [u8], separator: &[u8], by: usize) -> (&'a [u8], Option<&'a [u8]>)
+    ensures { MatchOption result.1 (text.now ≡ result.0.now) (λ behind. text.now ≡ result.0.now ++ separator.now ++ behind.now) }
+{
+    let Some(byte) = separator.get(by) else {
+        return (text, None);
+    };
+    for place in memchr_iter(*byte, text) {
+        let (before, rest) = text.split_at(place.saturating_sub(by).min(text.len()));
+        if let Some(behind) = after(rest, separator) {
+            return (before, Some(behind));
+        }
+    }
+    (text, None)
+}
 
 /// What follows, where the text begins so.
 #[inline(always)]
@@ -10,16 +32,6 @@ pub(crate) fn behind<'a>(text: &'a [u8], start: &[u8]) -> Option<&'a [u8]>
     ensures { IfSome result (λ rest. text.now ≡ start.now ++ rest.now) }
 {
     after(text, start)
-}
-
-/// Whether the bytes are a line feed, and no more.
-pub(crate) fn is_feed(bytes: &[u8]) -> bool
-    ensures { IsTrue result → bytes.now ≡ 10 ∷ [] }
-{
-    match bytes {
-        [byte] => *byte == b'\n',
-        _ => false,
-    }
 }
 
 /// The number of 64 bits that the word says.
@@ -33,14 +45,24 @@ pub(crate) fn long_number_of(word: &[u8]) -> Option<u64>
 pub(crate) fn short_number_of(word: &[u8]) -> Option<u32>
     ensures { IfSome result (IsNumber word.now) }
 {
-    let number = number_of(word)?;
-    u32::try_from(number).ok()
+    u32::try_from(number_of(word)?).ok()
 }
 
-/// The number that `0x` and sixteen hexadecimal digits say.
-pub(crate) fn word_of(text: &[u8]) -> Option<u64> {
-    if text.len() != 18 {
-        return None;
+/// The frames that the text names, with a space before each. False where it names none.
+pub(crate) fn read_frames(text: &[u8], frames: &mut Vec<u64>) -> Result<bool, AllocError>
+    requires { frames.old.items ≡ [] }
+    ensures { IfOk result (λ read. IsTrue read → (text.now ≡ frames_text frames.new.items) × (frames.new.items ≢ [])) }
+{
+    let Some(mut rest) = behind(text, b" ") else {
+        return Ok(false);
+    };
+    while let Some((frame, more)) = number_and(rest) {
+        frames.push(frame)?;
+        rest = more;
     }
-    address_of(text)
+    let Some(last) = long_number_of(rest) else {
+        return Ok(false);
+    };
+    frames.push(last)?;
+    Ok(true)
 }

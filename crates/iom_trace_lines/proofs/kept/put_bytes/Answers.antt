@@ -8,10 +8,10 @@ pub loop-index-preserved : goal.loop-index-preserved
 loop-index-preserved c =
     let text = c.args.text.now in
     let index = c.loop-index.index in
-    let byte = read_holds (IsByteOf (get_or text (2 * index) 0) (get_or text (2 * index + 1) 0)) c.in-Some.byte c.in-Some.ensures in
-    rw c.in-Ok.ensures.ok (says_byte text c.loop-index.list.items index c.in-Some.byte (omega arith) c.loop-index.invariant byte)
+    let byte = read_holds (IsByteOf (get_or text (2 * index) 0) (get_or text (2 * index + 1) 0)) c.in_ok-byte.byte c.in_ok-byte.ensures in
+    rw c.in-Ok.ensures.ok (says_byte text c.loop-index.list.items index c.in_ok-byte.byte (omega arith) c.loop-index.invariant byte)
 
 pub returns : goal.returns
-returns c all =
+returns c =
     sym (take_all (2 * c.loop-index.index) c.args.text.now (omega (arith, c.if-text-ne0.false, c.loop-index-test.false)))
     ∙ c.loop-index.invariant.said.1

@@ -1,9 +1,0 @@
-use Rattle.std.proofs.Common.{◌≡◌, ◌++◌, ◌∙◌, ℕ, List, ap}
-use Rattle.std.specs.Prelude.{codes}
-use Rattle.iom_script.proofs.ReadsLemmas.{read_holds}
-use Rattle.iom_trace_lines.proofs.ranges.read_done.Goals as goal
-
-pub returns-then-branch : goal.returns-then-branch
-returns-then-branch c =
-    read_holds (λ rest. c.args.answered.now ≡ codes "ok; tables" ++ rest) c.in-Some.frames.now c.in-Some.ensures
-    ∙ ap (λ (l : List ℕ). codes "ok; tables" ++ l) (c.in_ok-read_frames.ensures c.if-branch.true).0
