@@ -1,5 +1,8 @@
 // The messages under way, as far as the lines of a run show them (PCI Express Base Specification, chapter 10, "Address
 // Translation Services"): they stand in a list, one that is taken closes up, and one that is sent goes last.
+ghost use Rattle.std.specs.Prelude.{◌≡◌, [], OnOk, remove, slice_get, Some};
+ghost use Rattle.iom_reasons.specs.UnderWay.{after, question_in, repeated, sent};
+
 use crate::words::Said;
 use iom_base::DeviceId;
 use iom_machine::{BlockStep, CommandName, Event, Fetched, Outcome};
@@ -19,28 +22,36 @@ pub struct Sent {
 /// The messages under way, each of them a question or another one.
 #[derive(Drop)]
 pub(crate) struct Messages {
-    under_way: Vec<Option<Sent>>,
+    pub(crate) under_way: Vec<Option<Sent>>,
 }
 
 impl Messages {
-    pub(crate) fn new(alloc: Global) -> Messages {
+    pub(crate) fn new(alloc: Global) -> Messages
+        ensures { result.under_way.items ≡ [] }
+    {
         Messages {
             under_way: Vec::new(alloc),
         }
     }
 
     /// The question at the place, if there is one.
-    pub(crate) fn question_at(&self, place: u64) -> Option<Sent> {
-        self.at(place).flatten()
+    pub(crate) fn question_at(&self, place: u64) -> Option<Sent>
+        ensures { result ≡ question_in (slice_get self.now.under_way.items place) }
+    {
+        self.at(place)?
     }
 
     /// The message at the place.
-    fn at(&self, place: u64) -> Option<Option<Sent>> {
+    fn at(&self, place: u64) -> Option<Option<Sent>>
+        ensures { result ≡ slice_get self.now.under_way.items place }
+    {
         self.under_way.get(place as usize).copied()
     }
 
     /// The message goes last, where there is room for it.
-    fn send(&mut self, message: Option<Sent>) -> Said {
+    fn send(&mut self, message: Option<Sent>) -> Said
+        ensures { OnOk result (self.new.under_way.items ≡ sent message self.old.under_way.items) }
+    {
         if self.under_way.len() < MOST_MESSAGES {
             self.under_way.push(message)?;
         }
@@ -48,12 +59,16 @@ impl Messages {
     }
 
     /// A question of the device goes last: for this page, where that is known.
-    fn ask(&mut self, device: DeviceId, page: Option<u64>) -> Said {
+    fn ask(&mut self, device: DeviceId, page: Option<u64>) -> Said
+        ensures { OnOk result (self.new.under_way.items ≡ sent (Some (record { device = device; page = page })) self.old.under_way.items) }
+    {
         self.send(Some(Sent { device, page }))
     }
 
     /// The message at the place is under way no more.
-    fn take(&mut self, place: u64) {
+    fn take(&mut self, place: u64)
+        ensures { self.new.under_way.items ≡ remove self.old.under_way.items place }
+    {
         let place = place as usize;
         if place < self.under_way.len() {
             self.under_way.remove(place);
@@ -61,7 +76,9 @@ impl Messages {
     }
 
     /// A copy of the message at the place goes last.
-    fn repeat(&mut self, place: u64) -> Said {
+    fn repeat(&mut self, place: u64) -> Said
+        ensures { OnOk result (self.new.under_way.items ≡ repeated (slice_get self.old.under_way.items place) self.old.under_way.items) }
+    {
         match self.at(place) {
             Some(message) => self.send(message),
             None => Ok(()),
@@ -69,7 +86,9 @@ impl Messages {
     }
 
     /// Notes what this changes that comes of the event.
-    pub(crate) fn note(&mut self, event: &Event, outcome: &Outcome) -> Said {
+    pub(crate) fn note(&mut self, event: &Event, outcome: &Outcome) -> Said
+        ensures { OnOk result (self.new.under_way.items ≡ after event.now outcome.now self.old.under_way.items) }
+    {
         match (event, outcome) {
             (Event::Ask { device, page }, Outcome::Sent) => self.ask(*device, Some(page.number())),
             (Event::Step { device }, Outcome::Stepped(BlockStep::Asked)) => {

@@ -1,5 +1,8 @@
 // What is noted of the lines: which messages are under way, and which lines granted, released, confirmed and accepted what a
 // reason may speak of. A line takes a step or two, and one for each ticket that it confirms.
+ghost use Rattle.std.specs.Prelude.{◌≡◌, [], OnOk};
+ghost use Rattle.iom_reasons.specs.UnderWay.{after, question_of};
+
 use crate::lists::Lists;
 use crate::messages::{Messages, Sent};
 use crate::past::{Past, Place};
@@ -35,7 +38,9 @@ pub(crate) fn requester_of(event: &Event) -> Option<DeviceId> {
 
 impl Notes {
     /// Nothing is noted yet.
-    pub fn new(alloc: Global) -> Notes {
+    pub fn new(alloc: Global) -> Notes
+        ensures { result.messages.under_way.items ≡ [] }
+    {
         Notes {
             line: 0,
             messages: Messages::new(alloc),
@@ -45,12 +50,16 @@ impl Notes {
     }
 
     /// What is noted next is of the line with this number.
-    pub fn begin_line(&mut self, line: u64) {
+    pub fn begin_line(&mut self, line: u64)
+        ensures { self.new ≡ record self.old { line = line } }
+    {
         self.line = line;
     }
 
     /// The question whose delivery the event is, if it is one.
-    pub fn question_of(&self, event: &Event) -> Option<Sent> {
+    pub fn question_of(&self, event: &Event) -> Option<Sent>
+        ensures { result ≡ question_of event.now self.now.messages.under_way.items }
+    {
         match event {
             Event::Deliver { place } => self.messages.question_at(*place),
             _ => None,
@@ -58,7 +67,10 @@ impl Notes {
     }
 
     /// Notes an access that was accepted.
-    fn note_accepted(&mut self, event: &Event) -> Said {
+    fn note_accepted(&mut self, event: &Event) -> Said
+        ensures line { OnOk result (self.new.line ≡ self.old.line) }
+        ensures messages { OnOk result (self.new.messages ≡ self.old.messages) }
+    {
         match requester_of(event) {
             None => Ok(()),
             Some(device) => self.flights.push(device, self.line),
@@ -66,8 +78,12 @@ impl Notes {
     }
 
     /// Notes what came of the event.
-    pub fn note(&mut self, event: &Event, outcome: &Outcome) -> Said {
+    pub fn note(&mut self, event: &Event, outcome: &Outcome) -> Said
+        ensures line { OnOk result (self.new.line ≡ self.old.line) }
+        ensures messages { OnOk result (self.new.messages.under_way.items ≡ after event.now outcome.now self.old.messages.under_way.items) }
+    {
         let line = self.line;
+        self.messages.note(event, outcome)?;
         match (event, outcome) {
             (
                 Event::Grant {
@@ -94,7 +110,7 @@ impl Notes {
                 Ok(())
             }
             (event, Outcome::Accepted(_)) => self.note_accepted(event),
-            (event, outcome) => self.messages.note(event, outcome),
+            _ => Ok(()),
         }
     }
 }
