@@ -1,2 +1,3 @@
 mod CertificateLemmas
 mod HandedLemmas
+mod SharingLemmas

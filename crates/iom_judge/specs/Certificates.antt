@@ -9,7 +9,8 @@ use Rattle.iom_script.specs.Words.{IsWithout}
 use Rattle.iom_trace_lines.specs.TraceLines.{Said, SaysLine, World}
 use Rattle.iom_trace_lines.specs.WorldLimits.{limits_of}
 use Rattle.iom_trace_lines.specs.declared.trace.WorldLimits.{WorldLimits}
-use Rattle.iom_judge.specs.Happenings.{Happening, TraceState, HappenInTurn, Tells, events_of, outcomes_of}
+use Rattle.iom_judge.specs.Happenings.{Happening, HappenInTurn, Tells, events_of, outcomes_of}
+use Rattle.iom_judge.specs.TraceStates.{TraceState}
 use Rattle.iom_judge.specs.declared.verdict.Verdict.{Verdict}
 use Rattle.iom_judge.specs.declared.verdict.Verdict.TheVariants.{Lawful, Uncertified, Beyond, Unlawful, Bad}
 
@@ -25,10 +26,15 @@ named_line (Bad line wrong) = Some line
 abbrev pub four_disks : List ℕ
 four_disks = 0 ∷ 1 ∷ 2 ∷ 3 ∷ []
 
--- power-on of a world of this size, with these limits, when nothing was given away
+-- power-on of a world of this size, with these limits, when nothing was given away, and no domain is shared
 abbrev pub opening_of : WorldSize → WorldLimits → TraceState
 opening_of size limits =
-    record { machine = opening (limits_of limits) size.frames size.levels four_disks; is_given = λ frame. false; takes_back = false }
+    record {
+      machine = opening (limits_of limits) size.frames size.levels four_disks;
+      is_given = λ frame. false;
+      takes_back = false;
+      first_with = λ device. None;
+    }
 
 -- the line says that this happened
 abbrev pub SaysHappened : List ℕ → List Happening → Type 0

@@ -1,29 +1,26 @@
--- What the lines of a trace say happened, and the machine of a trace: the ledger machine, and beside it which frames were given to somebody else.
-use Rattle.std.specs.Prelude.{◌≡◌, ◌+◌, ◌&&◌, ◌||◌, ℕ, zero, suc, Bool, true, false, not, List, [], ◌∷◌, ◌++◌, Option, None, Some, IfSome, IsTrue, nat_eq, ⊤}
+-- What the lines of a trace say happened, and what it does to the machine of a trace.
+use Rattle.std.specs.Prelude.{◌≡◌, ◌+◌, ◌&&◌, ◌||◌, ℕ, zero, suc, Bool, true, false, not, List, [], ◌∷◌, ◌++◌, map, Option, None, Some, IfSome, IsTrue, if◌then◌else◌, nat_eq, ⊤}
 use Rattle.iom_base.specs.declared.access.Access.{Access}
 use Rattle.iom_base.specs.declared.grant_rights.GrantRights.{GrantRights}
+use Rattle.iom_base.specs.declared.mode.Mode.{Mode}
 use Rattle.iom_machine.specs.declared.choice.Choice.{Choice}
 use Rattle.iom_machine.specs.declared.event.Event.{Event}
 use Rattle.iom_machine.specs.declared.event.Event.TheVariants as events
 use Rattle.iom_machine.specs.declared.outcome.Outcome.{Outcome}
 use Rattle.iom_machine.specs.declared.outcome.Outcome.TheVariants as outcomes
-use Rattle.iom_machine.specs.declared.state.State.{State}
 use Rattle.iom_machine.specs.Machine.{ChosenStep}
-use Rattle.iom_trace_lines.specs.TraceLines.{Said, Step, Made, Grants, Releases, Handoff, Take, TablesFreed, takes_frames}
+use Rattle.iom_trace_lines.specs.TraceLines.{Said, Step, Made, Grants, Joins, Releases, Handoff, Take, TablesFreed, takes_frames}
+use Rattle.iom_judge.specs.Sharing.{is_this, own_domain, sharers, tables_end, GetsDomain, NoneWalks}
+use Rattle.iom_judge.specs.TraceStates.{TraceState}
 
--- What happens: this came of an event, where what the outcome doesn't show was chosen so; a frame is given to somebody else; it is taken back.
+-- What happens: this came of an event, where what the outcome doesn't show was chosen so; a frame is given to somebody else; it is taken back; the device
+-- has the domain of the other one from here on; and these are the devices that share the domain of this one.
 pub data Happening : Type 0 where
   Came : Event → Outcome → Choice → Happening
   GivenAway : ℕ → Happening
   TakenBack : ℕ → Happening
-
--- the state of the machine of a trace
-pub record TraceState : Type 0 where
-  pub machine : State
-  -- whether the frame was given to somebody else, and isn't taken back
-  pub is_given : ℕ → Bool
-  -- whether any was taken back so far
-  pub takes_back : Bool
+  Joined : (device with : ℕ) → Happening
+  Shared : (device : ℕ) → List ℕ → Happening
 
 -- whether the frame is in the list
 abbrev pub is_in : ℕ → List ℕ → Bool
@@ -40,32 +37,35 @@ abbrev pub frame_granted : Event → Outcome → Option ℕ
 frame_granted (events.Grant id page frame rights) outcomes.Done = Some frame
 frame_granted _ _ = None
 
--- whether it is this frame
-abbrev pub is_frame : Option ℕ → ℕ → Bool
-is_frame None frame = false
-is_frame (Some it) frame = nat_eq it frame
-
 -- whether the frame is in use from here on: it is granted, or becomes a table
 abbrev pub is_used : Event → Outcome → Choice → ℕ → Bool
 is_used event outcome choice frame =
-    is_frame (frame_granted event outcome) frame || (takes_frames event outcome && is_in frame (tables_chosen event choice))
+    is_this (frame_granted event outcome) frame || (takes_frames event outcome && is_in frame (tables_chosen event choice))
 
 -- This came of an event in a trace. A frame that was given away isn't used, from the first one on that was taken back; before, a frame that is used is
--- somebody's no more.
+-- somebody's no more. Tables don't go back while another device walks in them.
 pub record ComesOf (old : TraceState) (event : Event) (outcome : Outcome) (choice : Choice) (new : TraceState) : Type 0 where
   pub step : ChosenStep choice old.machine event outcome new.machine
   pub unused : IsTrue old.takes_back → (frame : ℕ) → IsTrue (is_used event outcome choice frame) → old.is_given frame ≡ false
   pub given : (frame : ℕ) → new.is_given frame ≡ (old.is_given frame && not (is_used event outcome choice frame))
   pub takes_back : new.takes_back ≡ old.takes_back
+  pub tables_stay : IfSome (tables_end event outcome) (NoneWalks old.first_with old.machine.history old.machine.devices)
+  pub domains : (k : ℕ) → new.first_with k ≡ (if is_this (own_domain event outcome) k then None else old.first_with k)
+
+-- nothing else changes than which frames were given away
+abbrev pub ChangesGiven : TraceState → TraceState → Type 0
+ChangesGiven old new = (new.machine ≡ old.machine) × ((k : ℕ) → new.first_with k ≡ old.first_with k)
 
 -- this happens in a trace
 abbrev pub Happens : TraceState → Happening → TraceState → Type 0
 Happens old (Came event outcome choice) new = ComesOf old event outcome choice new
 Happens old (GivenAway frame) new =
-    (new.machine ≡ old.machine) × ((k : ℕ) → new.is_given k ≡ (nat_eq frame k || old.is_given k)) × (new.takes_back ≡ old.takes_back)
+    ChangesGiven old new × ((k : ℕ) → new.is_given k ≡ (nat_eq frame k || old.is_given k)) × (new.takes_back ≡ old.takes_back)
 Happens old (TakenBack frame) new =
-    (old.is_given frame ≡ true) × (new.machine ≡ old.machine) × ((k : ℕ) → new.is_given k ≡ (old.is_given k && not (nat_eq frame k)))
+    (old.is_given frame ≡ true) × ChangesGiven old new × ((k : ℕ) → new.is_given k ≡ (old.is_given k && not (nat_eq frame k)))
     × (new.takes_back ≡ true)
+Happens old (Joined device with) new = GetsDomain old device with new
+Happens old (Shared device devices) new = (devices ≡ sharers old.first_with old.machine.devices device) × (new ≡ old)
 
 -- these happen, one after another
 abbrev pub HappenInTurn : TraceState → List Happening → TraceState → Type 0
@@ -78,12 +78,16 @@ events_of [] = []
 events_of (Came event outcome choice ∷ others) = event ∷ events_of others
 events_of (GivenAway frame ∷ others) = events_of others
 events_of (TakenBack frame ∷ others) = events_of others
+events_of (Joined device with ∷ others) = events_of others
+events_of (Shared device devices ∷ others) = events_of others
 
 abbrev pub outcomes_of : List Happening → List Outcome
 outcomes_of [] = []
 outcomes_of (Came event outcome choice ∷ others) = outcome ∷ outcomes_of others
 outcomes_of (GivenAway frame ∷ others) = outcomes_of others
 outcomes_of (TakenBack frame ∷ others) = outcomes_of others
+outcomes_of (Joined device with ∷ others) = outcomes_of others
+outcomes_of (Shared device devices ∷ others) = outcomes_of others
 
 -- What is shown of a step is what was chosen: which frames became tables, on which frame an access was accepted, and which access a step began. Tables
 -- that a poll gave back have a line of their own.
@@ -99,28 +103,78 @@ MayBeTold is_read (outcomes.Read bytes) = ⊤
 MayBeTold false (outcomes.Wrote len) = ⊤
 MayBeTold _ _ = ⊥
 
+-- These grants came one after another, each of a device, a page, a frame and a right, and took no tables.
+abbrev pub AreSharedGrants : List (ℕ × ℕ × ℕ × GrantRights) → List Happening → Type 0
+AreSharedGrants [] happened = happened ≡ []
+AreSharedGrants ((device, page, frame, rights) ∷ grants) happened =
+    (others : List Happening) × (choice : Choice) × (choice.taken ≡ []) × AreSharedGrants grants others
+    × (happened ≡ Came (events.Grant device page frame rights) outcomes.Done choice ∷ others)
+
+-- These devices released the page, one after another, under the ticket.
+abbrev pub AreSharedReleases : (page ticket : ℕ) → List ℕ → List Happening → Type 0
+AreSharedReleases page ticket [] happened = happened ≡ []
+AreSharedReleases page ticket (device ∷ devices) happened =
+    (others : List Happening) × (choice : Choice) × AreSharedReleases page ticket devices others
+    × (happened ≡ Came (events.Release device page) (outcomes.Ticket ticket) choice ∷ others)
+
+-- the grant that came of the event, if one did: its device, page, frame and right; and the release: its device, page and ticket
+abbrev pub granted_by : Event → Outcome → Option (ℕ × ℕ × ℕ × GrantRights)
+granted_by (events.Grant id page frame rights) outcomes.Done = Some (id, page, frame, rights)
+granted_by _ _ = None
+
+abbrev pub released_by : Event → Outcome → Option (ℕ × ℕ × ℕ)
+released_by (events.Release id page) (outcomes.Ticket ticket) = Some (id, page, ticket)
+released_by _ _ = None
+
+-- What a grant is of the other devices that share the domain, and what a release is.
+abbrev pub SharesGrant : Option (ℕ × ℕ × ℕ × GrantRights) → List Happening → Type 0
+SharesGrant None happened = happened ≡ []
+SharesGrant (Some (id, page, frame, rights)) happened =
+    (devices : List ℕ) × (others : List Happening) × AreSharedGrants (map (λ device. (device, page, frame, rights)) devices) others
+    × (happened ≡ Shared id devices ∷ others)
+
+abbrev pub SharesRelease : Option (ℕ × ℕ × ℕ) → List Happening → Type 0
+SharesRelease None happened = happened ≡ []
+SharesRelease (Some (id, page, ticket)) happened =
+    (devices : List ℕ) × (others : List Happening) × AreSharedReleases page ticket devices others × (happened ≡ Shared id devices ∷ others)
+
+-- What happened where a line says that this came of the event. A grant and a release are also those of each device that shares the domain.
+abbrev pub Comes : Event → Outcome → Choice → List Happening → Type 0
+Comes event outcome choice happened =
+    (granted released : List Happening) × SharesGrant (granted_by event outcome) granted × SharesRelease (released_by event outcome) released
+    × (happened ≡ Came event outcome choice ∷ (granted ++ released))
+
 -- So many frames were granted at so many pages, one after another, and these became tables.
 abbrev pub AreGrants : (device page frame : ℕ) → GrantRights → ℕ → List ℕ → List Happening → Type 0
 AreGrants device page frame rights zero tables happened = (tables ≡ []) × (happened ≡ [])
 AreGrants device page frame rights (suc n) tables happened =
-    (before : List ℕ) × (others : List Happening) × (choice : Choice) × AreGrants device page frame rights n before others
-    × (tables ≡ before ++ choice.taken) × (happened ≡ others ++ Came (events.Grant device (page + n) (frame + n) rights) outcomes.Done choice ∷ [])
+    (before : List ℕ) × (others own : List Happening) × (choice : Choice) × AreGrants device page frame rights n before others
+    × (tables ≡ before ++ choice.taken) × Comes (events.Grant device (page + n) (frame + n) rights) outcomes.Done choice own
+    × (happened ≡ others ++ own)
 
 -- So many pages were released under the ticket, one after another.
 abbrev pub AreReleases : (device page ticket : ℕ) → ℕ → List Happening → Type 0
 AreReleases device page ticket zero happened = happened ≡ []
 AreReleases device page ticket (suc n) happened =
-    (others : List Happening) × (choice : Choice) × AreReleases device page ticket n others
-    × (happened ≡ others ++ Came (events.Release device (page + n)) (outcomes.Ticket ticket) choice ∷ [])
+    (others own : List Happening) × (choice : Choice) × AreReleases device page ticket n others
+    × Comes (events.Release device (page + n)) (outcomes.Ticket ticket) choice own × (happened ≡ others ++ own)
+
+-- The device was attached in some mode, without tables of its own, and then granted what the other one holds. Pages of the device directory may have been taken.
+abbrev pub AttachesWith : (device with : ℕ) → (ats has_tables : Bool) → List ℕ → List Happening → Type 0
+AttachesWith device with ats has_tables tables happened =
+    (mode : Mode) × (choice : Choice) × (pages : List (ℕ × ℕ × GrantRights)) × (grants : List Happening)
+    × (choice.taken ≡ []) × (IsTrue has_tables → choice.directory ≡ tables) × AreSharedGrants (map (λ page. (device, page.0, page.1, page.2)) pages) grants
+    × (happened ≡ Came (events.Attach device mode ats) outcomes.Done choice ∷ (grants ++ Joined device with ∷ []))
 
 -- Who says this, with these frames of tables beside, says that this happened.
 abbrev pub Tells : Said → List ℕ → List Happening → Type 0
 Tells (Step event outcome has_tables on began) tables happened =
-    (choice : Choice) × IsAsShown event choice has_tables tables on began × (happened ≡ Came event outcome choice ∷ [])
+    (choice : Choice) × IsAsShown event choice has_tables tables on began × Comes event outcome choice happened
 Tells (Made device is_read) tables happened =
     (outcome : Outcome) × (choice : Choice) × MayBeTold is_read outcome × (happened ≡ Came (events.Commit device) outcome choice ∷ [])
 Tells (Grants device page count frame rights has_tables) tables happened =
     (taken : List ℕ) × AreGrants device page frame rights count taken happened × (IsTrue has_tables → taken ≡ tables)
+Tells (Joins device with ats has_tables) tables happened = AttachesWith device with ats has_tables tables happened
 Tells (Releases device page count ticket) tables happened = AreReleases device page ticket count happened
 Tells (Handoff frame) tables happened = (choice : Choice) × (happened ≡ Came (events.Free frame) (outcomes.Free true) choice ∷ GivenAway frame ∷ [])
 Tells (Take frame) tables happened = happened ≡ TakenBack frame ∷ []

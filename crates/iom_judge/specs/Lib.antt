@@ -1,3 +1,5 @@
+pub mod TraceStates
+pub mod Sharing
 pub mod Happenings
 pub mod Certificates
 pub mod Certified

@@ -1,12 +1,13 @@
 // What is chosen of what a line doesn't show.
-ghost use Rattle.std.specs.Prelude.{◌≡◌, IfOk, IfSome, OnOk};
+ghost use Rattle.std.specs.Prelude.{◌≡◌, [], IfOk, IfSome, IsTrue, OnOk};
 ghost use Rattle.std.specs.Option.{option_copied};
-ghost use Rattle.iom_judge.specs.Certified.{ShowsChoice};
+ghost use Rattle.iom_judge.specs.Certified.{ShowsChoice, ShowsTables};
 ghost use Rattle.iom_judge.specs.Happenings.{tables_chosen};
+ghost use Rattle.iom_machine.specs.declared.choice.Choice as spec_choice;
+ghost use Rattle.iom_machine.specs.declared.event.Event as spec_event;
 
 use crate::missing::{Begun, Missing};
 use crate::settled::{frame_of_access, page_showing, page_without};
-use crate::steps::choose_step;
 use iom_base::{Access, AccessKind, DeviceId, Mode, Sequence};
 use iom_fabric::Translation;
 use iom_kept_state::KeptState;
@@ -14,12 +15,21 @@ use iom_machine::{Choice, Event, Outcome};
 use iom_reasons::{Notes, Sent};
 use std::alloc::{AllocError, Global};
 
+/// Which frames a line shows as tables.
+#[derive(Clone, Copy)]
+pub(crate) enum Tables<'a> {
+    /// It isn't shown.
+    Unknown,
+    /// These.
+    These(&'a [u64]),
+    /// None, since the device has another's; and which became pages of the device directory, where that is shown.
+    OfAnother(Option<&'a [u64]>),
+}
+
 /// What a line shows of what its answer doesn't.
 #[derive(Clone, Copy)]
 pub(crate) struct Shown<'a> {
-    /// Whether it shows which frames were taken for tables, and which they are.
-    pub(crate) has_tables: bool,
-    pub(crate) tables: &'a [u64],
+    pub(crate) tables: Tables<'a>,
     /// The tables that were given back.
     pub(crate) freed: &'a [u64],
     /// The frame on which an access was accepted.
@@ -30,12 +40,19 @@ pub(crate) struct Shown<'a> {
 
 /// Nothing is shown.
 pub(crate) const NOTHING: Shown<'static> = Shown {
-    has_tables: false,
-    tables: &[],
+    tables: Tables::Unknown,
     freed: &[],
     on: None,
     began: None,
 };
+
+/// That this came of the event, with what the line shows of it.
+#[derive(Clone, Copy)]
+pub(crate) struct Told<'a> {
+    pub(crate) event: &'a Event,
+    pub(crate) outcome: &'a Outcome,
+    pub(crate) shown: Shown<'a>,
+}
 
 /// What is chosen for a line, and what of that is a guess.
 #[derive(Drop)]
@@ -47,6 +64,18 @@ pub(crate) struct Chosen {
 /// No device has this id: a script's have 24 bits.
 const NOBODY: DeviceId = DeviceId::MAX;
 
+/// These are shown as tables, where some are.
+pub(crate) fn tables_shown(has_tables: bool, tables: &[u64]) -> Tables<'_>
+    ensures { (event : spec_event.Event) (choice : spec_choice.Choice) → ShowsTables result event choice → IsTrue has_tables
+        → tables_chosen event choice ≡ tables.now }
+{
+    if has_tables {
+        Tables::These(tables)
+    } else {
+        Tables::Unknown
+    }
+}
+
 /// A read of one byte.
 pub(crate) fn read_at(alloc: Global, address: u64) -> Access {
     Access {
@@ -54,22 +83,6 @@ pub(crate) fn read_at(alloc: Global, address: u64) -> Access {
         len: 1,
         kind: AccessKind::Read,
         bytes: Sequence::new(alloc),
-    }
-}
-
-/// The choice of a line that leaves nothing open.
-pub(crate) fn nothing_chosen(alloc: Global) -> Chosen {
-    Chosen {
-        choice: Choice {
-            directory: Sequence::new(alloc),
-            taken: Sequence::new(alloc),
-            returned: Sequence::new(alloc),
-            frame: 0,
-            device: NOBODY,
-            page: 0,
-            access: read_at(alloc, 0),
-        },
-        missing: None,
     }
 }
 
@@ -123,6 +136,44 @@ fn choose_tables(
     Ok(())
 }
 
+/// No tables are chosen, and these pages of the device directory, where they are shown.
+fn choose_directory(
+    alloc: Global,
+    choice: &mut Choice,
+    pages: Option<&[u64]>,
+) -> Result<(), AllocError>
+    ensures tables { OnOk result (choice.new.taken ≡ []) }
+    ensures pages { OnOk result (IfSome pages.entry (λ pages. choice.new.directory ≡ pages.now)) }
+    ensures frame { OnOk result (choice.new.frame ≡ choice.old.frame) }
+    ensures access { OnOk result (choice.new.access ≡ choice.old.access) }
+    ensures returned { OnOk result (choice.new.returned ≡ choice.old.returned) }
+{
+    choice.taken = Sequence::new(alloc);
+    if let Some(pages) = pages {
+        choice.directory = list_of(alloc, pages)?;
+    }
+    Ok(())
+}
+
+/// Those are chosen that are shown.
+fn choose_taken(
+    alloc: Global,
+    choice: &mut Choice,
+    event: &Event,
+    tables: Tables<'_>,
+) -> Result<(), AllocError>
+    ensures tables { OnOk result (ShowsTables tables.entry event.now choice.new) }
+    ensures frame { OnOk result (choice.new.frame ≡ choice.old.frame) }
+    ensures access { OnOk result (choice.new.access ≡ choice.old.access) }
+    ensures returned { OnOk result (choice.new.returned ≡ choice.old.returned) }
+{
+    match tables {
+        Tables::Unknown => Ok(()),
+        Tables::These(tables) => choose_tables(alloc, choice, event, tables),
+        Tables::OfAnother(pages) => choose_directory(alloc, choice, pages),
+    }
+}
+
 /// The frame is chosen that is shown, if one is.
 fn choose_on(choice: &mut Choice, on: Option<u64>)
     ensures frame { IfSome on (λ frame. choice.new.frame ≡ frame) }
@@ -158,43 +209,12 @@ fn choose_shown(
 ) -> Result<(), AllocError>
     ensures { OnOk result (ShowsChoice shown.entry event.now choice.new) }
 {
-    choice.returned = list_of(alloc, shown.freed)?;
+    if !choice.returned.as_slice().is_empty() || !shown.freed.is_empty() {
+        choice.returned = list_of(alloc, shown.freed)?;
+    }
     choose_began(alloc, choice, shown.began)?;
     choose_on(choice, shown.on);
-    if shown.has_tables {
-        choose_tables(alloc, choice, event, shown.tables)?;
-    }
-    Ok(())
-}
-
-/// The choice of a line that takes frames for tables, if it shows which.
-fn choose_taken(alloc: Global, line: u64, is_shown: bool) -> Chosen {
-    let mut chosen = nothing_chosen(alloc);
-    if !is_shown {
-        chosen.missing = Some(Missing::Tables { line });
-    }
-    chosen
-}
-
-/// The frame of a request that was accepted, where it isn't shown: the one that the grants say.
-pub(crate) fn choose_frame(
-    alloc: Global,
-    kept: &KeptState,
-    begun: Begun,
-    address: u64,
-    kind: AccessKind,
-    on: Option<u64>,
-) -> Chosen {
-    let mut chosen = nothing_chosen(alloc);
-    if on.is_some() {
-        return chosen;
-    }
-    let settled = frame_of_access(kept, begun.device, address, kind);
-    chosen.choice.frame = settled.frame;
-    if !settled.is_certain {
-        chosen.missing = Some(Missing::Frame(begun));
-    }
-    chosen
+    choose_taken(alloc, choice, event, shown.tables)
 }
 
 /// A page of which the device may be told so, if there is one.
@@ -209,34 +229,9 @@ fn page_told(kept: &KeptState, id: DeviceId, told: Translation) -> u64 {
     }
 }
 
-/// The question that a delivery answered.
-fn choose_question(
-    alloc: Global,
-    kept: &KeptState,
-    question: Option<Sent>,
-    told: Translation,
-) -> Chosen {
-    let mut chosen = nothing_chosen(alloc);
-    if let Some(Sent { device, page }) = question {
-        chosen.choice.device = device;
-        chosen.choice.page = match page {
-            Some(page) => page,
-            None => page_told(kept, device, told),
-        };
-    }
-    chosen
-}
-
-/// What is chosen of an access that was accepted.
-fn choose_access(
-    alloc: Global,
-    kept: &KeptState,
-    line: u64,
-    event: &Event,
-    number: u64,
-    on: Option<u64>,
-) -> Chosen {
-    let (device, address, kind) = match event {
+/// The device, the address and the kind of the access for which the event asks, if it asks for one at an address of its device.
+fn asked_by(event: &Event) -> Option<(DeviceId, u64, AccessKind)> {
+    match event {
         Event::Read {
             device,
             address,
@@ -246,7 +241,7 @@ fn choose_access(
             device,
             address,
             ..
-        } => (*device, *address, AccessKind::Read),
+        } => Some((*device, *address, AccessKind::Read)),
         Event::Write {
             device,
             address,
@@ -256,58 +251,125 @@ fn choose_access(
             device,
             address,
             ..
-        } => (*device, *address, AccessKind::Write),
-        _ => return nothing_chosen(alloc),
-    };
-    let begun = Begun {
-        device,
-        number,
-        line,
-    };
-    choose_frame(alloc, kept, begun, address, kind, on)
-}
-
-/// What is chosen of what this line doesn't show: nothing that isn't lawful, where something else is.
-fn choose_unshown(
-    alloc: Global,
-    kept: &KeptState,
-    notes: &Notes,
-    line: u64,
-    event: &Event,
-    outcome: &Outcome,
-    shown: Shown<'_>,
-) -> Result<Chosen, AllocError> {
-    match (event, outcome) {
-        (Event::Step { device }, outcome) => {
-            choose_step(alloc, kept, line, *device, outcome, shown)
-        }
-        (Event::Attach { .. } | Event::Grant { .. }, Outcome::Done) => {
-            Ok(choose_taken(alloc, line, shown.has_tables))
-        }
-        (event, Outcome::Accepted(number)) => {
-            Ok(choose_access(alloc, kept, line, event, *number, shown.on))
-        }
-        (event, Outcome::Answered(told)) => {
-            let question = notes.question_of(event);
-            Ok(choose_question(alloc, kept, question, *told))
-        }
-        _ => Ok(nothing_chosen(alloc)),
+        } => Some((*device, *address, AccessKind::Write)),
+        _ => None,
     }
 }
 
-/// What is chosen for a line: what it shows, and of the rest nothing that isn't lawful, where something else is.
-pub(crate) fn choose(
-    alloc: Global,
-    kept: &KeptState,
-    notes: &Notes,
-    line: u64,
-    event: &Event,
-    outcome: &Outcome,
-    shown: Shown<'_>,
-) -> Result<Chosen, AllocError>
-    ensures { IfOk result (λ chosen. ShowsChoice shown.entry event.now chosen.choice) }
-{
-    let mut chosen = choose_unshown(alloc, kept, notes, line, event, outcome, shown)?;
-    choose_shown(alloc, &mut chosen.choice, event, shown)?;
-    Ok(chosen)
+impl Chosen {
+    /// Nothing is chosen.
+    pub(crate) fn new(alloc: Global) -> Chosen {
+        Chosen {
+            choice: Choice {
+                directory: Sequence::new(alloc),
+                taken: Sequence::new(alloc),
+                returned: Sequence::new(alloc),
+                frame: 0,
+                device: NOBODY,
+                page: 0,
+                access: read_at(alloc, 0),
+            },
+            missing: None,
+        }
+    }
+
+    /// No tables are chosen; and they are missing of an attach or a grant, where it isn't shown which it took.
+    fn choose_no_tables(&mut self, alloc: Global, line: u64, told: Told<'_>) {
+        self.choice.taken = Sequence::new(alloc);
+        self.choice.directory = Sequence::new(alloc);
+        let is_shown = match told.shown.tables {
+            Tables::Unknown => false,
+            Tables::These(_) => true,
+            Tables::OfAnother(pages) => {
+                pages.is_some() || matches!(told.event, Event::Grant { .. })
+            }
+        };
+        if !is_shown {
+            self.missing = Some(Missing::Tables { line });
+        }
+    }
+
+    /// The frame of a request that was accepted, where it isn't shown: the one that the grants say.
+    pub(crate) fn choose_frame(
+        &mut self,
+        kept: &KeptState,
+        begun: Begun,
+        address: u64,
+        kind: AccessKind,
+        on: Option<u64>,
+    ) {
+        if on.is_some() {
+            return;
+        }
+        let settled = frame_of_access(kept, begun.device, address, kind);
+        self.choice.frame = settled.frame;
+        if !settled.is_certain {
+            self.missing = Some(Missing::Frame(begun));
+        }
+    }
+
+    /// The question that a delivery answered.
+    fn choose_question(&mut self, kept: &KeptState, question: Option<Sent>, told: Translation) {
+        if let Some(Sent { device, page }) = question {
+            self.choice.device = device;
+            self.choice.page = match page {
+                Some(page) => page,
+                None => page_told(kept, device, told),
+            };
+        }
+    }
+
+    /// What is chosen of an access that was accepted.
+    fn choose_access(&mut self, kept: &KeptState, line: u64, told: Told<'_>, number: u64) {
+        if let Some((device, address, kind)) = asked_by(told.event) {
+            let begun = Begun {
+                device,
+                number,
+                line,
+            };
+            self.choose_frame(kept, begun, address, kind, told.shown.on);
+        }
+    }
+
+    /// What is chosen of what this line doesn't show: nothing that isn't lawful, where something else is. What no step of this event
+    /// asks for stays as it was.
+    fn choose_unshown(
+        &mut self,
+        alloc: Global,
+        kept: &KeptState,
+        notes: &Notes,
+        line: u64,
+        told: Told<'_>,
+    ) -> Result<(), AllocError> {
+        self.missing = None;
+        match (told.event, told.outcome) {
+            (Event::Step { device }, outcome) => {
+                return self.choose_step(alloc, kept, line, *device, outcome, told.shown);
+            }
+            (Event::Attach { .. } | Event::Grant { .. }, Outcome::Done) => {
+                self.choose_no_tables(alloc, line, told);
+            }
+            (_, Outcome::Accepted(number)) => self.choose_access(kept, line, told, *number),
+            (event, Outcome::Answered(answer)) => {
+                self.choose_question(kept, notes.question_of(event), *answer);
+            }
+            _ => {}
+        }
+        Ok(())
+    }
+
+    /// What is chosen for a line: what it shows, and of the rest nothing that isn't lawful, where something else is.
+    pub(crate) fn choose(
+        &mut self,
+        alloc: Global,
+        kept: &KeptState,
+        notes: &Notes,
+        line: u64,
+        told: Told<'_>,
+    ) -> Result<(), AllocError>
+        ensures { OnOk result (ShowsChoice told.entry.shown told.entry.event.now self.new.choice) }
+    {
+        self.choose_unshown(alloc, kept, notes, line, told)?;
+        choose_shown(alloc, &mut self.choice, told.event, told.shown)
+    }
 }

@@ -4,7 +4,7 @@ ghost use Rattle.iom_trace_lines.specs.TraceLines.{TablesFreed};
 ghost use Rattle.iom_judge.specs.Certified.{ContinuesAs, Names};
 
 use crate::bad::{NO_WORLD, bad};
-use crate::choosing::{NOTHING, Shown};
+use crate::choosing::{NOTHING, Shown, Told};
 use crate::judging::Judge;
 use crate::settled::device_with;
 use crate::verdict::{Verdict, quoting};
@@ -78,7 +78,11 @@ impl Judge {
             freed: tables,
             ..NOTHING
         };
-        let none = Outcome::NoneConfirmed { timed_out: false };
-        self.go_on(&Event::Poll, &none, shown, text)
+        let told = Told {
+            event: &Event::Poll,
+            outcome: &Outcome::NoneConfirmed { timed_out: false },
+            shown,
+        };
+        self.go_on_alone(told, text)
     }
 }

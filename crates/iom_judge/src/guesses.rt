@@ -32,10 +32,10 @@ fn oldest_number(device: &Device) -> u64 {
 /// Whether this is missing of the device's access with this number.
 fn is_of(missing: Missing, device: DeviceId, number: u64) -> bool {
     match missing {
-        Missing::Tables { .. } | Missing::Domain { .. } => false,
         Missing::Frame(begun) | Missing::Access(begun) => {
             begun.device == device && begun.number == number
         }
+        _ => false,
     }
 }
 

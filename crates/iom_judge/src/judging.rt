@@ -1,5 +1,5 @@
 // A trace, judged line by line.
-ghost use Rattle.std.specs.Prelude.{◌≡◌, ◌+◌, ◌++◌, ◌∷◌, ◌&&◌, [], ℕ, List, Option, None, IfOk, IfSome, IsSomeAnd, MatchOption, OnOk, IsTrue, false, not, length};
+ghost use Rattle.std.specs.Prelude.{◌≡◌, ◌+◌, ◌++◌, ◌∷◌, ◌&&◌, [], ℕ, List, Option, None, IfOk, IfSome, IsSomeAnd, MatchOption, OnOk, IsTrue, false, if◌then◌else◌, not, length};
 ghost use Rattle.iom_kept_state.specs.Grants.{IsPastOf};
 ghost use Rattle.iom_kept_state.specs.States.{state_of, Leaves};
 ghost use Rattle.iom_machine.specs.Machine.{ChosenStep};
@@ -9,16 +9,16 @@ ghost use Rattle.iom_script.specs.Grammar.{spoken};
 ghost use Rattle.iom_trace_lines.specs.TraceLines.{said_of, Handoff, Take};
 ghost use Rattle.iom_trace_lines.specs.WorldLimits.{limits_of};
 ghost use Rattle.iom_judge.specs.Certificates.{four_disks, opening_of, IsLawfulTrace, IsSoOf};
-ghost use Rattle.iom_judge.specs.Certified.{is_given, Certify, Continues, ContinuesAs, HasJudged, HasTakenAll, IsReadOf, KeptLeaves, Names, ShowsChoice};
+ghost use Rattle.iom_judge.specs.Certified.{first_in, is_given, Certify, Continues, ContinuesAs, ContinuesBy, HasJudged, HasTakenAll, IsReadOf, KeptLeaves, Names, ShowsChoice};
 ghost use Rattle.iom_judge.specs.Happenings.{is_used, Came};
+ghost use Rattle.iom_judge.specs.Sharing.{is_this, own_domain, tables_end, NoneWalks};
 
 use crate::bad::{NO_END, NO_WORLD, bad, bad_text};
-use crate::choosing::{Chosen, NOTHING, Shown, choose};
+use crate::beside::Beside;
+use crate::choosing::{Chosen, NOTHING, Shown, Tables, Told, tables_shown};
 use crate::guesses::Guesses;
-use crate::handed::Handed;
 use crate::missing::Missing;
 use crate::verdict::{Verdict, quoting};
-use iom_base::DeviceId;
 use iom_kept_state::KeptState;
 use iom_machine::{Choice, Event, Outcome};
 use iom_machine_judge::judge;
@@ -95,8 +95,10 @@ pub(crate) struct Judge {
     /// How many they were.
     pub(crate) line: u64,
     notes: Notes,
+    /// What is chosen for the line, in one place for line after line.
+    chosen: Chosen,
     pub(crate) guesses: Guesses,
-    pub(crate) handed: Handed,
+    pub(crate) beside: Beside,
 }
 
 impl Judge {
@@ -108,8 +110,9 @@ impl Judge {
             kept: None,
             line: 0,
             notes: Notes::new(alloc),
+            chosen: Chosen::new(alloc),
             guesses: Guesses::new(alloc),
-            handed: Handed::new(alloc),
+            beside: Beside::new(alloc),
         }
     }
 
@@ -117,7 +120,8 @@ impl Judge {
     fn begin(&mut self, size: WorldSize, limits: WorldLimits) -> io::Result<Option<Verdict>>
         ensures line { self.new.line ≡ self.old.line }
         ensures begun { IfOk result (λ found. MatchOption found
-            ((self.old.kept ≡ None) × ((frame : ℕ) → is_given self.new.handed frame ≡ false) × (self.new.handed.takes_back ≡ false)
+            ((self.old.kept ≡ None) × ((frame : ℕ) → is_given self.new.beside.handed frame ≡ false) × (self.new.beside.handed.takes_back ≡ false)
+            × ((device : ℕ) → first_in self.new.beside.domains device ≡ None)
             × IsSomeAnd self.new.kept (λ kept. IsPastOf kept.grants [] × (state_of kept [] ≡ (opening_of size limits).machine)))
             (Names self.old.line)) }
     {
@@ -129,55 +133,54 @@ impl Judge {
             None => Ok(Some(bad(self.alloc, self.line, "no world has this size")?)),
             Some(kept) => {
                 self.kept = Some(kept);
-                self.handed = Handed::new(self.alloc);
+                self.beside = Beside::new(self.alloc);
                 Ok(None)
             }
         }
     }
 
     /// Notes what this line shows, and what was guessed of it.
-    fn note(
-        &mut self,
-        event: &Event,
-        outcome: &Outcome,
-        shown: Shown<'_>,
-        chosen: &Chosen,
-        made: Option<Missing>,
-    ) -> Result<(), AllocError>
+    fn note(&mut self, told: Told<'_>, made: Option<Missing>) -> Result<(), AllocError>
         ensures kept { self.new.kept ≡ self.old.kept }
         ensures line { self.new.line ≡ self.old.line }
-        ensures given { OnOk result ((frame : ℕ) → is_given self.new.handed frame
-            ≡ (is_given self.old.handed frame && not (is_used event.now outcome.now chosen.now.choice frame))) }
-        ensures takes { OnOk result (self.new.handed.takes_back ≡ self.old.handed.takes_back) }
+        ensures given { OnOk result ((frame : ℕ) → is_given self.new.beside.handed frame
+            ≡ (is_given self.old.beside.handed frame && not (is_used told.entry.event.now told.entry.outcome.now self.old.chosen.choice frame))) }
+        ensures takes { OnOk result (self.new.beside.handed.takes_back ≡ self.old.beside.handed.takes_back) }
+        ensures domains { OnOk result ((k : ℕ) → first_in self.new.beside.domains k
+            ≡ (if is_this (own_domain told.entry.event.now told.entry.outcome.now) k then None else first_in self.old.beside.domains k)) }
     {
+        let Told {
+            event,
+            outcome,
+            shown,
+        } = told;
         self.notes.begin_line(self.line);
         self.notes.note(event, outcome)?;
-        if shown.has_tables {
+        if matches!(shown.tables, Tables::These(_) | Tables::OfAnother(Some(_))) {
             self.guesses.note_tables();
         }
-        self.handed.note(event, outcome, &chosen.choice);
+        self.beside.handed.note(event, outcome, &self.chosen.choice);
+        self.beside.domains.note(event, outcome);
         self.guesses.note_detach(event, outcome);
         if let Some(missing) = made {
             self.guesses.make(missing, outcome);
         }
-        if let Some(missing) = chosen.missing {
+        if let Some(missing) = self.chosen.missing {
             self.guesses.note(missing)?;
         }
         Ok(())
     }
 
     /// What is found of a line of which this may not come.
-    fn refuse(
-        &mut self,
-        event: &Event,
-        outcome: &Outcome,
-        on: Option<u64>,
-        choice: &Choice,
-        text: &[u8],
-    ) -> io::Result<Verdict>
+    fn refuse(&mut self, told: Told<'_>, text: &[u8]) -> io::Result<Verdict>
         ensures { IfOk result (Names self.old.line) }
     {
         let (alloc, line) = (self.alloc, self.line);
+        let Told {
+            event,
+            outcome,
+            shown,
+        } = told;
         let Some(kept) = &mut self.kept else {
             return bad(alloc, line, NO_WORLD);
         };
@@ -187,86 +190,106 @@ impl Judge {
         let facts = Facts {
             kept,
             notes: &self.notes,
-            on,
+            on: shown.on,
         };
         let reason = quoting(alloc, text, &facts.reason(alloc, event, outcome)?)?;
-        if may_come_unlimited(alloc, kept, event, outcome, choice)? {
+        if may_come_unlimited(alloc, kept, event, outcome, &self.chosen.choice)? {
             return Ok(Verdict::Beyond { line, reason });
         }
         Ok(Verdict::Unlawful { line, reason })
     }
 
-    /// Whether this may come of the event, where what the line doesn't show is chosen so. What is kept is then what it leaves.
-    fn step(&mut self, event: &Event, outcome: &Outcome, choice: &Choice) -> io::Result<bool>
+    /// Whether this may come of the event, where what the line doesn't show is as it was chosen. What is kept is then what it leaves.
+    fn step(&mut self, told: Told<'_>) -> io::Result<bool>
         ensures line { self.new.line ≡ self.old.line }
-        ensures handed { self.new.handed ≡ self.old.handed }
-        ensures went { IfOk result (λ may. IsTrue may → KeptLeaves self.old.kept event.now outcome.now choice.now self.new.kept) }
+        ensures beside { self.new.beside ≡ self.old.beside }
+        ensures chosen { self.new.chosen ≡ self.old.chosen }
+        ensures went { IfOk result (λ may. IsTrue may
+            → KeptLeaves self.old.kept told.entry.event.now told.entry.outcome.now self.old.chosen.choice self.new.kept) }
     {
         let Some(kept) = &mut self.kept else {
             return Ok(false);
         };
-        let may_come = judge(self.alloc, kept, event, outcome, choice)?;
+        let choice = &self.chosen.choice;
+        let may_come = judge(self.alloc, kept, told.event, told.outcome, choice)?;
         Ok(may_come)
     }
 
-    /// What is chosen of what the line doesn't show, and what was guessed of the access that it makes.
-    fn choose(
-        &self,
-        event: &Event,
-        outcome: &Outcome,
-        shown: Shown<'_>,
-    ) -> io::Result<Option<(Chosen, Option<Missing>)>>
-        ensures { IfOk result (λ found. IfSome found (λ it. ShowsChoice shown.entry event.now it.0.choice)) }
+    /// Chooses what the line doesn't show. False where there is no world yet.
+    fn choose(&mut self, told: Told<'_>) -> io::Result<bool>
+        ensures kept { self.new.kept ≡ self.old.kept }
+        ensures line { self.new.line ≡ self.old.line }
+        ensures beside { self.new.beside ≡ self.old.beside }
+        ensures shows { IfOk result (λ chose. IsTrue chose → ShowsChoice told.entry.shown told.entry.event.now self.new.chosen.choice) }
     {
         let Some(kept) = &self.kept else {
-            return Ok(None);
+            return Ok(false);
         };
-        let line = self.line;
-        let chosen = choose(self.alloc, kept, &self.notes, line, event, outcome, shown)?;
-        Ok(Some((chosen, self.guesses.of_oldest(kept, event))))
+        self.chosen
+            .choose(self.alloc, kept, &self.notes, self.line, told)?;
+        Ok(true)
     }
 
-    /// What is found where this came of the event, if that ends the trace.
-    pub(crate) fn go_on(
-        &mut self,
-        event: &Event,
-        outcome: &Outcome,
-        shown: Shown<'_>,
-        text: &[u8],
-    ) -> io::Result<Option<Verdict>>
+    /// What was guessed of the access that the event makes, if it makes one.
+    fn guessed_of(&self, event: &Event) -> Option<Missing> {
+        let kept = self.kept.as_ref()?;
+        self.guesses.of_oldest(kept, event)
+    }
+
+    /// What is found where this came of the event, and of no other device's with it, if that ends the trace.
+    pub(crate) fn go_on_alone(&mut self, told: Told<'_>, text: &[u8]) -> io::Result<Option<Verdict>>
         ensures { IfOk result (λ found. MatchOption found
-            ((choice : spec.Choice) × ShowsChoice shown.entry event.now choice × Continues self.old (Came event.now outcome.now choice ∷ []) self.new)
+            ((choice : spec.Choice) × ShowsChoice told.entry.shown told.entry.event.now choice
+            × Continues self.old (Came told.entry.event.now told.entry.outcome.now choice ∷ []) self.new)
             (Names self.old.line)) }
     {
-        let Some((chosen, made)) = self.choose(event, outcome, shown)? else {
+        if !self.choose(told)? {
             return Ok(Some(bad(self.alloc, self.line, NO_WORLD)?));
-        };
-        if let Some(verdict) = self.refuse_handed(event, outcome, &chosen.choice, text)? {
+        }
+        if let Some(verdict) = self.refuse_handed(told, text)? {
             return Ok(Some(verdict));
         }
-        if self.step(event, outcome, &chosen.choice)? {
-            self.note(event, outcome, shown, &chosen, made)?;
+        if let Some(verdict) = self.refuse_shared(told) {
+            return Ok(Some(verdict));
+        }
+        let made = self.guessed_of(told.event);
+        if self.step(told)? {
+            self.note(told, made)?;
             return Ok(None);
         }
-        let verdict = self.refuse(event, outcome, shown.on, &chosen.choice, text)?;
+        let verdict = self.refuse(told, text)?;
         Ok(Some(verdict))
     }
 
-    /// What is found of a line by which a frame is used that was given to somebody else, if it is one.
-    fn refuse_handed(
-        &self,
-        event: &Event,
-        outcome: &Outcome,
-        choice: &Choice,
-        text: &[u8],
-    ) -> io::Result<Option<Verdict>>
+    /// What is found where this came of the event, if that ends the trace. A grant and a release are those of each device of the domain.
+    pub(crate) fn go_on(&mut self, told: Told<'_>, text: &[u8]) -> io::Result<Option<Verdict>>
         ensures { IfOk result (λ found. MatchOption found
-            (IsTrue self.now.handed.takes_back → (frame : ℕ) → IsTrue (is_used event.now outcome.now choice.now frame)
-            → is_given self.now.handed frame ≡ false)
+            ((choice : spec.Choice) × ShowsChoice told.entry.shown told.entry.event.now choice
+            × ContinuesBy self.old told.entry.event.now told.entry.outcome.now choice self.new)
+            (Names self.old.line)) }
+    {
+        if let Some(verdict) = self.refuse_sharer(told.event) {
+            return Ok(Some(verdict));
+        }
+        if let Some(verdict) = self.go_on_alone(told, text)? {
+            return Ok(Some(verdict));
+        }
+        if let Some(verdict) = self.grant_sharers(told, text)? {
+            return Ok(Some(verdict));
+        }
+        self.release_sharers(told, text)
+    }
+
+    /// What is found of a line by which a frame is used that was given to somebody else, if it is one.
+    fn refuse_handed(&self, told: Told<'_>, text: &[u8]) -> io::Result<Option<Verdict>>
+        ensures { IfOk result (λ found. MatchOption found
+            (IsTrue self.now.beside.handed.takes_back → (frame : ℕ)
+            → IsTrue (is_used told.entry.event.now told.entry.outcome.now self.now.chosen.choice frame) → is_given self.now.beside.handed frame ≡ false)
             (Names self.now.line)) }
     {
         let (alloc, line) = (self.alloc, self.line);
-        match self.handed.reason(alloc, event, outcome, choice)? {
+        let (handed, choice) = (&self.beside.handed, &self.chosen.choice);
+        match handed.reason(alloc, told.event, told.outcome, choice)? {
             None => Ok(None),
             Some(reason) => Ok(Some(Verdict::Unlawful {
                 line,
@@ -281,15 +304,15 @@ impl Judge {
             (ContinuesAs self.old (Handoff frame) [] self.new)
             (Names self.old.line)) }
     {
-        if let Some(verdict) = self.go_on(
-            &Event::Free { frame },
-            &Outcome::Free(true),
-            NOTHING,
-            text,
-        )? {
+        let told = Told {
+            event: &Event::Free { frame },
+            outcome: &Outcome::Free(true),
+            shown: NOTHING,
+        };
+        if let Some(verdict) = self.go_on_alone(told, text)? {
             return Ok(Some(verdict));
         }
-        self.handed.hand_off(frame, self.line)?;
+        self.beside.handed.hand_off(frame, self.line)?;
         Ok(None)
     }
 
@@ -303,7 +326,7 @@ impl Judge {
         if self.kept.is_none() {
             return Ok(Some(bad(alloc, line, NO_WORLD)?));
         }
-        if self.handed.take_back(frame) {
+        if self.beside.handed.take_back(frame) {
             return Ok(None);
         }
         let reason = format!(in alloc; "frame {frame} wasn't given to anybody else")?;
@@ -313,35 +336,20 @@ impl Judge {
         }))
     }
 
-    /// What is found where the device shares the domain of another: that ends the trace.
-    fn refuse_joined(&self, device: DeviceId) -> io::Result<Option<Verdict>>
-        ensures { IfOk result (λ found. IsSomeAnd found (Names self.now.line)) }
-    {
-        let line = self.line;
-        if self.kept.is_none() {
-            return Ok(Some(bad(self.alloc, line, NO_WORLD)?));
-        }
-        let missing = Missing::Domain { device };
-        Ok(Some(Verdict::Uncertified { line, missing }))
-    }
-
     /// What is found of a line that says this, if it ends the trace.
-    fn take_said(
+    fn take_said<'x>(
         &mut self,
-        said: &TraceLine<'_>,
-        tables: &[u64],
+        said: &'x TraceLine<'x>,
+        tables: &'x [u64],
         text: &[u8],
     ) -> io::Result<Option<Verdict>>
         ensures { (line : List ℕ) (lines : List (List ℕ)) → IsReadOf line (said_of said.now) tables.now
-            → Certify self.old.kept self.old.handed (spoken lines) → self.old.line ≡ length lines + 1
+            → Certify self.old.kept self.old.beside (spoken lines) → self.old.line ≡ length lines + 1
             → IfOk result (λ found. MatchOption found (HasTakenAll self.new (lines ++ line ∷ [])) (Names self.old.line)) }
     {
         match said {
             TraceLine::Nothing => Ok(None),
-            TraceLine::Bad => {
-                let is_first = self.kept.is_none();
-                Ok(Some(bad_text(self.alloc, self.line, text, is_first)?))
-            }
+            TraceLine::Bad => Ok(Some(bad_text(self.alloc, self.line, text, self.kept.is_none())?)),
             TraceLine::World(size, limits) => self.begin(*size, *limits),
             TraceLine::Step {
                 event,
@@ -351,13 +359,17 @@ impl Judge {
                 began,
             } => {
                 let shown = Shown {
-                    has_tables: *has_tables,
-                    tables,
+                    tables: tables_shown(*has_tables, tables),
                     freed: &[],
                     on: *on,
                     began: began.as_ref(),
                 };
-                self.go_on(event, outcome, shown, text)
+                let told = Told {
+                    event,
+                    outcome,
+                    shown,
+                };
+                self.go_on(told, text)
             }
             TraceLine::Made { device, is_read } => self.make(*device, *is_read, text),
             TraceLine::Grants(granted, has_tables) => {
@@ -366,7 +378,12 @@ impl Judge {
             TraceLine::Releases(released, ticket) => self.release_each(*released, *ticket, text),
             TraceLine::Handoff(frame) => self.hand_off(*frame, text),
             TraceLine::Take(frame) => self.take_back(*frame, text),
-            TraceLine::Joins { device, .. } => self.refuse_joined(*device),
+            TraceLine::Joins {
+                device,
+                with,
+                ats,
+                has_tables,
+            } => self.join(*device, *with, *ats, *has_tables, tables, text),
             TraceLine::TablesFreed => self.free_tables(tables, text),
         }
     }
@@ -374,7 +391,7 @@ impl Judge {
     /// Counts a line more.
     fn count(&mut self) -> io::Result<()>
         ensures kept { self.new.kept ≡ self.old.kept }
-        ensures handed { self.new.handed ≡ self.old.handed }
+        ensures beside { self.new.beside ≡ self.old.beside }
         ensures counted { OnOk result (self.new.line ≡ self.old.line + 1) }
     {
         if self.line == u64::MAX {

@@ -8,7 +8,9 @@
 #![tactic(auto)]
 
 mod bad;
+mod beside;
 mod choosing;
+mod domains;
 mod findings;
 mod freed;
 mod guesses;
@@ -18,6 +20,7 @@ mod made;
 mod missing;
 mod ranges;
 mod settled;
+mod sharing;
 mod steps;
 mod verdict;
 

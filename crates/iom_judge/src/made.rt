@@ -5,7 +5,7 @@ ghost use Rattle.iom_judge.specs.Certified.{ContinuesAs, Names};
 ghost use Rattle.iom_judge.specs.Happenings.{MayBeTold};
 
 use crate::bad::{NO_WORLD, bad};
-use crate::choosing::NOTHING;
+use crate::choosing::{NOTHING, Told};
 use crate::judging::Judge;
 use crate::settled::device_with;
 use crate::verdict::Verdict;
@@ -65,6 +65,11 @@ impl Judge {
             return Ok(Some(bad(self.alloc, self.line, NO_WORLD)?));
         };
         let outcome = made_now(kept, device, is_read);
-        self.go_on(&Event::Commit { device }, &outcome, NOTHING, text)
+        let told = Told {
+            event: &Event::Commit { device },
+            outcome: &outcome,
+            shown: NOTHING,
+        };
+        self.go_on_alone(told, text)
     }
 }

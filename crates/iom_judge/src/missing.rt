@@ -21,8 +21,12 @@ pub enum Missing {
     Frame(Begun),
     /// Which access a block device's step began.
     Access(Begun),
-    /// What the device may reach that shares the domain of another: that isn't followed.
-    Domain { device: DeviceId },
+    /// What happens to the other devices of the domain, where the line is of one that isn't its first.
+    Domain { device: DeviceId, first: DeviceId },
+    /// How other devices leave the domain of this one before its tables go back.
+    Sharers { first: DeviceId },
+    /// What the device may reach that is attached to the domain of the other one, where that has pages whose tickets aren't confirmed.
+    Pending { device: DeviceId, with: DeviceId },
 }
 
 /// What `iommu-judge` prints of it, behind what it found.
@@ -44,11 +48,29 @@ impl fmt::Display for Missing {
                 "; access {number} of {device:06x}, accepted in line {line}, may be on several frames: write `; on FRAME` behind its answer"
             ),
             Missing::Access(begun) => write_access(f, *begun),
-            Missing::Domain { device } => write!(
-                f,
-                "; a shared domain isn't followed: attach {device:06x} by itself, and write a `grant` and a `release` for it too"
-            ),
+            Missing::Domain { .. } | Missing::Sharers { .. } | Missing::Pending { .. } => {
+                write_domain(f, *self)
+            }
         }
+    }
+}
+
+/// What is printed of a domain.
+fn write_domain<W: fmt::Write>(f: &mut fmt::Formatter<W>, missing: Missing) -> fmt::Result {
+    match missing {
+        Missing::Domain { device, first } => write!(
+            f,
+            "; {device:06x} shares the domain of {first:06x}: a grant or a release of {first:06x} is one of each device of the domain"
+        ),
+        Missing::Sharers { first } => write!(
+            f,
+            "; others still share the domain of {first:06x}, and its tables: write first how each of them is detached or cut off"
+        ),
+        Missing::Pending { device, with } => write!(
+            f,
+            "; {with:06x} has pages whose tickets aren't confirmed, which {device:06x} may reach too: attach it behind the poll that confirms them"
+        ),
+        _ => Ok(()),
     }
 }
 

@@ -1,11 +1,14 @@
 // Grants and releases of pages side by side, one after another.
-ghost use Rattle.std.specs.Prelude.{◌≡◌, ◌+◌, ◌<◌, [], IfOk, IfSome, MatchOption};
+ghost use Rattle.std.specs.Prelude.{◌≡◌, ◌+◌, ◌<◌, [], IfOk, IfSome, IsTrue, MatchOption};
+ghost use Rattle.iom_machine.specs.declared.choice.Choice as spec_choice;
+ghost use Rattle.iom_machine.specs.declared.event.Event as spec_event;
 ghost use Rattle.iom_machine.specs.declared.event.Event.TheVariants as events;
 ghost use Rattle.iom_trace_lines.specs.TraceLines.{Releases};
-ghost use Rattle.iom_judge.specs.Certified.{ContinuesAs, ContinuesByGrants, Names};
+ghost use Rattle.iom_judge.specs.Certified.{ContinuesAs, ContinuesByGrants, Names, ShowsTables};
+ghost use Rattle.iom_judge.specs.Happenings.{tables_chosen};
 
 use crate::bad::{NO_WORLD, bad};
-use crate::choosing::{NOTHING, Shown};
+use crate::choosing::{NOTHING, Shown, Told, tables_shown};
 use crate::judging::Judge;
 use crate::verdict::Verdict;
 use iom_machine::{Event, Outcome};
@@ -42,15 +45,13 @@ fn release_at(released: ReleasedPages, index: u64) -> Option<Event>
 
 /// What is shown of the grant with this index: the first has all tables that are shown.
 fn shown_at(has_tables: bool, tables: &[u64], index: u64) -> Shown<'_>
-    ensures has { result.has_tables ≡ has_tables }
-    ensures first { index ≡ 0 → result.tables.now ≡ tables.now }
-    ensures later { 0 < index → result.tables.now ≡ [] }
+    ensures tables { (event : spec_event.Event) (choice : spec_choice.Choice) → ShowsTables result.tables event choice → IsTrue has_tables
+        → (index ≡ 0 → tables_chosen event choice ≡ tables.now) × (0 < index → tables_chosen event choice ≡ []) }
     ensures freed { result.freed.now ≡ [] }
 {
     let tables = if index == 0 { tables } else { &[] };
     Shown {
-        has_tables,
-        tables,
+        tables: tables_shown(has_tables, tables),
         ..NOTHING
     }
 }
@@ -71,13 +72,16 @@ impl Judge {
         if self.kept.is_none() {
             return Ok(Some(bad(self.alloc, self.line, NO_WORLD)?));
         }
-        let done = Outcome::Done;
         for index in 0..granted.count {
             let Some(event) = grant_at(granted, index) else {
                 return Ok(Some(bad(self.alloc, self.line, BEYOND)?));
             };
-            let shown = shown_at(has_tables, tables, index);
-            if let Some(verdict) = self.go_on(&event, &done, shown, text)? {
+            let told = Told {
+                event: &event,
+                outcome: &Outcome::Done,
+                shown: shown_at(has_tables, tables, index),
+            };
+            if let Some(verdict) = self.go_on(told, text)? {
                 return Ok(Some(verdict));
             }
         }
@@ -103,7 +107,12 @@ impl Judge {
             let Some(event) = release_at(released, index) else {
                 return Ok(Some(bad(self.alloc, self.line, BEYOND)?));
             };
-            if let Some(verdict) = self.go_on(&event, &given, NOTHING, text)? {
+            let told = Told {
+                event: &event,
+                outcome: &given,
+                shown: NOTHING,
+            };
+            if let Some(verdict) = self.go_on(told, text)? {
                 return Ok(Some(verdict));
             }
         }

@@ -1,5 +1,5 @@
 // The access of a block device's step, of which a line may show no more than what came of it.
-use crate::choosing::{Chosen, Shown, choose_frame, nothing_chosen, read_at};
+use crate::choosing::{Chosen, Shown, read_at};
 use crate::missing::{Begun, Missing};
 use crate::settled::{page_with, page_without};
 use iom_base::{Access, AccessKind, Cause, DeviceId, PAGE_SIZE, Sequence};
@@ -30,46 +30,51 @@ fn refused_access(
     Ok(access)
 }
 
-/// An access that isn't shown: a read of one byte, of the frame that is shown, or else of the first.
-fn choose_unshown(alloc: Global, kept: &KeptState, begun: Begun, on: Option<u64>) -> Chosen {
-    let mut chosen = nothing_chosen(alloc);
-    if let Some((page, frame)) = page_with(kept, begun.device, on) {
-        chosen.choice.frame = frame;
-        chosen.choice.access = read_at(alloc, page.saturating_mul(PAGE_SIZE));
+impl Chosen {
+    /// An access that isn't shown: a read of one byte, of the frame that is shown, or else of the first.
+    fn choose_any_access(
+        &mut self,
+        alloc: Global,
+        kept: &KeptState,
+        begun: Begun,
+        on: Option<u64>,
+    ) {
+        if let Some((page, frame)) = page_with(kept, begun.device, on) {
+            self.choice.frame = frame;
+            self.choice.access = read_at(alloc, page.saturating_mul(PAGE_SIZE));
+        }
+        self.missing = Some(Missing::Access(begun));
     }
-    chosen.missing = Some(Missing::Access(begun));
-    chosen
-}
 
-/// What is chosen of a step of a block device.
-pub(crate) fn choose_step(
-    alloc: Global,
-    kept: &KeptState,
-    line: u64,
-    device: DeviceId,
-    outcome: &Outcome,
-    shown: Shown<'_>,
-) -> Result<Chosen, AllocError> {
-    match outcome {
-        Outcome::Accepted(number) => {
-            let begun = Begun {
-                device,
-                number: *number,
-                line,
-            };
-            match shown.began {
-                Some(access) => {
-                    let (address, kind) = (access.address, access.kind);
-                    Ok(choose_frame(alloc, kept, begun, address, kind, shown.on))
+    /// What is chosen of a step of a block device.
+    pub(crate) fn choose_step(
+        &mut self,
+        alloc: Global,
+        kept: &KeptState,
+        line: u64,
+        device: DeviceId,
+        outcome: &Outcome,
+        shown: Shown<'_>,
+    ) -> Result<(), AllocError> {
+        match outcome {
+            Outcome::Accepted(number) => {
+                let begun = Begun {
+                    device,
+                    number: *number,
+                    line,
+                };
+                match shown.began {
+                    Some(access) => {
+                        self.choose_frame(kept, begun, access.address, access.kind, shown.on);
+                    }
+                    None => self.choose_any_access(alloc, kept, begun, shown.on),
                 }
-                None => Ok(choose_unshown(alloc, kept, begun, shown.on)),
             }
+            Outcome::Fault(cause) => {
+                self.choice.access = refused_access(alloc, kept, device, *cause)?;
+            }
+            _ => self.choice.access = read_at(alloc, 0),
         }
-        Outcome::Fault(cause) => {
-            let mut chosen = nothing_chosen(alloc);
-            chosen.choice.access = refused_access(alloc, kept, device, *cause)?;
-            Ok(chosen)
-        }
-        _ => Ok(nothing_chosen(alloc)),
+        Ok(())
     }
 }

@@ -1,10 +1,9 @@
-use Rattle.std.proofs.Common.{◌≡◌, ◌∙◌, ◌∷◌, [], Option, IfSome, refl, subst}
+use Rattle.std.proofs.Common.{◌≡◌, ◌∙◌, Option, IfSome, subst}
 use Rattle.iom_base.specs.declared.access.Access.{Access}
-use Rattle.iom_judge.specs.Happenings.{Came}
-use Rattle.iom_trace_lines.specs.TraceLines.{Said, Nothing, World, Step, Made, Grants, Releases, Handoff, Take, TablesFreed, said_of}
+use Rattle.iom_trace_lines.specs.TraceLines.{Said, Nothing, World, Step, Made, Grants, Joins, Releases, Handoff, Take, TablesFreed, said_of}
 use Rattle.iom_trace_lines.specs.declared.trace.TraceLine.{TraceLine}
 use Rattle.iom_judge.specs.Certified.{IsReadOf}
-use Rattle.iom_judge.proofs.CertificateLemmas.{nothing_said, world_said, happened_said, if_it_goes_on, refused_is_named}
+use Rattle.iom_judge.proofs.CertificateLemmas.{nothing_said, world_said, happened_said, if_it_goes_on}
 use Rattle.iom_judge.proofs.judging.Judge.take_said.Goals as goal
 
 pub returns-in-Nothing : goal.returns-in-Nothing
@@ -18,29 +17,30 @@ returns-in-World c line lines read before counted =
     let limits = c.in-World.limits in
     let is : IsReadOf line (World size limits) c.args.tables.now = subst (λ (t : TraceLine). IsReadOf line (said_of t) c.args.tables.now) c.in-World.is read in
     if_it_goes_on c.begin.result _ _ _
-    (λ went. world_said c.args.self.now c.begin.new.self lines line c.args.tables.now size limits (is.1 (λ e. cc)) is.0 went.0 went.1 went.2 went.3 before
+    (λ went. world_said c.args.self.now c.begin.new.self lines line c.args.tables.now size limits (is.1 (λ e. cc)) is.0 went.0 went.1 went.2 went.3 went.4 before
     (c.begin.ensures.line ∙ counted))
     c.begin.ensures.begun
 
 pub returns-in-Step : goal.returns-in-Step
 returns-in-Step c line lines read before counted =
-    let said : Said = Step c.in-Step.event c.in-Step.outcome.now c.in-Step.has_tables c.in-Step.on c.in-Step.began in
+    let has = c.in-Step.has_tables in
+    let event = c.in-Step.event in
+    let said : Said = Step event c.in-Step.outcome.now has c.in-Step.on c.in-Step.began in
     let is : IsReadOf line said c.args.tables.now = subst (λ (t : TraceLine). IsReadOf line (said_of t) c.args.tables.now) c.in-Step.is read in
-    let began : Option Access = c.in-Step.began in
     if_it_goes_on c.go_on.result _ _ _
     (λ went. happened_said c.args.self.now c.go_on.new.self lines line c.args.tables.now said (is.1 (λ e. cc)) is.0 (
-      Came c.in-Step.event c.in-Step.outcome.now went.0 ∷ [],
+      went.2.0,
       (
         went.0,
         record {
-          tables_taken = went.1.tables_taken;
+          tables_taken = c.tables_shown.ensures event went.0 went.1.tables_taken;
           frame = went.1.frame;
           access = subst (λ (shown : Option Access). IfSome shown (λ access. went.0.access ≡ access)) c.as_ref.ensures.value went.1.access;
           returned = went.1.returned;
         },
-        refl,
+        went.2.1,
       ),
-      went.2,
+      went.2.2,
     )
     before counted)
     c.go_on.ensures
@@ -90,7 +90,13 @@ returns-in-Take c line lines read before counted =
     c.take_back.ensures
 
 pub returns-in-Joins : goal.returns-in-Joins
-returns-in-Joins c line lines read before counted = refused_is_named c.refuse_joined.result _ _ c.refuse_joined.ensures
+returns-in-Joins c line lines read before counted =
+    let joins = c.in-Joins in
+    let said : Said = Joins joins.device joins.with joins.ats joins.has_tables in
+    let is : IsReadOf line said c.args.tables.now = subst (λ (t : TraceLine). IsReadOf line (said_of t) c.args.tables.now) c.in-Joins.is read in
+    if_it_goes_on c.join.result _ _ _
+    (λ went. happened_said c.args.self.now c.join.new.self lines line c.args.tables.now said (is.1 (λ e. cc)) is.0 went before counted)
+    c.join.ensures
 
 pub returns-in-TablesFreed : goal.returns-in-TablesFreed
 returns-in-TablesFreed c line lines read before counted =
