@@ -163,6 +163,35 @@ impl Judge {
         })
     }
 
+    /// What is found where the frame is granted to this device too, if that ends the trace.
+    // Apart from its caller, which is called for each grant: an outcome is a fill of so many zeros.
+    fn grant_too(
+        &mut self,
+        device: DeviceId,
+        page: u64,
+        frame: u64,
+        rights: GrantRights,
+        text: &[u8],
+    ) -> io::Result<Option<Verdict>>
+        ensures { IfOk result (λ found. MatchOption found
+            ((choice : spec_choice.Choice) × (choice.taken ≡ [])
+            × Continues self.old (Came (events.Grant device page frame rights) outcomes.Done choice ∷ []) self.new)
+            (Names self.old.line)) }
+    {
+        let event = Event::Grant {
+            device,
+            page,
+            frame,
+            rights,
+        };
+        let told = Told {
+            event: &event,
+            outcome: &Outcome::Done,
+            shown: WITHOUT_TABLES,
+        };
+        self.go_on_alone(told, text)
+    }
+
     /// What is found where the frame is granted to each of these devices too, if that ends the trace.
     fn grant_these(
         &mut self,
@@ -180,18 +209,7 @@ impl Judge {
         match devices {
             [] => self.go_on_with_nothing(),
             [device, others @ ..] => {
-                let event = Event::Grant {
-                    device: *device,
-                    page,
-                    frame,
-                    rights,
-                };
-                let told = Told {
-                    event: &event,
-                    outcome: &Outcome::Done,
-                    shown: WITHOUT_TABLES,
-                };
-                if let Some(verdict) = self.go_on_alone(told, text)? {
+                if let Some(verdict) = self.grant_too(*device, page, frame, rights, text)? {
                     return Ok(Some(verdict));
                 }
                 self.grant_these(others, page, frame, rights, text)
@@ -220,6 +238,28 @@ impl Judge {
         self.grant_these(devices.as_slice(), page, frame, rights, text)
     }
 
+    /// What is found where this device releases the page too, if that ends the trace.
+    fn release_too(
+        &mut self,
+        device: DeviceId,
+        page: u64,
+        ticket: u32,
+        text: &[u8],
+    ) -> io::Result<Option<Verdict>>
+        ensures { IfOk result (λ found. MatchOption found
+            ((choice : spec_choice.Choice)
+            × Continues self.old (Came (events.Release device page) (outcomes.Ticket ticket) choice ∷ []) self.new)
+            (Names self.old.line)) }
+    {
+        let event = Event::Release { device, page };
+        let told = Told {
+            event: &event,
+            outcome: &Outcome::Ticket(ticket),
+            shown: NOTHING,
+        };
+        self.go_on_alone(told, text)
+    }
+
     /// What is found where each of these devices releases the page too, if that ends the trace.
     fn release_these(
         &mut self,
@@ -235,16 +275,7 @@ impl Judge {
         match devices {
             [] => self.go_on_with_nothing(),
             [device, others @ ..] => {
-                let event = Event::Release {
-                    device: *device,
-                    page,
-                };
-                let told = Told {
-                    event: &event,
-                    outcome: &Outcome::Ticket(ticket),
-                    shown: NOTHING,
-                };
-                if let Some(verdict) = self.go_on_alone(told, text)? {
+                if let Some(verdict) = self.release_too(*device, page, ticket, text)? {
                     return Ok(Some(verdict));
                 }
                 self.release_these(others, page, ticket, text)

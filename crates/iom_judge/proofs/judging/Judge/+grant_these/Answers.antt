@@ -9,5 +9,5 @@ returns-in_default t c =
     let some : 0 < length devices = omega (arith, c.in-len1-up.len_at_least) in
     let went = rw c.in_default.is at c.in_ok-verdict-in-len1-up.ensures in
     goes_on_at c.grant_these.result _ _ _ _ went.2.0
-    (λ rest. granted_these c.args.self.now c.go_on_alone.new.self c.grant_these.new.self devices _ c.args.page c.args.frame c.args.rights went.0 rest.0 (first_item devices some _) went.1.tables_taken went.2 rest.1 rest.2)
+    (λ rest. granted_these c.args.self.now c.grant_too.new.self c.grant_these.new.self devices _ c.args.page c.args.frame c.args.rights went.0 rest.0 (first_item devices some _) went.1 went.2 rest.1 rest.2)
     c.grant_these.ensures

@@ -8,6 +8,6 @@ returns-in_default t c =
     let devices = c.args.devices.now in
     let some : 0 < length devices = omega (arith, c.in-len1-up.len_at_least) in
     let went = rw c.in_default.is at c.in_ok-verdict-in-len1-up.ensures in
-    goes_on_at c.release_these.result _ _ _ _ went.2.0
-    (λ rest. released_these c.args.self.now c.go_on_alone.new.self c.release_these.new.self devices _ c.args.page c.args.ticket went.0 rest.0 (first_item devices some _) went.2 rest.1 rest.2)
+    goes_on_at c.release_these.result _ _ _ _ went.1.0
+    (λ rest. released_these c.args.self.now c.release_too.new.self c.release_these.new.self devices _ c.args.page c.args.ticket went.0 rest.0 (first_item devices some _) went.1 rest.1 rest.2)
     c.release_these.ensures
