@@ -1,12 +1,11 @@
 -- A run grows with each line, and what is certified with it.
-use Rattle.std.proofs.Common.{◌≡◌, ◌≢◌, ◌∙◌, ◌<◌, ℕ, ◌+◌, ◌&&◌, ◌||◌, Bool, true, false, not, nat_eq, List, [], ◌∷◌, ◌++◌, if◌then◌else◌, Option, None, Some, Result, Ok, Err, IfOk, IfSome, IsSomeAnd, MatchOption, IsTrue, refl, sym, ap, subst, append-nil, append_assoc, length, suc, zero, arith}
+use Rattle.std.proofs.Common.{◌≡◌, ◌≢◌, ◌∙◌, ◌<◌, ℕ, ◌+◌, ◌&&◌, ◌||◌, Bool, true, false, not, nat_eq, List, [], ◌∷◌, ◌++◌, if◌then◌else◌, Option, None, Some, Result, Ok, Err, IfOk, IfSome, IsSomeAnd, MatchOption, OnOk, IsTrue, refl, sym, ap, subst, append-nil, append_assoc, length, suc, zero, arith}
 use Rattle.std.proofs.lemmas.List.{length-append}
 use Rattle.std.proofs.lemmas.List.Elements.{All-nil, filter-append}
 use Rattle.std.proofs.KnownBytes.{Consumes-nil}
 use Rattle.iom_kept_state.specs.Grants.{IsPastOf}
-use Rattle.iom_kept_state.specs.States.{state_of}
+use Rattle.iom_kept_state.specs.States.{state_of, Leaves}
 use Rattle.iom_kept_state.specs.declared.state.KeptState.{KeptState}
-use Rattle.iom_base.specs.declared.grant_rights.GrantRights.{GrantRights}
 use Rattle.iom_machine.specs.declared.choice.Choice.{Choice}
 use Rattle.iom_machine.specs.declared.event.Event.{Event}
 use Rattle.iom_machine.specs.declared.event.Event.TheVariants as events
@@ -19,19 +18,21 @@ use Rattle.iom_script.specs.declared.script.WorldSize.{WorldSize}
 use Rattle.iom_script.specs.Grammar.{is_spoken, spoken, bytes_of_lines}
 use Rattle.iom_script.specs.Words.{IsWithout}
 use Rattle.iom_trace_lines.specs.Taken.{AreLines, BufferHolds, HasTaken}
-use Rattle.iom_trace_lines.specs.TraceLines.{Said, SaysLine, Nothing, World, Handoff, Take}
+use Rattle.iom_trace_lines.specs.TraceLines.{Said, SaysLine, Nothing, World, Step, Made, Grants, Joins, Releases, Handoff, Take, TablesFreed, Bad}
 use Rattle.iom_trace_lines.specs.WorldLimits.{limits_of}
 use Rattle.iom_trace_lines.specs.declared.trace.WorldLimits.{WorldLimits}
 use Rattle.iom_judge.specs.Certificates.{four_disks, opening_of, SaysHappened, SayHappened, AreOfRun, AreLawfulLines, IsLawfulTrace, IsSoOf}
-use Rattle.iom_judge.specs.Certified.{first_in, is_given, trace_state, IsCertifiedBy, Certify, Continues, ContinuesAs, GoesOn, HasJudged, HasTakenAll, KeptLeaves, Names}
-use Rattle.iom_judge.specs.Happenings.{Happening, Came, GivenAway, TakenBack, Joined, Shared, Comes, Happens, HappenInTurn, AreGrants, AreReleases, events_of, outcomes_of, is_used}
+use Rattle.iom_judge.specs.Certified.{first_in, is_given, trace_state, Begins, IsCertifiedBy, IsOpened, IsReadOf, Certify, Continues, ContinuesAs, Follows, HasJudged, HasTakenAll, Names}
+use Rattle.iom_judge.specs.Happenings.{Happening, Came, GivenAway, TakenBack, Joined, Shared, Comes, CameAtEach, Happens, HappenInTurn, behind, event_of, events_of, outcomes_of, is_used, tables_chosen}
 use Rattle.iom_judge.specs.Sharing.{is_this, own_domain, tables_end, NoneWalks}
 use Rattle.iom_judge.specs.TraceStates.{TraceState}
-use Rattle.iom_judge.specs.declared.beside.Beside.{Beside}
-use Rattle.iom_judge.specs.declared.choosing.Chosen.{Chosen}
+use Rattle.iom_judge.specs.declared.changes.Change.{Change}
+use Rattle.iom_judge.specs.declared.changes.Change.TheVariants.{Grant, Release}
 use Rattle.iom_judge.specs.declared.domains.Domains.{Domains}
+use Rattle.iom_judge.specs.declared.handed.Handed.{Handed}
 use Rattle.iom_ledger.specs.History.{History}
 use Rattle.iom_judge.specs.declared.judging.Judge.{Judge}
+use Rattle.iom_judge.specs.declared.machine.TraceMachine.{TraceMachine}
 use Rattle.iom_judge.specs.declared.verdict.Verdict.{Verdict}
 
 -- what happened, and more behind it
@@ -55,25 +56,15 @@ run_of old (Shared device devices ∷ others) new (mid, shared, rest) =
     subst (λ (s : TraceState). machine.Run s.machine (events_of others) (outcomes_of others) new.machine) shared.1 (run_of mid others new rest)
 
 -- more happened
-pub goes_further : (old mid new : Option KeptState) (a b c : Beside) (happened later : List Happening) → GoesOn old a happened mid b → GoesOn mid b later new c
-    → GoesOn old a (happened ++ later) new c
-goes_further (Some x) (Some y) (Some z) a b c happened later first rest =
-    λ history past. let half = first history past in let whole = rest half.0 half.1 in
-    (whole.0, whole.1, happen_on (trace_state x a history) happened (trace_state y b half.0) later (trace_state z c whole.0) half.2 whole.2)
-goes_further (Some x) (Some y) None a b c happened later first rest = absurd rest
-goes_further (Some x) None new a b c happened later first rest = absurd first
-goes_further None mid new a b c happened later first rest = absurd first
-
-pub continues_further : (old mid new : Judge) (happened later : List Happening) → Continues old happened mid → Continues mid later new
+pub continues_further : (old mid new : TraceMachine) (happened later : List Happening) → Continues old happened mid → Continues mid later new
     → Continues old (happened ++ later) new
-continues_further old mid new happened later first rest = (
-  rest.0 ∙ first.0,
-  goes_further old.kept mid.kept new.kept old.beside mid.beside new.beside happened later first.1 rest.1,
-)
+continues_further old mid new happened later first rest =
+    λ history past. let half = first history past in let whole = rest half.0 half.1 in
+    (whole.0, whole.1, happen_on (trace_state old history) happened (trace_state mid half.0) later (trace_state new whole.0) half.2 whole.2)
 
--- nothing happened yet
-pub stays_so : (kept : Option KeptState) (beside : Beside) (k : KeptState) → kept ≡ Some k → GoesOn kept beside [] kept beside
-stays_so kept beside k is = subst (λ (o : Option KeptState). GoesOn o beside [] o beside) (sym is) (λ history past. (history, past, refl))
+-- nothing happened
+pub stays_so : (it : TraceMachine) → Continues it [] it
+stays_so it = λ history past. (history, past, refl)
 
 -- one line more that says what happened
 says_more : (lines : List (List ℕ)) (line : List ℕ) (happened own : List Happening) → SayHappened lines happened → SaysHappened line own
@@ -91,11 +82,10 @@ spoken_same : (lines : List (List ℕ)) (line : List ℕ) → is_spoken line ≡
 spoken_same lines line says = filter-append is_spoken lines (line ∷ []) ∙ ap (λ (l : List (List ℕ)). spoken lines ++ l) (rw says refl) ∙ append-nil (spoken lines)
 
 -- what is certified goes on being so
-certify_more : (old new : KeptState) (before after : Beside) (lines : List (List ℕ)) (line : List ℕ) (happened : List Happening)
-    → Certify (Some old) before lines → SaysHappened line happened → GoesOn (Some old) before happened (Some new) after
-    → Certify (Some new) after (lines ++ line ∷ [])
-certify_more old new before after [] line happened never says goes = absurd never
-certify_more old new before after (first ∷ rest) line happened (size, limits, opens, by) says goes =
+certify_more : (old new : TraceMachine) (lines : List (List ℕ)) (line : List ℕ) (happened : List Happening) → Certify (Some old) lines
+    → SaysHappened line happened → Continues old happened new → Certify (Some new) (lines ++ line ∷ [])
+certify_more old new [] line happened never says goes = absurd never
+certify_more old new (first ∷ rest) line happened (size, limits, opens, by) says goes =
     let next = goes by.past by.is_past in (
       size,
       limits,
@@ -105,63 +95,80 @@ certify_more old new before after (first ∷ rest) line happened (size, limits, 
         say = says_more rest line by.happened happened by.say says;
         past = next.0;
         is_past = next.1;
-        happen = happen_on (opening_of size limits) by.happened (trace_state old before by.past) happened (trace_state new after next.0) by.happen next.2;
+        happen = happen_on (opening_of size limits) by.happened (trace_state old by.past) happened (trace_state new next.0) by.happen next.2;
       },
     )
 
--- it is counted
-counted_more : (counted : ℕ) (lines : List (List ℕ)) (line : List ℕ) → counted ≡ length lines + 1 → counted ≡ length (lines ++ line ∷ [])
-counted_more counted lines line is = is ∙ sym (length-append lines (line ∷ []))
+-- a line that says something is spoken
+is_something : (line : List ℕ) (said : Said) → (said ≢ Nothing → is_spoken line ≡ true) → (other : Said) → said ≡ other → other ≢ Nothing → is_spoken line ≡ true
+is_something line said spoken_line other same something = spoken_line (λ e. something (sym same ∙ e))
 
 -- after a line that says nothing
-pub nothing_said : (judge : Judge) (lines : List (List ℕ)) (line : List ℕ) → is_spoken line ≡ false → Certify judge.kept judge.beside (spoken lines) → judge.line ≡ length lines + 1
-    → HasTakenAll judge (lines ++ line ∷ [])
-nothing_said judge lines line says before counted = record {
-  certified = subst (λ (l : List (List ℕ)). Certify judge.kept judge.beside l) (sym (spoken_same lines line says)) before;
-  counted = counted_more judge.line lines line counted;
-}
-
--- after one that says how large the world is
-pub world_said : (old new : Judge) (lines : List (List ℕ)) (line tables : List ℕ) (size : WorldSize) (limits : WorldLimits) → is_spoken line ≡ true
-    → SaysLine line (World size limits) tables → old.kept ≡ None → ((frame : ℕ) → is_given new.beside.handed frame ≡ false) → new.beside.handed.takes_back ≡ false
-    → ((device : ℕ) → first_in new.beside.domains device ≡ None) → IsSomeAnd new.kept (λ kept. IsPastOf kept.grants [] × (state_of kept [] ≡ (opening_of size limits).machine))
-    → Certify old.kept old.beside (spoken lines) → new.line ≡ length lines + 1 → HasTakenAll new (lines ++ line ∷ [])
-world_said old new lines line tables size limits spoken_line says none given takes own starts before counted = record {
-  certified = subst (λ (l : List (List ℕ)). Certify new.kept new.beside l) (sym (spoken_more lines line spoken_line))
-      (begun (spoken lines) new.kept starts (subst (λ (o : Option KeptState). Certify o old.beside (spoken lines)) none before));
-  counted = counted_more new.line lines line counted;
-}
-  where
-    opens : (k : KeptState) → state_of k [] ≡ (opening_of size limits).machine → trace_state k new.beside [] ≡ opening_of size limits
-    opens k is = λ i. record { machine = is i; is_given = λ frame. given frame i; takes_back = takes i; first_with = λ device. own device i }
-
-    begun : (ls : List (List ℕ)) (kept : Option KeptState) → IsSomeAnd kept (λ k. IsPastOf k.grants [] × (state_of k [] ≡ (opening_of size limits).machine))
-        → Certify None old.beside ls → Certify kept new.beside (ls ++ line ∷ [])
-    begun [] (Some kept) start none = (size, limits, says, record { happened = []; say = refl; past = []; is_past = start.0; happen = opens kept start.1 })
-    begun [] None start none = absurd start
-    begun (l ∷ ls) kept start never = absurd never
+nothing_said : (found : Option TraceMachine) (lines : List (List ℕ)) (line : List ℕ) → is_spoken line ≡ false → Certify found (spoken lines)
+    → Certify found (spoken (lines ++ line ∷ []))
+nothing_said found lines line says before = subst (λ (l : List (List ℕ)). Certify found l) (sym (spoken_same lines line says)) before
 
 -- after one that says what happened
-pub happened_said : (old new : Judge) (lines : List (List ℕ)) (line tables : List ℕ) (said : Said)
-    → is_spoken line ≡ true → SaysLine line said tables → ContinuesAs old said tables new
-    → Certify old.kept old.beside (spoken lines) → old.line ≡ length lines + 1 → HasTakenAll new (lines ++ line ∷ [])
-happened_said old new lines line tables said spoken_line says (happened, tells, went) before counted = record {
-  certified = subst (λ (l : List (List ℕ)). Certify new.kept new.beside l) (sym (spoken_more lines line spoken_line)) (followed old.kept new.kept went.1 before);
-  counted = counted_more new.line lines line (went.0 ∙ counted);
-}
-  where
-    followed : (was is : Option KeptState) → GoesOn was old.beside happened is new.beside → Certify was old.beside (spoken lines)
-        → Certify is new.beside (spoken lines ++ line ∷ [])
-    followed (Some one) (Some next) goes before = certify_more one next old.beside new.beside (spoken lines) line happened before (said, tables, says, tells) goes
-    followed (Some one) None goes before = absurd goes
-    followed None (Some next) goes before = absurd goes
-    followed None None goes before = absurd goes
+happened_said : (old new : TraceMachine) (lines : List (List ℕ)) (line tables : List ℕ) (said : Said) → said ≢ Nothing → IsReadOf line said tables
+    → ContinuesAs old said tables new → Certify (Some old) (spoken lines) → Certify (Some new) (spoken (lines ++ line ∷ []))
+happened_said old new lines line tables said something (says, spoken_line) (happened, tells, went) before =
+    subst (λ (l : List (List ℕ)). Certify (Some new) l) (sym (spoken_more lines line (spoken_line something)))
+    (certify_more old new (spoken lines) line happened before (said, tables, says, tells) went)
+
+-- after one that the machine follows
+pub followed : (old new : TraceMachine) (lines : List (List ℕ)) (line tables : List ℕ) (said : Said) → IsReadOf line said tables
+    → Follows old said tables new → Certify (Some old) (spoken lines) → Certify (Some new) (spoken (lines ++ line ∷ []))
+followed old new lines line tables Nothing read follows before =
+    subst (λ (m : TraceMachine). Certify (Some m) (spoken (lines ++ line ∷ []))) (sym follows) (nothing_said (Some old) lines line read.0 before)
+followed old new lines line tables (World size limits) read follows before = absurd follows.1
+followed old new lines line tables (Step e o h n b) read follows before = happened_said old new lines line tables (Step e o h n b) (λ e. cc) read follows before
+followed old new lines line tables (Made d r) read follows before = happened_said old new lines line tables (Made d r) (λ e. cc) read follows before
+followed old new lines line tables (Grants d p c f r h) read follows before =
+    happened_said old new lines line tables (Grants d p c f r h) (λ e. cc) read follows before
+followed old new lines line tables (Joins d w a h) read follows before = happened_said old new lines line tables (Joins d w a h) (λ e. cc) read follows before
+followed old new lines line tables (Releases d p c t) read follows before =
+    happened_said old new lines line tables (Releases d p c t) (λ e. cc) read follows before
+followed old new lines line tables (Handoff f) read follows before = happened_said old new lines line tables (Handoff f) (λ e. cc) read follows before
+followed old new lines line tables (Take f) read follows before = happened_said old new lines line tables (Take f) (λ e. cc) read follows before
+followed old new lines line tables TablesFreed read follows before = happened_said old new lines line tables TablesFreed (λ e. cc) read follows before
+followed old new lines line tables Bad read follows before = absurd follows.1
+
+-- the machine at power-on
+opens : (size : WorldSize) (limits : WorldLimits) (machine : TraceMachine) → IsOpened size limits machine → trace_state machine [] ≡ opening_of size limits
+opens size limits machine is =
+    λ i. record { machine = is.state i; is_given = λ frame. is.given frame i; takes_back = is.takes_back i; first_with = λ device. is.own device i }
+
+-- after the first line that says something
+opened : (new : Option TraceMachine) (lines : List (List ℕ)) (line tables : List ℕ) (size : WorldSize) (limits : WorldLimits)
+    → SaysLine line (World size limits) tables → IsSomeAnd new (IsOpened size limits) → Certify None lines → Certify new (lines ++ line ∷ [])
+opened None lines line tables size limits says is before = absurd is
+opened (Some machine) [] line tables size limits says is before =
+    (size, limits, says, record { happened = []; say = refl; past = []; is_past = is.is_past; happen = opens size limits machine is })
+opened (Some machine) (l ∷ ls) line tables size limits says is before = absurd before
+
+-- after one that it begins with
+pub begun : (new : Option TraceMachine) (lines : List (List ℕ)) (line tables : List ℕ) (said : Said) → IsReadOf line said tables → Begins said None new
+    → Certify None (spoken lines) → Certify new (spoken (lines ++ line ∷ []))
+begun new lines line tables Nothing read begins before =
+    subst (λ (m : Option TraceMachine). Certify m (spoken (lines ++ line ∷ []))) (sym begins) (nothing_said None lines line read.0 before)
+begun new lines line tables (World size limits) read begins before =
+    subst (λ (l : List (List ℕ)). Certify new l) (sym (spoken_more lines line (read.1 (λ e. cc))))
+    (opened new (spoken lines) line tables size limits read.0 begins before)
+begun new lines line tables (Step e o h n b) read begins before = absurd begins
+begun new lines line tables (Made d r) read begins before = absurd begins
+begun new lines line tables (Grants d p c f r h) read begins before = absurd begins
+begun new lines line tables (Joins d w a h) read begins before = absurd begins
+begun new lines line tables (Releases d p c t) read begins before = absurd begins
+begun new lines line tables (Handoff f) read begins before = absurd begins
+begun new lines line tables (Take f) read begins before = absurd begins
+begun new lines line tables TablesFreed read begins before = absurd begins
+begun new lines line tables Bad read begins before = absurd begins
 
 -- what is certified is of a run
-of_run : (kept : KeptState) (beside : Beside) (size : WorldSize) (limits : WorldLimits) (lines : List (List ℕ)) → IsCertifiedBy kept beside size limits lines
+of_run : (machine : TraceMachine) (size : WorldSize) (limits : WorldLimits) (lines : List (List ℕ)) → IsCertifiedBy machine size limits lines
     → AreOfRun size limits lines
-of_run kept beside size limits lines by =
-    let last = trace_state kept beside by.past in
+of_run machine size limits lines by =
+    let last = trace_state machine by.past in
     let run = run_of (opening_of size limits) by.happened last by.happen in
     record {
       happened = by.happened;
@@ -174,15 +181,15 @@ of_run kept beside size limits lines by =
     }
 
 -- so the lines are lawful
-lawful_lines : (kept : Option KeptState) (beside : Beside) (lines : List (List ℕ)) → Certify kept beside lines → AreLawfulLines lines
-lawful_lines None beside [] told = tt
-lawful_lines None beside (l ∷ ls) never = absurd never
-lawful_lines (Some k) beside [] never = absurd never
-lawful_lines (Some k) beside (l ∷ ls) (size, limits, says, it) = (size, limits, says, of_run k beside size limits ls it)
+lawful_lines : (found : Option TraceMachine) (lines : List (List ℕ)) → Certify found lines → AreLawfulLines lines
+lawful_lines None [] told = tt
+lawful_lines None (l ∷ ls) never = absurd never
+lawful_lines (Some machine) [] never = absurd never
+lawful_lines (Some machine) (l ∷ ls) (size, limits, says, it) = (size, limits, says, of_run machine size limits ls it)
 
 -- and their text, after the last of them
 lawful_text : (judge : Judge) (lines : List (List ℕ)) (text : List ℕ) → HasTakenAll judge lines → AreLines lines text → IsLawfulTrace text
-lawful_text judge lines text taken are = record { lines = lines; whole = are.0; is_text = are.1; lawful = lawful_lines judge.kept judge.beside (spoken lines) taken.certified }
+lawful_text judge lines text taken are = record { lines = lines; whole = are.0; is_text = are.1; lawful = lawful_lines judge.machine (spoken lines) taken.certified }
 
 pub all_lawful : (judge : Judge) (lines : List (List ℕ)) (first : Option (List ℕ)) → HasTakenAll judge lines → IfSome first (AreLines lines) → IfSome first IsLawfulTrace
 all_lawful judge lines None taken are = tt
@@ -211,81 +218,61 @@ named_is_so judge verdict lines buffer start end (Some text) now read taken name
       before = lawful_text judge lines (bytes_of_lines lines) taken (read.whole, refl);
     })
 
--- Nothing ends the trace, where it goes on so; and what ends it names the line.
-pub if_it_goes_on : {E : Type 0} (result : Result (Option Verdict) E) (P Q : Type 0) (N : Verdict → Type 0) → (P → Q) → IfOk result (λ found. MatchOption found P N)
-    → IfOk result (λ found. MatchOption found Q N)
-if_it_goes_on (Ok None) P Q N so found = so found
-if_it_goes_on (Ok (Some verdict)) P Q N so found = found
-if_it_goes_on (Err error) P Q N so found = tt
-
--- the same, where the line has its number from another judge
-pub goes_on_at : {E : Type 0} (result : Result (Option Verdict) E) (P Q : Type 0) (from to : ℕ) → from ≡ to → (P → Q)
-    → IfOk result (λ found. MatchOption found P (Names from)) → IfOk result (λ found. MatchOption found Q (Names to))
-goes_on_at result P Q from to same so found =
-    subst (λ (line : ℕ). IfOk result (λ it. MatchOption it Q (Names line))) same (if_it_goes_on result P Q (Names from) so found)
-
--- a line that says something is spoken
-pub is_something : (line : List ℕ) (read : Said) → (read ≢ Nothing → is_spoken line ≡ true) → (other : Said) → read ≡ other → other ≢ Nothing → is_spoken line ≡ true
-is_something line read spoken_line other same something = spoken_line (λ e. something (sym same ∙ e))
+-- What goes on has more to tell.
+pub if_ok : {T E : Type 0} (result : Result T E) (P Q : Type 0) → (P → Q) → OnOk result P → OnOk result Q
+if_ok (Ok done) P Q so went = so went
+if_ok (Err error) P Q so went = tt
 
 -- A line is judged: the judge has taken it too, or what it finds names it.
-pub line_judged : {E : Type 0} (result : Result (Option Verdict) E) (old new : Judge) (lines : List (List ℕ)) (line read : List ℕ) (buffer : List ℕ) (start end : ℕ) (before : List ℕ) (from to : ℕ)
-    (first was now : Option (List ℕ)) → read ≡ line → HasTaken lines before from to first was → HasTakenAll old lines → HasTaken (lines ++ line ∷ []) buffer start end first now
-    → IfOk result (λ found. MatchOption found (HasTakenAll new (lines ++ read ∷ [])) (Names (length lines + 1)))
-    → IfOk result (λ found. MatchOption found (HasJudged new buffer start end first now) (λ verdict. IfSome first (IsSoOf verdict)))
-line_judged (Ok None) old new lines line read buffer start end before from to first was now is had taken next found =
-    (lines ++ line ∷ [], next, subst (λ (l : List ℕ). HasTakenAll new (lines ++ l ∷ [])) is found)
-line_judged (Ok (Some verdict)) old new lines line read buffer start end before from to first was now is had taken next found =
-    named_is_so old verdict lines before from to first was had taken found
-line_judged (Err error) old new lines line read buffer start end before from to first was now is had taken next found = tt
+pub line_judged : {E : Type 0} (result : Result (Option Verdict) E) (old new : Judge) (lines : List (List ℕ)) (line buffer : List ℕ) (start end : ℕ)
+    (first was now : Option (List ℕ)) → HasTaken lines buffer start end first was → HasTakenAll old lines
+    → HasTaken (lines ++ line ∷ []) new.lines.buffer.items new.lines.start new.lines.end first now
+    → IfOk result (λ found. MatchOption found (HasTakenAll new (lines ++ line ∷ [])) (Names (length lines + 1)))
+    → IfOk result (λ found. MatchOption found (HasJudged new first now) (λ verdict. IfSome first (IsSoOf verdict)))
+line_judged (Ok None) old new lines line buffer start end first was now had taken next found = (lines ++ line ∷ [], next, found)
+line_judged (Ok (Some verdict)) old new lines line buffer start end first was now had taken next found =
+    named_is_so old verdict lines buffer start end first was had taken found
+line_judged (Err error) old new lines line buffer start end first was now had taken next found = tt
 
 -- before the first line
-pub nothing_taken : (judge : Judge) (buffer : List ℕ) (start end : ℕ) (first : Option (List ℕ)) → BufferHolds buffer start end [] → HasTakenAll judge []
-    → HasJudged judge buffer start end first first
-nothing_taken judge buffer start end first holds taken =
-    ([], record { whole = All-nil (IsWithout 10); read = []; consumed = Consumes-nil first; waiting = []; holds = holds; is_read = refl }, taken)
+pub nothing_taken : (judge : Judge) (first : Option (List ℕ)) → BufferHolds judge.lines.buffer.items judge.lines.start judge.lines.end []
+    → judge.machine ≡ None → judge.line ≡ 0 → HasJudged judge first first
+nothing_taken judge first holds none first_line = (
+  [],
+  record { whole = All-nil (IsWithout 10); read = []; consumed = Consumes-nil first; waiting = []; holds = holds; is_read = refl },
+  record { certified = subst (λ (m : Option TraceMachine). Certify m []) (sym none) tt; counted = first_line },
+)
 
--- one grant more, with the tables that it took, and one release more
-pub granted_more : (old mid new : Judge) (device page frame : ℕ) (rights : GrantRights) (k : ℕ) (event : Event) (choice : Choice) (taken : List ℕ)
-    (happened own : List Happening) → event ≡ events.Grant device (page + k) (frame + k) rights
-    → AreGrants device page frame rights k taken happened → Continues old happened mid → Comes event outcomes.Done choice own → Continues mid own new
-    → AreGrants device page frame rights (k + 1) (taken ++ choice.taken) (happened ++ own) × Continues old (happened ++ own) new
-granted_more old mid new device page frame rights k event choice taken happened own is are so_far comes goes =
-    let next : suc k ≡ k + 1 = omega arith in (
-      subst (λ (n : ℕ). AreGrants device page frame rights n (taken ++ choice.taken) (happened ++ own)) next
-          (taken, happened, own, choice, are, refl, subst (λ (e : Event). Comes e outcomes.Done choice own) is comes, refl),
-      continues_further old mid new happened own so_far goes,
-    )
-
-pub released_more : (old mid new : Judge) (device page ticket : ℕ) (k : ℕ) (event : Event) (choice : Choice) (happened own : List Happening)
-    → event ≡ events.Release device (page + k)
-    → AreReleases device page ticket k happened → Continues old happened mid → Comes event (outcomes.Ticket ticket) choice own → Continues mid own new
-    → AreReleases device page ticket (k + 1) (happened ++ own) × Continues old (happened ++ own) new
-released_more old mid new device page ticket k event choice happened own is are so_far comes goes =
-    let next : suc k ≡ k + 1 = omega arith in (
-      subst (λ (n : ℕ). AreReleases device page ticket n (happened ++ own)) next
-          (happened, own, choice, are, subst (λ (e : Event). Comes e (outcomes.Ticket ticket) choice own) is comes, refl),
+-- one change more, with the tables that it took
+pub changed_more : (old mid new : TraceMachine) (device : ℕ) (change it : Change) (event : Event) (outcome : Outcome) (k : ℕ) (choice : Choice) (taken : List ℕ)
+    (happened own : List Happening) → it ≡ behind k change → event ≡ event_of device it → CameAtEach device change outcome k taken happened
+    → Continues old happened mid → Comes event outcome choice own → Continues mid own new
+    → CameAtEach device change outcome (k + 1) (taken ++ choice.taken) (happened ++ own) × Continues old (happened ++ own) new
+changed_more old mid new device change it event outcome k choice taken happened own is of are so_far comes goes =
+    let next : suc k ≡ k + 1 = omega arith in
+    let at : event ≡ event_of device (behind k change) = of ∙ ap (λ (c : Change). event_of device c) is in (
+      subst (λ (n : ℕ). CameAtEach device change outcome n (taken ++ choice.taken) (happened ++ own)) next
+          (taken, happened, own, choice, are, refl, subst (λ (e : Event). Comes e outcome choice own) at comes, refl),
       continues_further old mid new happened own so_far goes,
     )
 
 -- One event is what the machine of the trace comes to by a step, where no frame is used that was given away, and no tables go back that are shared.
-pub one_step : (old : Option KeptState) (new : Option KeptState) (before after : Beside) (event : Event) (outcome : Outcome) (choice : Choice)
-    → KeptLeaves old event outcome choice new
-    → (IsTrue before.handed.takes_back → (frame : ℕ) → IsTrue (is_used event outcome choice frame) → is_given before.handed frame ≡ false)
-    → IfSome old (λ kept. (h : History) → IsPastOf kept.grants h → IfSome (tables_end event outcome) (NoneWalks (first_in before.domains) h kept.devices))
-    → ((frame : ℕ) → is_given after.handed frame ≡ (is_given before.handed frame && not (is_used event outcome choice frame)))
-    → after.handed.takes_back ≡ before.handed.takes_back
-    → ((k : ℕ) → first_in after.domains k ≡ (if is_this (own_domain event outcome) k then None else first_in before.domains k))
-    → GoesOn old before (Came event outcome choice ∷ []) new after
-one_step (Some old) (Some new) before after event outcome choice leaves unused stay given takes domains = λ history past.
-    let next = leaves history past in
-    let now = trace_state new after next.0 in (
+pub stepped_on : (old new : TraceMachine) (kept : KeptState) (event : Event) (outcome : Outcome) (choice : Choice)
+    → Leaves old.kept kept (λ before after. machine.ChosenStep choice before event outcome after)
+    → (IsTrue old.handed.takes_back → (frame : ℕ) → IsTrue (is_used event outcome choice frame) → is_given old.handed frame ≡ false)
+    → ((h : History) → IsPastOf old.kept.grants h → IfSome (tables_end event outcome) (NoneWalks (first_in old.domains) h old.kept.devices))
+    → new.kept ≡ kept → ((frame : ℕ) → is_given new.handed frame ≡ (is_given old.handed frame && not (is_used event outcome choice frame)))
+    → new.handed.takes_back ≡ old.handed.takes_back
+    → ((k : ℕ) → first_in new.domains k ≡ (if is_this (own_domain event outcome) k then None else first_in old.domains k))
+    → Continues old (Came event outcome choice ∷ []) new
+stepped_on old new kept event outcome choice leaves unused stay at_kept given takes domains = λ history past.
+    let next = subst (λ (k : KeptState). Leaves old.kept k (λ before after. machine.ChosenStep choice before event outcome after)) (sym at_kept) leaves history past in (
       next.0,
       next.1,
       (
-        now,
+        trace_state new next.0,
         record {
-          step = (next.2 (state_of new next.0)).0 refl;
+          step = (next.2 (state_of new.kept next.0)).0 refl;
           unused = unused;
           given = given;
           takes_back = takes;
@@ -295,95 +282,48 @@ one_step (Some old) (Some new) before after event outcome choice leaves unused s
         refl,
       ),
     )
-one_step (Some old) None before after event outcome choice leaves unused stay given takes domains = absurd leaves
-one_step None new before after event outcome choice leaves unused stay given takes domains = absurd leaves
 
--- The judge goes on by one event, once it has chosen what isn't shown: it keeps what the step leaves, and notes what the event says.
-pub stepped_on : (old mid late new : Judge) (event : Event) (outcome : Outcome) → mid.kept ≡ old.kept → mid.line ≡ old.line → mid.beside ≡ old.beside
-    → (IsTrue mid.beside.handed.takes_back → (frame : ℕ) → IsTrue (is_used event outcome mid.chosen.choice frame) → is_given mid.beside.handed frame ≡ false)
-    → IfSome mid.kept (λ kept. (h : History) → IsPastOf kept.grants h
-    → IfSome (tables_end event outcome) (NoneWalks (first_in mid.beside.domains) h kept.devices))
-    → KeptLeaves mid.kept event outcome mid.chosen.choice late.kept → late.line ≡ mid.line → late.beside ≡ mid.beside → late.chosen ≡ mid.chosen
-    → new.kept ≡ late.kept → new.line ≡ late.line
-    → ((frame : ℕ) → is_given new.beside.handed frame ≡ (is_given late.beside.handed frame && not (is_used event outcome late.chosen.choice frame)))
-    → new.beside.handed.takes_back ≡ late.beside.handed.takes_back
-    → ((k : ℕ) → first_in new.beside.domains k ≡ (if is_this (own_domain event outcome) k then None else first_in late.beside.domains k))
-    → Continues old (Came event outcome mid.chosen.choice ∷ []) new
-stepped_on old mid late new event outcome kept line beside unused stay leaves later at_beside at_chosen at_kept last given takes domains =
-    let choice = mid.chosen.choice in
-    let given_so : (frame : ℕ) → is_given new.beside.handed frame ≡ (is_given mid.beside.handed frame && not (is_used event outcome choice frame)) =
-    subst (λ (b : Beside). (frame : ℕ) → is_given new.beside.handed frame ≡ (is_given b.handed frame && not (is_used event outcome choice frame))) at_beside
-    (subst (λ (ch : Chosen). (frame : ℕ) → is_given new.beside.handed frame
-    ≡ (is_given late.beside.handed frame && not (is_used event outcome ch.choice frame))) at_chosen given) in
-    let takes_so : new.beside.handed.takes_back ≡ mid.beside.handed.takes_back = takes ∙ ap (λ (b : Beside). b.handed.takes_back) at_beside in
-    let domains_so : (k : ℕ) → first_in new.beside.domains k ≡ (if is_this (own_domain event outcome) k then None else first_in mid.beside.domains k) =
-    subst (λ (b : Beside). (k : ℕ) → first_in new.beside.domains k ≡ (if is_this (own_domain event outcome) k then None else first_in b.domains k)) at_beside
-    domains in
-    let leaves_so : KeptLeaves mid.kept event outcome choice new.kept =
-    subst (λ (k : Option KeptState). KeptLeaves mid.kept event outcome choice k) (sym at_kept) leaves in
-    let goes = one_step mid.kept new.kept mid.beside new.beside event outcome choice leaves_so unused stay given_so takes_so domains_so in (
-      last ∙ later ∙ line,
-      subst (λ (b : Beside). GoesOn old.kept b (Came event outcome choice ∷ []) new.kept new.beside) beside
-          (subst (λ (k : Option KeptState). GoesOn k mid.beside (Came event outcome choice ∷ []) new.kept new.beside) kept goes),
-    )
-
--- what happens beside the ledger machine: so it goes on where it happens in each state that has what is kept
-pub beside_it : (old new : Option KeptState) (before after : Beside) (k : KeptState) (happening : Happening) → new ≡ old → old ≡ Some k
-    → ((h : History) → IsPastOf k.grants h → Happens (trace_state k before h) happening (trace_state k after h))
-    → GoesOn old before (happening ∷ []) new after
-beside_it old new before after k happening same is happens =
-    subst (λ (o : Option KeptState). GoesOn old before (happening ∷ []) o after) (sym same)
-    (subst (λ (o : Option KeptState). GoesOn o before (happening ∷ []) o after) (sym is)
-    (λ history past. (history, past, (trace_state k after history, happens history past, refl))))
-
--- a frame was given away, and one was taken back
-pub one_given : (old new : Option KeptState) (before after : Beside) (k : KeptState) (frame : ℕ) → new ≡ old → old ≡ Some k
-    → ((f : ℕ) → is_given after.handed f ≡ (nat_eq frame f || is_given before.handed f)) → after.handed.takes_back ≡ before.handed.takes_back
-    → after.domains ≡ before.domains → GoesOn old before (GivenAway frame ∷ []) new after
-one_given old new before after k frame same is given takes own =
-    beside_it old new before after k (GivenAway frame) same is (λ h past. ((refl, λ d. ap (λ (o : Domains). first_in o d) own), given, takes))
-
-pub one_taken : (old new : Option KeptState) (before after : Beside) (k : KeptState) (frame : ℕ) → new ≡ old → old ≡ Some k
-    → is_given before.handed frame ≡ true
-    → ((f : ℕ) → is_given after.handed f ≡ (is_given before.handed f && not (nat_eq frame f))) → after.handed.takes_back ≡ true
-    → after.domains ≡ before.domains → GoesOn old before (TakenBack frame ∷ []) new after
-one_taken old new before after k frame same is was given takes own =
-    beside_it old new before after k (TakenBack frame) same is (λ h past. (was, (refl, λ d. ap (λ (o : Domains). first_in o d) own), given, takes))
-
--- what went on is kept
-pub kept_after : (old : Option KeptState) (before after : Beside) (happened : List Happening) (new : Option KeptState) → GoesOn old before happened new after
-    → (k : KeptState) × (new ≡ Some k)
-kept_after (Some old) before after happened (Some new) goes = (new, refl)
-kept_after (Some old) before after happened None goes = absurd goes
-kept_after None before after happened new goes = absurd goes
+-- what happens beside the ledger machine
+pub beside_it : (old : TraceMachine) (handed : Handed) (domains : Domains) (happening : Happening)
+    → ((h : History) → IsPastOf old.kept.grants h → Happens (trace_state old h) happening (trace_state (record old { handed = handed; domains = domains }) h))
+    → Continues old (happening ∷ []) (record old { handed = handed; domains = domains })
+beside_it old handed domains happening happens =
+    λ history past. (history, past, (trace_state (record old { handed = handed; domains = domains }) history, happens history past, refl))
 
 -- what is told of a frame that is given to somebody else
-pub given_away : (old mid new : Judge) (frame : ℕ) (choice : Choice) → Continues old (Came (events.Free frame) (outcomes.Free true) choice ∷ []) mid
-    → new.kept ≡ mid.kept → new.line ≡ mid.line → ((f : ℕ) → is_given new.beside.handed f ≡ (nat_eq frame f || is_given mid.beside.handed f))
-    → new.beside.handed.takes_back ≡ mid.beside.handed.takes_back → new.beside.domains ≡ mid.beside.domains → ContinuesAs old (Handoff frame) [] new
-given_away old mid new frame choice goes kept line given takes own =
-    let came = Came (events.Free frame) (outcomes.Free true) choice ∷ [] in
-    let k = kept_after old.kept old.beside mid.beside came mid.kept goes.1 in (
-      Came (events.Free frame) (outcomes.Free true) choice ∷ GivenAway frame ∷ [],
+pub given_away : (old mid : TraceMachine) (handed : Handed) (frame : ℕ) (choice : Choice)
+    → Continues old (Came (events.Free frame) (outcomes.Free true) choice ∷ []) mid
+    → ((f : ℕ) → is_given handed f ≡ (nat_eq frame f || is_given mid.handed f)) → handed.takes_back ≡ mid.handed.takes_back
+    → ContinuesAs old (Handoff frame) [] (record mid { handed = handed })
+given_away old mid handed frame choice goes given takes =
+    let came = Came (events.Free frame) (outcomes.Free true) choice in (
+      came ∷ GivenAway frame ∷ [],
       (choice, refl),
-      continues_further old mid new came (GivenAway frame ∷ []) goes
-          (line, one_given mid.kept new.kept mid.beside new.beside k.0 frame kept k.1 given takes own),
+      continues_further old mid (record mid { handed = handed }) (came ∷ []) (GivenAway frame ∷ []) goes
+          (beside_it mid handed mid.domains (GivenAway frame) (λ h past. ((refl, λ d. refl), given, takes))),
     )
 
 -- and of one that is taken back
-pub taken_back : (old new : Judge) (k : KeptState) (frame : ℕ) → new.kept ≡ old.kept → old.kept ≡ Some k → new.line ≡ old.line
-    → is_given old.beside.handed frame ≡ true
-    → ((f : ℕ) → is_given new.beside.handed f ≡ (is_given old.beside.handed f && not (nat_eq frame f))) → new.beside.handed.takes_back ≡ true
-    → new.beside.domains ≡ old.beside.domains → ContinuesAs old (Take frame) [] new
-taken_back old new k frame kept is line was given takes own =
-    (TakenBack frame ∷ [], refl, (line, one_taken old.kept new.kept old.beside new.beside k frame kept is was given takes own))
+pub taken_back : (old : TraceMachine) (handed : Handed) (frame : ℕ) → is_given old.handed frame ≡ true
+    → ((f : ℕ) → is_given handed f ≡ (is_given old.handed f && not (nat_eq frame f))) → handed.takes_back ≡ true
+    → ContinuesAs old (Take frame) [] (record old { handed = handed })
+taken_back old handed frame was given takes = (
+  TakenBack frame ∷ [],
+  refl,
+  beside_it old handed old.domains (TakenBack frame) (λ h past. (was, (refl, λ d. refl), given, takes)),
+)
+
+-- what changes takes tables of its own alone
+pub taken_alone : (device : ℕ) (change : Change) (event : Event) (choice : Choice) → event ≡ event_of device change → choice.taken ≡ tables_chosen event choice
+taken_alone device (Grant page frame rights) event choice is = ap (λ (e : Event). tables_chosen e choice) (sym is)
+taken_alone device (Release page) event choice is = ap (λ (e : Event). tables_chosen e choice) (sym is)
 
 -- the tables that were taken so far, where they are shown: all of them by the first grant
-pub tables_so_far : (device page frame : ℕ) (rights : GrantRights) (k : ℕ) (has : Bool) (taken more tables : List ℕ) (happened : List Happening)
-    → AreGrants device page frame rights k taken happened → (0 < k → IsTrue has → taken ≡ tables) → (IsTrue has → k ≡ 0 → more ≡ tables)
+pub tables_so_far : (device : ℕ) (change : Change) (outcome : Outcome) (k : ℕ) (has : Bool) (taken more tables : List ℕ) (happened : List Happening)
+    → CameAtEach device change outcome k taken happened → (0 < k → IsTrue has → taken ≡ tables) → (IsTrue has → k ≡ 0 → more ≡ tables)
     → (IsTrue has → 0 < k → more ≡ []) → 0 < k + 1 → IsTrue has → taken ++ more ≡ tables
-tables_so_far device page frame rights zero has taken more tables happened are so_far first later some its =
+tables_so_far device change outcome zero has taken more tables happened are so_far first later some its =
     ap (λ (l : List ℕ). l ++ more) are.0 ∙ first its refl
-tables_so_far device page frame rights (suc k) has taken more tables happened are so_far first later some its =
+tables_so_far device change outcome (suc k) has taken more tables happened are so_far first later some its =
     let before : 0 < suc k = omega arith in
     ap (λ (l : List ℕ). taken ++ l) (later its before) ∙ append-nil taken ∙ so_far before its

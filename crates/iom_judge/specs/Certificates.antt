@@ -12,15 +12,12 @@ use Rattle.iom_trace_lines.specs.declared.trace.WorldLimits.{WorldLimits}
 use Rattle.iom_judge.specs.Happenings.{Happening, HappenInTurn, Tells, events_of, outcomes_of}
 use Rattle.iom_judge.specs.TraceStates.{TraceState}
 use Rattle.iom_judge.specs.declared.verdict.Verdict.{Verdict}
-use Rattle.iom_judge.specs.declared.verdict.Verdict.TheVariants.{Lawful, Uncertified, Beyond, Unlawful, Bad}
+use Rattle.iom_judge.specs.declared.verdict.Verdict.TheVariants.{Lawful, Stops}
 
 -- the line that it names, if it names one: the first that isn't certified to be lawful
 abbrev pub named_line : Verdict → Option ℕ
 named_line Lawful = None
-named_line (Uncertified line missing) = Some line
-named_line (Beyond line reason) = Some line
-named_line (Unlawful line reason) = Some line
-named_line (Bad line wrong) = Some line
+named_line (Stops line finding) = Some line
 
 -- the numbers of the disks that a world has at power-on
 abbrev pub four_disks : List ℕ

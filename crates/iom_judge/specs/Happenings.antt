@@ -12,6 +12,8 @@ use Rattle.iom_machine.specs.Machine.{ChosenStep}
 use Rattle.iom_trace_lines.specs.TraceLines.{Said, Step, Made, Grants, Joins, Releases, Handoff, Take, TablesFreed, takes_frames}
 use Rattle.iom_judge.specs.Sharing.{is_this, own_domain, sharers, tables_end, GetsDomain, NoneWalks}
 use Rattle.iom_judge.specs.TraceStates.{TraceState}
+use Rattle.iom_judge.specs.declared.changes.Change.{Change}
+use Rattle.iom_judge.specs.declared.changes.Change.TheVariants.{Grant, Release}
 
 -- What happens: this came of an event, where what the outcome doesn't show was chosen so; a frame is given to somebody else; it is taken back; the device
 -- has the domain of the other one from here on; and these are the devices that share the domain of this one.
@@ -103,67 +105,53 @@ MayBeTold is_read (outcomes.Read bytes) = ⊤
 MayBeTold false (outcomes.Wrote len) = ⊤
 MayBeTold _ _ = ⊥
 
--- These grants came one after another, each of a device, a page, a frame and a right, and took no tables.
-abbrev pub AreSharedGrants : List (ℕ × ℕ × ℕ × GrantRights) → List Happening → Type 0
-AreSharedGrants [] happened = happened ≡ []
-AreSharedGrants ((device, page, frame, rights) ∷ grants) happened =
-    (others : List Happening) × (choice : Choice) × (choice.taken ≡ []) × AreSharedGrants grants others
-    × (happened ≡ Came (events.Grant device page frame rights) outcomes.Done choice ∷ others)
+-- These events came one after another, this came of each, and none took a table.
+abbrev pub CameInTurn : List Event → Outcome → List Happening → Type 0
+CameInTurn [] outcome happened = happened ≡ []
+CameInTurn (event ∷ events) outcome happened =
+    (others : List Happening) × (choice : Choice) × (choice.taken ≡ []) × CameInTurn events outcome others × (happened ≡ Came event outcome choice ∷ others)
 
--- These devices released the page, one after another, under the ticket.
-abbrev pub AreSharedReleases : (page ticket : ℕ) → List ℕ → List Happening → Type 0
-AreSharedReleases page ticket [] happened = happened ≡ []
-AreSharedReleases page ticket (device ∷ devices) happened =
-    (others : List Happening) × (choice : Choice) × AreSharedReleases page ticket devices others
-    × (happened ≡ Came (events.Release device page) (outcomes.Ticket ticket) choice ∷ others)
+-- what changed by this of the pages of a domain, if something did, and the device of which it did: a page was granted, or released
+abbrev pub change_by : Event → Outcome → Option (ℕ × Change)
+change_by (events.Grant id page frame rights) outcomes.Done = Some (id, Grant page frame rights)
+change_by (events.Release id page) (outcomes.Ticket ticket) = Some (id, Release page)
+change_by _ _ = None
 
--- the grant that came of the event, if one did: its device, page, frame and right; and the release: its device, page and ticket
-abbrev pub granted_by : Event → Outcome → Option (ℕ × ℕ × ℕ × GrantRights)
-granted_by (events.Grant id page frame rights) outcomes.Done = Some (id, page, frame, rights)
-granted_by _ _ = None
+-- the event that changes this of the device
+abbrev pub event_of : ℕ → Change → Event
+event_of device (Grant page frame rights) = events.Grant device page frame rights
+event_of device (Release page) = events.Release device page
 
-abbrev pub released_by : Event → Outcome → Option (ℕ × ℕ × ℕ)
-released_by (events.Release id page) (outcomes.Ticket ticket) = Some (id, page, ticket)
-released_by _ _ = None
+-- the same so many pages behind, and on a frame as far behind
+abbrev pub behind : ℕ → Change → Change
+behind n (Grant page frame rights) = Grant (page + n) (frame + n) rights
+behind n (Release page) = Release (page + n)
 
--- What a grant is of the other devices that share the domain, and what a release is.
-abbrev pub SharesGrant : Option (ℕ × ℕ × ℕ × GrantRights) → List Happening → Type 0
-SharesGrant None happened = happened ≡ []
-SharesGrant (Some (id, page, frame, rights)) happened =
-    (devices : List ℕ) × (others : List Happening) × AreSharedGrants (map (λ device. (device, page, frame, rights)) devices) others
+-- What changes of a device changes of each other one that shares its domain.
+abbrev pub IsShared : Option (ℕ × Change) → Outcome → List Happening → Type 0
+IsShared None outcome happened = happened ≡ []
+IsShared (Some (id, change)) outcome happened =
+    (devices : List ℕ) × (others : List Happening) × CameInTurn (map (λ device. event_of device change) devices) outcome others
     × (happened ≡ Shared id devices ∷ others)
-
-abbrev pub SharesRelease : Option (ℕ × ℕ × ℕ) → List Happening → Type 0
-SharesRelease None happened = happened ≡ []
-SharesRelease (Some (id, page, ticket)) happened =
-    (devices : List ℕ) × (others : List Happening) × AreSharedReleases page ticket devices others × (happened ≡ Shared id devices ∷ others)
 
 -- What happened where a line says that this came of the event. A grant and a release are also those of each device that shares the domain.
 abbrev pub Comes : Event → Outcome → Choice → List Happening → Type 0
 Comes event outcome choice happened =
-    (granted released : List Happening) × SharesGrant (granted_by event outcome) granted × SharesRelease (released_by event outcome) released
-    × (happened ≡ Came event outcome choice ∷ (granted ++ released))
+    (others : List Happening) × IsShared (change_by event outcome) outcome others × (happened ≡ Came event outcome choice ∷ others)
 
--- So many frames were granted at so many pages, one after another, and these became tables.
-abbrev pub AreGrants : (device page frame : ℕ) → GrantRights → ℕ → List ℕ → List Happening → Type 0
-AreGrants device page frame rights zero tables happened = (tables ≡ []) × (happened ≡ [])
-AreGrants device page frame rights (suc n) tables happened =
-    (before : List ℕ) × (others own : List Happening) × (choice : Choice) × AreGrants device page frame rights n before others
-    × (tables ≡ before ++ choice.taken) × Comes (events.Grant device (page + n) (frame + n) rights) outcomes.Done choice own
-    × (happened ≡ others ++ own)
-
--- So many pages were released under the ticket, one after another.
-abbrev pub AreReleases : (device page ticket : ℕ) → ℕ → List Happening → Type 0
-AreReleases device page ticket zero happened = happened ≡ []
-AreReleases device page ticket (suc n) happened =
-    (others own : List Happening) × (choice : Choice) × AreReleases device page ticket n others
-    × Comes (events.Release device (page + n)) (outcomes.Ticket ticket) choice own × (happened ≡ others ++ own)
+-- It changed so of the device at so many pages, one after another, this came of each, and these became tables.
+abbrev pub CameAtEach : ℕ → Change → Outcome → ℕ → List ℕ → List Happening → Type 0
+CameAtEach device first outcome zero tables happened = (tables ≡ []) × (happened ≡ [])
+CameAtEach device first outcome (suc n) tables happened =
+    (before : List ℕ) × (others own : List Happening) × (choice : Choice) × CameAtEach device first outcome n before others
+    × (tables ≡ before ++ choice.taken) × Comes (event_of device (behind n first)) outcome choice own × (happened ≡ others ++ own)
 
 -- The device was attached in some mode, without tables of its own, and then granted what the other one holds. Pages of the device directory may have been taken.
 abbrev pub AttachesWith : (device with : ℕ) → (ats has_tables : Bool) → List ℕ → List Happening → Type 0
 AttachesWith device with ats has_tables tables happened =
     (mode : Mode) × (choice : Choice) × (pages : List (ℕ × ℕ × GrantRights)) × (grants : List Happening)
-    × (choice.taken ≡ []) × (IsTrue has_tables → choice.directory ≡ tables) × AreSharedGrants (map (λ page. (device, page.0, page.1, page.2)) pages) grants
+    × (choice.taken ≡ []) × (IsTrue has_tables → choice.directory ≡ tables)
+    × CameInTurn (map (λ page. events.Grant device page.0 page.1 page.2) pages) outcomes.Done grants
     × (happened ≡ Came (events.Attach device mode ats) outcomes.Done choice ∷ (grants ++ Joined device with ∷ []))
 
 -- Who says this, with these frames of tables beside, says that this happened.
@@ -173,9 +161,9 @@ Tells (Step event outcome has_tables on began) tables happened =
 Tells (Made device is_read) tables happened =
     (outcome : Outcome) × (choice : Choice) × MayBeTold is_read outcome × (happened ≡ Came (events.Commit device) outcome choice ∷ [])
 Tells (Grants device page count frame rights has_tables) tables happened =
-    (taken : List ℕ) × AreGrants device page frame rights count taken happened × (IsTrue has_tables → taken ≡ tables)
+    (taken : List ℕ) × CameAtEach device (Grant page frame rights) outcomes.Done count taken happened × (IsTrue has_tables → taken ≡ tables)
 Tells (Joins device with ats has_tables) tables happened = AttachesWith device with ats has_tables tables happened
-Tells (Releases device page count ticket) tables happened = AreReleases device page ticket count happened
+Tells (Releases device page count ticket) tables happened = (taken : List ℕ) × CameAtEach device (Release page) (outcomes.Ticket ticket) count taken happened
 Tells (Handoff frame) tables happened = (choice : Choice) × (happened ≡ Came (events.Free frame) (outcomes.Free true) choice ∷ GivenAway frame ∷ [])
 Tells (Take frame) tables happened = happened ≡ TakenBack frame ∷ []
 Tells TablesFreed tables happened =

@@ -1,13 +1,10 @@
 // What is chosen of what a line doesn't show.
-ghost use Rattle.std.specs.Prelude.{◌≡◌, [], IfOk, IfSome, IsTrue, OnOk};
-ghost use Rattle.std.specs.Option.{option_copied};
+ghost use Rattle.std.specs.Prelude.{◌≡◌, ℕ, List, IfOk, IfSome, IsTrue, OnOk};
 ghost use Rattle.iom_judge.specs.Certified.{ShowsChoice, ShowsTables};
-ghost use Rattle.iom_judge.specs.Happenings.{tables_chosen};
-ghost use Rattle.iom_machine.specs.declared.choice.Choice as spec_choice;
-ghost use Rattle.iom_machine.specs.declared.event.Event as spec_event;
 
 use crate::missing::{Begun, Missing};
-use crate::settled::{frame_of_access, page_showing, page_without};
+use crate::settled::{Reachable, first_reachable, frame_of_access, page_without};
+use crate::stop::Line;
 use iom_base::{Access, AccessKind, DeviceId, Mode, Sequence};
 use iom_fabric::Translation;
 use iom_kept_state::KeptState;
@@ -15,14 +12,12 @@ use iom_machine::{Choice, Event, Outcome};
 use iom_reasons::{Notes, Sent};
 use std::alloc::{AllocError, Global};
 
-/// Which frames a line shows as tables.
+/// Which frames a line shows as tables, where it does.
 #[derive(Clone, Copy)]
 pub(crate) enum Tables<'a> {
-    /// It isn't shown.
-    Unknown,
-    /// These.
-    These(&'a [u64]),
-    /// None, since the device has another's; and which became pages of the device directory, where that is shown.
+    /// These became tables of the device, or pages of the device directory.
+    Own(Option<&'a [u64]>),
+    /// None became tables, since the device has another's; these became pages of the device directory.
     OfAnother(Option<&'a [u64]>),
 }
 
@@ -40,7 +35,7 @@ pub(crate) struct Shown<'a> {
 
 /// Nothing is shown.
 pub(crate) const NOTHING: Shown<'static> = Shown {
-    tables: Tables::Unknown,
+    tables: Tables::Own(None),
     freed: &[],
     on: None,
     began: None,
@@ -64,16 +59,11 @@ pub(crate) struct Chosen {
 /// No device has this id: a script's have 24 bits.
 const NOBODY: DeviceId = DeviceId::MAX;
 
-/// These are shown as tables, where some are.
-pub(crate) fn tables_shown(has_tables: bool, tables: &[u64]) -> Tables<'_>
-    ensures { (event : spec_event.Event) (choice : spec_choice.Choice) → ShowsTables result event choice → IsTrue has_tables
-        → tables_chosen event choice ≡ tables.now }
+/// The frames, where they are shown.
+pub(crate) fn where_shown(are_shown: bool, frames: &[u64]) -> Option<&[u64]>
+    ensures { (list : List ℕ) → IfSome result (λ it. list ≡ it.now) → IsTrue are_shown → list ≡ frames.now }
 {
-    if has_tables {
-        Tables::These(tables)
-    } else {
-        Tables::Unknown
-    }
+    if are_shown { Some(frames) } else { None }
 }
 
 /// A read of one byte.
@@ -113,89 +103,30 @@ fn root_size(mode: Mode) -> usize {
     }
 }
 
-/// These frames are chosen as tables: of an attach those of the root stand first, and behind them pages of the device directory.
+/// Those tables are chosen that are shown: of an attach those of the root stand first, and behind them pages of the device directory.
 fn choose_tables(
-    alloc: Global,
-    choice: &mut Choice,
-    event: &Event,
-    tables: &[u64],
-) -> Result<(), AllocError>
-    ensures tables { OnOk result (tables_chosen event.now choice.new ≡ tables.now) }
-    ensures frame { OnOk result (choice.new.frame ≡ choice.old.frame) }
-    ensures access { OnOk result (choice.new.access ≡ choice.old.access) }
-    ensures returned { OnOk result (choice.new.returned ≡ choice.old.returned) }
-{
-    match event {
-        Event::Attach { mode, .. } => {
-            let (root, pages) = tables.split_at(root_size(*mode).min(tables.len()));
-            choice.taken = list_of(alloc, root)?;
-            choice.directory = list_of(alloc, pages)?;
-        }
-        _ => choice.taken = list_of(alloc, tables)?,
-    }
-    Ok(())
-}
-
-/// No tables are chosen, and these pages of the device directory, where they are shown.
-fn choose_directory(
-    alloc: Global,
-    choice: &mut Choice,
-    pages: Option<&[u64]>,
-) -> Result<(), AllocError>
-    ensures tables { OnOk result (choice.new.taken ≡ []) }
-    ensures pages { OnOk result (IfSome pages.entry (λ pages. choice.new.directory ≡ pages.now)) }
-    ensures frame { OnOk result (choice.new.frame ≡ choice.old.frame) }
-    ensures access { OnOk result (choice.new.access ≡ choice.old.access) }
-    ensures returned { OnOk result (choice.new.returned ≡ choice.old.returned) }
-{
-    choice.taken = Sequence::new(alloc);
-    if let Some(pages) = pages {
-        choice.directory = list_of(alloc, pages)?;
-    }
-    Ok(())
-}
-
-/// Those are chosen that are shown.
-fn choose_taken(
     alloc: Global,
     choice: &mut Choice,
     event: &Event,
     tables: Tables<'_>,
 ) -> Result<(), AllocError>
     ensures tables { OnOk result (ShowsTables tables.entry event.now choice.new) }
-    ensures frame { OnOk result (choice.new.frame ≡ choice.old.frame) }
-    ensures access { OnOk result (choice.new.access ≡ choice.old.access) }
-    ensures returned { OnOk result (choice.new.returned ≡ choice.old.returned) }
+    ensures others { OnOk result (choice.new ≡ record choice.old { taken = choice.new.taken; directory = choice.new.directory }) }
 {
-    match tables {
-        Tables::Unknown => Ok(()),
-        Tables::These(tables) => choose_tables(alloc, choice, event, tables),
-        Tables::OfAnother(pages) => choose_directory(alloc, choice, pages),
-    }
-}
-
-/// The frame is chosen that is shown, if one is.
-fn choose_on(choice: &mut Choice, on: Option<u64>)
-    ensures frame { IfSome on (λ frame. choice.new.frame ≡ frame) }
-    ensures access { choice.new.access ≡ choice.old.access }
-    ensures returned { choice.new.returned ≡ choice.old.returned }
-{
-    if let Some(frame) = on {
-        choice.frame = frame;
-    }
-}
-
-/// The access is chosen that is shown, if one is.
-fn choose_began(
-    alloc: Global,
-    choice: &mut Choice,
-    began: Option<&Access>,
-) -> Result<(), AllocError>
-    ensures access { OnOk result (IfSome (option_copied began.entry) (λ access. choice.new.access ≡ access)) }
-    ensures returned { OnOk result (choice.new.returned ≡ choice.old.returned) }
-{
-    if let Some(access) = began {
-        choice.access = copy_of(alloc, access)?;
+    match (tables, event) {
+        (Tables::Own(None), _) => {}
+        (Tables::Own(Some(tables)), Event::Attach { mode, .. }) => {
+            let (root, pages) = tables.split_at(root_size(*mode).min(tables.len()));
+            choice.taken = list_of(alloc, root)?;
+            choice.directory = list_of(alloc, pages)?;
+        }
+        (Tables::Own(Some(tables)), _) => choice.taken = list_of(alloc, tables)?,
+        (Tables::OfAnother(pages), _) => {
+            choice.taken = Sequence::new(alloc);
+            if let Some(pages) = pages {
+                choice.directory = list_of(alloc, pages)?;
+            }
+        }
     }
     Ok(())
 }
@@ -212,19 +143,25 @@ fn choose_shown(
     if !choice.returned.as_slice().is_empty() || !shown.freed.is_empty() {
         choice.returned = list_of(alloc, shown.freed)?;
     }
-    choose_began(alloc, choice, shown.began)?;
-    choose_on(choice, shown.on);
-    choose_taken(alloc, choice, event, shown.tables)
+    if let Some(access) = shown.began {
+        choice.access = copy_of(alloc, access)?;
+    }
+    if let Some(frame) = shown.on {
+        choice.frame = frame;
+    }
+    choose_tables(alloc, choice, event, shown.tables)
 }
 
 /// A page of which the device may be told so, if there is one.
 fn page_told(kept: &KeptState, id: DeviceId, told: Translation) -> u64 {
     let found = match told {
-        Translation::Page { frame, rights } => page_showing(kept, id, u64::from(frame), rights),
+        Translation::Page { frame, rights } => first_reachable(kept, id, |it: Reachable| -> bool {
+            it.frame == u64::from(frame) && it.rights == rights
+        }),
         Translation::Refused(_) => None,
     };
     match found {
-        Some(page) => page,
+        Some(it) => it.page,
         None => page_without(kept, id),
     }
 }
@@ -274,18 +211,17 @@ impl Chosen {
     }
 
     /// No tables are chosen; and they are missing of an attach or a grant, where it isn't shown which it took.
-    fn choose_no_tables(&mut self, alloc: Global, line: u64, told: Told<'_>) {
-        self.choice.taken = Sequence::new(alloc);
-        self.choice.directory = Sequence::new(alloc);
+    fn choose_no_tables(&mut self, line: Line<'_>, told: Told<'_>) {
+        self.choice.taken = Sequence::new(line.alloc);
+        self.choice.directory = Sequence::new(line.alloc);
         let is_shown = match told.shown.tables {
-            Tables::Unknown => false,
-            Tables::These(_) => true,
+            Tables::Own(tables) => tables.is_some(),
             Tables::OfAnother(pages) => {
                 pages.is_some() || matches!(told.event, Event::Grant { .. })
             }
         };
         if !is_shown {
-            self.missing = Some(Missing::Tables { line });
+            self.missing = Some(Missing::Tables { line: line.number });
         }
     }
 
@@ -335,21 +271,20 @@ impl Chosen {
     /// asks for stays as it was.
     fn choose_unshown(
         &mut self,
-        alloc: Global,
+        line: Line<'_>,
         kept: &KeptState,
         notes: &Notes,
-        line: u64,
         told: Told<'_>,
     ) -> Result<(), AllocError> {
         self.missing = None;
         match (told.event, told.outcome) {
-            (Event::Step { device }, outcome) => {
-                return self.choose_step(alloc, kept, line, *device, outcome, told.shown);
-            }
+            (Event::Step { device }, _) => return self.choose_step(line, kept, *device, told),
             (Event::Attach { .. } | Event::Grant { .. }, Outcome::Done) => {
-                self.choose_no_tables(alloc, line, told);
+                self.choose_no_tables(line, told);
             }
-            (_, Outcome::Accepted(number)) => self.choose_access(kept, line, told, *number),
+            (_, Outcome::Accepted(number)) => {
+                self.choose_access(kept, line.number, told, *number);
+            }
             (event, Outcome::Answered(answer)) => {
                 self.choose_question(kept, notes.question_of(event), *answer);
             }
@@ -361,15 +296,14 @@ impl Chosen {
     /// What is chosen for a line: what it shows, and of the rest nothing that isn't lawful, where something else is.
     pub(crate) fn choose(
         &mut self,
-        alloc: Global,
+        line: Line<'_>,
         kept: &KeptState,
         notes: &Notes,
-        line: u64,
         told: Told<'_>,
     ) -> Result<(), AllocError>
         ensures { OnOk result (ShowsChoice told.entry.shown told.entry.event.now self.new.choice) }
     {
-        self.choose_unshown(alloc, kept, notes, line, told)?;
-        choose_shown(alloc, &mut self.choice, told.event, told.shown)
+        self.choose_unshown(line, kept, notes, told)?;
+        choose_shown(line.alloc, &mut self.choice, told.event, told.shown)
     }
 }

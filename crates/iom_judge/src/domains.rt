@@ -6,6 +6,9 @@ ghost use Rattle.iom_kept_state.specs.Grants.{IsPastOf};
 ghost use Rattle.iom_judge.specs.Certified.{first_in};
 ghost use Rattle.iom_judge.specs.Sharing.{is_gone, is_this, own_domain, sharers, tables_end, NoneWalks};
 
+use crate::choosing::Told;
+use crate::missing::Missing;
+use crate::stop::{Stop, uncertified};
 use indexmap::IndexMap;
 use iom_base::DeviceId;
 use iom_kept_state::{KeptGrants, KeptState};
@@ -140,21 +143,31 @@ impl Domains {
         }
     }
 
-    /// The device whose tables would go back by this, while another one may still walk in them.
-    pub(crate) fn still_shared(
-        &self,
-        kept: &KeptState,
-        event: &Event,
-        outcome: &Outcome,
-    ) -> Option<DeviceId>
-        ensures { (h : History) → IsPastOf kept.now.grants h → IsNone result
-            → IfSome (tables_end event.now outcome.now) (NoneWalks (first_in self.now) h kept.now.devices) }
+    /// What follows can't be certified where tables go back by this, while another device may still walk in them.
+    pub(crate) fn check(&self, kept: &KeptState, told: Told<'_>) -> Result<(), Stop>
+        ensures { (h : History) → IsPastOf kept.now.grants h → OnOk result
+            (IfSome (tables_end told.entry.event.now told.entry.outcome.now) (NoneWalks (first_in self.now) h kept.now.devices)) }
     {
-        let first = tables_end(event, outcome)?;
-        if self.none_walks(&kept.grants, kept.devices.as_slice(), first) {
-            return None;
+        if let Some(first) = tables_end(told.event, told.outcome) {
+            if !self.none_walks(&kept.grants, kept.devices.as_slice(), first) {
+                return Err(uncertified(Missing::Sharers { first }));
+            }
         }
-        Some(first)
+        Ok(())
+    }
+
+    /// Nor where a page is granted to, or released by, a device that isn't the first of its domain.
+    pub(crate) fn check_first(&self, event: &Event) -> Result<(), Stop> {
+        let (Event::Grant { device, .. } | Event::Release { device, .. }) = event else {
+            return Ok(());
+        };
+        match self.first_with(*device) {
+            None => Ok(()),
+            Some(first) => Err(uncertified(Missing::Domain {
+                device: *device,
+                first,
+            })),
+        }
     }
 
     /// The device has the domain of this first one.

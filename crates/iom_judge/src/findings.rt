@@ -2,9 +2,8 @@
 ghost use Rattle.std.specs.Prelude.{IfOk, IfSome};
 ghost use Rattle.iom_judge.specs.Certificates.{IsSoOf};
 
-use crate::judging::{Judge, Reading, judge_lines};
-use crate::verdict::Verdict;
-use iom_trace_lines::Lines;
+use crate::judging::Judge;
+use crate::verdict::{Finding, Verdict};
 use std::alloc::Global;
 use std::io::{self, Read};
 
@@ -19,27 +18,31 @@ pub struct Findings {
 
 /// Whether the judging may go on behind what was found: a line is left out that is unlawful, and no other.
 fn is_left_out(verdict: &Verdict) -> bool {
-    matches!(verdict, Verdict::Unlawful { .. })
+    matches!(
+        verdict,
+        Verdict::Stops {
+            finding: Finding::Unlawful(_),
+            ..
+        }
+    )
 }
 
-/// What is found behind a line that was left out, until so many more are.
+/// Adds what is found behind a line that was left out, until so many more are.
 fn judge_rest<R: Read>(
     judge: &mut Judge,
-    reading: &mut Reading,
-    lines: &mut Lines,
     reader: &mut R,
     most: usize,
-) -> io::Result<Vec<Verdict>> {
-    let mut found = Vec::new(judge.alloc);
+    found: &mut Vec<Verdict>,
+) -> io::Result<()> {
     for _ in 0..most {
-        let verdict = judge_lines(judge, reading, lines, reader)?;
+        let verdict = judge.judge_lines(reader)?;
         let goes_on = is_left_out(&verdict);
         found.push(verdict)?;
         if !goes_on {
-            return Ok(found);
+            break;
         }
     }
-    Ok(found)
+    Ok(())
 }
 
 /// What the judge finds of the trace that the reader has. A line that is unlawful is left out, and those behind it are judged
@@ -48,11 +51,13 @@ fn judge_rest<R: Read>(
 pub fn judge_on<R: Read>(alloc: Global, reader: &mut R, most: usize) -> io::Result<Findings>
     ensures { IfOk result (λ found. IfSome (R.remaining reader.old) (IsSoOf found.first)) }
 {
-    let mut lines = Lines::new(alloc)?;
-    let mut judge = Judge::new(alloc);
-    let mut reading = Reading::new(alloc)?;
-    let first = judge_lines(&mut judge, &mut reading, &mut lines, reader)?;
-    let most = if is_left_out(&first) { most } else { 0 };
-    let others = judge_rest(&mut judge, &mut reading, &mut lines, reader, most)?;
-    Ok(Findings { first, others })
+    let mut judge = Judge::new(alloc)?;
+    let mut found = Findings {
+        first: judge.judge_lines(reader)?,
+        others: Vec::new(alloc),
+    };
+    if is_left_out(&found.first) {
+        judge_rest(&mut judge, reader, most, &mut found.others)?;
+    }
+    Ok(found)
 }

@@ -1,18 +1,16 @@
 // Tables that are given back while their device stays attached.
-ghost use Rattle.std.specs.Prelude.{IfOk, MatchOption};
+ghost use Rattle.std.specs.Prelude.{OnOk};
 ghost use Rattle.iom_trace_lines.specs.TraceLines.{TablesFreed};
-ghost use Rattle.iom_judge.specs.Certified.{ContinuesAs, Names};
+ghost use Rattle.iom_judge.specs.Certified.{ContinuesAs};
 
-use crate::bad::{NO_WORLD, bad};
 use crate::choosing::{NOTHING, Shown, Told};
-use crate::judging::Judge;
+use crate::machine::TraceMachine;
 use crate::settled::device_with;
-use crate::verdict::{Verdict, quoting};
+use crate::stop::{Line, Stop, uncertified};
 use iom_base::{DeviceId, Owner};
 use iom_kept_state::KeptState;
 use iom_machine::{Attachment, Event, Outcome};
 use std::alloc::{AllocError, Global};
-use std::io;
 
 /// The first of the tables that may not be given back.
 fn first_in_use(kept: &KeptState, tables: &[u64]) -> Option<u64> {
@@ -58,21 +56,17 @@ fn why_in_use(alloc: Global, kept: &KeptState, table: u64) -> Result<String, All
     }
 }
 
-impl Judge {
-    /// What is found where these tables are given back, if that ends the trace.
-    pub(crate) fn free_tables(&mut self, tables: &[u64], text: &[u8]) -> io::Result<Option<Verdict>>
-        ensures { IfOk result (λ found. MatchOption found (ContinuesAs self.old TablesFreed tables.now self.new) (Names self.old.line)) }
+impl TraceMachine {
+    /// These tables are given back.
+    pub(crate) fn free_tables(&mut self, line: Line<'_>, tables: &[u64]) -> Result<(), Stop>
+        ensures { OnOk result (ContinuesAs self.old TablesFreed tables.now self.new) }
     {
-        let (alloc, line) = (self.alloc, self.line);
-        let Some(kept) = &self.kept else {
-            return Ok(Some(bad(alloc, line, NO_WORLD)?));
-        };
-        if let Some(table) = first_in_use(kept, tables) {
+        if let Some(table) = first_in_use(&self.kept, tables) {
             if let Some(missing) = self.guesses.of_tables() {
-                return Ok(Some(Verdict::Uncertified { line, missing }));
+                return Err(uncertified(missing));
             }
-            let reason = quoting(alloc, text, &why_in_use(alloc, kept, table)?)?;
-            return Ok(Some(Verdict::Unlawful { line, reason }));
+            let why = why_in_use(line.alloc, &self.kept, table)?;
+            return Err(line.unlawful(&why)?);
         }
         let shown = Shown {
             freed: tables,
@@ -83,6 +77,6 @@ impl Judge {
             outcome: &Outcome::NoneConfirmed { timed_out: false },
             shown,
         };
-        self.go_on_alone(told, text)
+        self.go_on_alone(line, told)
     }
 }

@@ -1,7 +1,10 @@
 // What was guessed of what lines don't show, and which line depends on it.
+ghost use Rattle.std.specs.Prelude.{◌≤◌};
+
+use crate::choosing::{Tables, Told};
 use crate::missing::{Begun, Missing};
 use crate::settled::device_with;
-use iom_base::{AcceptedAccess, DeviceId, PAGE_SIZE, Refusal};
+use iom_base::{DeviceId, PAGE_SIZE, Refusal};
 use iom_kept_state::KeptState;
 use iom_machine::{Device, Event, Outcome};
 use iom_machine_judge::polls::may_confirm;
@@ -39,28 +42,6 @@ fn is_of(missing: Missing, device: DeviceId, number: u64) -> bool {
     }
 }
 
-/// Whether the device may still reach the frame of its access once the tickets from this one to the last are confirmed.
-fn may_stay(
-    kept: &KeptState,
-    device: &Device,
-    flight: &AcceptedAccess,
-    from: u32,
-    last: u32,
-) -> bool {
-    if last < from {
-        return true;
-    }
-    let page = flight.access.address / PAGE_SIZE;
-    kept.grants.may_once(
-        device.id,
-        page,
-        flight.frame,
-        flight.access.kind,
-        from,
-        last,
-    )
-}
-
 impl Guesses {
     pub(crate) fn new(alloc: Global) -> Guesses {
         Guesses {
@@ -72,32 +53,38 @@ impl Guesses {
         }
     }
 
-    /// A line shows which frames became tables.
-    pub(crate) fn note_tables(&mut self) {
-        self.shows_tables = true;
-    }
-
-    /// A device is detached, where this came of the event.
-    pub(crate) fn note_detach(&mut self, event: &Event, outcome: &Outcome) {
-        if matches!(event, Event::Detach { .. }) && matches!(outcome, Outcome::Ticket(_)) {
+    /// Notes what a line shows, what was guessed of the access that it makes, and what is missing of what it shows.
+    pub(crate) fn note_line(
+        &mut self,
+        told: Told<'_>,
+        made: Option<Missing>,
+        missing: Option<Missing>,
+    ) -> Result<(), AllocError> {
+        if matches!(
+            told.shown.tables,
+            Tables::Own(Some(_)) | Tables::OfAnother(Some(_))
+        ) {
+            self.shows_tables = true;
+        }
+        if matches!(
+            (told.event, told.outcome),
+            (Event::Detach { .. }, Outcome::Ticket(_))
+        ) {
             self.gives_back = self.tables.is_some();
         }
-    }
-
-    /// Something was guessed.
-    pub(crate) fn note(&mut self, missing: Missing) -> Result<(), AllocError> {
-        match missing {
-            Missing::Tables { .. } => {
-                if !self.shows_tables && self.tables.is_none() {
-                    self.tables = Some(missing);
-                }
-                Ok(())
-            }
-            _ => {
-                self.in_flight.push(missing)?;
-                Ok(())
-            }
+        if let Some(made) = made {
+            self.make(made, told.outcome);
         }
+        match missing {
+            None => {}
+            Some(Missing::Tables { .. }) => {
+                if !self.shows_tables && self.tables.is_none() {
+                    self.tables = missing;
+                }
+            }
+            Some(missing) => self.in_flight.push(missing)?,
+        }
+        Ok(())
     }
 
     /// What was guessed of the device's access with this number.
@@ -123,7 +110,7 @@ impl Guesses {
     }
 
     /// The access of which this was guessed was made. One that isn't shown may be a write, where the line says no more than that.
-    pub(crate) fn make(&mut self, made: Missing, outcome: &Outcome) {
+    fn make(&mut self, made: Missing, outcome: &Outcome) {
         let may_write = matches!(made, Missing::Access(_)) || matches!(outcome, Outcome::Wrote(_));
         if may_write && self.made.is_none() {
             self.made = Some(made);
@@ -193,29 +180,32 @@ impl Guesses {
         }
     }
 
-    /// What was guessed of the accesses of the device that couldn't stay once the tickets from this one to the last are confirmed: of
-    /// the first of them, or nothing, where there is one that wasn't guessed. None, where each may stay.
+    /// What was guessed of the first access that couldn't stay once the tickets from this one to the last are confirmed: of another
+    /// device as found before, or else of this one. None, where one couldn't stay that wasn't guessed.
     fn guess_to_stay(
         &self,
         kept: &KeptState,
         device: &Device,
-        from: u32,
-        last: u32,
-    ) -> Option<Option<Missing>> {
+        tickets: (u32, u32),
+        before: Option<Missing>,
+    ) -> Option<Option<Missing>>
+        requires { tickets.0 ≤ tickets.1 }
+    {
+        let (from, last) = tickets;
         let first = oldest_number(device);
-        let mut found = None;
+        let mut found = before;
         for (index, flight) in device.in_flight.as_slice().iter().enumerate() {
-            if !may_stay(kept, device, flight, from, last) {
-                let guessed = self.of(device.id, first.saturating_add(index as u64));
-                if guessed.is_none() {
-                    return Some(None);
-                }
+            let page = flight.access.address / PAGE_SIZE;
+            let kind = flight.access.kind;
+            let grants = &kept.grants;
+            if !grants.may_once(device.id, page, flight.frame, kind, from, last) {
+                let guessed = self.of(device.id, first.saturating_add(index as u64))?;
                 if found.is_none() {
                     found = Some(guessed);
                 }
             }
         }
-        found
+        Some(found)
     }
 
     /// What the refusal of a poll depends on: the guesses of accesses that couldn't stay, where there is none that wasn't guessed.
@@ -228,15 +218,7 @@ impl Guesses {
         }
         let mut found = None;
         for device in kept.devices.as_slice() {
-            match self.guess_to_stay(kept, device, *first, *last) {
-                None => {}
-                Some(None) => return None,
-                Some(guessed) => {
-                    if found.is_none() {
-                        found = guessed;
-                    }
-                }
-            }
+            found = self.guess_to_stay(kept, device, (*first, *last), found)?;
         }
         found
     }

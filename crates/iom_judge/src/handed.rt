@@ -1,9 +1,12 @@
 // Frames that were given to somebody else, and aren't taken back.
-ghost use Rattle.std.specs.Prelude.{◌≡◌, ◌&&◌, ◌||◌, ℕ, not, false, true, nat_eq, IfOk, IsNone, IsTrue, OnOk};
-ghost use Rattle.iom_judge.specs.Certified.{is_given};
+ghost use Rattle.std.specs.Prelude.{◌≡◌, ◌&&◌, ◌||◌, [], ℕ, not, false, true, nat_eq, IsNone, IsTrue, OnOk};
+ghost use Rattle.iom_judge.specs.Certified.{is_given, ContinuesAs};
 ghost use Rattle.iom_judge.specs.Happenings.{frame_granted, is_in, is_used, tables_chosen};
-ghost use Rattle.iom_trace_lines.specs.TraceLines.{takes_frames};
+ghost use Rattle.iom_trace_lines.specs.TraceLines.{takes_frames, Handoff, Take};
 
+use crate::choosing::{NOTHING, Told};
+use crate::machine::TraceMachine;
+use crate::stop::{Line, Stop};
 use indexmap::IndexMap;
 use iom_machine::{Choice, Event, Outcome};
 use std::alloc::{AllocError, Global};
@@ -87,16 +90,16 @@ impl Handed {
     }
 
     /// The first of the frames that are used where this came of the event and was given away.
-    fn first_used(&self, event: &Event, outcome: &Outcome, choice: &Choice) -> Option<u64>
-        ensures { IsNone result
-            → (frame : ℕ) → IsTrue (is_used event.now outcome.now choice.now frame) → is_given self.now frame ≡ false }
+    fn first_used(&self, told: Told<'_>, choice: &Choice) -> Option<u64>
+        ensures { IsNone result → (frame : ℕ)
+            → IsTrue (is_used told.entry.event.now told.entry.outcome.now choice.now frame) → is_given self.now frame ≡ false }
     {
-        if let Some(frame) = granted(event, outcome) {
+        if let Some(frame) = granted(told.event, told.outcome) {
             if self.frames.contains_key(&frame) {
                 return Some(frame);
             }
         }
-        let (taken, directory) = tables(event, outcome, choice);
+        let (taken, directory) = tables(told.event, told.outcome, choice);
         match self.first_of(taken) {
             None => self.first_of(directory),
             found => found,
@@ -118,39 +121,63 @@ impl Handed {
     }
 
     /// The frames that are used where this came of the event are used from here on.
-    pub(crate) fn note(&mut self, event: &Event, outcome: &Outcome, choice: &Choice)
-        ensures given { (frame : ℕ) → is_given self.new frame ≡ (is_given self.old frame && not (is_used event.now outcome.now choice.now frame)) }
+    pub(crate) fn note(&mut self, told: Told<'_>, choice: &Choice)
+        ensures given { (frame : ℕ)
+            → is_given self.new frame ≡ (is_given self.old frame && not (is_used told.entry.event.now told.entry.outcome.now choice.now frame)) }
         ensures takes { self.new.takes_back ≡ self.old.takes_back }
     {
-        if let Some(frame) = granted(event, outcome) {
+        if let Some(frame) = granted(told.event, told.outcome) {
             let _line = self.frames.swap_remove(&frame);
         }
-        let (taken, directory) = tables(event, outcome, choice);
+        let (taken, directory) = tables(told.event, told.outcome, choice);
         self.forget(taken);
         self.forget(directory);
     }
 
-    /// Why this may not come, if it uses a frame that was given away.
-    pub(crate) fn reason(
-        &self,
-        alloc: Global,
-        event: &Event,
-        outcome: &Outcome,
-        choice: &Choice,
-    ) -> Result<Option<String>, AllocError>
-        ensures { IfOk result (λ found. IsNone found → IsTrue self.now.takes_back
-            → (frame : ℕ) → IsTrue (is_used event.now outcome.now choice.now frame) → is_given self.now frame ≡ false) }
+    /// The line is unlawful where this uses a frame that was given away.
+    pub(crate) fn check(&self, line: Line<'_>, told: Told<'_>, choice: &Choice) -> Result<(), Stop>
+        ensures { OnOk result (IsTrue self.now.takes_back → (frame : ℕ)
+            → IsTrue (is_used told.entry.event.now told.entry.outcome.now choice.now frame) → is_given self.now frame ≡ false) }
     {
         if !self.takes_back {
-            return Ok(None);
+            return Ok(());
         }
-        let Some(frame) = self.first_used(event, outcome, choice) else {
-            return Ok(None);
+        let Some(frame) = self.first_used(told, choice) else {
+            return Ok(());
         };
-        let line = self.frames.get(&frame).copied().unwrap_or(0);
+        let alloc = line.alloc;
+        let given = self.frames.get(&frame).copied().unwrap_or(0);
         let reason = format!(in alloc;
-            "frame {frame} was given to somebody else in line {line}, and isn't taken back"
+            "frame {frame} was given to somebody else in line {given}, and isn't taken back"
         )?;
-        Ok(Some(reason))
+        Err(line.unlawful(&reason)?)
+    }
+}
+
+impl TraceMachine {
+    /// The frame is given to somebody else.
+    pub(crate) fn hand_off(&mut self, line: Line<'_>, frame: u64) -> Result<(), Stop>
+        ensures { OnOk result (ContinuesAs self.old (Handoff frame) [] self.new) }
+    {
+        let told = Told {
+            event: &Event::Free { frame },
+            outcome: &Outcome::Free(true),
+            shown: NOTHING,
+        };
+        self.go_on_alone(line, told)?;
+        self.handed.hand_off(frame, line.number)?;
+        Ok(())
+    }
+
+    /// The frame is taken back.
+    pub(crate) fn take_back(&mut self, line: Line<'_>, frame: u64) -> Result<(), Stop>
+        ensures { OnOk result (ContinuesAs self.old (Take frame) [] self.new) }
+    {
+        if self.handed.take_back(frame) {
+            return Ok(());
+        }
+        let alloc = line.alloc;
+        let reason = format!(in alloc; "frame {frame} wasn't given to anybody else")?;
+        Err(line.unlawful(&reason)?)
     }
 }

@@ -7,8 +7,7 @@
 //! lines before the one that any other verdict names are. That an unlawful line is none of a run is tested only.
 #![tactic(auto)]
 
-mod bad;
-mod beside;
+mod changes;
 mod choosing;
 mod domains;
 mod findings;
@@ -16,16 +15,17 @@ mod freed;
 mod guesses;
 mod handed;
 mod judging;
+mod machine;
 mod made;
 mod missing;
-mod ranges;
 mod settled;
 mod sharing;
 mod steps;
+mod stop;
 mod verdict;
 
 pub use findings::{Findings, judge_on};
 pub use iom_trace_lines::trace_of;
 pub use judging::judge_trace;
 pub use missing::{Begun, Missing};
-pub use verdict::Verdict;
+pub use verdict::{Finding, Verdict};

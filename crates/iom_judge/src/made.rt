@@ -1,19 +1,17 @@
 // An access that was made, of which a line tells no more.
-ghost use Rattle.std.specs.Prelude.{[], IfOk, MatchOption};
+ghost use Rattle.std.specs.Prelude.{[], OnOk};
 ghost use Rattle.iom_trace_lines.specs.TraceLines.{Made};
-ghost use Rattle.iom_judge.specs.Certified.{ContinuesAs, Names};
+ghost use Rattle.iom_judge.specs.Certified.{ContinuesAs};
 ghost use Rattle.iom_judge.specs.Happenings.{MayBeTold};
 
-use crate::bad::{NO_WORLD, bad};
 use crate::choosing::{NOTHING, Told};
-use crate::judging::Judge;
+use crate::machine::TraceMachine;
 use crate::settled::device_with;
-use crate::verdict::Verdict;
+use crate::stop::{Line, Stop};
 use arrayvec::ArrayVec;
 use iom_base::{AcceptedAccess, AccessKind, DeviceId, PAGE_SIZE};
 use iom_kept_state::KeptState;
 use iom_machine::{Event, Outcome};
-use std::io;
 
 /// The oldest access of the device in flight, if there is one.
 fn oldest(kept: &KeptState, id: DeviceId) -> Option<&AcceptedAccess> {
@@ -49,27 +47,21 @@ fn made_now(kept: &KeptState, id: DeviceId, is_read: bool) -> Outcome
     Outcome::Wrote(made.access.len)
 }
 
-impl Judge {
-    /// What is found where the device's oldest access was made, if that ends the trace.
+impl TraceMachine {
+    /// The device's oldest access was made.
     pub(crate) fn make(
         &mut self,
+        line: Line<'_>,
         device: DeviceId,
         is_read: bool,
-        text: &[u8],
-    ) -> io::Result<Option<Verdict>>
-        ensures { IfOk result (λ found. MatchOption found
-            (ContinuesAs self.old (Made device is_read) [] self.new)
-            (Names self.old.line)) }
+    ) -> Result<(), Stop>
+        ensures { OnOk result (ContinuesAs self.old (Made device is_read) [] self.new) }
     {
-        let Some(kept) = &self.kept else {
-            return Ok(Some(bad(self.alloc, self.line, NO_WORLD)?));
-        };
-        let outcome = made_now(kept, device, is_read);
         let told = Told {
             event: &Event::Commit { device },
-            outcome: &outcome,
+            outcome: &made_now(&self.kept, device, is_read),
             shown: NOTHING,
         };
-        self.go_on_alone(told, text)
+        self.go_on_alone(line, told)
     }
 }

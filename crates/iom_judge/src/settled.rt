@@ -10,6 +10,15 @@ pub(crate) struct Settled {
     pub(crate) is_certain: bool,
 }
 
+/// What a device has at a page: it holds the frame, or else the frame lingers.
+#[derive(Clone, Copy)]
+pub(crate) struct Reachable {
+    pub(crate) page: u64,
+    pub(crate) frame: u64,
+    pub(crate) rights: Rights,
+    is_held: bool,
+}
+
 /// The plugged device with this id.
 pub(crate) fn device_with(devices: &[Device], id: DeviceId) -> Option<&Device> {
     devices.iter().find(|device| device.id == id)
@@ -23,69 +32,61 @@ pub(crate) fn has_both_stages(attachment: Attachment) -> bool {
     }
 }
 
-/// What the device holds at the page, or else what lingers there.
-pub(crate) fn pair_at(kept: &KeptState, id: DeviceId, page: u64) -> Option<(u64, Rights)> {
-    match kept.grants.held(id, page) {
-        Some(pair) => Some(pair),
-        None => kept.grants.lingering(id, page),
-    }
+/// What the device has at the page.
+pub(crate) fn reachable_at(kept: &KeptState, id: DeviceId, page: u64) -> Option<Reachable> {
+    let held = kept.grants.held(id, page);
+    let (frame, rights) = match held {
+        Some(pair) => pair,
+        None => kept.grants.lingering(id, page)?,
+    };
+    Some(Reachable {
+        page,
+        frame,
+        rights,
+        is_held: held.is_some(),
+    })
 }
 
-/// The frames on which an access of a device in both stages may be: one that it holds, and one that lingers for it.
-#[derive(Clone, Copy)]
-struct Candidates {
-    held: Option<u64>,
-    lingering: Option<u64>,
-    /// Whether there is another.
-    are_several: bool,
-}
-
-impl Candidates {
-    /// The one that is taken: what is held, rather than what may end soon.
-    fn first(&self) -> Option<u64> {
-        match self.held {
-            Some(frame) => Some(frame),
-            None => self.lingering,
-        }
-    }
-
-    fn add(&mut self, frame: u64, is_held: bool) {
-        if let Some(first) = self.first() {
-            self.are_several = self.are_several || first != frame;
-        }
-        if is_held && self.held.is_none() {
-            self.held = Some(frame);
-        } else if !is_held && self.lingering.is_none() {
-            self.lingering = Some(frame);
-        }
-    }
-
-    /// Adds what is at the page of the device, where its right allows the kind.
-    fn add_page(&mut self, kept: &KeptState, id: DeviceId, page: u64, kind: AccessKind) {
-        let is_held = kept.grants.held(id, page).is_some();
-        if let Some((frame, rights)) = pair_at(kept, id, page) {
-            if rights.allows(kind) {
-                self.add(frame, is_held);
+/// The first of what the device has that is so.
+pub(crate) fn first_reachable<F: Fn(Reachable) -> bool>(
+    kept: &KeptState,
+    id: DeviceId,
+    is_so: F,
+) -> Option<Reachable>
+    requires { F.IsAlwaysCallable is_so }
+{
+    for index in 0..kept.grants.page_count(id) {
+        let page = kept.grants.page_at(id, index)?;
+        if let Some(it) = reachable_at(kept, id, page) {
+            if is_so(it) {
+                return Some(it);
             }
         }
     }
+    None
 }
 
-/// A frame that the device may reach by an access of this kind, at some page.
+/// A frame that the device may reach by an access of this kind, at some page: one that it holds, rather than one that may end soon.
 fn some_frame(kept: &KeptState, id: DeviceId, kind: AccessKind) -> Settled {
-    let mut found = Candidates {
-        held: None,
-        lingering: None,
-        are_several: false,
+    let held = first_reachable(kept, id, |it: Reachable| -> bool {
+        it.is_held && it.rights.allows(kind)
+    });
+    let any = match held {
+        None => first_reachable(kept, id, |it: Reachable| -> bool { it.rights.allows(kind) }),
+        held => held,
     };
-    for index in 0..kept.grants.page_count(id) {
-        if let Some(page) = kept.grants.page_at(id, index) {
-            found.add_page(kept, id, page, kind);
-        }
-    }
+    let Some(Reachable { frame, .. }) = any else {
+        return Settled {
+            frame: 0,
+            is_certain: true,
+        };
+    };
+    let other = first_reachable(kept, id, |it: Reachable| -> bool {
+        it.frame != frame && it.rights.allows(kind)
+    });
     Settled {
-        frame: found.first().unwrap_or(0),
-        is_certain: !found.are_several,
+        frame,
+        is_certain: other.is_none(),
     }
 }
 
@@ -102,43 +103,12 @@ pub(crate) fn frame_of_access(
         }
     }
     Settled {
-        frame: match pair_at(kept, id, address / PAGE_SIZE) {
+        frame: match reachable_at(kept, id, address / PAGE_SIZE) {
             None => 0,
-            Some((frame, _)) => frame,
+            Some(it) => it.frame,
         },
         is_certain: true,
     }
-}
-
-/// The first page at which the device has something: the frame that is named, if one is.
-pub(crate) fn page_with(kept: &KeptState, id: DeviceId, named: Option<u64>) -> Option<(u64, u64)> {
-    for index in 0..kept.grants.page_count(id) {
-        let page = kept.grants.page_at(id, index)?;
-        if let Some((frame, _)) = pair_at(kept, id, page) {
-            if named.is_none() || named == Some(frame) {
-                return Some((page, frame));
-            }
-        }
-    }
-    None
-}
-
-/// The first page at which the device has this frame with these rights.
-pub(crate) fn page_showing(
-    kept: &KeptState,
-    id: DeviceId,
-    frame: u64,
-    rights: Rights,
-) -> Option<u64> {
-    for index in 0..kept.grants.page_count(id) {
-        let page = kept.grants.page_at(id, index)?;
-        if let Some((at, allowed)) = pair_at(kept, id, page) {
-            if at == frame && allowed == rights {
-                return Some(page);
-            }
-        }
-    }
-    None
 }
 
 /// A page at which the device has nothing.
@@ -146,7 +116,7 @@ pub(crate) fn page_without(kept: &KeptState, id: DeviceId) -> u64 {
     let last = u64::MAX / PAGE_SIZE;
     for back in 0..kept.grants.page_count(id) {
         let page = last.saturating_sub(back as u64);
-        if pair_at(kept, id, page).is_none() {
+        if reachable_at(kept, id, page).is_none() {
             return page;
         }
     }

@@ -1,7 +1,8 @@
 // The access of a block device's step, of which a line may show no more than what came of it.
-use crate::choosing::{Chosen, Shown, read_at};
+use crate::choosing::{Chosen, Told, read_at};
 use crate::missing::{Begun, Missing};
-use crate::settled::{page_with, page_without};
+use crate::settled::{Reachable, first_reachable, page_without};
+use crate::stop::Line;
 use iom_base::{Access, AccessKind, Cause, DeviceId, PAGE_SIZE, Sequence};
 use iom_kept_state::KeptState;
 use iom_machine::Outcome;
@@ -39,9 +40,12 @@ impl Chosen {
         begun: Begun,
         on: Option<u64>,
     ) {
-        if let Some((page, frame)) = page_with(kept, begun.device, on) {
-            self.choice.frame = frame;
-            self.choice.access = read_at(alloc, page.saturating_mul(PAGE_SIZE));
+        let found = first_reachable(kept, begun.device, |it: Reachable| -> bool {
+            on.is_none() || on == Some(it.frame)
+        });
+        if let Some(it) = found {
+            self.choice.frame = it.frame;
+            self.choice.access = read_at(alloc, it.page.saturating_mul(PAGE_SIZE));
         }
         self.missing = Some(Missing::Access(begun));
     }
@@ -49,25 +53,24 @@ impl Chosen {
     /// What is chosen of a step of a block device.
     pub(crate) fn choose_step(
         &mut self,
-        alloc: Global,
+        line: Line<'_>,
         kept: &KeptState,
-        line: u64,
         device: DeviceId,
-        outcome: &Outcome,
-        shown: Shown<'_>,
+        told: Told<'_>,
     ) -> Result<(), AllocError> {
-        match outcome {
+        let (alloc, on) = (line.alloc, told.shown.on);
+        match told.outcome {
             Outcome::Accepted(number) => {
                 let begun = Begun {
                     device,
                     number: *number,
-                    line,
+                    line: line.number,
                 };
-                match shown.began {
+                match told.shown.began {
                     Some(access) => {
-                        self.choose_frame(kept, begun, access.address, access.kind, shown.on);
+                        self.choose_frame(kept, begun, access.address, access.kind, on);
                     }
-                    None => self.choose_any_access(alloc, kept, begun, shown.on),
+                    None => self.choose_any_access(alloc, kept, begun, on),
                 }
             }
             Outcome::Fault(cause) => {

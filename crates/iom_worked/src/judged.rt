@@ -10,7 +10,7 @@
 use crate::annotated::annotated;
 use crate::told::told;
 use anyhow::Context;
-use iom_judge::{Verdict, judge_trace, trace_of};
+use iom_judge::{Finding, Verdict, judge_trace, trace_of};
 use std::alloc::Global;
 use std::{fmt, fs};
 
@@ -92,13 +92,16 @@ impl Agreement {
     fn of(wanted: Wanted, verdict: &Verdict) -> Agreement {
         match (wanted, verdict) {
             (Wanted::Lawful, Verdict::Lawful) => Agreement::Lawful,
-            (_, Verdict::Uncertified { .. }) => Agreement::Uncertified,
             (
-                Wanted::Unlawful { line, changed },
-                Verdict::Unlawful { line: at, .. }
-                | Verdict::Beyond { line: at, .. }
-                | Verdict::Bad { line: at, .. },
-            ) => Agreement::at(*at, line, changed),
+                _,
+                Verdict::Stops {
+                    finding: Finding::Uncertified(_),
+                    ..
+                },
+            ) => Agreement::Uncertified,
+            (Wanted::Unlawful { line, changed }, Verdict::Stops { line: at, .. }) => {
+                Agreement::at(*at, line, changed)
+            }
             _ => Agreement::Differs,
         }
     }
@@ -195,14 +198,14 @@ fn judge_row(rt: &HostRuntime, row: Row<'_>, told: &Told) -> anyhow::Result<Foun
 
 /// What was found, without the reason.
 fn in_short(alloc: Global, verdict: &Verdict) -> anyhow::Result<String> {
-    Ok(match verdict {
-        Verdict::Unlawful { line, .. } => format!(in alloc; "unlawful at line {line}")?,
-        Verdict::Uncertified { line, .. } => format!(in alloc;
-            "not certified from line {line} on"
-        )?,
-        Verdict::Beyond { line, .. } => format!(in alloc; "beyond the limits at line {line}")?,
-        Verdict::Bad { line, .. } => format!(in alloc; "line {line} isn't in the grammar")?,
-        Verdict::Lawful => format!(in alloc; "{verdict}")?,
+    let Verdict::Stops { line, finding } = verdict else {
+        return Ok(format!(in alloc; "{verdict}")?);
+    };
+    Ok(match finding {
+        Finding::Unlawful(_) => format!(in alloc; "unlawful at line {line}")?,
+        Finding::Uncertified(_) => format!(in alloc; "not certified from line {line} on")?,
+        Finding::Beyond(_) => format!(in alloc; "beyond the limits at line {line}")?,
+        Finding::Bad(_) => format!(in alloc; "line {line} isn't in the grammar")?,
     })
 }
 

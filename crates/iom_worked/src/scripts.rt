@@ -1,5 +1,5 @@
 // Scripts with the lines that they have to print, and what the judge finds of both as a trace.
-use iom_judge::{Verdict, judge_trace, trace_of};
+use iom_judge::{Finding, Verdict, judge_trace, trace_of};
 use iom_runner::run_words;
 use std::alloc::Global;
 use std::fs;
@@ -153,7 +153,10 @@ fn judged(alloc: Global, script: &str, wanted: &str) -> anyhow::Result<String> {
     let outcomes = outcomes_of(alloc, wanted)?;
     let trace = trace_of(alloc, script, &outcomes)?;
     Ok(match judge_trace(alloc, &mut trace.as_bytes())? {
-        Verdict::Uncertified { .. } => format!(in alloc; "not certified")?,
+        Verdict::Stops {
+            finding: Finding::Uncertified(_),
+            ..
+        } => format!(in alloc; "not certified")?,
         verdict => format!(in alloc; "{verdict}")?,
     })
 }

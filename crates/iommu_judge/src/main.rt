@@ -11,7 +11,7 @@
 
 mod progress;
 
-use iom_judge::{Findings, Verdict, judge_on};
+use iom_judge::{Finding, Findings, Verdict, judge_on};
 use iom_programs::{INPUT, cause_of, is_file, why_no_words, words_of};
 use progress::Watched;
 use std::fs;
@@ -56,30 +56,28 @@ fn complain(rt: &HostRuntime, name: &str, text: &str, status: u8) -> u8 {
     status
 }
 
-/// Prints what is found, and gives the exit status.
-fn tell(rt: &HostRuntime, name: &str, verdict: &Verdict) -> io::Result<u8> {
+/// The exit status of what is found.
+fn status_of(verdict: &Verdict) -> u8 {
     match verdict {
-        Verdict::Bad { .. } => {
-            eprintln!(rt; "iommu-judge: {name}: {verdict}")?;
-            Ok(NOT_IN_GRAMMAR)
-        }
-        Verdict::Lawful => {
-            println!(rt; "{verdict}")?;
-            Ok(LAWFUL)
-        }
-        Verdict::Uncertified { .. } => {
-            println!(rt; "{verdict}")?;
-            Ok(NOT_CERTIFIED)
-        }
-        Verdict::Beyond { .. } => {
-            println!(rt; "{verdict}")?;
-            Ok(BEYOND_LIMITS)
-        }
-        Verdict::Unlawful { .. } => {
-            println!(rt; "{verdict}")?;
-            Ok(NOT_LAWFUL)
-        }
+        Verdict::Lawful => LAWFUL,
+        Verdict::Stops { finding, .. } => match finding {
+            Finding::Uncertified(_) => NOT_CERTIFIED,
+            Finding::Beyond(_) => BEYOND_LIMITS,
+            Finding::Unlawful(_) => NOT_LAWFUL,
+            Finding::Bad(_) => NOT_IN_GRAMMAR,
+        },
     }
+}
+
+/// Prints what is found, and gives the exit status. A line that isn't in the grammar is told on standard error.
+fn tell(rt: &HostRuntime, name: &str, verdict: &Verdict) -> io::Result<u8> {
+    let status = status_of(verdict);
+    if status == NOT_IN_GRAMMAR {
+        eprintln!(rt; "iommu-judge: {name}: {verdict}")?;
+    } else {
+        println!(rt; "{verdict}")?;
+    }
+    Ok(status)
 }
 
 /// Prints how many lines were left out, behind which no other was found that can't have come.

@@ -1,8 +1,6 @@
-use Rattle.iom_judge.proofs.CertificateLemmas.{nothing_taken}
 use Rattle.iom_judge.proofs.judging.judge_trace.Goals as goal
 
 pub returns : goal.returns
 returns g c =
-    let lines = c.in_ok-lines.lines in
-    c.judge_lines.ensures (g.R.Read.remaining c.args.reader.now)
-    (nothing_taken c.new-judge.result lines.buffer.items lines.start lines.end (g.R.Read.remaining c.args.reader.now) c.in_ok-lines.ensures c.new-judge.ensures)
+    let first = g.R.Read.remaining c.args.reader.now in
+    c.judge_lines.ensures first (c.in_ok-judge.ensures first)

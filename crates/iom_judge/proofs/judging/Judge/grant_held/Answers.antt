@@ -1,7 +1,0 @@
-use Rattle.iom_judge.proofs.SharingLemmas.{held_further}
-use Rattle.iom_judge.proofs.judging.Judge.grant_held.Goals as goal
-
-pub loop-index-preserved : goal.loop-index-preserved
-loop-index-preserved c =
-    held_further c.args.self.now c.loop-index.self c.grant_held_at.new.self c.args.device c.loop-index.invariant
-    (rw c.in_default-2.is at c.in_ok-verdict.ensures)

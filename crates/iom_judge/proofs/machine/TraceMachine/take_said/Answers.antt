@@ -1,0 +1,37 @@
+use Rattle.std.proofs.Common.{◌≡◌, Option, IfSome, subst}
+use Rattle.iom_base.specs.declared.access.Access.{Access}
+use Rattle.iom_trace_lines.specs.TraceLines.{SaysLine, said_of, Grants}
+use Rattle.iom_trace_lines.specs.declared.trace.TraceLine.{TraceLine}
+use Rattle.iom_judge.proofs.CertificateLemmas.{if_ok}
+use Rattle.iom_judge.proofs.machine.TraceMachine.take_said.Goals as goal
+
+pub returns-in-Step : goal.returns-in-Step
+returns-in-Step c text says = rw c.in-Step.is
+    (if_ok c.go_on.result _ _
+    (λ went. (
+      went.2.0,
+      (
+        went.0,
+        record {
+          tables_taken = c.where_shown.ensures _ went.1.tables_taken;
+          frame = went.1.frame;
+          access = subst (λ (shown : Option Access). IfSome shown (λ access. went.0.access ≡ access)) c.as_ref.ensures.value went.1.access;
+          returned = went.1.returned;
+        },
+        went.2.1,
+      ),
+      went.2.2,
+    ))
+    c.go_on.ensures)
+
+pub returns-in-Made : goal.returns-in-Made
+returns-in-Made c text says = rw c.in-Made.is c.make.ensures
+
+pub returns-in-Grants : goal.returns-in-Grants
+returns-in-Grants c text says =
+    let granted = c.in-Grants.granted in
+    let read = rw c.in-Grants.is at says in
+    rw c.in-Grants.is (if_ok c.grant_each.result _ _ (λ went. (went.1, (went.0, went.2, went.3 read.1.5.4), went.4)) c.grant_each.ensures)
+
+pub returns-in-Joins : goal.returns-in-Joins
+returns-in-Joins c text says = rw c.in-Joins.is c.join.ensures

@@ -1,0 +1,264 @@
+// What changes of a domain: a page is granted, or released. It changes for each device of the domain, and a line may say it of
+// many pages.
+ghost use Rattle.std.specs.Prelude.{◌≡◌, ◌<◌, ◌∷◌, [], ℕ, List, IfSome, IsTrue, OnOk, map};
+ghost use Rattle.iom_machine.specs.declared.choice.Choice as spec_choice;
+ghost use Rattle.iom_machine.specs.declared.event.Event as spec_event;
+ghost use Rattle.iom_machine.specs.declared.outcome.Outcome.TheVariants as outcomes;
+ghost use Rattle.iom_trace_lines.specs.TraceLines.{Releases};
+ghost use Rattle.iom_judge.specs.Certified.{Continues, ContinuesAs, ContinuesBy, ContinuesAtEach, ShowsChoice, ShowsTables};
+ghost use Rattle.iom_judge.specs.declared.changes.Change.TheVariants as changes;
+ghost use Rattle.iom_judge.specs.Happenings.{Happening, Came, CameInTurn, IsShared, behind, change_by, event_of, tables_chosen};
+
+use crate::choosing::{NOTHING, Shown, Tables, Told, where_shown};
+use crate::machine::TraceMachine;
+use crate::stop::{Line, Stop};
+use iom_base::{DeviceId, GrantRights};
+use iom_machine::{Event, Outcome};
+use iom_trace_lines::{GrantedPages, ReleasedPages};
+
+/// Nothing is shown of what a device does that has the tables of another: it takes none.
+pub(crate) const WITHOUT_TABLES: Shown<'static> = Shown {
+    tables: Tables::OfAnother(None),
+    ..NOTHING
+};
+
+/// What changes at a page.
+#[derive(Clone, Copy)]
+pub(crate) enum Change {
+    /// The frame is granted there.
+    Grant {
+        page: u64,
+        frame: u64,
+        rights: GrantRights,
+    },
+    /// What was granted there is released.
+    Release {
+        page: u64,
+    },
+}
+
+impl Change {
+    /// What changed by this, if something did, and the device of which it did.
+    fn by(event: &Event, outcome: &Outcome) -> Option<(DeviceId, Change)>
+        ensures { result ≡ change_by event.now outcome.now }
+    {
+        match (event, outcome) {
+            (
+                Event::Grant {
+                    device,
+                    page,
+                    frame,
+                    rights,
+                },
+                Outcome::Done,
+            ) => Some((
+                *device,
+                Change::Grant {
+                    page: *page,
+                    frame: *frame,
+                    rights: *rights,
+                },
+            )),
+            (Event::Release { device, page }, Outcome::Ticket(_)) => {
+                Some((*device, Change::Release { page: *page }))
+            }
+            _ => None,
+        }
+    }
+
+    /// The event that changes this of the device.
+    fn event_of(self, device: DeviceId) -> Event
+        ensures { result ≡ event_of device self }
+    {
+        match self {
+            Change::Grant {
+                page,
+                frame,
+                rights,
+            } => Event::Grant {
+                device,
+                page,
+                frame,
+                rights,
+            },
+            Change::Release { page } => Event::Release { device, page },
+        }
+    }
+
+    /// The same so many pages behind, and on a frame as far behind. None where that is beyond what 64 bits say.
+    fn behind(self, index: u64) -> Option<Change>
+        ensures { IfSome result (λ it. it ≡ behind index self) }
+    {
+        match self {
+            Change::Grant {
+                page,
+                frame,
+                rights,
+            } => Some(Change::Grant {
+                page: page.checked_add(index)?,
+                frame: frame.checked_add(index)?,
+                rights,
+            }),
+            Change::Release { page } => Some(Change::Release {
+                page: page.checked_add(index)?,
+            }),
+        }
+    }
+}
+
+/// What is shown of the change with this index: the first has all tables that are shown.
+fn shown_at(has_tables: bool, tables: &[u64], index: u64) -> Shown<'_>
+    ensures { (event : spec_event.Event) (choice : spec_choice.Choice) → ShowsTables result.tables event choice → IsTrue has_tables
+        → (index ≡ 0 → tables_chosen event choice ≡ tables.now) × (0 < index → tables_chosen event choice ≡ []) }
+{
+    let tables = if index == 0 { tables } else { &[] };
+    Shown {
+        tables: Tables::Own(where_shown(has_tables, tables)),
+        ..NOTHING
+    }
+}
+
+impl TraceMachine {
+    /// This came of the event of one device more, which took no tables.
+    pub(crate) fn go_on_without_tables<'x>(
+        &mut self,
+        line: Line<'_>,
+        event: &'x Event,
+        outcome: &'x Outcome,
+    ) -> Result<(), Stop>
+        ensures { OnOk result ((choice : spec_choice.Choice) × (choice.taken ≡ [])
+            × Continues self.old (Came event.now outcome.now choice ∷ []) self.new) }
+    {
+        let told = Told {
+            event,
+            outcome,
+            shown: WITHOUT_TABLES,
+        };
+        self.go_on_alone(line, told)
+    }
+
+    /// It changes of each of these devices too.
+    fn change_these(
+        &mut self,
+        line: Line<'_>,
+        devices: &[DeviceId],
+        change: Change,
+        outcome: &Outcome,
+    ) -> Result<(), Stop>
+        ensures { OnOk result ((others : List Happening) × CameInTurn (map (λ device. event_of device change) devices.now) outcome.now others
+            × Continues self.old others self.new) }
+    {
+        match devices {
+            [] => Ok(()),
+            [device, others @ ..] => {
+                self.go_on_without_tables(line, &change.event_of(*device), outcome)?;
+                self.change_these(line, others, change, outcome)
+            }
+        }
+    }
+
+    /// What this changes of a device changes of each other one that shares its domain.
+    fn change_sharers(
+        &mut self,
+        line: Line<'_>,
+        event: &Event,
+        outcome: &Outcome,
+    ) -> Result<(), Stop>
+        ensures { OnOk result ((others : List Happening) × IsShared (change_by event.now outcome.now) outcome.now others
+            × Continues self.old others self.new) }
+    {
+        let Some((device, change)) = Change::by(event, outcome) else {
+            return Ok(());
+        };
+        let devices = self.domains.sharers(line.alloc, &self.kept, device)?;
+        self.change_these(line, devices.as_slice(), change, outcome)
+    }
+
+    /// This came of the event. A grant and a release are those of each device of the domain, and it is its first that is named.
+    pub(crate) fn go_on(&mut self, line: Line<'_>, told: Told<'_>) -> Result<(), Stop>
+        ensures { OnOk result ((choice : spec_choice.Choice) × ShowsChoice told.entry.shown told.entry.event.now choice
+            × ContinuesBy self.old told.entry.event.now told.entry.outcome.now choice self.new) }
+    {
+        self.domains.check_first(told.event)?;
+        self.go_on_alone(line, told)?;
+        self.change_sharers(line, told.event, told.outcome)
+    }
+
+    /// It changed so of the device at so many pages, one after another; and the tables that were taken, where they are shown.
+    fn change_each<'x>(
+        &mut self,
+        line: Line<'_>,
+        device: DeviceId,
+        first: Change,
+        count: u64,
+        outcome: &'x Outcome,
+        has_tables: bool,
+        tables: &'x [u64],
+    ) -> Result<(), Stop>
+        ensures { OnOk result (ContinuesAtEach self.old device first outcome.now count has_tables tables.now self.new) }
+    {
+        for index in 0..count {
+            let Some(change) = first.behind(index) else {
+                return Err(line.bad("it goes beyond 2^64")?);
+            };
+            let told = Told {
+                event: &change.event_of(device),
+                outcome,
+                shown: shown_at(has_tables, tables, index),
+            };
+            self.go_on(line, told)?;
+        }
+        Ok(())
+    }
+
+    /// These pages were granted; and the tables that were taken, where they are shown.
+    pub(crate) fn grant_each(
+        &mut self,
+        line: Line<'_>,
+        granted: GrantedPages,
+        has_tables: bool,
+        tables: &[u64],
+    ) -> Result<(), Stop>
+        ensures { OnOk result (ContinuesAtEach self.old granted.device (changes.Grant granted.page granted.frame granted.rights) outcomes.Done granted.count
+            has_tables tables.now self.new) }
+    {
+        let first = Change::Grant {
+            page: granted.page,
+            frame: granted.frame,
+            rights: granted.rights,
+        };
+        self.change_each(
+            line,
+            granted.device,
+            first,
+            granted.count,
+            &Outcome::Done,
+            has_tables,
+            tables,
+        )
+    }
+
+    /// These pages were released under the ticket.
+    pub(crate) fn release_each(
+        &mut self,
+        line: Line<'_>,
+        released: ReleasedPages,
+        ticket: u32,
+    ) -> Result<(), Stop>
+        ensures { OnOk result (ContinuesAs self.old (Releases released.device released.page released.count ticket) [] self.new) }
+    {
+        let first = Change::Release {
+            page: released.page,
+        };
+        let given = Outcome::Ticket(ticket);
+        self.change_each(
+            line,
+            released.device,
+            first,
+            released.count,
+            &given,
+            false,
+            &[],
+        )
+    }
+}

@@ -1,0 +1,187 @@
+// The machine of a trace, and what a line does to it.
+ghost use Rattle.std.specs.Prelude.{◌≡◌, ◌∷◌, ◌&&◌, [], ℕ, List, None, IfOk, IfSome, OnOk, IsTrue, if◌then◌else◌, not};
+ghost use Rattle.iom_machine.specs.declared.choice.Choice as spec;
+ghost use Rattle.iom_trace_lines.specs.TraceLines.{said_of, SaysLine};
+ghost use Rattle.iom_judge.specs.Certified.{first_in, is_given, Continues, Follows, IsOpened, ShowsChoice};
+ghost use Rattle.iom_judge.specs.Happenings.{is_used, Came};
+ghost use Rattle.iom_judge.specs.Sharing.{is_this, own_domain};
+
+use crate::choosing::{Chosen, Shown, Tables, Told, where_shown};
+use crate::domains::Domains;
+use crate::guesses::Guesses;
+use crate::handed::Handed;
+use crate::missing::Missing;
+use crate::stop::{Line, Stop};
+use crate::verdict::Finding;
+use iom_kept_state::KeptState;
+use iom_machine_judge::judge;
+use iom_reasons::{Facts, Notes};
+use iom_script::WorldSize;
+use iom_trace_lines::{TraceLine, WorldLimits};
+use std::alloc::{AllocError, Global};
+
+/// The numbers of the disks that a world has at power-on.
+const DISKS: [u64; 4] = [0, 1, 2, 3];
+
+/// The frames of the largest world.
+const MOST_FRAMES: u64 = 1 << 40;
+
+/// The machine of a trace, after the lines so far: the ledger machine, and beside it which frames were given to somebody else,
+/// and which devices share a domain.
+#[derive(Drop)]
+pub(crate) struct TraceMachine {
+    pub(crate) kept: KeptState,
+    pub(crate) handed: Handed,
+    pub(crate) domains: Domains,
+    pub(crate) guesses: Guesses,
+    notes: Notes,
+    /// What is chosen for the line, in one place for line after line.
+    chosen: Chosen,
+}
+
+impl TraceMachine {
+    /// The machine at power-on of a world of this size, with these limits. None where there is no such world.
+    pub(crate) fn power_on(
+        alloc: Global,
+        size: WorldSize,
+        limits: WorldLimits,
+    ) -> Result<Option<TraceMachine>, AllocError>
+        ensures { IfOk result (λ found. IfSome found (IsOpened size limits)) }
+    {
+        if size.frames < 4 || size.frames > MOST_FRAMES || size.levels > 3 {
+            return Ok(None);
+        }
+        let levels = size.levels as u8;
+        let kept = KeptState::power_on(alloc, limits.to_limits(), size.frames, levels, &DISKS)?;
+        Ok(Some(TraceMachine {
+            kept,
+            handed: Handed::new(alloc),
+            domains: Domains::new(alloc),
+            guesses: Guesses::new(alloc),
+            notes: Notes::new(alloc),
+            chosen: Chosen::new(alloc),
+        }))
+    }
+
+    /// Notes what this line shows, and what was guessed of it.
+    fn note(
+        &mut self,
+        line: Line<'_>,
+        told: Told<'_>,
+        made: Option<Missing>,
+    ) -> Result<(), AllocError>
+        ensures kept { self.new.kept ≡ self.old.kept }
+        ensures given { OnOk result ((frame : ℕ) → is_given self.new.handed frame
+            ≡ (is_given self.old.handed frame && not (is_used told.entry.event.now told.entry.outcome.now self.old.chosen.choice frame))) }
+        ensures takes { OnOk result (self.new.handed.takes_back ≡ self.old.handed.takes_back) }
+        ensures domains { OnOk result ((k : ℕ) → first_in self.new.domains k
+            ≡ (if is_this (own_domain told.entry.event.now told.entry.outcome.now) k then None else first_in self.old.domains k)) }
+    {
+        self.notes.begin_line(line.number);
+        self.notes.note(told.event, told.outcome)?;
+        self.handed.note(told, &self.chosen.choice);
+        self.domains.note(told.event, told.outcome);
+        self.guesses.note_line(told, made, self.chosen.missing)
+    }
+
+    /// Whether this may come of the event without the model's limits.
+    fn may_come_unlimited(&mut self, alloc: Global, told: Told<'_>) -> Result<bool, AllocError> {
+        let limits = self.kept.limits;
+        if limits.pages.is_some() {
+            return Ok(false);
+        }
+        self.kept.limits = WorldLimits::Unlimited.to_limits();
+        let choice = &self.chosen.choice;
+        let may_come = judge(alloc, &mut self.kept, told.event, told.outcome, choice)?;
+        self.kept.limits = limits;
+        Ok(may_come)
+    }
+
+    /// What is found of a line of which this may not come.
+    fn refusal(&mut self, line: Line<'_>, told: Told<'_>) -> Result<Finding, AllocError> {
+        let guessed = self.guesses.behind(&self.kept, told.event, told.outcome);
+        if let Some(missing) = guessed {
+            return Ok(Finding::Uncertified(missing));
+        }
+        let facts = Facts {
+            kept: &self.kept,
+            notes: &self.notes,
+            on: told.shown.on,
+        };
+        let why = facts.reason(line.alloc, told.event, told.outcome)?;
+        let reason = line.quoting(&why)?;
+        if self.may_come_unlimited(line.alloc, told)? {
+            return Ok(Finding::Beyond(reason));
+        }
+        Ok(Finding::Unlawful(reason))
+    }
+
+    /// This came of the event, and of no other device's with it. It is left out where it may not come.
+    pub(crate) fn go_on_alone(&mut self, line: Line<'_>, told: Told<'_>) -> Result<(), Stop>
+        ensures { OnOk result ((choice : spec.Choice) × ShowsChoice told.entry.shown told.entry.event.now choice
+            × Continues self.old (Came told.entry.event.now told.entry.outcome.now choice ∷ []) self.new) }
+    {
+        self.chosen.choose(line, &self.kept, &self.notes, told)?;
+        let choice = &self.chosen.choice;
+        self.handed.check(line, told, choice)?;
+        self.domains.check(&self.kept, told)?;
+        let made = self.guesses.of_oldest(&self.kept, told.event);
+        if !judge(line.alloc, &mut self.kept, told.event, told.outcome, choice)? {
+            let finding = self.refusal(line, told)?;
+            return Err(Stop::Found(finding));
+        }
+        self.note(line, told, made)?;
+        Ok(())
+    }
+
+    /// The line says this, with these frames of tables beside. It is left out where it may not come, but for those of its events
+    /// that came before.
+    pub(crate) fn take_said<'x>(
+        &mut self,
+        line: Line<'_>,
+        said: &'x TraceLine<'x>,
+        tables: &'x [u64],
+    ) -> Result<(), Stop>
+        ensures { (text : List ℕ) → SaysLine text (said_of said.now) tables.now → OnOk result (Follows self.old (said_of said.now) tables.now self.new) }
+    {
+        match said {
+            TraceLine::Nothing => Ok(()),
+            TraceLine::Bad => Err(line.bad_text(false)?),
+            TraceLine::World(..) => Err(line.bad("the world has its size already")?),
+            TraceLine::Step {
+                event,
+                outcome,
+                has_tables,
+                on,
+                began,
+            } => {
+                let shown = Shown {
+                    tables: Tables::Own(where_shown(*has_tables, tables)),
+                    freed: &[],
+                    on: *on,
+                    began: began.as_ref(),
+                };
+                let told = Told {
+                    event,
+                    outcome,
+                    shown,
+                };
+                self.go_on(line, told)
+            }
+            TraceLine::Made { device, is_read } => self.make(line, *device, *is_read),
+            TraceLine::Grants(granted, has_tables) => {
+                self.grant_each(line, *granted, *has_tables, tables)
+            }
+            TraceLine::Releases(released, ticket) => self.release_each(line, *released, *ticket),
+            TraceLine::Handoff(frame) => self.hand_off(line, *frame),
+            TraceLine::Take(frame) => self.take_back(line, *frame),
+            TraceLine::Joins {
+                device,
+                with,
+                ats,
+                has_tables,
+            } => self.join(line, *device, *with, *ats, *has_tables, tables),
+            TraceLine::TablesFreed => self.free_tables(line, tables),
+        }
+    }
+}

@@ -1,0 +1,88 @@
+// The line that is judged, and why the judging stops at it.
+use crate::missing::Missing;
+use crate::verdict::Finding;
+use iom_bad_lines::explain_trace_line;
+use std::alloc::{AllocError, Global};
+use std::{io, str};
+
+/// So many bytes of a line stand in a reason at most.
+const MOST_QUOTED: usize = 100;
+
+/// Why the judging of a trace stops: for what is found of a line, or since reading or memory failed.
+#[derive(Drop)]
+pub(crate) enum Stop {
+    Found(Finding),
+    Failed(io::Error),
+}
+
+/// What is found depends on this, which isn't shown.
+pub(crate) fn uncertified(missing: Missing) -> Stop {
+    Stop::Found(Finding::Uncertified(missing))
+}
+
+impl From<AllocError> for Stop {
+    fn from(error: AllocError) -> Stop {
+        Stop::Failed(io::Error::from(error))
+    }
+}
+
+impl From<io::Error> for Stop {
+    fn from(error: io::Error) -> Stop {
+        Stop::Failed(error)
+    }
+}
+
+/// The text as a reason quotes it, or a part of it: whole, where it isn't long.
+fn quoted(alloc: Global, text: &[u8]) -> Result<String, AllocError> {
+    let front = text.get(..MOST_QUOTED).unwrap_or(text);
+    let more = if front.len() < text.len() { ".." } else { "" };
+    let text = str::from_utf8(front).unwrap_or("");
+    format!(in alloc; "`{text}{more}`")
+}
+
+/// A line of a trace.
+#[derive(Clone, Copy)]
+pub(crate) struct Line<'a> {
+    pub(crate) alloc: Global,
+    /// Its number, from 1.
+    pub(crate) number: u64,
+    pub(crate) text: &'a [u8],
+}
+
+impl Line<'_> {
+    /// The reason, behind the line.
+    pub(crate) fn quoting(self, reason: &str) -> Result<String, AllocError> {
+        let alloc = self.alloc;
+        let quoted = quoted(alloc, self.text)?;
+        if reason.is_empty() {
+            return Ok(quoted);
+        }
+        format!(in alloc; "{quoted}: {reason}")
+    }
+
+    /// It may not come, for this reason.
+    pub(crate) fn unlawful(self, reason: &str) -> Result<Stop, AllocError> {
+        Ok(Stop::Found(Finding::Unlawful(self.quoting(reason)?)))
+    }
+
+    /// It isn't in the grammar, for this that is wrong with it.
+    pub(crate) fn bad(self, wrong: &str) -> Result<Stop, AllocError> {
+        let wrong = String::from_str(self.alloc, wrong)?;
+        Ok(Stop::Found(Finding::Bad(wrong)))
+    }
+
+    /// Its text isn't in the grammar: where, what stands there, and what was expected.
+    pub(crate) fn bad_text(self, is_first: bool) -> Result<Stop, AllocError> {
+        let alloc = self.alloc;
+        let Ok(text) = str::from_utf8(self.text) else {
+            return self.bad("it isn't text");
+        };
+        let place = explain_trace_line(text, is_first);
+        let found = quoted(alloc, place.found.as_bytes())?;
+        let (column, expected, form) = (place.column, place.expected, place.form);
+        let wrong = format!(in alloc;
+            "column {column}: {found} stands where {expected} was expected ({form})"
+        )?;
+        Ok(Stop::Found(Finding::Bad(wrong)))
+    }
+}
