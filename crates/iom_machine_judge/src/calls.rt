@@ -3,10 +3,10 @@ ghost use Rattle.std.specs.Prelude.{◌≡◌, ◌↔◌, ◌+◌, ◌++◌, ◌
 ghost use Rattle.iom_ledger.specs.History.{History};
 ghost use Rattle.iom_machine.specs.Frames.{IsFree};
 ghost use Rattle.iom_machine.specs.Refusals.{MayRefusePlug, MayRefuseAttach, MayRefuseGrant, MayFindNoPlace};
-ghost use Rattle.iom_machine.specs.Machine.{Plugs, Attaches, Detaches, Grants, Releases, Fetches, TakesRecord};
+ghost use Rattle.iom_machine.specs.Machine.{Plugs, Attaches, Detaches, Grants, Releases};
 ghost use Rattle.iom_machine.specs.Tickets.{IsLastPending, MayTakeTicket};
 ghost use Rattle.iom_kept_state.specs.Grants.{IsPastOf, is_confirmed_in};
-ghost use Rattle.iom_kept_state.specs.States.{state_of, Decides, DecidesStaying};
+ghost use Rattle.iom_kept_state.specs.States.{state_of, Decides};
 
 use crate::devices::{place_of, set_attachment, start_leaving};
 use crate::disks::without_disk;
@@ -227,18 +227,4 @@ pub(crate) fn judge_release(
         Outcome::Refused(why) => Ok(refuses(first, may_find_no_place(*why), *why)),
         _ => Ok(false),
     }
-}
-
-/// Whether a fetch may come so, which leaves every state as it is.
-pub(crate) fn judge_fetch(kept: &KeptState, outcome: &Outcome) -> bool
-    ensures { DecidesStaying result kept.now (λ before after. Fetches before outcome.now after) }
-{
-    matches!(outcome, Outcome::Fetched(_))
-}
-
-/// Whether this may come where the driver asks for a fault record, which leaves every state as it is.
-pub(crate) fn judge_faults(kept: &KeptState, outcome: &Outcome) -> bool
-    ensures { DecidesStaying result kept.now (λ before after. TakesRecord before outcome.now after) }
-{
-    matches!(outcome, Outcome::Record(_) | Outcome::NoRecord)
 }

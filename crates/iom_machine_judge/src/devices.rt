@@ -149,15 +149,3 @@ pub(crate) fn take_oldest(devices: &mut Sequence<Device>, place: usize) -> Accep
     let device = devices.item_mut(place);
     device.in_flight.pop_front()
 }
-
-/// The oldest access of the device is in flight no more.
-pub(crate) fn drop_oldest(devices: &mut Sequence<Device>, place: usize)
-    requires { place < length devices.old }
-    ensures { (device : Device) → slice_get devices.old place ≡ Some device
-        → devices.new ≡ slice_set devices.old place (record device { in_flight = drop 1 device.in_flight }) }
-{
-    let device = devices.item_mut(place);
-    if !device.in_flight.as_slice().is_empty() {
-        let _oldest = device.in_flight.pop_front();
-    }
-}

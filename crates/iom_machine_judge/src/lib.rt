@@ -12,8 +12,8 @@
 //! call the judge. The judge of traces and tests call it.
 #![tactic(auto)]
 
-mod absent;
 mod accesses;
+mod acts;
 mod block_devices;
 pub mod calls;
 mod commits;
@@ -23,7 +23,6 @@ mod devices;
 mod disks;
 mod ids;
 mod line;
-mod messages;
 pub mod polls;
 mod processor;
 pub mod questions;

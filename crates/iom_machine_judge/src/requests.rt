@@ -9,15 +9,13 @@ ghost use Rattle.iom_ledger.specs.History.{History};
 ghost use Rattle.iom_machine.specs.declared.state.Device.{Device};
 ghost use Rattle.iom_machine.specs.Requests.{IsBusy, IsForwarded, HoldsFor, HoldsNoneFor, LingersFor, MayAccept};
 ghost use Rattle.iom_machine.specs.Requests.{MayFault, MayAcceptInOneStage, MayAnswer, state_after};
-ghost use Rattle.iom_machine.specs.Machine.{Requests};
 ghost use Rattle.iom_machine.specs.Judging.{StandsAt};
 
-use crate::absent::{answers_absent, answers_unable};
 use crate::cut_off::{
     accepts_cut_off, cause_without_context, faults_cut_off, is_page_fault_of,
     is_page_fault_of_either,
 };
-use crate::devices::{accept, place_of};
+use crate::devices::accept;
 use iom_base::{Access, AccessKind, Cause, DeviceId, Mode, PAGE_SIZE, Rights, Span};
 use iom_kept_state::{KeptGrants, KeptState};
 use iom_machine::{Attachment, Device, Outcome};
@@ -208,24 +206,4 @@ pub(crate) fn answer_at(
     }
     after_answer(kept, place, access, frame, outcome)?;
     Ok(true)
-}
-
-/// Whether a request may be answered so, on this frame; what is kept is then what it leaves.
-pub(crate) fn judge_request(
-    kept: &mut KeptState,
-    id: DeviceId,
-    access: Access,
-    outcome: &Outcome,
-    frame: u64,
-) -> Result<bool, AllocError>
-    ensures { IfOk result (λ may. Decides may kept.old kept.new (λ before after. Requests frame before id access outcome.now after)) }
-{
-    let Some(place) = place_of(kept.devices.as_slice(), id) else {
-        return Ok(answers_absent(outcome));
-    };
-    let device = &kept.devices.as_slice()[place];
-    if !device.kind.sends_untranslated() {
-        return Ok(answers_unable(outcome));
-    }
-    answer_at(kept, place, access, frame, outcome)
 }

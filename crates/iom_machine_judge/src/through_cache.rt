@@ -7,12 +7,10 @@ ghost use Rattle.iom_ledger.specs.History.{History};
 ghost use Rattle.iom_machine.specs.declared.outcome.Outcome.TheVariants.{Accepted};
 ghost use Rattle.iom_machine.specs.declared.state.Device.{Device};
 ghost use Rattle.iom_machine.specs.ThroughCache.{MayHaveCached, MayGoThrough, MayAnswerThroughCache, state_after_cached};
-ghost use Rattle.iom_machine.specs.Machine.{RequestsThroughCache};
 ghost use Rattle.iom_machine.specs.Judging.{StandsAt};
 
-use crate::absent::{answers_absent, answers_unable};
 use crate::cut_off::accepts_cut_off;
-use crate::devices::{accept, place_of};
+use crate::devices::accept;
 use crate::requests::{holds, is_busy, is_forwarded, is_next, is_within_page, lingers};
 use crate::translated::may_find_no_context;
 use iom_base::{Access, DeviceId, Mode, PAGE_SIZE};
@@ -132,24 +130,4 @@ pub(crate) fn answer_at(
     }
     after_answer(kept, place, access, frame, outcome)?;
     Ok(true)
-}
-
-/// Whether this may come of an access through the device's own cache, on this frame; what is kept is then what it leaves.
-pub(crate) fn judge_through_cache(
-    kept: &mut KeptState,
-    id: DeviceId,
-    access: Access,
-    outcome: &Outcome,
-    frame: u64,
-) -> Result<bool, AllocError>
-    ensures { IfOk result (λ may. Decides may kept.old kept.new (λ before after. RequestsThroughCache frame before id access outcome.now after)) }
-{
-    let Some(place) = place_of(kept.devices.as_slice(), id) else {
-        return Ok(answers_absent(outcome));
-    };
-    let device = &kept.devices.as_slice()[place];
-    if !device.kind.sends_through_cache() {
-        return Ok(answers_unable(outcome));
-    }
-    answer_at(kept, place, access, frame, outcome)
 }
