@@ -1,10 +1,6 @@
 // What may come of an act of a device, which is plugged in and of a kind that can do what is asked.
 ghost use Rattle.std.specs.Prelude.{◌≡◌, ◌↔◌, ◌<◌, IfOk, IsTrue, Some, length, slice_get};
-ghost use Rattle.iom_kept_state.specs.States.{Decides};
-ghost use Rattle.iom_machine.specs.declared.outcome.Outcome.TheVariants.{Refused};
-ghost use Rattle.iom_machine.specs.declared.state.Device.{Device};
-ghost use Rattle.iom_machine.specs.Judging.{StandsAt};
-ghost use Rattle.iom_machine.specs.Machine.{Acts};
+ghost use Rattle.iom_machine_judge.specs.Words.{Decides, Refused, Device, StandsAt, Acts};
 ghost use Rattle.iom_machine_judge.specs.Deciding.{able_to, ActStep};
 
 use crate::accesses::access_of;

@@ -1,12 +1,6 @@
 // What may come of the events of a block device.
 ghost use Rattle.std.specs.Prelude.{◌≡◌, ◌↔◌, ◌<◌, IfOk, OnOk, IsTrue, Some, length, slice_get};
-ghost use Rattle.iom_base.specs.Accesses.{HasBytes, MayWant};
-ghost use Rattle.iom_kept_state.specs.States.{state_of, Decides};
-ghost use Rattle.iom_ledger.specs.History.{History};
-ghost use Rattle.iom_machine.specs.declared.state.Device.{Device};
-ghost use Rattle.iom_machine.specs.BlockDevices.{MayInsert, Inserts, MaySet, MayBe, Begins, TakesStep, with_disk};
-ghost use Rattle.iom_machine.specs.Judging.{StandsAt};
-ghost use Rattle.iom_virtqueue.specs.Layouts.{layout_of};
+ghost use Rattle.iom_machine_judge.specs.Words.{HasBytes, MayWant, state_of, Decides, History, Device, MayInsert, Inserts, MaySet, MayBe, Begins, TakesStep, with_disk, StandsAt, layout_of};
 
 use crate::accesses::access_with;
 use crate::devices::give_disk;
@@ -108,7 +102,7 @@ fn has_bytes(access: &Access) -> bool
 fn may_want(access: &Access) -> bool
     ensures { IsTrue result ↔ MayWant access.now }
 {
-    is_within_page(access) && has_bytes(access)
+    is_within_page(access.address, access.len) && has_bytes(access)
 }
 
 /// Whether this may come where the device at the place begins the access; what is kept is then what it leaves.

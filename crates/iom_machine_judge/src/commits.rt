@@ -1,12 +1,6 @@
 // What a commit makes.
 ghost use Rattle.std.specs.Prelude.{◌≡◌, ◌↔◌, ◌<◌, IfOk, IsTrue, Some, length, slice_get};
-ghost use Rattle.std.specs.Option.{option_copied};
-ghost use Rattle.iom_ledger.specs.History.{History, May};
-ghost use Rattle.iom_machine.specs.declared.state.Device.{Device};
-ghost use Rattle.iom_machine.specs.Judging.{StandsAt};
-ghost use Rattle.iom_machine.specs.Machine.{GivesBytes, MakesWrite, Makes};
-ghost use Rattle.iom_kept_state.specs.Grants.{IsPastOf};
-ghost use Rattle.iom_kept_state.specs.States.{state_of, Decides};
+ghost use Rattle.iom_machine_judge.specs.Words.{option_copied, History, May, Device, StandsAt, GivesBytes, MakesWrite, Makes, IsPastOf, state_of, Decides};
 
 use crate::devices::take_oldest;
 use iom_base::{AcceptedAccess, Access, AccessKind, DeviceId, PAGE_SIZE};

@@ -1,7 +1,6 @@
 // Decides the machine: which step may come.
 ghost use Rattle.std.specs.Prelude.{IfOk};
-ghost use Rattle.iom_kept_state.specs.States.{Decides, DecidesStaying};
-ghost use Rattle.iom_machine.specs.Machine.{ChosenStep};
+ghost use Rattle.iom_machine_judge.specs.Words.{Decides, DecidesStaying, ChosenStep};
 ghost use Rattle.iom_machine_judge.specs.Verdicts.{IsFoundOf, RunsAreChosen};
 ghost use Rattle.iom_machine_judge.specs.Deciding.{CallStep, StayingStep};
 

@@ -1,14 +1,7 @@
 // What a device may be told that asks for the translation of a page.
 ghost use Rattle.std.specs.Prelude.{◌≡◌, ◌↔◌, IsTrue, IsSomeAnd, Some, true};
+ghost use Rattle.iom_machine_judge.specs.Words.{IsPastOf, state_of, DecidesStaying, History, Lingers, May, Attached, device_of, Delivers, LingersSomewhere, MayShow, IsForEachKind, MayTellFormerly, MayTellCutOff, MayTell};
 ghost use Rattle.iom_fabric.specs.declared.message.Translation.TheVariants.{Refused};
-ghost use Rattle.iom_kept_state.specs.Grants.{IsPastOf};
-ghost use Rattle.iom_kept_state.specs.States.{state_of, DecidesStaying};
-ghost use Rattle.iom_ledger.specs.History.{History, Lingers, May};
-ghost use Rattle.iom_machine.specs.declared.state.Attachment.TheVariants.{Attached};
-ghost use Rattle.iom_machine.specs.Devices.{device_of};
-ghost use Rattle.iom_machine.specs.Messages.{Delivers};
-ghost use Rattle.iom_machine.specs.Requests.{LingersSomewhere};
-ghost use Rattle.iom_machine.specs.Questions.{MayShow, IsForEachKind, MayTellFormerly, MayTellCutOff, MayTell};
 
 use crate::cut_off::{cause_without_context, is_page_fault_of, is_page_fault_of_either};
 use crate::devices::device_with;

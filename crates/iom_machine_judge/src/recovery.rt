@@ -1,7 +1,6 @@
 // Devices that don't answer: they are cut off and attached again, and the queue goes on without them.
 ghost use Rattle.std.specs.Prelude.{IfOk};
-ghost use Rattle.iom_machine.specs.Machine.{Quarantines, Revives};
-ghost use Rattle.iom_kept_state.specs.States.{Decides};
+ghost use Rattle.iom_machine_judge.specs.Words.{Quarantines, Revives, Decides};
 
 use crate::calls::{may_find_no_place, may_give};
 use crate::devices::{attach_again, cut_off, place_of};

@@ -1,13 +1,6 @@
 // What may come of an access through the device's own cache of translations.
 ghost use Rattle.std.specs.Prelude.{◌≡◌, ◌↔◌, ◌<◌, ◌^◌, ℕ, IfOk, OnOk, IsTrue, Some, slice_get, length};
-ghost use Rattle.iom_base.specs.Accesses.{at_frame};
-ghost use Rattle.iom_kept_state.specs.Grants.{IsPastOf};
-ghost use Rattle.iom_kept_state.specs.States.{state_of, Decides};
-ghost use Rattle.iom_ledger.specs.History.{History};
-ghost use Rattle.iom_machine.specs.declared.outcome.Outcome.TheVariants.{Accepted};
-ghost use Rattle.iom_machine.specs.declared.state.Device.{Device};
-ghost use Rattle.iom_machine.specs.ThroughCache.{MayHaveCached, MayGoThrough, MayAnswerThroughCache, state_after_cached};
-ghost use Rattle.iom_machine.specs.Judging.{StandsAt};
+ghost use Rattle.iom_machine_judge.specs.Words.{at_frame, IsPastOf, state_of, Decides, History, Accepted, Device, MayHaveCached, MayGoThrough, MayAnswerThroughCache, state_after_cached, StandsAt};
 
 use crate::cut_off::accepts_cut_off;
 use crate::devices::accept;
@@ -74,8 +67,8 @@ pub fn may_answer(
     ensures low { IsTrue result → (number : ℕ) → outcome.now ≡ Accepted number → frame < 2 ^ 40 }
 {
     match outcome {
-        Outcome::BadSpan => !is_within_page(access),
-        Outcome::Busy => is_within_page(access) && is_busy(kept, device),
+        Outcome::BadSpan => !is_within_page(access.address, access.len),
+        Outcome::Busy => is_within_page(access.address, access.len) && is_busy(kept, device),
         Outcome::Miss => is_forwarded(kept, device, access),
         Outcome::Accepted(number) => {
             is_forwarded(kept, device, access)

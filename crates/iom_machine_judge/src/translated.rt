@@ -1,8 +1,6 @@
 // What a request may be answered that says it is translated already, and what is found where there is no context.
 ghost use Rattle.std.specs.Prelude.{◌↔◌, IsTrue};
-ghost use Rattle.iom_kept_state.specs.States.{state_of};
-ghost use Rattle.iom_ledger.specs.History.{History};
-ghost use Rattle.iom_machine.specs.Translated.{MayLackContext, MayFindNoContext, MayFaultTranslated, MayAnswerTranslated};
+ghost use Rattle.iom_machine_judge.specs.Words.{state_of, History, MayLackContext, MayFindNoContext, MayFaultTranslated, MayAnswerTranslated};
 
 use crate::cut_off::cause_without_context;
 use crate::requests::{is_busy, is_forwarded, is_same_cause, is_within_page};
@@ -37,8 +35,8 @@ pub fn may_answer(kept: &KeptState, device: &Device, access: &Access, outcome: &
     ensures { (h : History) → IsTrue result ↔ MayAnswerTranslated (state_of kept.now h) device.now access.now outcome.now }
 {
     match outcome {
-        Outcome::BadSpan => !is_within_page(access),
-        Outcome::Busy => is_within_page(access) && is_busy(kept, device),
+        Outcome::BadSpan => !is_within_page(access.address, access.len),
+        Outcome::Busy => is_within_page(access.address, access.len) && is_busy(kept, device),
         Outcome::Fault(cause) => {
             is_forwarded(kept, device, access) && may_fault(kept, device, *cause)
         }
