@@ -4,7 +4,6 @@ use Rattle.iom_base.specs.declared.refusal.Refusal.TheVariants.{BadMedium}
 use Rattle.iom_kept_state.specs.States.{state_of}
 use Rattle.iom_machine.specs.declared.outcome.Outcome.TheVariants.{Refused}
 use Rattle.iom_machine.specs.declared.state.Device.{Device}
-use Rattle.iom_machine.specs.declared.state.State.{State}
 use Rattle.iom_machine.specs.BlockDevices.{MayInsert, with_disk}
 use Rattle.iom_machine.proofs.StepLemmas.{read_again}
 use Rattle.iom_machine_judge.proofs.LeftLemmas.{stays_by}
