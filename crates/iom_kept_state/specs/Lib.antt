@@ -3,3 +3,4 @@ pub mod Grants
 pub mod Wanted
 pub mod Frames
 pub mod States
+pub mod Words

@@ -4,8 +4,7 @@ use iom_base::DeviceId;
 
 impl KeptGrants {
     ghost use Rattle.std.specs.Prelude.{◌≡◌, ℕ, IsTrue, Some, slice_get};
-    ghost use Rattle.iom_ledger.specs.History.{History, held_at};
-    ghost use Rattle.iom_kept_state.specs.Grants.{IsPastOf, held_by, pages_by};
+    ghost use Rattle.iom_kept_state.specs.Words.{History, held_at, IsPastOf, held_by, pages_by};
 
     /// Whether the one device holds what the other holds, at each page of this one.
     fn agree_at_pages(&self, of: DeviceId, one: DeviceId, other: DeviceId) -> bool

@@ -1,7 +1,6 @@
 // Bytes of a frame, looked at and replaced.
 ghost use Rattle.std.specs.Prelude.{◌≡◌, ◌<◌, ◌≤◌, ◌+◌, ◌^◌, ◌↔◌, IfOk, OnOk, IsTrue, take, drop, length, replicate, slice_range};
-ghost use Rattle.iom_base.specs.Bytes.{with_bytes};
-ghost use Rattle.iom_base.specs.Sizes.{page_size};
+ghost use Rattle.iom_kept_state.specs.Words.{with_bytes, page_size};
 
 use iom_base::{FRAME_SIZE, Sequence};
 use std::alloc::{AllocError, Global};
@@ -35,17 +34,11 @@ fn later_bytes(bytes: &[u8], count: u64) -> &[u8]
     }
 }
 
-fn are_same(bytes: &[u8], other: &[u8]) -> bool
-    ensures { IsTrue result ↔ (bytes.now ≡ other.now) }
-{
-    bytes == other
-}
-
 /// Whether these are the bytes in all of these from the offset on, so many or all that there are.
 pub(crate) fn stand_in(all: &[u8], offset: u64, len: u64, bytes: &[u8]) -> bool
     ensures { IsTrue result ↔ (bytes.now ≡ slice_range all.now offset (offset + len)) }
 {
-    are_same(bytes, first_bytes(later_bytes(all, offset), len))
+    bytes == first_bytes(later_bytes(all, offset), len)
 }
 
 /// Whether so many bytes from the offset on end within so many.

@@ -16,9 +16,7 @@ pub struct KeptFrame {
 
 impl KeptFrame {
     ghost use Rattle.std.specs.Prelude.{◌≡◌, ◌+◌, ◌↔◌, OnOk, IsTrue, length, slice_range};
-    ghost use Rattle.iom_base.specs.Bytes.{with_bytes};
-    ghost use Rattle.iom_machine.specs.PowerOn.{empty_frame};
-    ghost use Rattle.iom_kept_state.specs.Frames.{bytes_kept, frame_kept};
+    ghost use Rattle.iom_kept_state.specs.Words.{with_bytes, empty_frame, bytes_kept, frame_kept};
 
     /// A frame of zeros that belongs to nobody. It takes no memory.
     fn new(alloc: Global) -> KeptFrame
@@ -73,12 +71,7 @@ pub struct KeptFrames {
 
 impl KeptFrames {
     ghost use Rattle.std.specs.Prelude.{◌≡◌, ◌↔◌, ◌+◌, ◌≤◌, ◌-◌, ◌^◌, [], ◌∷◌, Some, OnOk, IfOk, IsTrue, length, replicate, slice_get, slice_range};
-    ghost use Rattle.std.specs.Option.{option_and_then, option_copied};
-    ghost use Rattle.iom_base.specs.Bytes.{with_bytes};
-    ghost use Rattle.iom_base.specs.declared.owner.Owner.TheVariants.{System};
-    ghost use Rattle.iom_machine.specs.Frames.{is_reserved, reserved_for, with_frame, bytes_of, stored};
-    ghost use Rattle.iom_machine.specs.PowerOn.{empty_frame};
-    ghost use Rattle.iom_kept_state.specs.Frames.{frames_in, kept_at, ChangesFrame};
+    ghost use Rattle.iom_kept_state.specs.Words.{option_and_then, option_copied, with_bytes, System, is_reserved, reserved_for, with_frame, bytes_of, stored, empty_frame, frames_in, kept_at, ChangesFrame};
 
     /// So many frames of zeros, of which the last four are the system's.
     pub fn at_power_on(alloc: Global, count: u64) -> Result<KeptFrames, AllocError>

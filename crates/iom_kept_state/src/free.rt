@@ -3,10 +3,7 @@ use crate::state::KeptState;
 
 impl KeptState {
     ghost use Rattle.std.specs.Prelude.{◌↔◌, ◌<◌, ◌*◌, ◌+◌, ◌^◌, All, IsTrue};
-    ghost use Rattle.iom_ledger.specs.History.{History};
-    ghost use Rattle.iom_machine.specs.Frames.{IsFree, IsFreeBesides, IsFreeRun, FewerThan};
-    ghost use Rattle.iom_kept_state.specs.Grants.{IsPastOf};
-    ghost use Rattle.iom_kept_state.specs.States.{state_of};
+    ghost use Rattle.iom_kept_state.specs.Words.{History, IsFree, IsFreeBesides, IsFreeRun, FewerThan, IsPastOf, state_of};
 
     /// Whether the frame is free.
     pub fn is_free(&self, number: u64) -> bool

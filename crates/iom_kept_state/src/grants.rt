@@ -29,10 +29,7 @@ pub struct KeptGrants {
 
 impl KeptGrants {
     ghost use Rattle.std.specs.Prelude.{◌≡◌, ◌<◌, ◌≤◌, ◌-◌, ◌+◌, ◌^◌, ◌⊎◌, suc, [], ◌∷◌, false, OnOk, IfOk, IsSome, None};
-    ghost use Rattle.iom_base.specs.Calls.{IsGrantable};
-    ghost use Rattle.iom_ledger.specs.History.{History, confirmed_from};
-    ghost use Rattle.iom_ledger.specs.declared.entry.HistoryEntry.TheVariants.{Granted, Released, AllReleased, Confirmed};
-    ghost use Rattle.iom_kept_state.specs.Grants.{IsPastOf, held_by, lingering_by, is_confirmed_in};
+    ghost use Rattle.iom_kept_state.specs.Words.{IsGrantable, History, confirmed_from, Granted, Released, AllReleased, Confirmed, IsPastOf, held_by, lingering_by, is_confirmed_in};
 
     /// No grants: nothing happened before.
     pub fn new(alloc: Global) -> Result<KeptGrants, AllocError>

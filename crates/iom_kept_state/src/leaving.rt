@@ -1,16 +1,6 @@
 //! What is left of devices once the tickets are confirmed under which they leave.
 ghost use Rattle.std.specs.Prelude.{◌≡◌, ◌==◌, ◌<◌, Some, not, length, map, find, slice_get, slice_set, OnOk};
-ghost use Rattle.std.specs.List.{list_any};
-ghost use Rattle.std.specs.Option.{option_copied};
-ghost use Rattle.iom_base.specs.declared.owner.Owner.{Owner};
-ghost use Rattle.iom_ledger.specs.History.{History};
-ghost use Rattle.iom_machine.specs.declared.state.Device.{Device};
-ghost use Rattle.iom_machine.specs.declared.state.Frame.{Frame};
-ghost use Rattle.iom_machine.specs.Judging.{attachment_in, is_of_left_in};
-ghost use Rattle.iom_machine.specs.Leaving.{has_left, once_confirmed, device_once_confirmed, given_back, with_left};
-ghost use Rattle.iom_kept_state.specs.Frames.{frames_in};
-ghost use Rattle.iom_kept_state.specs.Grants.{IsPastOf};
-ghost use Rattle.iom_kept_state.specs.States.{state_of};
+ghost use Rattle.iom_kept_state.specs.Words.{list_any, option_copied, Owner, History, Device, Frame, attachment_in, is_of_left_in, has_left, once_confirmed, device_once_confirmed, given_back, with_left, frames_in, IsPastOf, state_of};
 
 use crate::frames::{KeptFrame, KeptFrames};
 use crate::grants::KeptGrants;

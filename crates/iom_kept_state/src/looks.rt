@@ -5,10 +5,7 @@ use iom_base::{AccessKind, DeviceId, Rights};
 
 impl KeptGrants {
     ghost use Rattle.std.specs.Prelude.{◌≡◌, ◌≤◌, ◌<◌, ◌^◌, ◌-◌, ◌↔◌, ◌⊎◌, suc, [], IsTrue, IsNone, IfSome, Some, ℕ, length, slice_get};
-    ghost use Rattle.iom_ledger.specs.History.{History, Pair, Holds, held_at, lingering_at, confirms, confirmed_from, Lingers, May, NoneMayReach};
-    ghost use Rattle.iom_machine.specs.Requests.{LingersSomewhere};
-    ghost use Rattle.iom_machine.specs.Tickets.{last_confirmed};
-    ghost use Rattle.iom_kept_state.specs.Grants.{IsPastOf, frame_at_place, held_by, lingering_by, pages_by, is_confirmed_in};
+    ghost use Rattle.iom_kept_state.specs.Words.{History, Pair, Holds, held_at, lingering_at, confirms, confirmed_from, Lingers, May, NoneMayReach, LingersSomewhere, last_confirmed, IsPastOf, frame_at_place, held_by, lingering_by, pages_by, is_confirmed_in};
 
     /// The frame at a place; 0 where there is no such place.
     fn frame_at(&self, place: u32) -> u64

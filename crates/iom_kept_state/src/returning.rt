@@ -1,13 +1,6 @@
 //! Tables that are given back of devices that stay attached.
 ghost use Rattle.std.specs.Prelude.{◌≡◌, ◌↔◌, ℕ, [], All, IsTrue, Some};
-ghost use Rattle.iom_ledger.specs.History.{History, lingering_at};
-ghost use Rattle.iom_base.specs.declared.owner.Owner.TheVariants.{OneDevice};
-ghost use Rattle.iom_machine.specs.PowerOn.{empty_frame};
-ghost use Rattle.iom_machine.specs.Refusals.{attachment_of, is_attached};
-ghost use Rattle.iom_machine.specs.Returning.{frames_returned, MayGiveBack, MayGiveBackOf, with_returned};
-ghost use Rattle.iom_kept_state.specs.Frames.{frames_in, ChangesFrame};
-ghost use Rattle.iom_kept_state.specs.Grants.{IsPastOf};
-ghost use Rattle.iom_kept_state.specs.States.{state_of};
+ghost use Rattle.iom_kept_state.specs.Words.{History, lingering_at, OneDevice, empty_frame, attachment_of, is_attached, frames_returned, MayGiveBack, MayGiveBackOf, with_returned, frames_in, ChangesFrame, IsPastOf, state_of};
 
 use crate::frames::KeptFrames;
 use crate::grants::KeptGrants;

@@ -22,9 +22,7 @@ pub struct KeptState {
 
 impl KeptState {
     ghost use Rattle.std.specs.Prelude.{◌≡◌, ◌≤◌, ◌^◌, [], IfOk};
-    ghost use Rattle.iom_machine.specs.PowerOn.{opening};
-    ghost use Rattle.iom_kept_state.specs.Grants.{IsPastOf};
-    ghost use Rattle.iom_kept_state.specs.States.{state_of};
+    ghost use Rattle.iom_kept_state.specs.Words.{opening, IsPastOf, state_of};
 
     /// The state at power-on, with these limits, so many frames and levels of the device directory, and disks of these
     /// numbers. An address has at most 52 bits, so there are no more frames than their numbers of 40 bits name.

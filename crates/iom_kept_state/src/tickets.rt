@@ -13,7 +13,7 @@ pub struct ConfirmedTickets {
 
 impl ConfirmedTickets {
     ghost use Rattle.std.specs.Prelude.{◌≡◌, ◌<◌, ◌==◌, ◌||◌, ℕ, false, OnOk, OnErr};
-    ghost use Rattle.iom_kept_state.specs.Tickets.{is_up_to, is_among};
+    ghost use Rattle.iom_kept_state.specs.Tickets.{is_among};
 
     /// None are confirmed.
     pub(crate) fn new(alloc: Global) -> ConfirmedTickets
@@ -25,18 +25,11 @@ impl ConfirmedTickets {
         }
     }
 
-    /// Whether the ticket is one of those up to the settled one.
-    fn is_settled(&self, ticket: u32) -> bool
-        ensures { result ≡ is_up_to self.now.settled ticket }
-    {
-        0 < ticket && ticket <= self.settled
-    }
-
     /// Whether the ticket is confirmed.
     pub(crate) fn has(&self, ticket: u32) -> bool
         ensures { result ≡ is_among self.now ticket }
     {
-        self.is_settled(ticket) || self.later.contains(&ticket)
+        0 < ticket && ticket <= self.settled || self.later.contains(&ticket)
     }
 
     /// The ticket that follows the settled ones is settled too, where it is confirmed.

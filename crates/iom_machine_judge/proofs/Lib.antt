@@ -1,4 +1,3 @@
-mod AccessLemmas
 mod BlockLemmas
 pub mod DecidedLemmas
 pub mod LeftLemmas

@@ -1,12 +1,6 @@
 // The driver's calls.
 ghost use Rattle.std.specs.Prelude.{◌≡◌, ◌↔◌, ◌+◌, ◌++◌, ◌⊎◌, false, All, IfOk, IsTrue, None};
-ghost use Rattle.iom_ledger.specs.History.{History};
-ghost use Rattle.iom_machine.specs.Frames.{IsFree};
-ghost use Rattle.iom_machine.specs.Refusals.{MayRefusePlug, MayRefuseAttach, MayRefuseGrant, MayFindNoPlace};
-ghost use Rattle.iom_machine.specs.Machine.{Plugs, Attaches, Detaches, Grants, Releases, Fetches, TakesRecord};
-ghost use Rattle.iom_machine.specs.Tickets.{IsLastPending, MayTakeTicket};
-ghost use Rattle.iom_kept_state.specs.Grants.{IsPastOf, is_confirmed_in};
-ghost use Rattle.iom_kept_state.specs.States.{state_of, Decides, DecidesStaying};
+ghost use Rattle.iom_machine_judge.specs.Words.{History, IsFree, MayRefusePlug, MayRefuseAttach, MayRefuseGrant, MayFindNoPlace, Plugs, Attaches, Detaches, Grants, Releases, IsLastPending, MayTakeTicket, IsPastOf, is_confirmed_in, state_of, Decides};
 
 use crate::devices::{place_of, set_attachment, start_leaving};
 use crate::disks::without_disk;
@@ -135,10 +129,7 @@ pub(crate) fn judge_attach(
     let first = attach_refusal(kept, id, ats);
     match outcome {
         Outcome::Done => {
-            if first.is_some() {
-                return Ok(false);
-            }
-            if !are_both_free(kept, pages, taken) {
+            if first.is_some() || !are_both_free(kept, pages, taken) {
                 return Ok(false);
             }
             let Some(place) = place_of(kept.devices.as_slice(), id) else {
@@ -191,10 +182,7 @@ pub(crate) fn judge_grant(
     let first = grant_refusal(kept, id, page, frame);
     match outcome {
         Outcome::Done => {
-            if first.is_some() {
-                return Ok(false);
-            }
-            if !kept.are_free_besides(Some(frame), taken) {
+            if first.is_some() || !kept.are_free_besides(Some(frame), taken) {
                 return Ok(false);
             }
             kept.grants.grant(id, page, frame, rights.rights())?;
@@ -227,18 +215,4 @@ pub(crate) fn judge_release(
         Outcome::Refused(why) => Ok(refuses(first, may_find_no_place(*why), *why)),
         _ => Ok(false),
     }
-}
-
-/// Whether a fetch may come so, which leaves every state as it is.
-pub(crate) fn judge_fetch(kept: &KeptState, outcome: &Outcome) -> bool
-    ensures { DecidesStaying result kept.now (λ before after. Fetches before outcome.now after) }
-{
-    matches!(outcome, Outcome::Fetched(_))
-}
-
-/// Whether this may come where the driver asks for a fault record, which leaves every state as it is.
-pub(crate) fn judge_faults(kept: &KeptState, outcome: &Outcome) -> bool
-    ensures { DecidesStaying result kept.now (λ before after. TakesRecord before outcome.now after) }
-{
-    matches!(outcome, Outcome::Record(_) | Outcome::NoRecord)
 }

@@ -1,9 +1,6 @@
 // What a device is answered that has no context, or that is quarantined or leaving under a ticket.
 ghost use Rattle.std.specs.Prelude.{◌≡◌, ◌↔◌, ◌<◌, ◌^◌, IsTrue};
-ghost use Rattle.iom_kept_state.specs.Grants.{IsPastOf};
-ghost use Rattle.iom_kept_state.specs.States.{state_of};
-ghost use Rattle.iom_ledger.specs.History.{History};
-ghost use Rattle.iom_machine.specs.Requests.{MayAcceptFormerly, MayAcceptCutOff, MayFaultCutOff, IsPageFaultOf, IsPageFaultOfEither, cause_without_context};
+ghost use Rattle.iom_machine_judge.specs.Words.{IsPastOf, state_of, History, MayAcceptFormerly, MayAcceptCutOff, MayFaultCutOff, IsPageFaultOf, IsPageFaultOfEither, cause_without_context};
 
 use crate::ids::too_wide;
 use crate::requests::{is_same_cause, lingers};

@@ -1,58 +1,74 @@
 // Decides the machine: which step may come.
 ghost use Rattle.std.specs.Prelude.{IfOk};
-ghost use Rattle.iom_kept_state.specs.States.{Decides};
-ghost use Rattle.iom_machine.specs.Machine.{ChosenStep};
+ghost use Rattle.iom_machine_judge.specs.Words.{Decides, DecidesStaying, ChosenStep};
 ghost use Rattle.iom_machine_judge.specs.Verdicts.{IsFoundOf, RunsAreChosen};
-ghost use Rattle.iom_machine_judge.specs.Deciding.{BlockDeviceStep};
+ghost use Rattle.iom_machine_judge.specs.Deciding.{CallStep, StayingStep};
 
-use crate::accesses::access_of;
-use crate::block_devices::{judge_medium, judge_queue, judge_status, judge_step};
-use crate::calls::{
-    judge_attach, judge_detach, judge_faults, judge_fetch, judge_grant, judge_plug, judge_release,
-};
-use crate::commits::judge_commit;
+use crate::acts::judge_act;
+use crate::calls::{judge_attach, judge_detach, judge_grant, judge_plug, judge_release};
 use crate::line::Line;
-use crate::messages::{judge_ask, judge_deliver, judge_drop, judge_forge, judge_repeat};
 use crate::polls::judge_poll;
 use crate::processor::{judge_free, judge_peek, judge_poke};
-use crate::recovery::{judge_quarantine, judge_reset, judge_restart, judge_revive, judge_timeout};
-use crate::requests::judge_request;
-use crate::through_cache::judge_through_cache;
-use crate::translated::judge_translated;
+use crate::questions::judge_deliver;
+use crate::recovery::{judge_quarantine, judge_revive};
+use iom_base::Refusal;
 use iom_kept_state::KeptState;
 use iom_machine::{Choice, Event, Outcome};
 use std::alloc::{AllocError, Global};
 
-/// Whether an event may come so that only a block device takes; the state is then what it leaves.
-fn decide_block_device(
+/// Whether a call of the driver may come so; the next state is then kept.
+fn judge_call(
     alloc: Global,
     kept: &mut KeptState,
     event: &Event,
     outcome: &Outcome,
     choice: &Choice,
 ) -> Result<bool, AllocError>
-    ensures { IfOk result (λ may. Decides may kept.old kept.new (λ before after. BlockDeviceStep choice.now before event.now outcome.now after)) }
+    ensures { IfOk result (λ may. Decides may kept.old kept.new (λ before after. CallStep choice.now before event.now outcome.now after)) }
+{
+    let (pages, taken) = (choice.directory.as_slice(), choice.taken.as_slice());
+    match event {
+        Event::Plug { device, new } => judge_plug(alloc, kept, *device, *new, outcome),
+        Event::Attach { device, mode, ats } => {
+            judge_attach(kept, *device, *mode, *ats, outcome, pages, taken)
+        }
+        Event::Detach { device } => Ok(judge_detach(kept, *device, outcome)),
+        Event::Grant {
+            device,
+            page,
+            frame,
+            rights,
+        } => judge_grant(kept, *device, *page, *frame, *rights, outcome, taken),
+        Event::Release { device, page } => judge_release(kept, *device, *page, outcome),
+        Event::Quarantine { device } => judge_quarantine(kept, *device, outcome),
+        Event::Revive { device } => Ok(judge_revive(kept, *device, outcome)),
+        _ => Ok(false),
+    }
+}
+
+/// Whether this may come of an event of the queues or of a message, which leaves the state as it is.
+fn judge_staying(kept: &KeptState, event: &Event, outcome: &Outcome, choice: &Choice) -> bool
+    ensures { DecidesStaying result kept.now (λ before after. StayingStep choice.now before event.now outcome.now after) }
 {
     match event {
-        Event::Medium { device, disk } => judge_medium(alloc, kept, *device, *disk, outcome),
-        Event::Queue {
-            device,
-            size,
-            descriptors,
-            available,
-            used,
-        } => Ok(judge_queue(
-            kept,
-            *device,
-            *size,
-            *descriptors,
-            *available,
-            *used,
-            outcome,
-        )),
-        Event::Step { device } => judge_step(alloc, kept, *device, outcome, choice),
-        Event::Status { device } => Ok(judge_status(kept, *device, outcome)),
-        _ => Ok(false),
+        Event::Restart => {
+            matches!(
+                outcome,
+                Outcome::Done | Outcome::Refused(Refusal::NumbersUsedUp)
+            )
+        }
+        Event::Fetch => matches!(outcome, Outcome::Fetched(_)),
+        Event::Timeout => matches!(outcome, Outcome::TimedOut | Outcome::NoEffect),
+        Event::Faults => matches!(outcome, Outcome::Record(_) | Outcome::NoRecord),
+        Event::Deliver { .. } => judge_deliver(kept, outcome, choice),
+        Event::Drop { .. } => matches!(outcome, Outcome::Dropped | Outcome::NoMessage),
+        Event::Repeat { .. } => {
+            matches!(
+                outcome,
+                Outcome::Repeated | Outcome::Lost | Outcome::NoMessage
+            )
+        }
+        _ => false,
     }
 }
 
@@ -67,54 +83,36 @@ pub fn judge(
     ensures { IfOk result (λ may. Decides may kept.old kept.new (λ before after. ChosenStep choice.now before event.now outcome.now after)) }
 {
     match event {
-        Event::Plug { device, new } => judge_plug(alloc, kept, *device, *new, outcome),
-        Event::Attach { device, mode, ats } => {
-            let (pages, taken) = (choice.directory.as_slice(), choice.taken.as_slice());
-            judge_attach(kept, *device, *mode, *ats, outcome, pages, taken)
+        Event::Plug { .. } | Event::Attach { .. } | Event::Detach { .. } | Event::Grant { .. } => {
+            judge_call(alloc, kept, event, outcome, choice)
         }
-        Event::Detach { device } => Ok(judge_detach(kept, *device, outcome)),
-        Event::Grant {
-            device,
-            page,
-            frame,
-            rights,
-        } => {
-            let tables = choice.taken.as_slice();
-            judge_grant(kept, *device, *page, *frame, *rights, outcome, tables)
+        Event::Release { .. } | Event::Quarantine { .. } | Event::Revive { .. } => {
+            judge_call(alloc, kept, event, outcome, choice)
         }
-        Event::Release { device, page } => judge_release(kept, *device, *page, outcome),
-        Event::Quarantine { device } => judge_quarantine(kept, *device, outcome),
-        Event::Revive { device } => Ok(judge_revive(kept, *device, outcome)),
-        Event::Restart => Ok(judge_restart(kept, outcome)),
-        Event::Fetch => Ok(judge_fetch(kept, outcome)),
-        Event::Timeout => Ok(judge_timeout(kept, outcome)),
+        Event::Restart | Event::Fetch | Event::Timeout | Event::Faults => {
+            Ok(judge_staying(kept, event, outcome, choice))
+        }
+        Event::Deliver { .. } | Event::Drop { .. } | Event::Repeat { .. } => {
+            Ok(judge_staying(kept, event, outcome, choice))
+        }
         Event::Poll => judge_poll(kept, outcome, choice),
-        Event::Faults => Ok(judge_faults(kept, outcome)),
-        Event::Deliver { .. } => Ok(judge_deliver(kept, outcome, choice)),
-        Event::Drop { .. } => Ok(judge_drop(outcome)),
-        Event::Repeat { .. } => Ok(judge_repeat(outcome)),
-        Event::Poke { address, bytes } => { judge_poke(kept, *address, bytes.as_slice(), outcome) }
+        Event::Poke { address, bytes } => judge_poke(kept, *address, bytes.as_slice(), outcome),
         Event::Peek { address, len } => Ok(judge_peek(kept, *address, *len, outcome)),
         Event::Free { frame } => Ok(judge_free(kept, *frame, outcome)),
-        Event::Read { device, .. } | Event::Write { device, .. } => {
-            let access = access_of(alloc, event)?;
-            judge_request(kept, *device, access, outcome, choice.frame)
-        }
-        Event::ReadTranslated { device, .. } | Event::WriteTranslated { device, .. } => {
-            let access = access_of(alloc, event)?;
-            Ok(judge_translated(kept, *device, &access, outcome))
-        }
-        Event::ReadThroughCache { device, .. } | Event::WriteThroughCache { device, .. } => {
-            let access = access_of(alloc, event)?;
-            judge_through_cache(kept, *device, access, outcome, choice.frame)
-        }
-        Event::Ask { device, .. } => Ok(judge_ask(kept, *device, outcome)),
-        Event::Forge { device, .. } => Ok(judge_forge(kept, *device, outcome)),
-        Event::Reset { device } => Ok(judge_reset(kept, *device, outcome)),
-        Event::Medium { .. } | Event::Queue { .. } | Event::Step { .. } | Event::Status { .. } => {
-            decide_block_device(alloc, kept, event, outcome, choice)
-        }
-        Event::Commit { device } => judge_commit(kept, *device, outcome),
+        Event::Read { device, .. }
+        | Event::Write { device, .. }
+        | Event::ReadTranslated { device, .. }
+        | Event::WriteTranslated { device, .. }
+        | Event::ReadThroughCache { device, .. }
+        | Event::WriteThroughCache { device, .. }
+        | Event::Ask { device, .. }
+        | Event::Forge { device, .. }
+        | Event::Reset { device }
+        | Event::Medium { device, .. }
+        | Event::Queue { device, .. }
+        | Event::Step { device }
+        | Event::Status { device }
+        | Event::Commit { device } => judge_act(alloc, kept, *device, event, outcome, choice),
     }
 }
 

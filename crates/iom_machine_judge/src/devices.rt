@@ -1,10 +1,6 @@
 // Where a device stands, and how it changes.
 ghost use Rattle.std.specs.Prelude.{◌≡◌, ◌<◌, ◌==◌, true, false, [], ◌∷◌, ◌++◌, length, find, slice_get, slice_set, MatchOption, OnOk, Some, None, drop};
-ghost use Rattle.std.specs.Option.{option_copied};
-ghost use Rattle.iom_machine.specs.Judging.{StandsAt};
-ghost use Rattle.iom_machine.specs.Leaving.{leaving_under};
-ghost use Rattle.iom_machine.specs.CuttingOff.{cut_off_under, attached_again};
-ghost use Rattle.iom_machine.specs.declared.state.Device.{Device};
+ghost use Rattle.iom_machine_judge.specs.Words.{option_copied, StandsAt, leaving_under, cut_off_under, attached_again, Device};
 
 use iom_base::{AcceptedAccess, Access, DeviceId, Sequence};
 use iom_kept_state::KeptState;
@@ -79,16 +75,6 @@ pub(crate) fn give_disk(devices: &mut Sequence<Device>, place: usize)
     device.has_disk = true;
 }
 
-/// What is attached leaves under the ticket.
-fn leaving_under(ticket: u32, attachment: Attachment) -> Attachment
-    ensures { result ≡ leaving_under ticket attachment }
-{
-    match attachment {
-        Attachment::Attached { mode, ats } => Attachment::Leaving { ticket, mode, ats },
-        _ => attachment,
-    }
-}
-
 /// The device leaves under the ticket, where it is attached, and has no disk any more.
 pub(crate) fn start_leaving(devices: &mut Sequence<Device>, place: usize, ticket: u32)
     requires { place < length devices.old }
@@ -97,17 +83,10 @@ pub(crate) fn start_leaving(devices: &mut Sequence<Device>, place: usize, ticket
 {
     let device = devices.item_mut(place);
     device.has_disk = false;
-    device.attachment = leaving_under(ticket, device.attachment);
-}
-
-/// What is attached is cut off under the ticket.
-fn cut_off_under(ticket: u32, attachment: Attachment) -> Attachment
-    ensures { result ≡ cut_off_under ticket attachment }
-{
-    match attachment {
-        Attachment::Attached { mode, ats } => Attachment::Quarantined { ticket, mode, ats },
-        _ => attachment,
-    }
+    device.attachment = match device.attachment {
+        Attachment::Attached { mode, ats } => Attachment::Leaving { ticket, mode, ats },
+        other => other,
+    };
 }
 
 /// The device is cut off under the ticket, where it is attached.
@@ -117,17 +96,10 @@ pub(crate) fn cut_off(devices: &mut Sequence<Device>, place: usize, ticket: u32)
         → devices.new ≡ slice_set devices.old place (record device { attachment = cut_off_under ticket device.attachment }) }
 {
     let device = devices.item_mut(place);
-    device.attachment = cut_off_under(ticket, device.attachment);
-}
-
-/// What is cut off is attached as it was before.
-fn attached_again(attachment: Attachment) -> Attachment
-    ensures { result ≡ attached_again attachment }
-{
-    match attachment {
-        Attachment::Quarantined { mode, ats, .. } => Attachment::Attached { mode, ats },
-        _ => attachment,
-    }
+    device.attachment = match device.attachment {
+        Attachment::Attached { mode, ats } => Attachment::Quarantined { ticket, mode, ats },
+        other => other,
+    };
 }
 
 /// The device is attached again as it was before, where it is cut off.
@@ -137,7 +109,10 @@ pub(crate) fn attach_again(devices: &mut Sequence<Device>, place: usize)
         → devices.new ≡ slice_set devices.old place (record device { attachment = attached_again device.attachment }) }
 {
     let device = devices.item_mut(place);
-    device.attachment = attached_again(device.attachment);
+    device.attachment = match device.attachment {
+        Attachment::Quarantined { mode, ats, .. } => Attachment::Attached { mode, ats },
+        other => other,
+    };
 }
 
 /// Takes the oldest access of the device, which is in flight no more.
@@ -148,16 +123,4 @@ pub(crate) fn take_oldest(devices: &mut Sequence<Device>, place: usize) -> Accep
 {
     let device = devices.item_mut(place);
     device.in_flight.pop_front()
-}
-
-/// The oldest access of the device is in flight no more.
-pub(crate) fn drop_oldest(devices: &mut Sequence<Device>, place: usize)
-    requires { place < length devices.old }
-    ensures { (device : Device) → slice_get devices.old place ≡ Some device
-        → devices.new ≡ slice_set devices.old place (record device { in_flight = drop 1 device.in_flight }) }
-{
-    let device = devices.item_mut(place);
-    if !device.in_flight.as_slice().is_empty() {
-        let _oldest = device.in_flight.pop_front();
-    }
 }

@@ -1,6 +1,6 @@
 // The disks that were never put into a device.
 ghost use Rattle.std.specs.Prelude.{◌≡◌, ◌==◌, IfOk, filter, not};
-ghost use Rattle.iom_base.specs.Disks.{is_among, is_missing, without_disk};
+ghost use Rattle.iom_machine_judge.specs.Words.{is_among, is_missing, without_disk};
 
 use iom_base::Sequence;
 use std::alloc::{AllocError, Global};

@@ -1,6 +1,6 @@
 // Which ids the device directory can't name.
 ghost use Rattle.std.specs.Prelude.{◌≡◌, nat_le};
-ghost use Rattle.iom_base.specs.DeviceIds.{id_limit};
+ghost use Rattle.iom_machine_judge.specs.Words.{id_limit};
 
 use iom_base::DeviceId;
 use iom_kept_state::KeptState;

@@ -3,8 +3,8 @@
 //! [`judge`] decides one step, and [`judge_run`] a list of lines; their contracts are the definitions of
 //! `iom_machine`, said of each past of what is kept (`iom_kept_state`): `decide.rt` goes by the event, and has the calls that
 //! others make. Each further module decides what events of one sort ask: `calls.rt`, `recovery.rt`, `polls.rt` the driver's,
-//! `requests.rt`, `translated.rt`, `through_cache.rt` a device's accesses, `questions.rt` and `messages.rt` what
-//! address translation services add, `block_devices.rt`, `commits.rt` and `processor.rt` the rest. They look
+//! `acts.rt` a device's, by `requests.rt`, `translated.rt`, `through_cache.rt`, `commits.rt` its accesses, `block_devices.rt`
+//! the rest of a block device, `questions.rt` what address translation services add, `processor.rt` the processor's. They look
 //! things up in `devices.rt` and `reasons.rt`. Each is lent what is kept, and answers whether the event may come so: then the
 //! next state is kept, and else nothing changed (`Decides`).
 //!
@@ -12,8 +12,8 @@
 //! call the judge. The judge of traces and tests call it.
 #![tactic(auto)]
 
-mod absent;
 mod accesses;
+mod acts;
 mod block_devices;
 pub mod calls;
 mod commits;
@@ -23,7 +23,6 @@ mod devices;
 mod disks;
 mod ids;
 mod line;
-mod messages;
 pub mod polls;
 mod processor;
 pub mod questions;

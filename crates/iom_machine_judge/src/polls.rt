@@ -1,12 +1,6 @@
 // Which tickets a poll may confirm, and which tables it may give back.
 ghost use Rattle.std.specs.Prelude.{◌≡◌, ◌↔◌, ◌+◌, ◌-◌, ◌<◌, ◌≤◌, ℕ, suc, false, IfOk, IsTrue, All};
-ghost use Rattle.iom_ledger.specs.History.{History, May, confirms, confirmed_from};
-ghost use Rattle.iom_machine.specs.Devices.{DeviceMay};
-ghost use Rattle.iom_machine.specs.Tickets.{AreNextTickets, ArePending, MayConfirm};
-ghost use Rattle.iom_machine.specs.Machine.{Polls};
-ghost use Rattle.iom_machine.specs.Returning.{MayGiveBack, with_returned};
-ghost use Rattle.iom_kept_state.specs.Grants.{IsPastOf};
-ghost use Rattle.iom_kept_state.specs.States.{state_of, Decides};
+ghost use Rattle.iom_machine_judge.specs.Words.{History, May, confirms, confirmed_from, DeviceMay, AreNextTickets, ArePending, MayConfirm, Polls, MayGiveBack, with_returned, IsPastOf, state_of, Decides};
 
 use iom_base::{AcceptedAccess, DeviceId, PAGE_SIZE};
 use iom_kept_state::{KeptGrants, KeptState};
@@ -79,13 +73,7 @@ fn are_pending(kept: &KeptState, first: u32, last: u32) -> bool
     ensures shown { IsTrue result → (0 < first) × (first ≤ last) × (last ≤ kept.now.grants.given) }
     ensures pending { (h : History) → IsPastOf kept.now.grants h → IsTrue result ↔ ArePending (state_of kept.now h) first last }
 {
-    if first == 0 {
-        return false;
-    }
-    if first > last {
-        return false;
-    }
-    if last > kept.grants.given {
+    if first == 0 || first > last || last > kept.grants.given {
         return false;
     }
     none_confirmed(&kept.grants, first, last)

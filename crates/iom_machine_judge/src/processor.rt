@@ -1,21 +1,13 @@
 // What the processor writes and reads, and what it is told of a frame.
 ghost use Rattle.std.specs.Prelude.{◌≡◌, ◌↔◌, IfOk, IsTrue};
-ghost use Rattle.iom_base.specs.Spans.{FitsInPage};
-ghost use Rattle.iom_ledger.specs.History.{History};
-ghost use Rattle.iom_machine.specs.Machine.{Pokes, ShowsBytes, Peeks, TellsFree};
-ghost use Rattle.iom_kept_state.specs.States.{state_of, Decides, DecidesStaying};
+ghost use Rattle.iom_machine_judge.specs.Words.{History, Pokes, ShowsBytes, Peeks, TellsFree, state_of, Decides, DecidesStaying};
 
 use crate::reasons::{frame_refusal, poke_refusal, refuses};
-use iom_base::{PAGE_SIZE, Span};
+use crate::requests::is_within_page;
+use iom_base::PAGE_SIZE;
 use iom_kept_state::KeptState;
 use iom_machine::Outcome;
 use std::alloc::AllocError;
-
-fn is_within_page(address: u64, len: u64) -> bool
-    ensures { IsTrue result ↔ FitsInPage address len }
-{
-    Span::new(address, len).is_some()
-}
 
 /// Whether a poke may come so; the next state is then kept.
 pub(crate) fn judge_poke(
@@ -37,10 +29,7 @@ pub(crate) fn judge_poke(
             Ok(refuses(first, false, *why))
         }
         Outcome::Done => {
-            if !fits {
-                return Ok(false);
-            }
-            if first.is_some() {
+            if !fits || first.is_some() {
                 return Ok(false);
             }
             kept.frames
@@ -72,10 +61,7 @@ pub(crate) fn judge_peek(kept: &KeptState, address: u64, len: u64, outcome: &Out
         Outcome::BadSpan => !fits,
         Outcome::Refused(why) => fits && refuses(first, false, *why),
         Outcome::Bytes(bytes) => {
-            if !fits {
-                return false;
-            }
-            if first.is_some() {
+            if !fits || first.is_some() {
                 return false;
             }
             shows(kept, address, len, bytes.as_slice())

@@ -1,18 +1,14 @@
 // What a device may be told that asks for the translation of a page.
-ghost use Rattle.std.specs.Prelude.{◌≡◌, ◌↔◌, IsTrue, Some, true};
+ghost use Rattle.std.specs.Prelude.{◌≡◌, ◌↔◌, IsTrue, IsSomeAnd, Some, true};
+ghost use Rattle.iom_machine_judge.specs.Words.{IsPastOf, state_of, DecidesStaying, History, Lingers, May, Attached, device_of, Delivers, LingersSomewhere, MayShow, IsForEachKind, MayTellFormerly, MayTellCutOff, MayTell};
 ghost use Rattle.iom_fabric.specs.declared.message.Translation.TheVariants.{Refused};
-ghost use Rattle.iom_kept_state.specs.Grants.{IsPastOf};
-ghost use Rattle.iom_kept_state.specs.States.{state_of};
-ghost use Rattle.iom_ledger.specs.History.{History, Lingers, May};
-ghost use Rattle.iom_machine.specs.declared.state.Attachment.TheVariants.{Attached};
-ghost use Rattle.iom_machine.specs.Requests.{LingersSomewhere};
-ghost use Rattle.iom_machine.specs.Questions.{MayShow, IsForEachKind, MayTellFormerly, MayTellCutOff, MayTell};
 
 use crate::cut_off::{cause_without_context, is_page_fault_of, is_page_fault_of_either};
+use crate::devices::device_with;
 use iom_base::{AccessKind, Cause, DeviceId, Mode, Rights};
 use iom_fabric::Translation;
 use iom_kept_state::{KeptGrants, KeptState};
-use iom_machine::Attachment;
+use iom_machine::{Attachment, Choice, Outcome};
 
 /// Whether the device is told that there is no translation, with the cause.
 fn is_refused_with(told: Translation, cause: Cause) -> bool
@@ -172,5 +168,34 @@ pub fn may_tell(
         Attachment::Leaving { ticket, mode, ats } => {
             tells_cut_off(ticket, mode, ats, kept, id, page, told)
         }
+    }
+}
+
+/// Whether the question of the device for the page may be answered so.
+fn is_told(kept: &KeptState, asker: DeviceId, page: u64, told: Translation) -> bool
+    ensures { (h : History) → IsPastOf kept.now.grants h → IsTrue result ↔ IsSomeAnd (device_of (state_of kept.now h) asker)
+        (λ device. MayTell device.attachment (state_of kept.now h) device.id page told) }
+{
+    match device_with(kept, asker) {
+        None => false,
+        Some(device) => may_tell(device.attachment, kept, device.id, page, told),
+    }
+}
+
+/// Whether this may come of a delivery, which leaves the state as it is.
+pub(crate) fn judge_deliver(kept: &KeptState, outcome: &Outcome, choice: &Choice) -> bool
+    ensures { DecidesStaying result kept.now (λ before after. Delivers choice.now.device choice.now.page before outcome.now after) }
+{
+    match outcome {
+        Outcome::Answered(told) => is_told(kept, choice.device, choice.page, *told),
+        Outcome::Kept
+        | Outcome::Stale
+        | Outcome::AnswerRefused
+        | Outcome::Ignored
+        | Outcome::Invalidated(_)
+        | Outcome::Closed(_)
+        | Outcome::NotClosed(_)
+        | Outcome::NoMessage => true,
+        _ => false,
     }
 }

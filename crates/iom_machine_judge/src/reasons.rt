@@ -1,16 +1,7 @@
 // The first refusal that applies.
 ghost use Rattle.std.specs.Prelude.{◌≡◌, ◌↔◌, ◌<◌, ◌^◌, ◌&&◌, ◌||◌, false, not, nat_le, is_some, IsTrue, IsNone, IsSome, MatchOption, None};
-ghost use Rattle.std.specs.Option.{option_copied, option_map_or};
-ghost use Rattle.iom_base.specs.DeviceKinds.{has_cache};
-ghost use Rattle.iom_machine.specs.declared.state.Attachment.TheVariants.{Detached};
-ghost use Rattle.iom_base.specs.Refusals.{first_that_applies};
-ghost use Rattle.iom_ledger.specs.History.{History};
-ghost use Rattle.iom_machine.specs.Refusals.{plug_reasons, attach_reasons, detach_reasons, grant_reasons, release_reasons, quarantine_reasons, revive_reasons, frame_reasons, poke_reasons};
-ghost use Rattle.iom_machine.specs.Refusals.{attachment_of, is_detached, is_leaving, is_quarantined, is_attached, may_still_reach, table_limit_at};
-ghost use Rattle.iom_machine.specs.Refusals.{is_held, is_lingering, has_grants};
-ghost use Rattle.iom_machine.specs.Tickets.{pending_tickets};
-ghost use Rattle.iom_kept_state.specs.Grants.{IsPastOf, held_by, lingering_by};
-ghost use Rattle.iom_kept_state.specs.States.{state_of};
+ghost use Rattle.iom_machine_judge.specs.Words.{option_copied, option_map_or, has_cache, Detached, first_that_applies, History, plug_reasons, attach_reasons, detach_reasons, grant_reasons, release_reasons, quarantine_reasons, revive_reasons, frame_reasons};
+ghost use Rattle.iom_machine_judge.specs.Words.{poke_reasons, attachment_of, is_detached, is_leaving, is_quarantined, is_attached, may_still_reach, table_limit_at, is_held, is_lingering, has_grants, pending_tickets, IsPastOf, held_by, lingering_by, state_of};
 
 use crate::devices::device_with;
 use crate::disks::is_missing;
@@ -235,23 +226,16 @@ pub fn revive_refusal(kept: &KeptState, id: DeviceId) -> Option<Refusal>
 pub fn frame_refusal(kept: &KeptState, frame: u64) -> Option<Refusal>
     ensures { (h : History) → result ≡ first_that_applies (frame_reasons (state_of kept.now h) frame) }
 {
-    if frame >= kept.frames.count() {
-        Some(Refusal::FrameOutOfRange)
-    } else {
-        None
-    }
+    first_that_applies(&[(frame >= kept.frames.count(), Refusal::FrameOutOfRange)])
 }
 
 pub(crate) fn poke_refusal(kept: &KeptState, frame: u64) -> Option<Refusal>
     ensures { (h : History) → result ≡ first_that_applies (poke_reasons (state_of kept.now h) frame) }
 {
-    if frame >= kept.frames.count() {
-        Some(Refusal::FrameOutOfRange)
-    } else if kept.frames.is_reserved(frame) {
-        Some(Refusal::FrameReserved)
-    } else {
-        None
-    }
+    first_that_applies(&[
+        (frame >= kept.frames.count(), Refusal::FrameOutOfRange),
+        (kept.frames.is_reserved(frame), Refusal::FrameReserved),
+    ])
 }
 
 /// Whether the refusal is the first that applied, or, where none did, one that may come all the same.

@@ -1,14 +1,11 @@
 // Devices that don't answer: they are cut off and attached again, and the queue goes on without them.
-ghost use Rattle.std.specs.Prelude.{◌≡◌, ◌↔◌, IfOk, IsTrue};
-ghost use Rattle.iom_machine.specs.declared.outcome.Outcome.TheVariants.{Done};
-ghost use Rattle.iom_machine.specs.Machine.{Quarantines, Revives, Restarts, TimesOut, Resets};
-ghost use Rattle.iom_kept_state.specs.States.{Decides, DecidesStaying};
+ghost use Rattle.std.specs.Prelude.{IfOk};
+ghost use Rattle.iom_machine_judge.specs.Words.{Quarantines, Revives, Decides};
 
-use crate::absent::answers_absent;
 use crate::calls::{may_find_no_place, may_give};
-use crate::devices::{attach_again, cut_off, device_with, place_of};
+use crate::devices::{attach_again, cut_off, place_of};
 use crate::reasons::{quarantine_refusal, refuses, revive_refusal};
-use iom_base::{DeviceId, Refusal};
+use iom_base::DeviceId;
 use iom_kept_state::KeptState;
 use iom_machine::Outcome;
 use std::alloc::AllocError;
@@ -57,40 +54,5 @@ pub(crate) fn judge_revive(kept: &mut KeptState, id: DeviceId, outcome: &Outcome
         }
         Outcome::Refused(why) => refuses(first, false, *why),
         _ => false,
-    }
-}
-
-/// Whether a restart may come so, which leaves every state as it is.
-pub(crate) fn judge_restart(kept: &KeptState, outcome: &Outcome) -> bool
-    ensures { DecidesStaying result kept.now (λ before after. Restarts before outcome.now after) }
-{
-    match outcome {
-        Outcome::Done => true,
-        Outcome::Refused(why) => matches!(why, Refusal::NumbersUsedUp),
-        _ => false,
-    }
-}
-
-/// Whether a timeout may come so, which leaves every state as it is.
-pub(crate) fn judge_timeout(kept: &KeptState, outcome: &Outcome) -> bool
-    ensures { DecidesStaying result kept.now (λ before after. TimesOut before outcome.now after) }
-{
-    matches!(outcome, Outcome::TimedOut | Outcome::NoEffect)
-}
-
-/// Whether the outcome says that it is done.
-fn is_done(outcome: &Outcome) -> bool
-    ensures { IsTrue result ↔ (outcome.now ≡ Done) }
-{
-    matches!(outcome, Outcome::Done)
-}
-
-/// Whether a reset of a device may come so, which leaves the state as it is.
-pub(crate) fn judge_reset(kept: &KeptState, id: DeviceId, outcome: &Outcome) -> bool
-    ensures { DecidesStaying result kept.now (λ before after. Resets before id outcome.now after) }
-{
-    match device_with(kept, id) {
-        None => answers_absent(outcome),
-        Some(_device) => is_done(outcome),
     }
 }

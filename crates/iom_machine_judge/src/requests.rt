@@ -1,32 +1,22 @@
 // What a device's request may be answered.
 ghost use Rattle.std.specs.Prelude.{◌≡◌, ◌↔◌, ◌+◌, ◌<◌, ◌^◌, IfOk, OnOk, IsTrue, Some, true, slice_get, length};
-ghost use Rattle.iom_base.specs.Accesses.{IsWithinPage};
-ghost use Rattle.iom_base.specs.Rights.{allows};
-ghost use Rattle.iom_base.specs.declared.rights.Rights.{Rights};
-ghost use Rattle.iom_kept_state.specs.Grants.{IsPastOf};
-ghost use Rattle.iom_kept_state.specs.States.{state_of, Decides};
-ghost use Rattle.iom_ledger.specs.History.{History};
-ghost use Rattle.iom_machine.specs.declared.state.Device.{Device};
-ghost use Rattle.iom_machine.specs.Requests.{IsBusy, IsForwarded, HoldsFor, HoldsNoneFor, LingersFor, MayAccept};
-ghost use Rattle.iom_machine.specs.Requests.{MayFault, MayAcceptInOneStage, MayAnswer, state_after};
-ghost use Rattle.iom_machine.specs.Machine.{Requests};
-ghost use Rattle.iom_machine.specs.Judging.{StandsAt};
+ghost use Rattle.iom_machine_judge.specs.Words.{FitsInPage, allows, Rights, IsPastOf, state_of, Decides, History, Device, IsBusy, IsForwarded, HoldsFor, HoldsNoneFor, LingersFor, MayAccept, MayFault, MayAcceptInOneStage, MayAnswer, state_after, StandsAt};
 
-use crate::absent::{answers_absent, answers_unable};
 use crate::cut_off::{
     accepts_cut_off, cause_without_context, faults_cut_off, is_page_fault_of,
     is_page_fault_of_either,
 };
-use crate::devices::{accept, place_of};
+use crate::devices::accept;
 use iom_base::{Access, AccessKind, Cause, DeviceId, Mode, PAGE_SIZE, Rights, Span};
 use iom_kept_state::{KeptGrants, KeptState};
 use iom_machine::{Attachment, Device, Outcome};
 use std::alloc::AllocError;
 
-pub(crate) fn is_within_page(access: &Access) -> bool
-    ensures { IsTrue result ↔ IsWithinPage access.now }
+/// Whether these are from 1 to 4,096 bytes, all in one page.
+pub(crate) fn is_within_page(address: u64, len: u64) -> bool
+    ensures { IsTrue result ↔ FitsInPage address len }
 {
-    Span::new(access.address, access.len).is_some()
+    Span::new(address, len).is_some()
 }
 
 pub(crate) fn is_busy(kept: &KeptState, device: &Device) -> bool
@@ -39,7 +29,7 @@ pub(crate) fn is_busy(kept: &KeptState, device: &Device) -> bool
 pub(crate) fn is_forwarded(kept: &KeptState, device: &Device, access: &Access) -> bool
     ensures { IsTrue result ↔ IsForwarded kept.now.limits.in_flight device.now.in_flight access.now.address access.now.len }
 {
-    is_within_page(access) && !is_busy(kept, device)
+    is_within_page(access.address, access.len) && !is_busy(kept, device)
 }
 
 /// Whether a pair was found that is on the frame, with a right that allows the kind.
@@ -155,8 +145,8 @@ pub fn may_answer(
     ensures { (h : History) → IsPastOf kept.now.grants h → IsTrue result ↔ MayAnswer (state_of kept.now h) device.now access.now frame outcome.now }
 {
     match outcome {
-        Outcome::BadSpan => !is_within_page(access),
-        Outcome::Busy => is_within_page(access) && is_busy(kept, device),
+        Outcome::BadSpan => !is_within_page(access.address, access.len),
+        Outcome::Busy => is_within_page(access.address, access.len) && is_busy(kept, device),
         Outcome::Accepted(number) => {
             is_forwarded(kept, device, access)
                 && is_next(device, *number)
@@ -208,24 +198,4 @@ pub(crate) fn answer_at(
     }
     after_answer(kept, place, access, frame, outcome)?;
     Ok(true)
-}
-
-/// Whether a request may be answered so, on this frame; what is kept is then what it leaves.
-pub(crate) fn judge_request(
-    kept: &mut KeptState,
-    id: DeviceId,
-    access: Access,
-    outcome: &Outcome,
-    frame: u64,
-) -> Result<bool, AllocError>
-    ensures { IfOk result (λ may. Decides may kept.old kept.new (λ before after. Requests frame before id access outcome.now after)) }
-{
-    let Some(place) = place_of(kept.devices.as_slice(), id) else {
-        return Ok(answers_absent(outcome));
-    };
-    let device = &kept.devices.as_slice()[place];
-    if !device.kind.sends_untranslated() {
-        return Ok(answers_unable(outcome));
-    }
-    answer_at(kept, place, access, frame, outcome)
 }

@@ -1,18 +1,9 @@
 // What may come of an access through the device's own cache of translations.
 ghost use Rattle.std.specs.Prelude.{◌≡◌, ◌↔◌, ◌<◌, ◌^◌, ℕ, IfOk, OnOk, IsTrue, Some, slice_get, length};
-ghost use Rattle.iom_base.specs.Accesses.{at_frame};
-ghost use Rattle.iom_kept_state.specs.Grants.{IsPastOf};
-ghost use Rattle.iom_kept_state.specs.States.{state_of, Decides};
-ghost use Rattle.iom_ledger.specs.History.{History};
-ghost use Rattle.iom_machine.specs.declared.outcome.Outcome.TheVariants.{Accepted};
-ghost use Rattle.iom_machine.specs.declared.state.Device.{Device};
-ghost use Rattle.iom_machine.specs.ThroughCache.{MayHaveCached, MayGoThrough, MayAnswerThroughCache, state_after_cached};
-ghost use Rattle.iom_machine.specs.Machine.{RequestsThroughCache};
-ghost use Rattle.iom_machine.specs.Judging.{StandsAt};
+ghost use Rattle.iom_machine_judge.specs.Words.{at_frame, IsPastOf, state_of, Decides, History, Accepted, Device, MayHaveCached, MayGoThrough, MayAnswerThroughCache, state_after_cached, StandsAt};
 
-use crate::absent::{answers_absent, answers_unable};
 use crate::cut_off::accepts_cut_off;
-use crate::devices::{accept, place_of};
+use crate::devices::accept;
 use crate::requests::{holds, is_busy, is_forwarded, is_next, is_within_page, lingers};
 use crate::translated::may_find_no_context;
 use iom_base::{Access, DeviceId, Mode, PAGE_SIZE};
@@ -76,8 +67,8 @@ pub fn may_answer(
     ensures low { IsTrue result → (number : ℕ) → outcome.now ≡ Accepted number → frame < 2 ^ 40 }
 {
     match outcome {
-        Outcome::BadSpan => !is_within_page(access),
-        Outcome::Busy => is_within_page(access) && is_busy(kept, device),
+        Outcome::BadSpan => !is_within_page(access.address, access.len),
+        Outcome::Busy => is_within_page(access.address, access.len) && is_busy(kept, device),
         Outcome::Miss => is_forwarded(kept, device, access),
         Outcome::Accepted(number) => {
             is_forwarded(kept, device, access)
@@ -132,24 +123,4 @@ pub(crate) fn answer_at(
     }
     after_answer(kept, place, access, frame, outcome)?;
     Ok(true)
-}
-
-/// Whether this may come of an access through the device's own cache, on this frame; what is kept is then what it leaves.
-pub(crate) fn judge_through_cache(
-    kept: &mut KeptState,
-    id: DeviceId,
-    access: Access,
-    outcome: &Outcome,
-    frame: u64,
-) -> Result<bool, AllocError>
-    ensures { IfOk result (λ may. Decides may kept.old kept.new (λ before after. RequestsThroughCache frame before id access outcome.now after)) }
-{
-    let Some(place) = place_of(kept.devices.as_slice(), id) else {
-        return Ok(answers_absent(outcome));
-    };
-    let device = &kept.devices.as_slice()[place];
-    if !device.kind.sends_through_cache() {
-        return Ok(answers_unable(outcome));
-    }
-    answer_at(kept, place, access, frame, outcome)
 }

@@ -12,17 +12,16 @@ use Rattle.iom_kept_state.specs.States.{state_of}
 use Rattle.iom_machine_judge.proofs.LeftLemmas.{refused_by, some_applies}
 use Rattle.iom_machine_judge.proofs.NextLemmas.{given_as}
 use Rattle.iom_machine_judge.proofs.calls.judge_attach.Goals as goal
+use Rattle.iom_machine_judge.proofs.calls.judge_attach.Goals.{then-is_some-via-then-is_some, then-is_some-via-else-is_some+then-not-are_both_free}
 
 pub returns-then-is_some : goal.returns-then-is_some
 returns-then-is_some c = rw c.in-Done.is (
   refl,
-  λ h past after step. some_applies c.attach_refusal-first.result (attach_reasons (state_of c.args.kept.now h) c.args.id c.args.ats) c.is_some.result
-      (c.attach_refusal-first.ensures h past) c.is_some.ensures c.if-is_some.true step.0,
+  λ h past after step. elim c.then-is_some.branch [
+    | then-is_some-via-then-is_some w ↦ some_applies c.attach_refusal-first.result (attach_reasons (state_of c.args.kept.now h) c.args.id c.args.ats) c.is_some.result (c.attach_refusal-first.ensures h past) c.is_some.ensures w.if-is_some.true step.0
+    | then-is_some-via-else-is_some+then-not-are_both_free w ↦ false≢true (sym w.if-not-are_both_free.true ∙ (w.are_both_free.ensures h past).1 step.1)
+  ],
 )
-
-pub returns-then-not-are_both_free : goal.returns-then-not-are_both_free
-returns-then-not-are_both_free c = rw c.in-Done.is
-    (refl, λ h past after step. false≢true (sym c.if-not-are_both_free.true ∙ (c.are_both_free.ensures h past).1 step.1))
 
 pub returns-in_ok-reserve-in-Done-2 : goal.returns-in_ok-reserve-in-Done-2
 returns-in_ok-reserve-in-Done-2 c =

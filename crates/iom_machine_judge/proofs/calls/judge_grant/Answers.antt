@@ -10,17 +10,16 @@ use Rattle.iom_kept_state.specs.States.{state_of}
 use Rattle.iom_machine_judge.proofs.LeftLemmas.{refused_by, some_applies}
 use Rattle.iom_machine_judge.proofs.NextLemmas.{given_as}
 use Rattle.iom_machine_judge.proofs.calls.judge_grant.Goals as goal
+use Rattle.iom_machine_judge.proofs.calls.judge_grant.Goals.{then-is_some-via-then-is_some, then-is_some-via-else-is_some+then-not-are_free_besides}
 
 pub returns-then-is_some : goal.returns-then-is_some
 returns-then-is_some c = rw c.in-Done.is (
   refl,
-  λ h past after step. some_applies c.grant_refusal-first.result (grant_reasons (state_of c.args.kept.now h) c.args.id c.args.page c.args.frame) c.is_some.result
-      (c.grant_refusal-first.ensures.first h past) c.is_some.ensures c.if-is_some.true step.0,
+  λ h past after step. elim c.then-is_some.branch [
+    | then-is_some-via-then-is_some w ↦ some_applies c.grant_refusal-first.result (grant_reasons (state_of c.args.kept.now h) c.args.id c.args.page c.args.frame) c.is_some.result (c.grant_refusal-first.ensures.first h past) c.is_some.ensures w.if-is_some.true step.0
+    | then-is_some-via-else-is_some+then-not-are_free_besides w ↦ false≢true (sym w.if-not-are_free_besides.true ∙ (w.are_free_besides.ensures h past).1 step.1)
+  ],
 )
-
-pub returns-then-not-are_free_besides : goal.returns-then-not-are_free_besides
-returns-then-not-are_free_besides c = rw c.in-Done.is
-    (refl, λ h past after step. false≢true (sym c.if-not-are_free_besides.true ∙ (c.are_free_besides.ensures h past).1 step.1))
 
 pub returns-in_ok-reserve-in-Done : goal.returns-in_ok-reserve-in-Done
 returns-in_ok-reserve-in-Done c = rw c.in-Done.is (λ h past. (

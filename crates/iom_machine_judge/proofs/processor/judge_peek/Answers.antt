@@ -1,4 +1,5 @@
 use Rattle.std.proofs.Common.{◌≡◌, ◌∙◌, ◌/◌, false, refl, sym}
+use Rattle.std.proofs.lemmas.Bool.{false≢true}
 use Rattle.iom_base.specs.Spans.{FitsInPage}
 use Rattle.iom_ledger.specs.History.{History}
 use Rattle.iom_base.specs.Refusals.{NoneApplies, IsRefusedBy}
@@ -10,12 +11,15 @@ use Rattle.iom_machine.proofs.CallLemmas.{none_if_not_some}
 use Rattle.iom_kept_state.specs.States.{state_of}
 use Rattle.iom_machine_judge.proofs.LeftLemmas.{stays_by, refused_by, some_applies, decides_alike, with_fact, never_so}
 use Rattle.iom_machine_judge.proofs.processor.judge_peek.Goals as goal
+use Rattle.iom_machine_judge.proofs.processor.judge_peek.Goals.{then-not-fits-via-then-not-fits, then-not-fits-via-else-not-fits+then-is_some}
 
-pub returns-then-is_some : goal.returns-then-is_some
-returns-then-is_some c = rw c.in-Bytes.is (
+pub returns-then-not-fits : goal.returns-then-not-fits
+returns-then-not-fits c = rw c.in-Bytes.is (
   refl,
-  λ h past after step. some_applies c.frame_refusal-first.result (frame_reasons (state_of c.args.kept.now h) (c.args.address / 4096)) c.is_some.result
-      (c.frame_refusal-first.ensures h) c.is_some.ensures c.if-is_some.true step.1,
+  λ h past after step. elim c.then-not-fits.branch [
+    | then-not-fits-via-then-not-fits w ↦ false≢true (sym w.if-not-fits.true ∙ c.is_within_page-fits.ensures.1 step.0)
+    | then-not-fits-via-else-not-fits+then-is_some w ↦ some_applies c.frame_refusal-first.result (frame_reasons (state_of c.args.kept.now h) (c.args.address / 4096)) w.is_some.result (c.frame_refusal-first.ensures h) w.is_some.ensures w.if-is_some.true step.1
+  ],
 )
 
 pub returns-then-fits : goal.returns-then-fits

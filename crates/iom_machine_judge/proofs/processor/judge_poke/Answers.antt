@@ -1,4 +1,5 @@
 use Rattle.std.proofs.Common.{◌∙◌, ◌/◌, List, length, false, refl, sym, ap}
+use Rattle.std.proofs.lemmas.Bool.{false≢true}
 use Rattle.iom_base.specs.Spans.{FitsInPage}
 use Rattle.iom_base.specs.Refusals.{IsRefusedBy}
 use Rattle.iom_machine.specs.declared.state.Frame.{Frame}
@@ -9,12 +10,15 @@ use Rattle.iom_kept_state.specs.States.{state_of}
 use Rattle.iom_machine_judge.proofs.LeftLemmas.{refused_by, some_applies, with_fact, never_so}
 use Rattle.iom_machine_judge.proofs.NextLemmas.{next_state}
 use Rattle.iom_machine_judge.proofs.processor.judge_poke.Goals as goal
+use Rattle.iom_machine_judge.proofs.processor.judge_poke.Goals.{then-not-fits-2-via-then-not-fits-2, then-not-fits-2-via-else-not-fits-2+then-is_some}
 
-pub returns-then-is_some : goal.returns-then-is_some
-returns-then-is_some c = rw c.in-Done.is (
+pub returns-then-not-fits-2 : goal.returns-then-not-fits-2
+returns-then-not-fits-2 c = rw c.in-Done.is (
   refl,
-  λ h past after step. some_applies c.poke_refusal-first.result (poke_reasons (state_of c.args.kept.now h) (c.args.address / 4096)) c.is_some.result
-      (c.poke_refusal-first.ensures h) c.is_some.ensures c.if-is_some.true step.1,
+  λ h past after step. elim c.then-not-fits-2.branch [
+    | then-not-fits-2-via-then-not-fits-2 w ↦ false≢true (sym w.if-not-fits-2.true ∙ c.is_within_page-fits.ensures.1 step.0)
+    | then-not-fits-2-via-else-not-fits-2+then-is_some w ↦ some_applies c.poke_refusal-first.result (poke_reasons (state_of c.args.kept.now h) (c.args.address / 4096)) w.is_some.result (c.poke_refusal-first.ensures h) w.is_some.ensures w.if-is_some.true step.1
+  ],
 )
 
 pub returns-else-not-fits : goal.returns-else-not-fits

@@ -2,7 +2,6 @@ use Rattle.std.proofs.Common.{sym, subst, ◌∙◌}
 use Rattle.std.proofs.lemmas.Bool.{false≢true}
 use Rattle.iom_kept_state.specs.States.{state_of}
 use Rattle.iom_machine.specs.declared.state.Device.{Device}
-use Rattle.iom_machine.specs.declared.state.State.{State}
 use Rattle.iom_machine.specs.ThroughCache.{MayAnswerThroughCache, state_after_cached}
 use Rattle.iom_machine.proofs.StepLemmas.{read_again}
 use Rattle.iom_machine_judge.proofs.DecidedLemmas.{comes, never_comes}

@@ -1,6 +1,6 @@
 use Rattle.std.proofs.Common.{sym}
 use Rattle.std.proofs.lemmas.Bool.{false≢true}
-use Rattle.iom_machine_judge.proofs.messages.is_told.Goals as goal
+use Rattle.iom_machine_judge.proofs.questions.is_told.Goals as goal
 
 pub returns-in-None : goal.returns-in-None
 returns-in-None c = λ h past.

@@ -2,7 +2,7 @@ use Rattle.std.proofs.Common.{IsSomeAnd}
 use Rattle.iom_machine.specs.Devices.{device_of}
 use Rattle.iom_machine.specs.Questions.{MayTell}
 use Rattle.iom_machine_judge.proofs.LeftLemmas.{stays_by}
-use Rattle.iom_machine_judge.proofs.messages.judge_deliver.Goals as goal
+use Rattle.iom_machine_judge.proofs.questions.judge_deliver.Goals as goal
 
 pub returns-in-Answered : goal.returns-in-Answered
 returns-in-Answered c =

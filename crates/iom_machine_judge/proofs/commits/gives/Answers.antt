@@ -1,15 +1,15 @@
 use Rattle.std.proofs.Common.{◌∙◌, sym}
 use Rattle.std.proofs.lemmas.Bool.{false≢true}
-use Rattle.iom_machine_judge.proofs.commits.makes_read.Goals as goal
+use Rattle.iom_machine_judge.proofs.commits.gives.Goals as goal
 
 pub returns-else-may_make : goal.returns-else-may_make
-returns-else-may_make c = λ h past. rw (sym c.in-Some.ensures) (
+returns-else-may_make c = λ h past. (
   (λ told. absurd (false≢true (sym c.if-may_make.false ∙ told))),
   (λ given. absurd (false≢true (sym c.if-may_make.false ∙ (c.may_make.ensures h past).1 (given.0, given.1)))),
 )
 
 pub returns-then-may_make : goal.returns-then-may_make
-returns-then-may_make c = λ h past. rw (sym c.in-Some.ensures) (
+returns-then-may_make c = λ h past. (
   (λ told. let able = (c.may_make.ensures h past).0 c.if-may_make.true in (able.0, able.1, c.shows.ensures.0 told)),
   (λ given. c.shows.ensures.1 given.2),
 )
