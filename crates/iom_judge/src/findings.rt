@@ -56,8 +56,7 @@ pub fn judge_on<R: Read>(alloc: Global, reader: &mut R, most: usize) -> io::Resu
         first: judge.judge_lines(reader)?,
         others: Vec::new(alloc),
     };
-    if is_left_out(&found.first) {
-        judge_rest(&mut judge, reader, most, &mut found.others)?;
-    }
+    let most = if is_left_out(&found.first) { most } else { 0 };
+    judge_rest(&mut judge, reader, most, &mut found.others)?;
     Ok(found)
 }

@@ -102,18 +102,20 @@ pub(crate) struct Judge {
 }
 
 impl Judge {
-    pub(crate) fn new(alloc: Global) -> io::Result<Judge>
-        ensures { (first : Option (List ℕ)) → IfOk result (λ judge. HasJudged judge first first) }
+    /// It stands in a box, since it has room for an answer of each kind.
+    pub(crate) fn new(alloc: Global) -> io::Result<Box<Judge>>
+        ensures { (first : Option (List ℕ)) → IfOk result (λ judge. HasJudged judge.value first first) }
     {
         let lines = Lines::new(alloc)?;
         let reading = Reading::new(alloc)?;
-        Ok(Judge {
+        let judge = Judge {
             alloc,
             line: 0,
             machine: None,
             lines,
             reading,
-        })
+        };
+        Ok(Box::new(alloc, judge)?)
     }
 
     /// Counts a line more, and gives its number.
