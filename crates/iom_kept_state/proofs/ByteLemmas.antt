@@ -1,8 +1,8 @@
 -- Bytes of frames: what is written.
-use Rattle.std.proofs.Common.{◌≡◌, ◌∙◌, ℕ, zero, suc, ◌+◌, ◌-◌, ◌<◌, ◌≤◌, ◌==◌, Bool, true, false, List, [], ◌∷◌, ◌++◌, length, take, drop, get_or, set, refl, sym, ap, subst, append_assoc, length-append, arith}
-use Rattle.std.specs.Prelude.{replicate, slice_range}
+use Rattle.std.proofs.Common.{◌≡◌, ◌∙◌, ℕ, ◌+◌, ◌<◌, ◌≤◌, ◌==◌, Bool, true, false, List, [], ◌∷◌, ◌++◌, length, take, drop, get_or, set, refl, sym, ap, subst, append_assoc, length-append, arith}
+use Rattle.std.specs.Prelude.{replicate}
 use Rattle.std.proofs.lemmas.Bool.{eqb-true, false≢true}
-use Rattle.std.proofs.lemmas.List.{length-replicate, get_or-replicate, get_or-take, take-replicate, drop-replicate, ext_get_or, length-take, length-drop, length-take-le, take_more, drop_more, set_at}
+use Rattle.std.proofs.lemmas.List.{length-replicate, length-take, length-drop, length-take-le, take_more, drop_more, set_at}
 use Rattle.iom_base.specs.Bytes.{with_bytes}
 use Rattle.iom_base.specs.Sizes.{page_size}
 use Rattle.iom_kept_state.specs.Frames.{bytes_kept}

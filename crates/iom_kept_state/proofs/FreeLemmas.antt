@@ -1,5 +1,5 @@
 -- Free frames: others than the one that is named, and enough of them.
-use Rattle.std.proofs.Common.{◌≡◌, ◌≢◌, ◌∙◌, ℕ, ◌<◌, nat_eq, false, List, length, All, Option, None, Some, MatchOption, sym, arith}
+use Rattle.std.proofs.Common.{◌≡◌, ◌≢◌, ◌∙◌, ℕ, ◌<◌, nat_eq, false, length, Option, None, Some, MatchOption, sym, arith}
 use Rattle.std.specs.Prelude.{⊤}
 use Rattle.std.specs.Option.{option_eq}
 use Rattle.std.proofs.lemmas.Bool.{eq-eqb, false≢true}

@@ -1,7 +1,7 @@
 -- At which pages a ledger shows a frame as reached.
-use Rattle.std.proofs.Common.{◌≡◌, ℕ, ◌+◌, ◌<◌, ◌≤◌, ◌⊎◌, inl, inr, Bool, true, false, ◌==◌, List, [], Contains, map, length, is_some, slice_get, nat_eq, nat_lt, Option, None, Some, refl, sym, ap, ◌∙◌, subst, arith}
+use Rattle.std.proofs.Common.{◌≡◌, ℕ, ◌+◌, ◌<◌, ◌≤◌, Bool, true, false, ◌==◌, List, [], Contains, map, length, is_some, slice_get, nat_eq, nat_lt, Option, None, Some, refl, sym, ap, ◌∙◌, subst, arith}
 use Rattle.std.specs.Option.{option_and_then, option_map, option_map_or}
-use Rattle.std.proofs.lemmas.Bool.{false≢true, eqb-true}
+use Rattle.std.proofs.lemmas.Bool.{eqb-true}
 use Rattle.std.proofs.lemmas.Bool.Decides.{nat_tests}
 use Rattle.std.proofs.lemmas.Option.{slice_get_read, slice_get_within}
 use Rattle.std.proofs.lemmas.Map.Views.{Contains-keys_from_lookup}
@@ -13,8 +13,8 @@ use Rattle.iom_ledger.specs.declared.reaching.Reach.{Reach}
 use Rattle.iom_ledger.specs.declared.page_row.PageRow.{PageRow}
 use Rattle.iom_ledger.specs.History.{Pair}
 use Rattle.iom_ledger.specs.declared.device_list.Devices.{Devices}
-use Rattle.iom_ledger.specs.Rows.{Pages, pages_in, row_at, pages_of, held_of, released_of, unless_released, if_released}
-use Rattle.iom_ledger.specs.Shown.{held_in, released_in, lingering_in, pages_listed}
+use Rattle.iom_ledger.specs.Rows.{Pages, pages_in, row_at, pages_of, held_of, released_of}
+use Rattle.iom_ledger.specs.Shown.{held_in, released_in, pages_listed}
 use Rattle.iom_ledger.specs.Reaching.{ReachesUnder, NoneReachesWithin, IsNextReach}
 use Rattle.iom_kept_state.specs.declared.wanted.Wanted.{Wanted}
 use Rattle.iom_kept_state.specs.Wanted.{Counts, IsReach, ReachesAt, IsReached}

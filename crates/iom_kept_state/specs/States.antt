@@ -1,5 +1,5 @@
 -- The state that is kept, with a history that is a past of it.
-use Rattle.std.specs.Prelude.{◌≡◌, ◌↔◌, ℕ, Bool, true, false}
+use Rattle.std.specs.Prelude.{◌≡◌, ◌↔◌, Bool, true, false}
 use Rattle.iom_ledger.specs.History.{History}
 use Rattle.iom_machine.specs.declared.state.State.{State}
 use Rattle.iom_kept_state.specs.Grants.{IsPastOf}

@@ -1,4 +1,4 @@
-use Rattle.std.proofs.Common.{◌∙◌, List, drop, sym, arith}
+use Rattle.std.proofs.Common.{◌∙◌, List, sym, arith}
 use Rattle.std.specs.List.{list_any}
 use Rattle.std.proofs.lemmas.List.{at_drop_all}
 use Rattle.iom_machine.specs.declared.state.Device.{Device}

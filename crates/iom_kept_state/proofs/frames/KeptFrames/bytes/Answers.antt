@@ -1,4 +1,4 @@
-use Rattle.std.proofs.Common.{◌≡◌, List, None, Some, sym, ◌∙◌}
+use Rattle.std.proofs.Common.{None, Some, sym, ◌∙◌}
 use Rattle.iom_kept_state.proofs.FrameLists.{bytes_there, bytes_beyond}
 use Rattle.iom_kept_state.proofs.frames.KeptFrames.bytes.Goals as goal
 

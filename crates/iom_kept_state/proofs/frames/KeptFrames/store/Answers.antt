@@ -1,4 +1,3 @@
-use Rattle.std.proofs.Common.{arith}
 use Rattle.iom_base.specs.Bytes.{with_bytes}
 use Rattle.iom_machine.specs.declared.state.Frame.{Frame}
 use Rattle.iom_kept_state.proofs.FrameLists.{changed, unchanged_beyond}

@@ -1,4 +1,4 @@
-use Rattle.std.proofs.Common.{◌≡◌, ◌↔◌, ◌⊎◌, inl, inr, sym, ◌∙◌}
+use Rattle.std.proofs.Common.{inl, inr, sym, ◌∙◌}
 use Rattle.std.proofs.lemmas.Bool.{false≢true}
 use Rattle.iom_kept_state.proofs.LookLemmas.{any_held, any_lingers, held_somewhere, lingers_somewhere}
 use Rattle.iom_kept_state.proofs.grants.KeptGrants.has_any.Goals as goal

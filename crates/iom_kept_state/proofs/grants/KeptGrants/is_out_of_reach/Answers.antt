@@ -1,5 +1,4 @@
-use Rattle.std.proofs.Common.{◌≡◌, ◌≤◌, ◌<◌, ◌↔◌, IsTrue, length, nat_eq, Some, None, refl, sym, ◌∙◌, arith}
-use Rattle.std.specs.List.{position}
+use Rattle.std.proofs.Common.{refl, sym, ◌∙◌, arith}
 use Rattle.iom_kept_state.proofs.PastLemmas.{none_reaches, nobody_reaches, named_where_found}
 use Rattle.iom_kept_state.proofs.grants.KeptGrants.is_out_of_reach.Goals as goal
 

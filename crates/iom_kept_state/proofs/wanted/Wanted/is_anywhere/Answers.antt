@@ -1,4 +1,4 @@
-use Rattle.std.proofs.Common.{◌≡◌, ◌≤◌, ◌<◌, ◌+◌, length, true, refl, sym, ◌∙◌, arith}
+use Rattle.std.proofs.Common.{◌≤◌, length, refl, sym, ◌∙◌, arith}
 use Rattle.std.proofs.lemmas.Bool.{false≢true}
 use Rattle.iom_ledger.specs.Shown.{pages_listed}
 use Rattle.iom_kept_state.proofs.ReachLemmas.{reached_nowhere, none_from, none_past, reached_by, within_list}

@@ -1,4 +1,4 @@
-use Rattle.std.proofs.Common.{◌≡◌, Some, true, sym, ◌∙◌}
+use Rattle.std.proofs.Common.{sym, ◌∙◌}
 use Rattle.iom_kept_state.proofs.ReachLemmas.{reached_as_held}
 use Rattle.iom_kept_state.proofs.wanted.Wanted.is_held_at.Goals as goal
 
