@@ -5,7 +5,7 @@ ghost use Rattle.iom_judge.specs.Certified.{ShowsChoice, ShowsTables};
 use crate::missing::{Begun, Missing};
 use crate::settled::{Reachable, first_reachable, frame_of_access, page_without};
 use crate::stop::Line;
-use iom_base::{Access, AccessKind, DeviceId, Mode, Sequence};
+use iom_base::{Access, AccessKind, Cause, DeviceId, Mode, PAGE_SIZE, Sequence};
 use iom_fabric::Translation;
 use iom_kept_state::KeptState;
 use iom_machine::{Choice, Event, Outcome};
@@ -166,9 +166,9 @@ fn page_told(kept: &KeptState, id: DeviceId, told: Translation) -> u64 {
     }
 }
 
-/// The device, the address and the kind of the access for which the event asks, if it asks for one at an address of its device.
-fn asked_by(event: &Event) -> Option<(DeviceId, u64, AccessKind)> {
-    match event {
+/// What asks for an access at an address of its device: the device, and the address and kind where they are shown.
+fn asked_by(told: Told<'_>) -> Option<(DeviceId, Option<(u64, AccessKind)>)> {
+    match told.event {
         Event::Read {
             device,
             address,
@@ -178,7 +178,7 @@ fn asked_by(event: &Event) -> Option<(DeviceId, u64, AccessKind)> {
             device,
             address,
             ..
-        } => Some((*device, *address, AccessKind::Read)),
+        } => Some((*device, Some((*address, AccessKind::Read)))),
         Event::Write {
             device,
             address,
@@ -188,9 +188,39 @@ fn asked_by(event: &Event) -> Option<(DeviceId, u64, AccessKind)> {
             device,
             address,
             ..
-        } => Some((*device, *address, AccessKind::Write)),
+        } => Some((*device, Some((*address, AccessKind::Write)))),
+        Event::Step { device } => Some((
+            *device,
+            match told.shown.began {
+                Some(access) => Some((access.address, access.kind)),
+                None => None,
+            },
+        )),
         _ => None,
     }
+}
+
+/// Whether only a write is refused so.
+fn is_of_write(cause: Cause) -> bool {
+    matches!(
+        cause,
+        Cause::WriteAccessFault | Cause::WritePageFault | Cause::WriteGuestPageFault
+    )
+}
+
+/// An access that is refused so, if any is: at a page where the device has nothing.
+fn refused_access(
+    alloc: Global,
+    kept: &KeptState,
+    id: DeviceId,
+    cause: Cause,
+) -> Result<Access, AllocError> {
+    let mut access = read_at(alloc, page_without(kept, id).saturating_mul(PAGE_SIZE));
+    if is_of_write(cause) {
+        access.kind = AccessKind::Write;
+        access.bytes.push(0)?;
+    }
+    Ok(access)
 }
 
 impl Chosen {
@@ -225,22 +255,50 @@ impl Chosen {
         }
     }
 
-    /// The frame of a request that was accepted, where it isn't shown: the one that the grants say.
-    pub(crate) fn choose_frame(
-        &mut self,
-        kept: &KeptState,
-        begun: Begun,
-        address: u64,
-        kind: AccessKind,
-        on: Option<u64>,
-    ) {
-        if on.is_some() {
-            return;
-        }
+    /// The frame of an access that was accepted, where it isn't shown: the one that the grants say.
+    fn choose_frame(&mut self, kept: &KeptState, begun: Begun, address: u64, kind: AccessKind) {
         let settled = frame_of_access(kept, begun.device, address, kind);
         self.choice.frame = settled.frame;
         if !settled.is_certain {
             self.missing = Some(Missing::Frame(begun));
+        }
+    }
+
+    /// An access of a block device's step that isn't shown: a read of one byte, of the frame that is shown, or else of the first.
+    fn choose_any_access(
+        &mut self,
+        alloc: Global,
+        kept: &KeptState,
+        begun: Begun,
+        on: Option<u64>,
+    ) {
+        let found = first_reachable(kept, begun.device, |it: Reachable| -> bool {
+            on.is_none() || on == Some(it.frame)
+        });
+        if let Some(it) = found {
+            self.choice.frame = it.frame;
+            self.choice.access = read_at(alloc, it.page.saturating_mul(PAGE_SIZE));
+        }
+        self.missing = Some(Missing::Access(begun));
+    }
+
+    /// What is chosen of an access that was accepted, as this one of its device.
+    fn choose_accepted(&mut self, line: Line<'_>, kept: &KeptState, told: Told<'_>, number: u64) {
+        let Some((device, access)) = asked_by(told) else {
+            return;
+        };
+        let begun = Begun {
+            device,
+            number,
+            line: line.number,
+        };
+        match access {
+            None => self.choose_any_access(line.alloc, kept, begun, told.shown.on),
+            Some((address, kind)) => {
+                if told.shown.on.is_none() {
+                    self.choose_frame(kept, begun, address, kind);
+                }
+            }
         }
     }
 
@@ -255,18 +313,6 @@ impl Chosen {
         }
     }
 
-    /// What is chosen of an access that was accepted.
-    fn choose_access(&mut self, kept: &KeptState, line: u64, told: Told<'_>, number: u64) {
-        if let Some((device, address, kind)) = asked_by(told.event) {
-            let begun = Begun {
-                device,
-                number,
-                line,
-            };
-            self.choose_frame(kept, begun, address, kind, told.shown.on);
-        }
-    }
-
     /// What is chosen of what this line doesn't show: nothing that isn't lawful, where something else is. What no step of this event
     /// asks for stays as it was.
     fn choose_unshown(
@@ -278,12 +324,13 @@ impl Chosen {
     ) -> Result<(), AllocError> {
         self.missing = None;
         match (told.event, told.outcome) {
-            (Event::Step { device }, _) => return self.choose_step(line, kept, *device, told),
+            (_, Outcome::Accepted(number)) => self.choose_accepted(line, kept, told, *number),
+            (Event::Step { device }, Outcome::Fault(cause)) => {
+                self.choice.access = refused_access(line.alloc, kept, *device, *cause)?;
+            }
+            (Event::Step { .. }, _) => self.choice.access = read_at(line.alloc, 0),
             (Event::Attach { .. } | Event::Grant { .. }, Outcome::Done) => {
                 self.choose_no_tables(line, told);
-            }
-            (_, Outcome::Accepted(number)) => {
-                self.choose_access(kept, line.number, told, *number);
             }
             (event, Outcome::Answered(answer)) => {
                 self.choose_question(kept, notes.question_of(event), *answer);

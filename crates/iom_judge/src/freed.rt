@@ -5,9 +5,8 @@ ghost use Rattle.iom_judge.specs.Certified.{ContinuesAs};
 
 use crate::choosing::{NOTHING, Shown, Told};
 use crate::machine::TraceMachine;
-use crate::settled::device_with;
 use crate::stop::{Line, Stop, uncertified};
-use iom_base::{DeviceId, Owner};
+use iom_base::Owner;
 use iom_kept_state::KeptState;
 use iom_machine::{Attachment, Event, Outcome};
 use std::alloc::{AllocError, Global};
@@ -22,25 +21,6 @@ fn first_in_use(kept: &KeptState, tables: &[u64]) -> Option<u64> {
     None
 }
 
-/// Why the table of the device may not be given back.
-fn why_not_of(
-    alloc: Global,
-    kept: &KeptState,
-    table: u64,
-    device: DeviceId,
-) -> Result<String, AllocError> {
-    let attachment = match device_with(kept.devices.as_slice(), device) {
-        None => Attachment::Detached,
-        Some(device) => device.attachment,
-    };
-    match attachment {
-        Attachment::Attached { .. } => format!(in alloc;
-            "frame {table} is a table of {device:06x}; what that released isn't all confirmed"
-        ),
-        _ => { format!(in alloc; "frame {table} is a table of {device:06x}, which isn't attached") }
-    }
-}
-
 /// Why the table may not be given back.
 fn why_in_use(alloc: Global, kept: &KeptState, table: u64) -> Result<String, AllocError> {
     if kept.limits.in_order {
@@ -49,11 +29,16 @@ fn why_in_use(alloc: Global, kept: &KeptState, table: u64) -> Result<String, All
             "tables are given back in a world without limits alone",
         );
     }
-    match kept.frames.owner(table) {
-        None => format!(in alloc; "frame {table} is nobody's table"),
-        Some(Owner::System) => format!(in alloc; "frame {table} is the system's"),
-        Some(Owner::OneDevice(device)) => why_not_of(alloc, kept, table, device),
-    }
+    let device = match kept.frames.owner(table) {
+        None => return format!(in alloc; "frame {table} is nobody's table"),
+        Some(Owner::System) => return format!(in alloc; "frame {table} is the system's"),
+        Some(Owner::OneDevice(device)) => device,
+    };
+    let why = match kept.attachment(device) {
+        Attachment::Attached { .. } => "; what that released isn't all confirmed",
+        _ => ", which isn't attached",
+    };
+    format!(in alloc; "frame {table} is a table of {device:06x}{why}")
 }
 
 impl TraceMachine {

@@ -135,45 +135,18 @@ impl Guesses {
         }
     }
 
-    /// What the refusal of a commit depends on: of an access that was guessed on that, of another on the bytes that it reads.
-    fn of_commit(&self, kept: &KeptState, event: &Event, outcome: &Outcome) -> Option<Missing> {
-        match self.of_oldest(kept, event) {
-            Some(missing) => Some(missing),
-            None => match outcome {
-                Outcome::Read(_) => self.of_bytes(),
-                _ => None,
-            },
-        }
-    }
-
-    /// What the refusal of a grant depends on: whether the frame is a table, or how many are free.
-    fn of_grant(&self, first: Option<Refusal>, outcome: &Outcome) -> Option<Missing> {
-        match outcome {
-            Outcome::Refused(Refusal::FrameReserved) => match first {
-                None | Some(Refusal::IovaOutOfRange | Refusal::IovaBusy) => self.tables,
-                _ => None,
-            },
-            Outcome::Refused(Refusal::NoFrames) => match first {
-                None => self.tables,
-                _ => None,
-            },
+    /// What the refusal of a grant or an attach depends on, where this is the first reason that is known: whether a frame is a table,
+    /// or how many are free.
+    fn of_refusal(&self, first: Option<Refusal>, refusal: Refusal) -> Option<Missing> {
+        match (refusal, first) {
+            (Refusal::FrameReserved, None | Some(Refusal::IovaOutOfRange | Refusal::IovaBusy))
+            | (Refusal::NoFrames, None) => self.tables,
             _ => None,
         }
     }
 
-    /// What the refusal of an answer about a frame depends on, where it says that the frame is somebody's.
-    fn of_frame(&self, outcome: &Outcome) -> Option<Missing> {
-        match outcome {
-            Outcome::Free(false) | Outcome::Refused(Refusal::FrameReserved) => self.tables,
-            _ => None,
-        }
-    }
-
-    /// What the refusal of these bytes of a frame depends on: a frame that no device may reach may be a table.
-    fn of_peek(&self, kept: &KeptState, frame: u64, outcome: &Outcome) -> Option<Missing> {
-        let Outcome::Bytes(_) = outcome else {
-            return None;
-        };
+    /// What the bytes of a frame depend on: one that no device may reach may be a table.
+    fn of_peek(&self, kept: &KeptState, frame: u64) -> Option<Missing> {
         match self.of_bytes() {
             None if kept.grants.is_out_of_reach(frame) => self.tables,
             found => found,
@@ -209,16 +182,13 @@ impl Guesses {
     }
 
     /// What the refusal of a poll depends on: the guesses of accesses that couldn't stay, where there is none that wasn't guessed.
-    fn of_poll(&self, kept: &KeptState, outcome: &Outcome) -> Option<Missing> {
-        let Outcome::Confirmed { first, last, .. } = outcome else {
-            return None;
-        };
-        if !may_confirm(kept, *first, *last) {
+    fn of_poll(&self, kept: &KeptState, first: u32, last: u32) -> Option<Missing> {
+        if !may_confirm(kept, first, last) {
             return None;
         }
         let mut found = None;
         for device in kept.devices.as_slice() {
-            found = self.guess_to_stay(kept, device, (*first, *last), found)?;
+            found = self.guess_to_stay(kept, device, (first, last), found)?;
         }
         found
     }
@@ -230,20 +200,33 @@ impl Guesses {
         event: &Event,
         outcome: &Outcome,
     ) -> Option<Missing> {
-        match event {
-            Event::Commit { .. } => self.of_commit(kept, event, outcome),
-            Event::Poll => self.of_poll(kept, outcome),
-            Event::Grant {
-                device,
-                page,
-                frame,
-                ..
-            } => self.of_grant(grant_refusal(kept, *device, *page, *frame), outcome),
-            Event::Attach { device, ats, .. } => {
-                self.of_grant(attach_refusal(kept, *device, *ats), outcome)
+        match (event, outcome) {
+            (Event::Commit { .. }, outcome) => match self.of_oldest(kept, event) {
+                None if matches!(outcome, Outcome::Read(_)) => self.of_bytes(),
+                found => found,
+            },
+            (Event::Poll, Outcome::Confirmed { first, last, .. }) => {
+                self.of_poll(kept, *first, *last)
             }
-            Event::Free { .. } | Event::Poke { .. } => self.of_frame(outcome),
-            Event::Peek { address, .. } => self.of_peek(kept, *address / PAGE_SIZE, outcome),
+            (
+                Event::Grant {
+                    device,
+                    page,
+                    frame,
+                    ..
+                },
+                Outcome::Refused(refusal),
+            ) => self.of_refusal(grant_refusal(kept, *device, *page, *frame), *refusal),
+            (Event::Attach { device, ats, .. }, Outcome::Refused(refusal)) => {
+                self.of_refusal(attach_refusal(kept, *device, *ats), *refusal)
+            }
+            (
+                Event::Free { .. } | Event::Poke { .. },
+                Outcome::Free(false) | Outcome::Refused(Refusal::FrameReserved),
+            ) => self.tables,
+            (Event::Peek { address, .. }, Outcome::Bytes(_)) => {
+                self.of_peek(kept, *address / PAGE_SIZE)
+            }
             _ => None,
         }
     }

@@ -20,7 +20,6 @@ mod made;
 mod missing;
 mod settled;
 mod sharing;
-mod steps;
 mod stop;
 mod verdict;
 

@@ -97,10 +97,8 @@ pub(crate) fn frame_of_access(
     address: u64,
     kind: AccessKind,
 ) -> Settled {
-    if let Some(device) = device_with(kept.devices.as_slice(), id) {
-        if has_both_stages(device.attachment) {
-            return some_frame(kept, id, kind);
-        }
+    if has_both_stages(kept.attachment(id)) {
+        return some_frame(kept, id, kind);
     }
     Settled {
         frame: match reachable_at(kept, id, address / PAGE_SIZE) {
