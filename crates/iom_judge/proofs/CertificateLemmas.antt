@@ -1,6 +1,5 @@
 -- A run grows with each line, and what is certified with it.
 use Rattle.std.proofs.Common.{◌≡◌, ◌≢◌, ◌∙◌, ◌<◌, ℕ, ◌+◌, ◌&&◌, ◌||◌, Bool, true, false, not, nat_eq, List, [], ◌∷◌, ◌++◌, if◌then◌else◌, Option, None, Some, Result, Ok, Err, IfOk, IfSome, IsSomeAnd, MatchOption, OnOk, IsTrue, refl, sym, ap, subst, append-nil, append_assoc, length, suc, zero, arith}
-use Rattle.std.proofs.lemmas.List.{length-append}
 use Rattle.std.proofs.lemmas.List.Elements.{All-nil, filter-append}
 use Rattle.std.proofs.KnownBytes.{Consumes-nil}
 use Rattle.iom_kept_state.specs.Grants.{IsPastOf}
@@ -62,10 +61,6 @@ continues_further old mid new happened later first rest =
     λ history past. let half = first history past in let whole = rest half.0 half.1 in
     (whole.0, whole.1, happen_on (trace_state old history) happened (trace_state mid half.0) later (trace_state new whole.0) half.2 whole.2)
 
--- nothing happened
-pub stays_so : (it : TraceMachine) → Continues it [] it
-stays_so it = λ history past. (history, past, refl)
-
 -- one line more that says what happened
 says_more : (lines : List (List ℕ)) (line : List ℕ) (happened own : List Happening) → SayHappened lines happened → SaysHappened line own
     → SayHappened (lines ++ line ∷ []) (happened ++ own)
@@ -98,10 +93,6 @@ certify_more old new (first ∷ rest) line happened (size, limits, opens, by) sa
         happen = happen_on (opening_of size limits) by.happened (trace_state old by.past) happened (trace_state new next.0) by.happen next.2;
       },
     )
-
--- a line that says something is spoken
-is_something : (line : List ℕ) (said : Said) → (said ≢ Nothing → is_spoken line ≡ true) → (other : Said) → said ≡ other → other ≢ Nothing → is_spoken line ≡ true
-is_something line said spoken_line other same something = spoken_line (λ e. something (sym same ∙ e))
 
 -- after a line that says nothing
 nothing_said : (found : Option TraceMachine) (lines : List (List ℕ)) (line : List ℕ) → is_spoken line ≡ false → Certify found (spoken lines)

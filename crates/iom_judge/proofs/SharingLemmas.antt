@@ -1,28 +1,18 @@
 -- Devices that share a domain.
-use Rattle.std.proofs.Common.{◌≡◌, ◌≢◌, ◌∙◌, ◌⊎◌, ◌&&◌, ℕ, suc, Bool, true, false, List, [], ◌∷◌, ◌++◌, Option, None, Some, IfSome, IsTrue, map, refl, sym, ap, subst, drop, take, slice_get, slice_index_or, ◌<◌, ◌-◌, nat_eq, length, inl, inr, arith}
-use Rattle.std.specs.List.{filter}
+use Rattle.std.proofs.Common.{◌≡◌, ◌∙◌, ℕ, Bool, List, [], ◌∷◌, ◌++◌, Option, None, Some, IsTrue, map, refl, sym, ap, subst, drop, take, slice_get, slice_index_or, ◌<◌, ◌-◌, nat_eq, length, arith}
 use Rattle.std.specs.Map.{lookup}
-use Rattle.std.specs.Option.{option_and_then, option_map_or}
-use Rattle.std.proofs.lemmas.Bool.Decides.{eqb_tells}
 use Rattle.iom_base.specs.declared.grant_rights.GrantRights.{GrantRights}
-use Rattle.iom_kept_state.specs.Grants.{IsPastOf, held_by, named_pair, pages_by}
-use Rattle.iom_kept_state.specs.declared.grants.KeptGrants.{KeptGrants}
-use Rattle.iom_kept_state.specs.declared.state.KeptState.{KeptState}
-use Rattle.iom_ledger.specs.Rows.{Pages, held_of, pages_in}
-use Rattle.iom_ledger.specs.Shown.{held_in, pages_listed}
-use Rattle.iom_ledger.specs.declared.page_row.PageRow.{PageRow}
 use Rattle.iom_machine.specs.declared.choice.Choice.{Choice}
 use Rattle.iom_machine.specs.declared.event.Event.{Event}
 use Rattle.iom_machine.specs.declared.event.Event.TheVariants as events
 use Rattle.iom_machine.specs.declared.outcome.Outcome.{Outcome}
 use Rattle.iom_machine.specs.declared.outcome.Outcome.TheVariants as outcomes
 use Rattle.iom_machine.specs.declared.state.Device.{Device}
-use Rattle.iom_machine.specs.Refusals.{is_attached}
 use Rattle.iom_judge.specs.Certified.{first_in, trace_state, Continues, ContinuesAs, ContinuesBy, ContinuesByHeld}
 use Rattle.iom_judge.specs.Happenings.{Happening, Came, Joined, Shared, CameInTurn, IsShared, change_by, event_of}
 use Rattle.iom_trace_lines.specs.TraceLines.{Joins}
 use Rattle.iom_base.specs.declared.mode.Mode.{Mode}
-use Rattle.iom_judge.specs.Sharing.{is_this, sharers}
+use Rattle.iom_judge.specs.Sharing.{sharers}
 use Rattle.iom_judge.specs.declared.changes.Change.{Change}
 use Rattle.iom_judge.specs.declared.machine.TraceMachine.{TraceMachine}
 use Rattle.iom_judge.proofs.CertificateLemmas.{continues_further}

@@ -1,4 +1,4 @@
-use Rattle.std.proofs.Common.{◌≡◌, ◌+◌, ◌∙◌, ◌++◌, ◌∷◌, [], ℕ, Some, ap, subst, sym}
+use Rattle.std.proofs.Common.{◌+◌, ◌∙◌, ◌++◌, ◌∷◌, [], ℕ, Some, ap, subst, sym}
 use Rattle.std.specs.List.{slice_range}
 use Rattle.iom_trace_lines.specs.Taken.{HasTaken, TakesNext}
 use Rattle.iom_trace_lines.specs.declared.reading.Lines.{Lines}

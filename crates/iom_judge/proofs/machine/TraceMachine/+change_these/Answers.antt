@@ -1,4 +1,4 @@
-use Rattle.std.proofs.Common.{◌<◌, arith, length, OnOk}
+use Rattle.std.proofs.Common.{◌<◌, arith, length}
 use Rattle.iom_judge.proofs.CertificateLemmas.{if_ok}
 use Rattle.iom_judge.proofs.SharingLemmas.{first_item, changed_these}
 use Rattle.iom_judge.proofs.machine.TraceMachine.+change_these.Goals as goal

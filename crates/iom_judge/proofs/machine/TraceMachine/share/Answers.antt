@@ -1,4 +1,4 @@
-use Rattle.std.proofs.Common.{◌≡◌, ◌∙◌, ℕ, Some, ap, if◌then◌else◌, nat_eq, refl}
+use Rattle.std.proofs.Common.{◌∙◌, ℕ, Some, ap, if◌then◌else◌, nat_eq, refl}
 use Rattle.iom_judge.specs.Certified.{first_in}
 use Rattle.iom_judge.specs.Happenings.{Joined}
 use Rattle.iom_judge.proofs.CertificateLemmas.{beside_it}

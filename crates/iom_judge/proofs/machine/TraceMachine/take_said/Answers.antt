@@ -1,7 +1,5 @@
 use Rattle.std.proofs.Common.{◌≡◌, Option, IfSome, subst}
 use Rattle.iom_base.specs.declared.access.Access.{Access}
-use Rattle.iom_trace_lines.specs.TraceLines.{SaysLine, said_of, Grants}
-use Rattle.iom_trace_lines.specs.declared.trace.TraceLine.{TraceLine}
 use Rattle.iom_judge.proofs.CertificateLemmas.{if_ok}
 use Rattle.iom_judge.proofs.machine.TraceMachine.take_said.Goals as goal
 
