@@ -1,5 +1,5 @@
 // How a line of a trace is read.
-ghost use Rattle.std.specs.Prelude.{◌≡◌, ◌≢◌, ◌++◌, ◌∷◌, ℕ, List, [], IfSome, IfOk, IsTrue, None, codes, false, true};
+ghost use Rattle.std.specs.Prelude.{◌≡◌, ◌≢◌, ◌++◌, ◌∷◌, ℕ, List, [], IfSome, IfOk, IsTrue, MatchOption, None, codes, false, true};
 ghost use Rattle.iom_machine.specs.declared.event.Event.TheVariants as events;
 ghost use Rattle.iom_machine.specs.declared.outcome.Outcome.{Outcome};
 ghost use Rattle.iom_script.specs.Grammar.{IsEventLine, is_spoken};
@@ -17,14 +17,6 @@ use iom_machine::{Event, Outcome};
 use iom_script::words::is_word;
 use iom_script::{LineBuffer, event_of, is_spoken};
 use std::alloc::{AllocError, Global};
-
-/// What is shown behind an answer.
-#[derive(Drop)]
-struct Shown {
-    has_tables: bool,
-    on: Option<u64>,
-    began: Option<Access>,
-}
 
 /// Whether the event takes frames for tables, where it is done.
 fn takes_frames(event: &Event, outcome: &Outcome) -> bool
@@ -74,83 +66,89 @@ fn cut_on(behind: &[u8]) -> Option<(&[u8], Option<u64>)>
     ensures { IfSome result (λ parts. codes "; " ++ behind.now ≡ access_text parts.0.now parts.1) }
 {
     let (asked, shown) = cut(behind, b"; on ", 0);
-    let Some(word) = shown else {
-        return Some((asked, None));
-    };
-    match long_number_of(word) {
-        None => None,
-        Some(frame) => Some((asked, Some(frame))),
+    match shown {
+        None => Some((asked, None)),
+        Some(word) => Some((asked, Some(long_number_of(word)?))),
     }
 }
 
 /// Reads the access that is shown behind `accepted N` of a step, by the line by which its device would ask for it, and
-/// `on F` behind that. None where it is no such line.
-fn read_began(alloc: Global, event: &Event, text: &[u8]) -> Result<Option<Shown>, AllocError>
-    ensures { (outcome : Outcome) (tables : List ℕ) → IsTrue (is_accepted outcome)
-        → IfOk result (λ read. IfSome read (λ shown. (said answered answer : List ℕ)
-        → IsEventLine said event.now → line_of outcome ≡ answer ++ 10 ∷ [] → answered ≡ answer ++ codes "; " ++ text.now
-        → SaysLine (said ++ codes " => " ++ answered) (Step event.now outcome shown.has_tables shown.on shown.began) tables)) }
+/// `on F` behind that.
+fn read_began<'a>(
+    alloc: Global,
+    event: Event,
+    outcome: &'a Outcome,
+    text: &[u8],
+) -> Result<TraceLine<'a>, AllocError>
+    ensures { (tables : List ℕ) → IsTrue (is_accepted outcome.now) → IfOk result (λ read. (said answered answer : List ℕ)
+        → IsEventLine said event → line_of outcome.now ≡ answer ++ 10 ∷ [] → answered ≡ answer ++ codes "; " ++ text.now
+        → SaysLine (said ++ codes " => " ++ answered) (said_of read) tables) }
 {
-    let Event::Step { device } = event else {
-        return Ok(None);
-    };
-    let Some((asked, on)) = cut_on(text) else {
-        return Ok(None);
+    let (Event::Step { device }, Some((asked, on))) = (&event, cut_on(text)) else {
+        return Ok(TraceLine::Bad);
     };
     let Some(asks) = event_of(alloc, asked)? else {
-        return Ok(None);
+        return Ok(TraceLine::Bad);
     };
     match access_of(alloc, asks) {
-        Some((id, access)) if id == *device => Ok(Some(Shown {
+        Some((id, access)) if id == *device => Ok(TraceLine::Step {
+            event,
+            outcome,
             has_tables: false,
             on,
             began: Some(access),
-        })),
-        _ => Ok(None),
+        }),
+        _ => Ok(TraceLine::Bad),
     }
 }
 
 /// Reads what is shown behind an answer: `tables F F ..` behind the `ok` of an attach or a grant, `on F` behind
-/// `accepted N`, and behind that of a step also the access that it began. None where it is neither.
-fn read_shown(
+/// `accepted N`, and behind that of a step also the access that it began.
+#[inline(never)]
+fn read_shown<'a>(
     alloc: Global,
-    event: &Event,
-    outcome: &Outcome,
+    event: Event,
+    outcome: &'a Outcome,
     text: &[u8],
     tables: &mut Vec<u64>,
-) -> Result<Option<Shown>, AllocError>
+) -> Result<TraceLine<'a>, AllocError>
     requires { tables.old.items ≡ [] }
-    ensures { IfOk result (λ read. IfSome read (λ shown. (said answered answer : List ℕ)
-        → IsEventLine said event.now → line_of outcome.now ≡ answer ++ 10 ∷ [] → answered ≡ answer ++ codes "; " ++ text.now
-        → SaysLine (said ++ codes " => " ++ answered) (Step event.now outcome.now shown.has_tables shown.on shown.began) tables.new.items)) }
+    ensures { IfOk result (λ read. (said answered answer : List ℕ)
+        → IsEventLine said event → line_of outcome.now ≡ answer ++ 10 ∷ [] → answered ≡ answer ++ codes "; " ++ text.now
+        → SaysLine (said ++ codes " => " ++ answered) (said_of read) tables.new.items) }
 {
     if let Some(frames) = behind(text, b"tables") {
-        if !takes_frames(event, outcome) || !read_frames(frames, tables)? {
-            return Ok(None);
+        if !takes_frames(&event, outcome) || !read_frames(frames, tables)? {
+            return Ok(TraceLine::Bad);
         }
-        return Ok(Some(Shown {
+        return Ok(TraceLine::Step {
+            event,
+            outcome,
             has_tables: true,
             on: None,
             began: None,
-        }));
+        });
     }
     if !is_accepted(outcome) {
-        return Ok(None);
+        return Ok(TraceLine::Bad);
     }
     let Some(word) = behind(text, b"on ") else {
-        return read_began(alloc, event, text);
+        return read_began(alloc, event, outcome, text);
     };
-    match long_number_of(word) {
-        None => Ok(None),
-        Some(frame) => Ok(Some(Shown {
-            has_tables: false,
-            on: Some(frame),
-            began: None,
-        })),
-    }
+    let Some(frame) = long_number_of(word) else {
+        return Ok(TraceLine::Bad);
+    };
+    Ok(TraceLine::Step {
+        event,
+        outcome,
+        has_tables: false,
+        on: Some(frame),
+        began: None,
+    })
 }
 
 /// What is answered to a commit, where that tells no more than that an access was made: a read, or whatever it is.
+#[inline(never)]
 fn read_made(event: &Event, answered: &[u8]) -> TraceLine<'static>
     ensures { (said tables : List ℕ) → IsEventLine said event.now → SaysLine (said ++ codes " => " ++ answered.now) (said_of result) tables }
 {
@@ -172,41 +170,14 @@ fn read_made(event: &Event, answered: &[u8]) -> TraceLine<'static>
     }
 }
 
-/// What the answer to the event says, and what is shown behind that.
-fn read_step<'a>(
-    alloc: Global,
-    printed: &mut LineBuffer,
-    kept: &'a mut KeptOutcomes,
-    tables: &mut Vec<u64>,
-    event: Event,
-    answered: &[u8],
-) -> Result<TraceLine<'a>, AllocError>
-    requires { tables.old.items ≡ [] }
-    ensures { (said : List ℕ) → IsEventLine said event
-        → IfOk result (λ read. SaysLine (said ++ codes " => " ++ answered.now) (said_of read) tables.new.items) }
+/// The answer, and what is shown behind it: nothing but behind `ok` and `accepted N`.
+#[inline(always)]
+fn cut_answer(answered: &[u8]) -> (&[u8], Option<&[u8]>)
+    ensures { MatchOption result.1 (answered.now ≡ result.0.now) (λ behind. answered.now ≡ result.0.now ++ codes "; " ++ behind.now) }
 {
-    let (answer, behind) = cut(answered, b"; ", 0);
-    let Some(outcome) = read_outcome(printed, kept, &event, answer) else {
-        return Ok(read_made(&event, answered));
-    };
-    let Some(text) = behind else {
-        return Ok(TraceLine::Step {
-            event,
-            outcome,
-            has_tables: false,
-            on: None,
-            began: None,
-        });
-    };
-    match read_shown(alloc, &event, outcome, text, tables)? {
-        None => Ok(TraceLine::Bad),
-        Some(shown) => Ok(TraceLine::Step {
-            event,
-            outcome,
-            has_tables: shown.has_tables,
-            on: shown.on,
-            began: shown.began,
-        }),
+    match answered {
+        [b'o' | b'a', ..] => cut(answered, b"; ", 0),
+        _ => (answered, None),
     }
 }
 
@@ -230,10 +201,21 @@ pub fn read_line<'a>(
     if !has_world {
         return Ok(read_world(said, answered));
     }
-    if let Some(answer) = answered {
-        if let Some(event) = event_of(alloc, said)? {
-            return read_step(alloc, printed, kept, tables, event, answer);
-        }
+    let (Some(answered), Some(event)) = (answered, event_of(alloc, said)?) else {
+        return read_other(said, answered, tables);
+    };
+    let (answer, behind) = cut_answer(answered);
+    let Some(outcome) = read_outcome(printed, kept, &event, answer) else {
+        return Ok(read_made(&event, answered));
+    };
+    match behind {
+        Some(text) => read_shown(alloc, event, outcome, text, tables),
+        None => Ok(TraceLine::Step {
+            event,
+            outcome,
+            has_tables: false,
+            on: None,
+            began: None,
+        }),
     }
-    read_other(said, answered, tables)
 }

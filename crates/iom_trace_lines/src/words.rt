@@ -4,34 +4,34 @@ ghost use Rattle.iom_script.specs.Words.{IsNumber};
 ghost use Rattle.iom_trace_lines.specs.TraceLines.{frames_text};
 
 use iom_script::words::{after, number_and, number_of};
-use memchr::memchr_iter;
+use memchr::memchr;
 use std::alloc::AllocError;
 
-/// What stands before the first separator and behind it; all, and nothing, where there is none. It is found by one of its
-/// bytes, which comes seldom: the one at the place.
+/// What stands before the separator and behind it; all, and nothing, where there is none. It is looked for where its byte
+/// at the place first stands: no line of a trace has one before that.
 // Written into its caller, where the separator is known.
 #[inline(always)]
 pub(crate) fn cut<'a>(text: &'a [u8], separator: &[u8], by: usize) -> (&'a [u8], Option<&'a [u8]>)
     ensures { MatchOption result.1 (text.now ≡ result.0.now) (λ behind. text.now ≡ result.0.now ++ separator.now ++ behind.now) }
 {
-    let Some(byte) = separator.get(by) else {
+    let Some(place) = separator.get(by).and_then(|byte| memchr(*byte, text)) else {
         return (text, None);
     };
-    for place in memchr_iter(*byte, text) {
-        let (before, rest) = text.split_at(place.saturating_sub(by).min(text.len()));
-        if let Some(behind) = after(rest, separator) {
-            return (before, Some(behind));
-        }
+    let (before, rest) = text.split_at(place.saturating_sub(by).min(text.len()));
+    match behind(rest, separator) {
+        None => (text, None),
+        found => (before, found),
     }
-    (text, None)
 }
 
 /// What follows, where the text begins so.
+// Of a known start more than eight bytes together would be compared by a call.
 #[inline(always)]
 pub(crate) fn behind<'a>(text: &'a [u8], start: &[u8]) -> Option<&'a [u8]>
     ensures { IfSome result (λ rest. text.now ≡ start.now ++ rest.now) }
 {
-    after(text, start)
+    let (first, others) = start.split_at(start.len().min(8));
+    after(after(text, first)?, others)
 }
 
 /// The number of 64 bits that the word says.

@@ -4,16 +4,16 @@ use Rattle.iom_trace_lines.proofs.TraceLemmas.{step_began}
 use Rattle.iom_trace_lines.proofs.line.read_began.Goals as goal
 
 pub returns-in-Some-access_of : goal.returns-in-Some-access_of
-returns-in-Some-access_of c outcome tables accepted said answered answer says tells is =
-    let asks = c.in-Some-2.asks in
+returns-in-Some-access_of c tables accepted said answered answer says tells is =
+    let asks = c.in-Some.asks in
     let access = c.in-Some-access_of.access in
-    step_began said answered answer c.args.text.now c.args.event.now outcome access c.in-Some.on tables says tells is (
-      c.in-Step.device,
-      c.in-Step.is,
+    step_began said answered answer c.args.text.now c.args.event c.args.outcome.now access c.in-Step-Some.on tables says tells is (
+      c.in-Step-Some.device,
+      c.in-Step-Some.is-0,
       accepted,
-      c.in-Some.asked.now,
+      c.in-Step-Some.asked.now,
       asks,
-      (c.in_ok-asks.ensures asks).0 c.in-Some-2.is,
+      (c.in_ok-asks.ensures asks).0 c.in-Some.is,
       subst (λ (device : ℕ). EventAsksFor asks device access) c.if-id-device.true c.in-Some-access_of.ensures,
-      c.in-Some.ensures,
+      c.in-Step-Some.ensures,
     )
