@@ -7,7 +7,7 @@ use Rattle.iom_machine.specs.declared.outcome.CommandName.TheVariants.{AtsInval}
 use Rattle.iom_machine.specs.declared.outcome.Fetched.TheVariants.{Did}
 use Rattle.iom_machine.specs.declared.outcome.Outcome.{Outcome}
 use Rattle.iom_machine.specs.declared.outcome.Outcome.TheVariants as outcomes
-use Rattle.iom_reasons.specs.declared.messages.Sent.{Sent}
+use Rattle.iom_reasons.specs.declared.notes.Sent.{Sent}
 
 -- The messages under way, in the order in which they were sent: each a question, or another message.
 abbrev pub UnderWay : Type 0

@@ -1,17 +1,17 @@
-// What is said of an access that a device asks for, and what could have come of it.
-use crate::devices::{has_other_number, is_in_both, next_number, say_absent, say_next};
+// What is said of an access or a question, and what could have come of it.
+use crate::devices::{say_absent, say_next};
 use crate::facts::Facts;
-use crate::frames::say_bad_span;
-use crate::notes::requester_of;
-use crate::past::Place;
+use crate::notes::Sent;
+use crate::pages::{Meant, say_bad_span, say_stale};
 use crate::words::{Said, Words};
-use iom_base::{Access, AccessKind, Cause, DeviceId, DeviceKind, PAGE_SIZE, Refusal, Sequence};
+use iom_base::{Access, AccessKind, Cause, DeviceId, PAGE_SIZE, Refusal, Rights, Sequence};
+use iom_fabric::Translation;
 use iom_machine::{Device, Event, Outcome};
-use iom_machine_judge::{requests, through_cache, translated};
+use iom_machine_judge::{questions, requests, through_cache, translated};
 use std::alloc::Global;
 
 /// The causes with which a request may be refused.
-pub(crate) static CAUSES: [Cause; 11] = [
+static CAUSES: [Cause; 11] = [
     Cause::ReadAccessFault,
     Cause::WriteAccessFault,
     Cause::ReadPageFault,
@@ -37,77 +37,67 @@ pub(crate) enum Way {
 }
 
 impl Way {
-    /// Whether devices of the kind send such requests.
-    pub(crate) fn is_open_to(self, kind: DeviceKind) -> bool {
-        match self {
-            Way::Untranslated => kind.sends_untranslated(),
-            Way::Forged => kind.forges(),
-            Way::Cached => kind.sends_through_cache(),
+    /// The way by which the event's request goes to memory, and whose it is, if it is one.
+    pub(crate) fn of(event: &Event) -> Option<(Way, DeviceId)> {
+        match event {
+            Event::Read { device, .. } | Event::Write { device, .. } => {
+                Some((Way::Untranslated, *device))
+            }
+            Event::ReadTranslated { device, .. } | Event::WriteTranslated { device, .. } => {
+                Some((Way::Forged, *device))
+            }
+            Event::ReadThroughCache { device, .. } | Event::WriteThroughCache { device, .. } => {
+                Some((Way::Cached, *device))
+            }
+            _ => None,
         }
     }
 }
 
-/// What an event asks for in the name of a device.
-#[derive(Drop)]
-pub(crate) struct Asked {
-    pub way: Way,
-    pub device: DeviceId,
-    /// What it would write is left out, since no answer depends on it.
-    pub access: Access,
+/// The access that the event asks for, if it does. What it would write is left out, since no answer depends on it.
+fn access_of(alloc: Global, event: &Event) -> Option<Access> {
+    let (kind, address, len) = match event {
+        Event::Read { address, len, .. }
+        | Event::ReadTranslated { address, len, .. }
+        | Event::ReadThroughCache { address, len, .. } => (AccessKind::Read, *address, *len),
+        Event::Write { address, bytes, .. }
+        | Event::WriteTranslated { address, bytes, .. }
+        | Event::WriteThroughCache { address, bytes, .. } => {
+            (AccessKind::Write, *address, bytes.as_slice().len() as u64)
+        }
+        _ => return None,
+    };
+    Some(Access {
+        address,
+        len,
+        kind,
+        bytes: Sequence::new(alloc),
+    })
 }
 
 /// A device's request to memory.
 #[derive(Clone, Copy)]
-pub(crate) struct Request<'a> {
-    pub way: Way,
-    pub device: &'a Device,
-    pub access: &'a Access,
+struct Request<'a> {
+    way: Way,
+    device: &'a Device,
+    access: &'a Access,
 }
 
-/// The address that the event names, and how many bytes.
-fn span_of(event: &Event) -> Option<(u64, u64)> {
-    match event {
-        Event::Read { address, len, .. }
-        | Event::ReadTranslated { address, len, .. }
-        | Event::ReadThroughCache { address, len, .. } => Some((*address, *len)),
-        Event::Write { address, bytes, .. }
-        | Event::WriteTranslated { address, bytes, .. }
-        | Event::WriteThroughCache { address, bytes, .. } => {
-            Some((*address, bytes.as_slice().len() as u64))
+/// Says with which causes a device could have been refused what it asked for, behind these words.
+fn could_fault<F: Fn(Cause) -> bool>(words: &mut Words, what: &str, may: F) -> Said
+    requires { F.IsAlwaysCallable may }
+{
+    for cause in CAUSES.iter() {
+        if may(*cause) {
+            words.could(format_args!("{what} {cause}"))?;
         }
-        _ => None,
     }
-}
-
-impl Asked {
-    /// The access that the event asks for, if it does.
-    pub(crate) fn of(alloc: Global, event: &Event) -> Option<Asked> {
-        let (way, kind) = match event {
-            Event::Read { .. } => (Way::Untranslated, AccessKind::Read),
-            Event::Write { .. } => (Way::Untranslated, AccessKind::Write),
-            Event::ReadTranslated { .. } => (Way::Forged, AccessKind::Read),
-            Event::WriteTranslated { .. } => (Way::Forged, AccessKind::Write),
-            Event::ReadThroughCache { .. } => (Way::Cached, AccessKind::Read),
-            Event::WriteThroughCache { .. } => (Way::Cached, AccessKind::Write),
-            _ => return None,
-        };
-        let (address, len) = span_of(event)?;
-        Some(Asked {
-            way,
-            device: requester_of(event)?,
-            access: Access {
-                address,
-                len,
-                kind,
-                bytes: Sequence::new(alloc),
-            },
-        })
-    }
+    Ok(())
 }
 
 impl Facts<'_> {
     /// Whether the request may be answered so, on the frame.
-    pub(crate) fn may(&self, request: Request<'_>, frame: u64, outcome: &Outcome) -> bool {
+    fn may(&self, request: Request<'_>, frame: u64, outcome: &Outcome) -> bool {
         let (kept, device, access) = (self.kept, request.device, request.access);
         match request.way {
             Way::Untranslated => requests::may_answer(kept, device, access, frame, outcome),
@@ -116,20 +106,27 @@ impl Facts<'_> {
         }
     }
 
-    /// Says what is known of an access, and what could have come of it.
-    pub(crate) fn say_access(&self, words: &mut Words, asked: &Asked, outcome: &Outcome) -> Said {
-        let Some(device) = self.device(asked.device) else {
-            return say_absent(words, asked.device);
+    /// Says what is known of an access that the event asks for, and what could have come of it.
+    pub(crate) fn say_access(&self, words: &mut Words, event: &Event, outcome: &Outcome) -> Said {
+        let (Some((way, id)), Some(access)) = (Way::of(event), access_of(words.alloc, event)) else {
+            return Ok(());
         };
-        let (way, access) = (asked.way, &asked.access);
-        if !way.is_open_to(device.kind) {
+        let Some(device) = self.device(id) else {
+            return say_absent(words, id);
+        };
+        let sends = match way {
+            Way::Untranslated => device.kind.sends_untranslated(),
+            Way::Forged => device.kind.forges(),
+            Way::Cached => device.kind.sends_through_cache(),
+        };
+        if !sends {
             words.say("a device of its kind doesn't do that")?;
             return words.could(Refusal::WrongKind);
         }
         let request = Request {
             way,
             device,
-            access,
+            access: &access,
         };
         if self.may(request, 0, &Outcome::BadSpan) {
             return say_bad_span(words);
@@ -139,59 +136,27 @@ impl Facts<'_> {
             return words.could("busy");
         }
         self.say_attachment(words, device)?;
-        self.say_target(words, request)?;
         self.could_come(words, request, outcome)
     }
 
-    /// Says what the device reaches that it may mean.
-    fn say_target(&self, words: &mut Words, request: Request<'_>) -> Said {
-        let (id, kind) = (request.device.id, request.access.kind);
-        if let Way::Forged = request.way {
-            return Ok(());
-        }
-        if is_in_both(request.device) {
-            self.say_reached(words, id, kind)?;
-            return self.say_shown(words, id, kind);
-        }
-        let place = Place::new(id, request.access.address / PAGE_SIZE);
-        self.say_page(words, place)?;
-        self.say_before(words, place)
-    }
-
-    /// Whether the request may be accepted on the frame, with the next number.
-    fn may_accept(&self, request: Request<'_>, frame: u64) -> bool {
-        let next = next_number(request.device);
-        self.may(request, frame, &Outcome::Accepted(next))
-    }
-
-    /// Puts the frames to the others on which the request may be accepted, eight at most.
-    fn add_acceptable(&self, frames: &mut Vec<u64>, request: Request<'_>) -> Said {
-        if let Some(shown) = self.on {
-            if is_in_both(request.device) && self.may_accept(request, shown) {
-                frames.push(shown)?;
-            }
-        }
-        let (page, kind) = (request.access.address / PAGE_SIZE, request.access.kind);
-        self.add_frames(frames, request.device, page, kind, |frame| {
-            self.may_accept(request, frame)
-        })
-    }
-
-    /// Whether the request may be accepted on the frame that the line shows, or else on one of these.
-    fn may_be_accepted(&self, request: Request<'_>, frames: &[u64]) -> bool {
-        match self.on {
-            None => !frames.is_empty(),
-            Some(frame) => self.may_accept(request, frame),
-        }
-    }
-
-    /// Says what could have come of the request, and which number is next, where the line shows another, and could come else.
+    /// Says what the request may mean, and what could have come: which number is next, where the line could come with that alone.
     fn could_come(&self, words: &mut Words, request: Request<'_>, outcome: &Outcome) -> Said {
-        let (device, next) = (request.device, next_number(request.device));
+        let Request { device, access, .. } = request;
+        let meant = Meant::by(device, access.address / PAGE_SIZE, access.kind);
+        if !matches!(request.way, Way::Forged) {
+            self.say_meant(words, meant)?;
+            self.say_shown(words, meant)?;
+        }
+        let next = device.accepted.saturating_add(1);
+        let may_accept = |frame| self.may(request, frame, &Outcome::Accepted(next));
         let mut frames = Vec::new(words.alloc);
-        self.add_acceptable(&mut frames, request)?;
-        if has_other_number(device, outcome) && self.may_be_accepted(request, &frames) {
-            say_next(words, device)?;
+        if let Some(shown) = self.on.filter(|shown| may_accept(*shown)) {
+            frames.push(shown)?;
+        }
+        self.add_frames(&mut frames, meant, may_accept)?;
+        let accepted = self.on.or(frames.first().copied());
+        if accepted.is_some_and(|frame| frames.contains(&frame)) {
+            say_next(words, device, outcome)?;
         }
         for frame in frames.iter() {
             words.could(format_args!("accepted {next} on frame {frame}"))?;
@@ -199,16 +164,55 @@ impl Facts<'_> {
         if self.may(request, 0, &Outcome::Miss) {
             words.could("miss")?;
         }
-        self.could_faults(words, request)
+        could_fault(words, "fault", |cause| {
+            self.may(request, 0, &Outcome::Fault(cause))
+        })
     }
 
-    /// Says with which causes it could have been refused.
-    fn could_faults(&self, words: &mut Words, request: Request<'_>) -> Said {
-        for cause in CAUSES.iter() {
-            if self.may(request, 0, &Outcome::Fault(*cause)) {
-                words.could(format_args!("fault {cause}"))?;
+    /// Whether the device may be told so of the page.
+    fn may_tell(&self, device: &Device, page: u64, told: Translation) -> bool {
+        questions::may_tell(device.attachment, self.kept, device.id, page, told)
+    }
+
+    /// Says with which rights the frame could have been the answer. No answer names a frame of more than 32 bits.
+    fn could_tell(&self, words: &mut Words, device: &Device, page: u64, frame: u64) -> Said {
+        let Ok(frame) = u32::try_from(frame) else {
+            return Ok(());
+        };
+        for rights in [Rights::RW, Rights::R] {
+            if self.may_tell(device, page, Translation::Page { frame, rights }) {
+                words.could(format_args!("answer {frame} {rights}"))?;
             }
         }
         Ok(())
+    }
+
+    /// Says what is known of the message at the place and, where this came of its delivery, what could have been answered.
+    pub(crate) fn say_message(&self, words: &mut Words, at: u64, came: Option<&Outcome>) -> Said {
+        let Some(Sent { device: id, page }) = self.notes.messages.question_at(at) else {
+            return words.say(format_args!("no question is at place {at}"));
+        };
+        let Some(page) = page else {
+            return words.say(format_args!("a step of {id:06x} asked, of a page that isn't shown"));
+        };
+        let Some(device) = self.device(id) else {
+            return say_absent(words, id);
+        };
+        let meant = Meant::by(device, page, AccessKind::Read);
+        self.say_meant(words, meant)?;
+        let Some(outcome) = came else {
+            return Ok(());
+        };
+        if let Outcome::Answered(Translation::Page { frame, .. }) = outcome {
+            say_stale(words, self.stale(meant, u64::from(*frame)))?;
+        }
+        let mut frames = Vec::new(words.alloc);
+        self.add_frames(&mut frames, meant, |_frame| true)?;
+        for frame in frames.iter() {
+            self.could_tell(words, device, page, *frame)?;
+        }
+        could_fault(words, "answer fault", |cause| {
+            self.may_tell(device, page, Translation::Refused(cause))
+        })
     }
 }

@@ -1,29 +1,25 @@
-// What is said of a device, of its oldest access in flight, and of a step that it takes.
+// What is said of a device, of its accesses in flight, which polls and commits touch, and of a step that it takes.
 use crate::facts::Facts;
-use crate::phrases::{InLine, Under, name_of};
-use crate::words::{Said, Words};
-use iom_base::{AccessKind, DeviceId, PAGE_SIZE, Refusal};
+use crate::pages::Sought;
+use crate::past::Release;
+use crate::words::{InLine, MOST_SAID, Said, Under, Words, name_of};
+use iom_base::{AcceptedAccess, AccessKind, DeviceId, PAGE_SIZE, Refusal};
 use iom_machine::{Attachment, Device, Outcome};
+use std::alloc::AllocError;
+use std::ops::RangeInclusive;
 
-/// Whether a guest's own tables stand in front of those of the device's grants, or did until it left.
-pub(crate) fn is_in_both(device: &Device) -> bool {
-    device.attachment.mode().is_some_and(|mode| mode.is_both())
-}
+/// Tickets, from the first to the last.
+type Tickets = RangeInclusive<u32>;
 
-/// The number with which the device's next access is accepted.
-pub(crate) fn next_number(device: &Device) -> u64 {
-    device.accepted.saturating_add(1)
-}
-
-/// Says which number that is.
-pub(crate) fn say_next(words: &mut Words, device: &Device) -> Said {
-    let next = next_number(device);
-    words.say(format_args!("its next number is {next}"))
-}
-
-/// Whether the line shows that the device's access is accepted with another number.
-pub(crate) fn has_other_number(device: &Device, outcome: &Outcome) -> bool {
-    matches!(outcome, Outcome::Accepted(number) if *number != next_number(device))
+/// Says with which number the device's next access is accepted, where the line shows another one.
+pub(crate) fn say_next(words: &mut Words, device: &Device, outcome: &Outcome) -> Said {
+    let next = device.accepted.saturating_add(1);
+    match outcome {
+        Outcome::Accepted(number) if *number != next => {
+            words.say(format_args!("its next number is {next}"))
+        }
+        _ => Ok(()),
+    }
 }
 
 /// Says that there is no such device.
@@ -42,19 +38,9 @@ impl Facts<'_> {
             Attachment::Quarantined { ticket, .. } => ("cut off", ticket),
             Attachment::Leaving { ticket, .. } => ("leaving", ticket),
         };
-        let under = match self.notes.past.leave_of(id, ticket) {
-            None => Under::Ticket(ticket),
-            Some(release) => Under::Release(release),
-        };
+        let leave = self.notes.past.leaves.get(&ticket);
+        let under = Under(Some(ticket), leave.map(|(_id, release)| *release));
         words.say(format_args!("{id:06x} is {what} {under}"))
-    }
-
-    /// Says what is known of a device.
-    pub(crate) fn say_device(&self, words: &mut Words, id: DeviceId) -> Said {
-        match self.device(id) {
-            None => say_absent(words, id),
-            Some(device) => self.say_attachment(words, device),
-        }
     }
 
     /// Says what is known of a block device that takes a step, and which of its answers may always come.
@@ -69,9 +55,7 @@ impl Facts<'_> {
         self.say_attachment(words, device)?;
         let count = device.in_flight.as_slice().len();
         words.say(format_args!("{count} of its accesses are in flight"))?;
-        if has_other_number(device, outcome) {
-            say_next(words, device)?;
-        }
+        say_next(words, device, outcome)?;
         words.could("idle, waiting, chain, finished, down")
     }
 
@@ -86,8 +70,7 @@ impl Facts<'_> {
         };
         let (frame, len, kind) = (oldest.frame, oldest.access.len, oldest.access.kind);
         let (offset, name) = (oldest.access.address % PAGE_SIZE, name_of(kind));
-        let line = self.notes.flights.get(id, 0);
-        let accepted = InLine("accepted", line);
+        let accepted = InLine("accepted", self.notes.past.accepted(id, 0));
         words.say(format_args!(
             "the oldest access of {id:06x} in flight is a {name} of {len} bytes at offset {offset} of frame {frame}{accepted}"
         ))?;
@@ -98,5 +81,106 @@ impl Facts<'_> {
             }
             AccessKind::Write => words.could(format_args!("wrote {len}")),
         }
+    }
+
+    /// Whether the access may be in flight where these tickets are confirmed.
+    fn may_fly(&self, id: DeviceId, flight: &AcceptedAccess, tickets: &Tickets) -> bool {
+        let grants = &self.kept.grants;
+        let (frame, kind) = (flight.frame, flight.access.kind);
+        let page = flight.access.address / PAGE_SIZE;
+        let (first, last) = (*tickets.start(), *tickets.end());
+        if last < first {
+            return grants.may(id, page, frame, kind);
+        }
+        grants.may_once(id, page, frame, kind, first, last)
+    }
+
+    /// Whether each access in flight may be where the tickets up to the last are confirmed.
+    fn may_confirm(&self, last: u32) -> bool {
+        let mut devices = self.kept.devices.as_slice().iter();
+        devices.all(|device| {
+            let mut flights = device.in_flight.as_slice().iter();
+            flights.all(|flight| self.may_fly(device.id, flight, &(1..=last)))
+        })
+    }
+
+    /// Says what could have been confirmed. Where a ticket may be, those before it may.
+    fn could_confirm(&self, words: &mut Words) -> Said {
+        words.could("confirmed -")?;
+        if !self.kept.limits.in_order {
+            return Ok(());
+        }
+        let first = self.kept.grants.confirmed.saturating_add(1);
+        for last in (first..=self.kept.grants.given).rev() {
+            if self.may_confirm(last) {
+                return words.could(format_args!("confirmed {first}-{last}"));
+            }
+        }
+        Ok(())
+    }
+
+    /// Says under which of these tickets the device released the frame last, and at which page, if it did.
+    fn say_release(&self, words: &mut Words, id: DeviceId, frame: u64, tickets: &Tickets) -> Said {
+        let mut places = Vec::new(words.alloc);
+        self.add_places(&mut places, id, Sought::Frame(frame))?;
+        let mut found: Option<(u64, Release)> = None;
+        for place in places.iter() {
+            let pending = self.pending_of(*place);
+            if let Some(release) = pending.filter(|release| tickets.contains(&release.ticket)) {
+                if found.is_none_or(|(_page, other)| other.ticket < release.ticket) {
+                    found = Some((place.page, release));
+                }
+            }
+        }
+        match found {
+            None => Ok(()),
+            Some((page, Release { ticket, line, .. })) => words.say(format_args!(
+                "its page {page} was released in line {line} under ticket {ticket}"
+            )),
+        }
+    }
+
+    /// Says which accesses of the device may not be in flight, were these tickets confirmed, and why. So many were found before; how
+    /// many are then.
+    fn say_strays(
+        &self,
+        words: &mut Words,
+        device: &Device,
+        tickets: &Tickets,
+        mut count: usize,
+    ) -> Result<usize, AllocError> {
+        let (id, flights) = (device.id, device.in_flight.as_slice());
+        for (index, flight) in flights.iter().enumerate() {
+            if self.may_fly(id, flight, tickets) {
+                continue;
+            }
+            if count < MOST_SAID {
+                let (frame, line) = (flight.frame, self.notes.past.accepted(id, index));
+                let accepted = InLine("accepted", line);
+                words.say(format_args!(
+                    "an access of {id:06x} is in flight on frame {frame}{accepted}"
+                ))?;
+                self.say_release(words, id, frame, tickets)?;
+            }
+            count = count.saturating_add(1);
+        }
+        Ok(count)
+    }
+
+    /// Says what is in flight that a confirmation may not leave so, which is one of all tickets where the line shows none, and
+    /// which ticket is the last.
+    pub(crate) fn say_poll(&self, words: &mut Words, outcome: &Outcome) -> Said {
+        let given = self.kept.grants.given;
+        let tickets = match outcome {
+            Outcome::Confirmed { first, last, .. } => *first..=*last,
+            _ => 1..=given,
+        };
+        let mut count = 0;
+        for device in self.kept.devices.as_slice() {
+            count = self.say_strays(words, device, &tickets, count)?;
+        }
+        words.say_more(count)?;
+        words.say(format_args!("the last ticket that was given is {given}"))?;
+        self.could_confirm(words)
     }
 }

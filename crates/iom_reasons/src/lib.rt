@@ -8,20 +8,12 @@
 #![tactic(auto)]
 
 mod accesses;
-mod calls;
 mod devices;
 mod facts;
-mod frames;
-mod lists;
-mod messages;
 mod notes;
 mod pages;
 mod past;
-mod phrases;
-mod polls;
-mod questions;
 mod words;
 
 pub use facts::Facts;
-pub use messages::Sent;
-pub use notes::Notes;
+pub use notes::{Notes, Sent};

@@ -1,15 +1,101 @@
-// What is noted of the lines: which messages are under way, and which lines granted, released, confirmed and accepted what a
-// reason may speak of. A line takes a step or two, and one for each ticket that it confirms.
-ghost use Rattle.std.specs.Prelude.{◌≡◌, [], OnOk};
-ghost use Rattle.iom_reasons.specs.UnderWay.{after, question_of};
+// What is noted of the lines: which lines granted, released, confirmed and accepted what a reason may speak of, and which messages are
+// under way (PCI Express Base Specification, chapter 10, "Address Translation Services"), as far as the lines show them. A line takes
+// a step or two, and one for each ticket that it confirms.
+ghost use Rattle.std.specs.Prelude.{◌≡◌, [], OnOk, remove, slice_get, Some};
+ghost use Rattle.iom_reasons.specs.UnderWay.{after, question_in, question_of, sent};
 
-use crate::lists::Lists;
-use crate::messages::{Messages, Sent};
-use crate::past::{Past, Place};
+use crate::past::Past;
 use crate::words::Said;
 use iom_base::DeviceId;
-use iom_machine::{Event, Outcome};
+use iom_machine::{BlockStep, CommandName, Event, Fetched, Outcome};
 use std::alloc::Global;
+
+/// So many messages are under way at most; one more is lost.
+const MOST_MESSAGES: usize = 64;
+
+/// A question under way.
+#[derive(Clone, Copy)]
+pub struct Sent {
+    pub device: DeviceId,
+    /// Of what page it is; none, where a block device's step asked it, which doesn't show that.
+    pub page: Option<u64>,
+}
+
+/// The messages under way, each of them a question or another one: one that is taken closes up, and one that is sent goes last.
+#[derive(Drop)]
+pub(crate) struct Messages {
+    pub(crate) under_way: Vec<Option<Sent>>,
+}
+
+impl Messages {
+    /// The question at the place, if there is one.
+    pub(crate) fn question_at(&self, place: u64) -> Option<Sent>
+        ensures { result ≡ question_in (slice_get self.now.under_way.items place) }
+    {
+        self.under_way.get(place as usize).copied()?
+    }
+
+    /// The message goes last, where there is room for it.
+    fn send(&mut self, message: Option<Sent>) -> Said
+        ensures { OnOk result (self.new.under_way.items ≡ sent message self.old.under_way.items) }
+    {
+        if self.under_way.len() < MOST_MESSAGES {
+            self.under_way.push(message)?;
+        }
+        Ok(())
+    }
+
+    /// A question of the device goes last: for this page, where that is known.
+    fn ask(&mut self, device: DeviceId, page: Option<u64>) -> Said
+        ensures { OnOk result (self.new.under_way.items ≡ sent (Some (record { device = device; page = page })) self.old.under_way.items) }
+    {
+        self.send(Some(Sent { device, page }))
+    }
+
+    /// The message at the place is under way no more.
+    fn take(&mut self, place: u64)
+        ensures { self.new.under_way.items ≡ remove self.old.under_way.items place }
+    {
+        let place = place as usize;
+        if place < self.under_way.len() {
+            self.under_way.remove(place);
+        }
+    }
+
+    /// Notes what this changes that comes of the event.
+    pub(crate) fn note(&mut self, event: &Event, outcome: &Outcome) -> Said
+        ensures { OnOk result (self.new.under_way.items ≡ after event.now outcome.now self.old.under_way.items) }
+    {
+        match (event, outcome) {
+            (Event::Ask { device, page }, Outcome::Sent) => self.ask(*device, Some(page.number())),
+            (Event::Step { device }, Outcome::Stepped(BlockStep::Asked)) => {
+                self.ask(*device, None)
+            }
+            (Event::Forge { .. }, Outcome::Sent)
+            // the request to invalidate
+            | (Event::Fetch, Outcome::Fetched(Fetched::Did(CommandName::AtsInval))) => {
+                self.send(None)
+            }
+            (Event::Deliver { .. }, Outcome::NoMessage) => Ok(()),
+            (Event::Deliver { place }, Outcome::Answered(_) | Outcome::Invalidated(_)) => {
+                self.take(*place);
+                // the answer, or the word that it is done
+                self.send(None)
+            }
+            (Event::Deliver { place }, _) | (Event::Drop { place }, Outcome::Dropped) => {
+                self.take(*place);
+                Ok(())
+            }
+            (Event::Repeat { place }, Outcome::Repeated) => {
+                match self.under_way.get(*place as usize).copied() {
+                    Some(message) => self.send(message),
+                    None => Ok(()),
+                }
+            }
+            _ => Ok(()),
+        }
+    }
+}
 
 /// What is noted of the lines.
 #[derive(Drop)]
@@ -18,22 +104,6 @@ pub struct Notes {
     line: u64,
     pub(crate) messages: Messages,
     pub(crate) past: Past,
-    /// The lines that accepted each device's accesses in flight. They are made in the order in which they were accepted.
-    pub(crate) flights: Lists<u64>,
-}
-
-/// The device whose request or step the event is, if it is one.
-pub(crate) fn requester_of(event: &Event) -> Option<DeviceId> {
-    match event {
-        Event::Read { device, .. }
-        | Event::Write { device, .. }
-        | Event::ReadTranslated { device, .. }
-        | Event::WriteTranslated { device, .. }
-        | Event::ReadThroughCache { device, .. }
-        | Event::WriteThroughCache { device, .. }
-        | Event::Step { device } => Some(*device),
-        _ => None,
-    }
 }
 
 impl Notes {
@@ -43,9 +113,10 @@ impl Notes {
     {
         Notes {
             line: 0,
-            messages: Messages::new(alloc),
+            messages: Messages {
+                under_way: Vec::new(alloc),
+            },
             past: Past::new(alloc),
-            flights: Lists::new(alloc),
         }
     }
 
@@ -66,51 +137,12 @@ impl Notes {
         }
     }
 
-    /// Notes an access that was accepted.
-    fn note_accepted(&mut self, event: &Event) -> Said
-        ensures line { OnOk result (self.new.line ≡ self.old.line) }
-        ensures messages { OnOk result (self.new.messages ≡ self.old.messages) }
-    {
-        match requester_of(event) {
-            None => Ok(()),
-            Some(device) => self.flights.push(device, self.line),
-        }
-    }
-
     /// Notes what came of the event.
     pub fn note(&mut self, event: &Event, outcome: &Outcome) -> Said
         ensures line { OnOk result (self.new.line ≡ self.old.line) }
         ensures messages { OnOk result (self.new.messages.under_way.items ≡ after event.now outcome.now self.old.messages.under_way.items) }
     {
-        let line = self.line;
         self.messages.note(event, outcome)?;
-        match (event, outcome) {
-            (
-                Event::Grant {
-                    device,
-                    page,
-                    frame,
-                    ..
-                },
-                Outcome::Done,
-            ) => { self.past.grant(Place::new(*device, *page), *frame, line) }
-            (Event::Release { device, page }, Outcome::Ticket(ticket)) => {
-                let place = Place::new(*device, *page);
-                self.past.release(place, *ticket, line)
-            }
-            (Event::Quarantine { device } | Event::Detach { device }, Outcome::Ticket(ticket)) => {
-                self.past.leave(*device, *ticket, line)
-            }
-            (Event::Poll, Outcome::Confirmed { first, last, .. }) => {
-                self.past.confirm(*first, *last, line);
-                Ok(())
-            }
-            (Event::Commit { device }, Outcome::Read(_) | Outcome::Wrote(_)) => {
-                self.flights.take_first(*device);
-                Ok(())
-            }
-            (event, Outcome::Accepted(_)) => self.note_accepted(event),
-            _ => Ok(()),
-        }
+        self.past.note(event, outcome, self.line)
     }
 }

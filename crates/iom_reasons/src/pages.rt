@@ -1,12 +1,10 @@
-// What is said of a device's pages, and of the frames that it may reach.
-use crate::devices::is_in_both;
+// What is said of a device's pages, and of the frames that it may reach, or that the processor or the driver names.
 use crate::facts::Facts;
 use crate::past::{Place, Release, Stay};
-use crate::phrases::{InLine, Under, name_of};
-use crate::words::{MOST_SAID, Said, Words};
-use iom_base::{AccessKind, DeviceId, Rights};
+use crate::words::{Hex, InLine, MOST_SAID, Said, Under, Words, name_of};
+use iom_base::{AccessKind, DeviceId, Owner, PAGE_SIZE, Refusal, Rights, Span};
 use iom_machine::Device;
-use std::alloc::{AllocError, Global};
+use iom_machine_judge::reasons::frame_refusal;
 
 /// What is looked for at a device's pages.
 #[derive(Clone, Copy)]
@@ -16,53 +14,48 @@ pub(crate) enum Sought {
     For(AccessKind),
 }
 
-impl Sought {
-    /// Whether it is this frame with these rights.
-    fn is(self, frame: u64, rights: Rights) -> bool {
-        match self {
-            Sought::Frame(sought) => sought == frame,
-            Sought::For(kind) => rights.allows(kind),
+/// Where a device may find what it means by a page.
+#[derive(Clone, Copy)]
+pub(crate) enum Meant {
+    At(Place),
+    /// At any page that it may access so: a guest's own tables stand in front of those of its grants, or did until it left.
+    Anywhere(DeviceId, AccessKind),
+}
+
+impl Meant {
+    /// Where the device may find what it means by this page, for an access of the kind.
+    pub(crate) fn by(device: &Device, page: u64, kind: AccessKind) -> Meant {
+        match device.attachment.mode() {
+            Some(mode) if mode.is_both() => Meant::Anywhere(device.id, kind),
+            _ => Meant::At(Place::new(device.id, page)),
         }
     }
 }
 
-/// What was had, if that is stale.
-fn if_stale(had: Option<Stay>) -> Option<Stay> {
-    had.filter(|stay| stay.is_stale())
+/// Says that the bytes aren't some of one page.
+pub(crate) fn say_bad_span(words: &mut Words) -> Said {
+    words.say("its bytes are none or too many, or leave their page")?;
+    words.could("badspan")
 }
 
-/// Says that the frame is stale at the page that the line names, if it is.
-pub(crate) fn say_stale(words: &mut Words, stale: Option<Stay>) -> Said {
-    let Some(stale) = stale else {
+/// Says that the frame is stale which was had so, if one is: at this page, or at the one that the line names.
+pub(crate) fn say_stale(words: &mut Words, stale: Option<(Option<u64>, Stay)>) -> Said {
+    let Some((page, stay)) = stale else {
         return Ok(());
     };
-    let frame = stale.frame;
-    words.say(format_args!("frame {frame} is stale there: {stale}"))
-}
-
-/// Says that the frame is stale at some page, if it is.
-pub(crate) fn say_stale_at(words: &mut Words, found: Option<(u64, Stay)>) -> Said {
-    let Some((page, stale)) = found else {
-        return Ok(());
-    };
-    let frame = stale.frame;
-    words.say(format_args!("frame {frame} is stale at page {page}: {stale}"))
+    let frame = stay.frame;
+    match page {
+        None => words.say(format_args!("frame {frame} is stale there: {stay}")),
+        Some(page) => words.say(format_args!("frame {frame} is stale at page {page}: {stay}")),
+    }
 }
 
 impl Facts<'_> {
     /// The frame that the device holds at the place, or that lingers there: never both.
-    pub(crate) fn reached(&self, place: Place) -> Option<(u64, Rights)> {
+    fn reached(&self, place: Place) -> Option<(u64, Rights)> {
         let Place { device, page } = place;
         let held = self.kept.grants.held(device, page);
         held.or(self.kept.grants.lingering(device, page))
-    }
-
-    /// Whether that is what is looked for.
-    fn reaches(&self, place: Place, sought: Sought) -> bool {
-        match self.reached(place) {
-            None => false,
-            Some((frame, rights)) => sought.is(frame, rights),
-        }
     }
 
     /// Puts those places of the device to the others at which it reaches what is looked for.
@@ -70,28 +63,15 @@ impl Facts<'_> {
         for index in 0..self.kept.grants.page_count(id) {
             if let Some(page) = self.kept.grants.page_at(id, index) {
                 let place = Place::new(id, page);
-                if self.reaches(place, sought) {
+                let is_sought = match (self.reached(place), sought) {
+                    (None, _) => false,
+                    (Some((frame, _rights)), Sought::Frame(sought)) => sought == frame,
+                    (Some((_frame, rights)), Sought::For(kind)) => rights.allows(kind),
+                };
+                if is_sought {
                     places.push(place)?;
                 }
             }
-        }
-        Ok(())
-    }
-
-    /// Puts the places to the others at which the device may find what it means by the page: that one, or in mode `both` any.
-    fn add_meant(
-        &self,
-        places: &mut Vec<Place>,
-        device: &Device,
-        page: u64,
-        kind: AccessKind,
-    ) -> Said {
-        let (place, sought) = (Place::new(device.id, page), Sought::For(kind));
-        if is_in_both(device) {
-            return self.add_places(places, device.id, sought);
-        }
-        if self.reaches(place, sought) {
-            places.push(place)?;
         }
         Ok(())
     }
@@ -100,15 +80,16 @@ impl Facts<'_> {
     pub(crate) fn add_frames<F: Fn(u64) -> bool>(
         &self,
         frames: &mut Vec<u64>,
-        device: &Device,
-        page: u64,
-        kind: AccessKind,
+        meant: Meant,
         may_come: F,
     ) -> Said
         requires { F.IsAlwaysCallable may_come }
     {
         let mut places = Vec::new(*frames.allocator());
-        self.add_meant(&mut places, device, page, kind)?;
+        match meant {
+            Meant::At(place) => places.push(place)?,
+            Meant::Anywhere(id, kind) => self.add_places(&mut places, id, Sought::For(kind))?,
+        }
         for place in places.iter() {
             if let Some((frame, _rights)) = self.reached(*place) {
                 if frames.len() < MOST_SAID && !frames.contains(&frame) && may_come(frame) {
@@ -117,12 +98,6 @@ impl Facts<'_> {
             }
         }
         Ok(())
-    }
-
-    /// The line that granted the frame to the device at the page, if that was the last grant there.
-    fn grant_of(&self, place: Place, frame: u64) -> Option<u64> {
-        let stay = self.notes.past.last_at(place)?;
-        (stay.frame == frame).then_some(stay.granted)
     }
 
     /// The release of the page, if its ticket isn't confirmed.
@@ -135,7 +110,9 @@ impl Facts<'_> {
     pub(crate) fn say_page(&self, words: &mut Words, place: Place) -> Said {
         let Place { device, page } = place;
         if let Some((frame, rights)) = self.kept.grants.held(device, page) {
-            let granted = InLine("granted", self.grant_of(place, frame));
+            let last = self.notes.past.last_at(place);
+            let last = last.filter(|stay| stay.frame == frame);
+            let granted = InLine("granted", last.map(|stay| stay.granted));
             return words.say(format_args!(
                 "{device:06x} holds frame {frame} {rights} at page {page}{granted}"
             ));
@@ -145,25 +122,26 @@ impl Facts<'_> {
                 "{device:06x} holds nothing at page {page}, and nothing lingers there"
             ));
         };
-        let under = match self.pending_of(place) {
-            None => Under::Pending,
-            Some(release) => Under::Release(release),
-        };
+        let under = Under(None, self.pending_of(place));
         words.say(format_args!(
             "frame {frame} {rights} lingers for {device:06x} at page {page} {under}"
         ))
     }
 
     /// Says what is at these places: of many, at the first.
-    pub(crate) fn say_places(&self, words: &mut Words, places: &[Place]) -> Said {
+    fn say_places(&self, words: &mut Words, places: &[Place]) -> Said {
         for place in places.iter().take(MOST_SAID) {
             self.say_page(words, *place)?;
         }
         words.say_more(places.len())
     }
 
-    /// Says what the device reaches by accesses of the kind, and where.
-    pub(crate) fn say_reached(&self, words: &mut Words, id: DeviceId, kind: AccessKind) -> Said {
+    /// Says what the device reaches there.
+    pub(crate) fn say_meant(&self, words: &mut Words, meant: Meant) -> Said {
+        let (id, kind) = match meant {
+            Meant::At(place) => return self.say_page(words, place),
+            Meant::Anywhere(id, kind) => (id, kind),
+        };
         let mut places = Vec::new(words.alloc);
         self.add_places(&mut places, id, Sought::For(kind))?;
         if places.is_empty() {
@@ -175,62 +153,107 @@ impl Facts<'_> {
         self.say_places(words, &places)
     }
 
-    /// How the frame is stale at the page, if it is, and isn't there again.
-    pub(crate) fn stale_with(&self, place: Place, frame: u64) -> Option<Stay> {
-        if self.reaches(place, Sought::Frame(frame)) {
+    /// Whether the device reaches the frame there.
+    fn is_reached(&self, meant: Meant, frame: u64) -> bool {
+        match meant {
+            Meant::At(place) => self.reached(place).is_some_and(|(found, _)| found == frame),
+            Meant::Anywhere(id, kind) => self.kept.grants.may(id, 0, frame, kind),
+        }
+    }
+
+    /// How the frame is stale there, if it is, and isn't reached, and at which page, where the line names none.
+    pub(crate) fn stale(&self, meant: Meant, frame: u64) -> Option<(Option<u64>, Stay)> {
+        if self.is_reached(meant, frame) {
             return None;
         }
-        let last = if_stale(self.notes.past.last_at(place)).filter(|stay| stay.frame == frame);
-        let before = if_stale(self.notes.past.before_at(place)).filter(|stay| stay.frame == frame);
-        last.or(before)
-    }
-
-    /// How the frame is stale at some page of the device, and at which, if it is.
-    pub(crate) fn stale_somewhere(&self, id: DeviceId, frame: u64) -> Option<(u64, Stay)> {
-        let mut places = self
-            .notes
-            .past
-            .stays
-            .keys()
-            .filter(|place| place.device == id);
-        places.find_map(|place| Some((place.page, self.stale_with(*place, frame)?)))
-    }
-
-    /// Says what was at the page last, if nothing is there now.
-    fn say_last(&self, words: &mut Words, place: Place) -> Said {
-        if self.kept.grants.held(place.device, place.page).is_some() {
-            return Ok(());
-        }
-        say_stale(words, if_stale(self.notes.past.last_at(place)))
-    }
-
-    /// Says what is stale at the page: the frame that the line shows, if that is, and else what was there last.
-    pub(crate) fn say_before(&self, words: &mut Words, place: Place) -> Said {
-        let Some(frame) = self.on else {
-            return self.say_last(words, place);
+        let past = &self.notes.past;
+        let id = match meant {
+            Meant::At(place) => return Some((None, past.stale_at(place, frame)?)),
+            Meant::Anywhere(id, _kind) => id,
         };
-        if self.reaches(place, Sought::Frame(frame)) {
+        let mut places = past.last.keys().filter(|place| {
+            place.device == id && !self.is_reached(Meant::At(**place), frame)
+        });
+        places.find_map(|place| Some((Some(place.page), past.stale_at(*place, frame)?)))
+    }
+
+    /// Says what is stale there: the frame that the line shows, if that is, and else what was at the page last.
+    pub(crate) fn say_shown(&self, words: &mut Words, meant: Meant) -> Said {
+        if self.on.is_some_and(|frame| self.is_reached(meant, frame)) {
             return Ok(());
         }
-        let stale = self.stale_with(place, frame);
+        let stale = self.on.and_then(|frame| self.stale(meant, frame));
         if stale.is_some() {
             return say_stale(words, stale);
         }
-        self.say_last(words, place)?;
-        self.say_frame(words, frame)
+        if let Meant::At(place) = meant {
+            let last = self.notes.past.last_at(place);
+            let last = last.filter(|stay| stay.is_stale());
+            say_stale(words, last.map(|stay| (None, stay)))?;
+        }
+        match self.on {
+            None => Ok(()),
+            Some(frame) => self.say_frame(words, frame),
+        }
     }
 
-    /// Says what is known of the frame on which the line shows an access, if the device may not reach it so.
-    pub(crate) fn say_shown(&self, words: &mut Words, id: DeviceId, kind: AccessKind) -> Said {
-        let Some(frame) = self.on else {
-            return Ok(());
-        };
-        if self.kept.grants.may(id, 0, frame, kind) {
-            return Ok(());
+    /// Says what is known of a frame: whose it is, and which devices reach it, and where.
+    pub(crate) fn say_frame(&self, words: &mut Words, frame: u64) -> Said {
+        let (owner, count) = (self.kept.frames.owner(frame), self.kept.frames.count());
+        match owner {
+            _ if frame >= count => words.say(format_args!(
+                "memory has frames 0 to {count}, less one"
+            ))?,
+            None => words.say(format_args!("frame {frame} is nobody's table or directory page"))?,
+            Some(Owner::System) => words.say(format_args!("frame {frame} belongs to the system"))?,
+            Some(Owner::OneDevice(id)) => words.say(format_args!(
+                "frame {frame} is a table of {id:06x}"
+            ))?,
         }
-        match self.stale_somewhere(id, frame) {
-            None => self.say_frame(words, frame),
-            found => say_stale_at(words, found),
+        let mut places = Vec::new(words.alloc);
+        for device in self.kept.devices.as_slice() {
+            self.add_places(&mut places, device.id, Sought::Frame(frame))?;
+        }
+        self.say_places(words, &places)
+    }
+
+    /// Says what is known of a frame of which it is told whether it is free, and what could have been told.
+    pub(crate) fn say_free(&self, words: &mut Words, frame: u64) -> Said {
+        self.say_frame(words, frame)?;
+        match frame_refusal(self.kept, frame) {
+            Some(refusal) => words.could(refusal),
+            None if self.kept.is_free(frame) => words.could("free yes"),
+            None => words.could("free no"),
+        }
+    }
+
+    /// So many of the frame's bytes from the offset on; none, where they leave it.
+    pub(crate) fn bytes_at(&self, frame: u64, offset: u64, len: u64) -> Hex<'_> {
+        let (start, end) = (offset as usize, offset.saturating_add(len) as usize);
+        match self.kept.frames.bytes(frame).get(start..end) {
+            None => Hex(&[]),
+            Some(bytes) => Hex(bytes),
+        }
+    }
+
+    /// Says what is known of bytes that the processor reads or writes, and what could have come.
+    pub(crate) fn say_bytes(&self, words: &mut Words, kind: AccessKind, at: u64, len: u64) -> Said {
+        if Span::new(at, len).is_none() {
+            return say_bad_span(words);
+        }
+        let (frame, offset) = (at / PAGE_SIZE, at % PAGE_SIZE);
+        self.say_frame(words, frame)?;
+        if let Some(refusal) = frame_refusal(self.kept, frame) {
+            return words.could(refusal);
+        }
+        match (kind, self.kept.frames.is_reserved(frame)) {
+            (AccessKind::Write, true) => words.could(Refusal::FrameReserved),
+            (AccessKind::Write, false) => words.could("ok"),
+            (AccessKind::Read, true) => words.could(format_args!("any {len} bytes")),
+            (AccessKind::Read, false) => {
+                let bytes = self.bytes_at(frame, offset, len);
+                words.could(format_args!("bytes {bytes}"))
+            }
         }
     }
 }

@@ -1,9 +1,12 @@
-// Which frames devices had at their pages, the last one and the one before it, and which lines granted, released and confirmed them.
-use crate::lists::Lists;
+// Which frames devices had at their pages, the last one and the one before it, and which lines granted, released and confirmed them;
+// and which lines accepted what is in flight.
+use crate::accesses::Way;
 use crate::words::Said;
 use indexmap::IndexMap;
 use iom_base::DeviceId;
+use iom_machine::{Event, Outcome};
 use std::alloc::Global;
+use std::collections::VecDeque;
 
 /// A page of a device.
 #[derive(Clone, Copy, PartialEq, Eq, Hash, Debug)]
@@ -26,15 +29,17 @@ pub(crate) struct Release {
     pub line: u64,
     /// The line that confirmed it, if one did.
     pub confirmed: Option<u64>,
+    /// The page that was released right before it under the same ticket, if one was.
+    shared: Option<Place>,
 }
 
 impl Release {
-    pub(crate) fn new(ticket: u32, line: u64) -> Release {
-        let confirmed = None;
+    fn new(ticket: u32, line: u64, shared: Option<Place>) -> Release {
         Release {
             ticket,
             line,
-            confirmed,
+            confirmed: None,
+            shared,
         }
     }
 }
@@ -45,155 +50,166 @@ pub(crate) struct Stay {
     pub frame: u64,
     /// The line of the grant.
     pub granted: u64,
-    /// How often the device had left before it.
+    /// How often devices had left before it.
     leaves: usize,
     /// Its release, if it came.
     pub release: Option<Release>,
-    /// The page that was released before it under the same ticket, if one was.
-    shared: Option<Place>,
 }
 
 impl Stay {
     /// Whether the ticket of its release is confirmed.
     pub(crate) fn is_stale(&self) -> bool {
-        self.release
-            .is_some_and(|release| release.confirmed.is_some())
+        let confirmed = self.release.and_then(|release| release.confirmed);
+        confirmed.is_some()
     }
-}
-
-/// The last two at a page.
-#[derive(Clone, Copy)]
-pub(crate) struct Stays {
-    last: Stay,
-    before: Option<Stay>,
-}
-
-/// For what a ticket was given.
-#[derive(Clone, Copy)]
-enum GivenFor {
-    /// The release of a page.
-    Page(Place),
-    /// A device that left: one of the times that it did, counted from 0.
-    Leave(DeviceId, usize),
 }
 
 /// What devices had.
 #[derive(Drop)]
 pub(crate) struct Past {
-    /// At each page that was granted.
-    pub(crate) stays: IndexMap<Place, Stays>,
-    /// The lines that cut each device off, or detached it. All that a device holds is released when it is cut off, without a
-    /// line for each page: so a page's grant notes how often its device had left, and the next time is its release.
-    leaves: Lists<Release>,
-    /// For what those tickets were given that aren't confirmed.
-    pending: IndexMap<u32, GivenFor>,
+    alloc: Global,
+    /// At each page that was granted, last.
+    pub(crate) last: IndexMap<Place, Stay>,
+    /// Before that.
+    before: IndexMap<Place, Stay>,
+    /// The tickets under which devices were cut off, or detached. All that one holds is released when it is cut off, without a line
+    /// for each page: so a page's grant notes how often devices had left, and the next time that this one does is its release.
+    pub(crate) leaves: IndexMap<u32, (DeviceId, Release)>,
+    /// The pages that were released last under those tickets that aren't confirmed.
+    pending: IndexMap<u32, Place>,
+    /// The lines that accepted each device's accesses in flight. They are made in the order in which they were accepted.
+    flights: IndexMap<DeviceId, VecDeque<u64>>,
 }
 
 impl Past {
     pub(crate) fn new(alloc: Global) -> Past {
         Past {
-            stays: IndexMap::new(alloc),
-            leaves: Lists::new(alloc),
+            alloc,
+            last: IndexMap::new(alloc),
+            before: IndexMap::new(alloc),
+            leaves: IndexMap::new(alloc),
             pending: IndexMap::new(alloc),
+            flights: IndexMap::new(alloc),
         }
     }
 
-    /// The ticket under which the device left the last time, if it is this one.
-    pub(crate) fn leave_of(&self, device: DeviceId, ticket: u32) -> Option<Release> {
-        let index = self.leaves.count(device).checked_sub(1)?;
-        let release = self.leaves.get(device, index)?;
-        (release.ticket == ticket).then_some(release)
-    }
-
-    /// The stay, with the device's leave as its release, where it had none of its own.
-    fn completed(&self, device: DeviceId, mut stay: Stay) -> Stay {
-        stay.release = stay.release.or(self.leaves.get(device, stay.leaves));
-        stay
+    /// The one of these stays that was at the place, with the device's leave as its release, where it had none of its own.
+    fn stay_of(&self, stays: &IndexMap<Place, Stay>, place: Place) -> Option<Stay> {
+        let mut stay = *stays.get(&place)?;
+        let mut leaves = self.leaves.values().skip(stay.leaves);
+        let leave = leaves.find(|(device, _release)| *device == place.device);
+        stay.release = stay.release.or(leave.map(|(_device, release)| *release));
+        Some(stay)
     }
 
     /// What the device had at the page last.
     pub(crate) fn last_at(&self, place: Place) -> Option<Stay> {
-        let last = self.stays.get(&place)?.last;
-        Some(self.completed(place.device, last))
+        self.stay_of(&self.last, place)
     }
 
-    /// What it had there before that.
-    pub(crate) fn before_at(&self, place: Place) -> Option<Stay> {
-        let before = self.stays.get(&place)?.before?;
-        Some(self.completed(place.device, before))
+    /// One of the last two that it had there, if the frame was this, and is stale.
+    pub(crate) fn stale_at(&self, place: Place, frame: u64) -> Option<Stay> {
+        let before = self.stay_of(&self.before, place);
+        let mut stays = self.last_at(place).into_iter().chain(before);
+        stays.find(|stay| stay.frame == frame && stay.is_stale())
+    }
+
+    /// The line that accepted the device's access in flight with this index.
+    pub(crate) fn accepted(&self, device: DeviceId, index: usize) -> Option<u64> {
+        self.flights.get(&device)?.get(index).copied()
     }
 
     /// The line grants the frame.
-    pub(crate) fn grant(&mut self, place: Place, frame: u64, line: u64) -> Said {
-        let before = self.stays.get(&place).map(|stays| stays.last);
-        let last = Stay {
+    fn grant(&mut self, place: Place, frame: u64, line: u64) -> Said {
+        let stay = Stay {
             frame,
             granted: line,
-            leaves: self.leaves.count(place.device),
+            leaves: self.leaves.len(),
             release: None,
-            shared: None,
         };
-        self.stays.insert(place, Stays { last, before })?;
+        if let Some(before) = self.last.insert(place, stay)? {
+            self.before.insert(place, before)?;
+        }
         Ok(())
     }
 
     /// The line releases the page under the ticket.
-    pub(crate) fn release(&mut self, place: Place, ticket: u32, line: u64) -> Said {
-        let shared = match self.pending.insert(ticket, GivenFor::Page(place))? {
-            Some(GivenFor::Page(other)) => Some(other),
-            _ => None,
-        };
-        if let Some(stays) = self.stays.get_mut(&place) {
-            stays.last.release = Some(Release::new(ticket, line));
-            stays.last.shared = shared;
+    fn release(&mut self, place: Place, ticket: u32, line: u64) -> Said {
+        let shared = self.pending.insert(ticket, place)?;
+        if let Some(stay) = self.last.get_mut(&place) {
+            stay.release = Some(Release::new(ticket, line, shared));
         }
         Ok(())
     }
 
-    /// The device leaves by this line, under the ticket.
-    pub(crate) fn leave(&mut self, device: DeviceId, ticket: u32, line: u64) -> Said {
-        let index = self.leaves.count(device);
-        self.leaves.push(device, Release::new(ticket, line))?;
-        self.pending.insert(ticket, GivenFor::Leave(device, index))?;
-        Ok(())
-    }
-
-    /// The line confirms the ticket of the page's release. The page that was released before it under the same ticket.
+    /// The line confirms the ticket of the page's release. The page that was released right before it under the same ticket.
     fn confirm_page(&mut self, place: Place, line: u64) -> Option<Place> {
-        let stays = self.stays.get_mut(&place)?;
-        let mut release = stays.last.release?;
+        let release = self.last.get_mut(&place)?.release.as_mut()?;
         release.confirmed = Some(line);
-        stays.last.release = Some(release);
-        stays.last.shared
+        release.shared
     }
 
-    /// The same of all pages that share it.
-    fn confirm_pages(&mut self, place: Place, line: u64) {
-        let mut next = Some(place);
-        for _ in 0..self.stays.len() {
-            match next {
-                None => return,
-                Some(place) => next = self.confirm_page(place, line),
+    /// The line confirms the ticket: for all pages that share it, or for the device that left under it.
+    fn confirm(&mut self, ticket: u32, line: u64) {
+        let mut next = self.pending.swap_remove(&ticket);
+        if next.is_none() {
+            if let Some((_device, release)) = self.leaves.get_mut(&ticket) {
+                release.confirmed = Some(line);
             }
         }
-    }
-
-    /// The line confirms the ticket under which the device left.
-    fn confirm_leave(&mut self, device: DeviceId, index: usize, line: u64) {
-        if let Some(mut release) = self.leaves.get(device, index) {
-            release.confirmed = Some(line);
-            self.leaves.set(device, index, release);
+        for _ in 0..self.last.len() {
+            let Some(place) = next else {
+                return;
+            };
+            next = self.confirm_page(place, line);
         }
     }
 
-    /// The line confirms the tickets from the first to the last.
-    pub(crate) fn confirm(&mut self, first: u32, last: u32, line: u64) {
-        for ticket in first..=last {
-            match self.pending.swap_remove(&ticket) {
-                None => {}
-                Some(GivenFor::Page(place)) => self.confirm_pages(place, line),
-                Some(GivenFor::Leave(device, index)) => self.confirm_leave(device, index, line),
+    /// The line accepts an access of the device.
+    fn accept(&mut self, device: DeviceId, line: u64) -> Said {
+        let alloc = self.alloc;
+        let lines = self.flights.entry(device)?;
+        let lines = lines.or_insert_with(|| VecDeque::new(alloc));
+        lines.push_back(line)?;
+        Ok(())
+    }
+
+    /// Notes what came of the event in the line.
+    pub(crate) fn note(&mut self, event: &Event, outcome: &Outcome, line: u64) -> Said {
+        match (event, outcome) {
+            (
+                Event::Grant {
+                    device,
+                    page,
+                    frame,
+                    ..
+                },
+                Outcome::Done,
+            ) => self.grant(Place::new(*device, *page), *frame, line)?,
+            (Event::Release { device, page }, Outcome::Ticket(ticket)) => {
+                self.release(Place::new(*device, *page), *ticket, line)?;
             }
+            (Event::Quarantine { device } | Event::Detach { device }, Outcome::Ticket(ticket)) => {
+                let release = Release::new(*ticket, line, None);
+                self.leaves.insert(*ticket, (*device, release))?;
+            }
+            (Event::Poll, Outcome::Confirmed { first, last, .. }) => {
+                for ticket in *first..=*last {
+                    self.confirm(ticket, line);
+                }
+            }
+            (Event::Commit { device }, Outcome::Read(_) | Outcome::Wrote(_)) => {
+                let lines = self.flights.get_mut(device);
+                let _oldest = lines.and_then(|lines| lines.pop_front());
+            }
+            (Event::Step { device }, Outcome::Accepted(_)) => self.accept(*device, line)?,
+            (event, Outcome::Accepted(_)) => {
+                if let Some((_way, device)) = Way::of(event) {
+                    self.accept(device, line)?;
+                }
+            }
+            _ => {}
         }
+        Ok(())
     }
 }
