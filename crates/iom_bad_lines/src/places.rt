@@ -44,49 +44,31 @@ pub(crate) fn at_start<'a>(
 
 /// Where the line leaves the form. One that ends with `..` goes on with frames.
 fn compare_with<'a>(line: &'a str, form: &'static str) -> WrongPlace<'a> {
+    let (said, beyond) = match form.strip_suffix(" ..") {
+        None => (form, END),
+        Some(said) => (said, "FRAME"),
+    };
     let mut column: usize = 1;
-    let mut words = line.split(' ');
-    for expected in form.split(' ') {
-        if expected == ".." {
-            break;
-        }
-        let found = words.next().unwrap_or("");
+    let mut words = said.split(' ');
+    for found in line.split(' ') {
+        let expected = words.next().unwrap_or(beyond);
         if !is_such(found, expected) {
             return WrongPlace::new(column, found, expected, form);
         }
         column = column.saturating_add(found.len()).saturating_add(1);
     }
-    if !form.ends_with("..") {
-        return WrongPlace::new(column, words.next().unwrap_or(""), END, form);
-    }
-    for found in words {
-        if !is_such(found, "FRAME") {
-            return WrongPlace::new(column, found, "FRAME", form);
-        }
-        column = column.saturating_add(found.len()).saturating_add(1);
-    }
-    WrongPlace::new(column, "", END, form)
+    WrongPlace::new(column, "", words.next().unwrap_or(END), form)
 }
 
-/// Whether the line has a word for each of the form, and no other: then it leaves it behind its end alone.
-fn fits(line: &str, form: &'static str) -> bool {
-    let place = compare_with(line, form);
-    place.expected == END && place.column > line.len().saturating_add(1)
-}
-
-/// The first of the forms that the line has.
+/// The first of the forms that the line has: it has a word for each of that form, and no other, so it leaves it behind its end alone.
 pub(crate) fn form_of(line: &str, forms: &[&'static str]) -> Option<&'static str> {
     for form in forms {
-        if fits(line, form) {
+        let place = compare_with(line, form);
+        if place.expected == END && place.column > line.len().saturating_add(1) {
             return Some(*form);
         }
     }
     None
-}
-
-/// Whether pages side by side were meant where the line leaves a form.
-fn means_pages(place: &WrongPlace<'_>) -> bool {
-    place.expected == "PAGE+N" && place.found.contains('+')
 }
 
 /// Where the line leaves the one of these forms with which it agrees for longest, if it agrees for longer than up to there.
@@ -98,7 +80,9 @@ pub(crate) fn closest<'a>(
     let mut best = there;
     for form in forms {
         let other = compare_with(line, form);
-        if other.column > best.column || (other.column == best.column && means_pages(&other)) {
+        // pages side by side were meant
+        let is_pages = other.expected == "PAGE+N" && other.found.contains('+');
+        if other.column > best.column || (other.column == best.column && is_pages) {
             best = other;
         }
     }

@@ -28,10 +28,7 @@ fn before_answer(place: WrongPlace<'_>) -> WrongPlace<'_> {
 
 /// Whether the word is a number between these, or one of them.
 fn is_between(word: &str, least: u64, most: u64) -> bool {
-    match number_of(word.as_bytes()) {
-        None => false,
-        Some(number) => least <= number && number <= most,
-    }
+    number_of(word.as_bytes()).is_some_and(|number| least <= number && number <= most)
 }
 
 /// The form, which the line has, unless a number of the size can't be.
@@ -123,35 +120,21 @@ fn answer_to(form: &str) -> &'static str {
 
 /// Whether it is answered that an access is accepted.
 fn is_accepted(answer: &str) -> bool {
-    match answer.strip_prefix("accepted ") {
-        None => false,
-        Some(number) => number_of(number.as_bytes()).is_some(),
-    }
-}
-
-/// What may stand behind `ok`, as the answer to a line of this form.
-fn behind_ok(form: &str) -> &'static str {
-    if form.starts_with("attach ") || form.starts_with("grant ") {
-        "`tables F F ..`"
-    } else {
-        "the end of the line"
-    }
-}
-
-/// What may stand behind `accepted N`, as the answer to a line of this form.
-fn behind_accepted(form: &str) -> &'static str {
-    match form {
-        "step ID" => "`on F`, or the line of an access of that device,",
-        _ => "`on F`",
-    }
+    let number = answer.strip_prefix("accepted ");
+    number.is_some_and(|number| number_of(number.as_bytes()).is_some())
 }
 
 /// What may stand behind the answer, where that is seen to be one to a line of this form.
 fn behind_answer(form: &str, answer: &str) -> Option<&'static str> {
+    let takes_tables = form.starts_with("attach ") || form.starts_with("grant ");
     match answer_to(form) {
         TICKET => None,
-        _ if answer == "ok" => Some(behind_ok(form)),
-        ANY if is_accepted(answer) => Some(behind_accepted(form)),
+        _ if answer == "ok" && takes_tables => Some("`tables F F ..`"),
+        _ if answer == "ok" => Some("the end of the line"),
+        ANY if is_accepted(answer) && form == "step ID" => {
+            Some("`on F`, or the line of an access of that device,")
+        }
+        ANY if is_accepted(answer) => Some("`on F`"),
         _ => None,
     }
 }

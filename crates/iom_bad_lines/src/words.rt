@@ -25,10 +25,8 @@ pub(crate) fn are_some(first: &str, count: &str) -> bool {
 
 /// Whether the word names pages side by side, as `PAGE+N` does.
 fn is_pages(word: &str) -> bool {
-    match word.split_once('+') {
-        Some((first, count)) => are_some(first, count),
-        None => false,
-    }
+    word.split_once('+')
+        .is_some_and(|(first, count)| are_some(first, count))
 }
 
 /// Whether the word may stand for the one of a form.
