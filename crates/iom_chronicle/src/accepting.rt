@@ -4,12 +4,12 @@ use crate::found::{mode_of, space_of, tables_of};
 use crate::levels::Target;
 use crate::origin::{Entrance, Origin, Through};
 use iom_base::{DeviceId, PAGE_SIZE};
+use iom_board::Board;
 use iom_device_dir::{Context, FirstStage, SecondStage};
-use iom_hardware::Hardware;
 use iom_registers::DirectoryMode;
 
 /// What the access of the device that was accepted last does, on which frame.
-fn newest(hardware: &Hardware, device: DeviceId) -> Option<Target> {
+fn newest(hardware: &Board, device: DeviceId) -> Option<Target> {
     let count = hardware.iommu.in_flight(device);
     let newest = hardware.iommu.waiting_at(device, count.checked_sub(1)?)?;
     Some(Target {
@@ -20,7 +20,7 @@ fn newest(hardware: &Hardware, device: DeviceId) -> Option<Target> {
 
 /// The address of the entry at which the walk to the page ended. In both stages of an entry of the second's that leads to the
 /// frame: which guest physical page it was is in no table of the host's.
-fn walked_to(hardware: &Hardware, context: &Context, page: u64, target: Target) -> Option<u64> {
+fn walked_to(hardware: &Board, context: &Context, page: u64, target: Target) -> Option<u64> {
     let tables = tables_of(context)?;
     match (context.first_stage, context.second_stage) {
         (FirstStage::Tables { .. }, SecondStage::Tables { .. }) => {
@@ -33,7 +33,7 @@ fn walked_to(hardware: &Hardware, context: &Context, page: u64, target: Target) 
 impl Chronicle {
     /// An access of the device at the address was just accepted, and nothing noticed since: keeps its line, and what let it
     /// through, by what was remembered before this line.
-    pub fn accepted(&mut self, hardware: &Hardware, device: DeviceId, address: u64, how: Entrance) {
+    pub fn accepted(&mut self, hardware: &Board, device: DeviceId, address: u64, how: Entrance) {
         let page = address / PAGE_SIZE;
         let through = match how {
             Entrance::Untranslated => self.through_stages(hardware, device, page),
@@ -64,7 +64,7 @@ impl Chronicle {
     }
 
     /// The stages of the device's context, which was cached or is now.
-    fn through_stages(&self, hardware: &Hardware, device: DeviceId, page: u64) -> Through {
+    fn through_stages(&self, hardware: &Board, device: DeviceId, page: u64) -> Through {
         if mode_of(hardware) == DirectoryMode::Bare {
             return Through::DirectoryBare;
         }
@@ -87,7 +87,7 @@ impl Chronicle {
 
     fn through_context(
         &self,
-        hardware: &Hardware,
+        hardware: &Board,
         device: DeviceId,
         context: &Context,
         page: u64,

@@ -10,7 +10,7 @@ use crate::origin::Origin;
 use crate::translations::TranslationLines;
 use crate::words::WordLines;
 use iom_base::DeviceId;
-use iom_hardware::Hardware;
+use iom_board::Board;
 use iom_tlb::Space;
 use std::alloc::{AllocError, Global};
 
@@ -66,7 +66,7 @@ impl Chronicle {
 
     /// Compares caches, contexts and messages with what is remembered: what is new is since this line. To be called after
     /// every line that hardware or a device did.
-    pub fn notice(&mut self, hardware: &Hardware)
+    pub fn notice(&mut self, hardware: &Board)
         ensures { self.new.line ≡ self.old.line }
     {
         self.contexts.notice(hardware, self.line);

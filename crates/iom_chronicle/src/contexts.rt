@@ -1,8 +1,8 @@
 // Since when contexts are cached.
 use crate::since::Since;
 use iom_base::{DeviceId, MAX_DEVICES};
+use iom_board::Board;
 use iom_device_dir::Context;
-use iom_hardware::Hardware;
 use std::alloc::{AllocError, Global};
 
 /// The context that is cached for each device, in the order of plugging, since which line.
@@ -27,7 +27,7 @@ impl ContextLines {
 
     /// A row for each device that has none.
     // There is room for all, so none is refused.
-    fn meet(&mut self, hardware: &Hardware) {
+    fn meet(&mut self, hardware: &Board) {
         for device in hardware.devices.iter() {
             if !self.has_row(device.id) {
                 let row = ContextRow {
@@ -43,7 +43,7 @@ impl ContextLines {
         self.rows.iter().any(|row| row.device == device)
     }
 
-    pub(crate) fn notice(&mut self, hardware: &Hardware, line: u64) {
+    pub(crate) fn notice(&mut self, hardware: &Board, line: u64) {
         self.meet(hardware);
         for row in self.rows.iter_mut() {
             let now = hardware.iommu.cached_context(row.device);

@@ -1,8 +1,8 @@
 // The pages of the directory that the walk to a device's context reads.
 use crate::found::{has_directory, mode_of};
 use iom_base::{DeviceId, ENTRY_SIZE, PAGE_SIZE};
+use iom_board::Board;
 use iom_device_dir::{CONTEXT_SIZE, NonLeafEntry, fits_directory};
-use iom_hardware::Hardware;
 use iom_phys_mem::{Bytes, Memory};
 use iom_registers::DirectoryMode;
 
@@ -37,7 +37,7 @@ fn page_below(memory: &Memory, page: u64, device: DeviceId, below: u32) -> Optio
 }
 
 /// The page on a device's path that stands above so many levels.
-pub(crate) fn page_on_path(hardware: &Hardware, device: DeviceId, below: u32) -> Option<u64> {
+pub(crate) fn page_on_path(hardware: &Board, device: DeviceId, below: u32) -> Option<u64> {
     let mode = mode_of(hardware);
     let most = entries_above(mode);
     if !has_directory(mode) || !fits_directory(mode, device) || below > most {
@@ -51,7 +51,7 @@ pub(crate) fn page_on_path(hardware: &Hardware, device: DeviceId, below: u32) ->
 }
 
 /// Whether the walk to the device's context reads the frame.
-pub(crate) fn path_reads(hardware: &Hardware, device: DeviceId, frame: u32) -> bool {
+pub(crate) fn path_reads(hardware: &Board, device: DeviceId, frame: u32) -> bool {
     for below in 0..=2u32 {
         if page_on_path(hardware, device, below) == Some(u64::from(frame)) {
             return true;
@@ -61,7 +61,7 @@ pub(crate) fn path_reads(hardware: &Hardware, device: DeviceId, frame: u32) -> b
 }
 
 /// The address at which memory has the device's context, or would have it.
-pub(crate) fn context_address(hardware: &Hardware, device: DeviceId) -> Option<u64> {
+pub(crate) fn context_address(hardware: &Board, device: DeviceId) -> Option<u64> {
     let page = page_on_path(hardware, device, 0)?;
     let offset = index_in(device, 0).saturating_mul(CONTEXT_SIZE as u64);
     Some(page.saturating_mul(PAGE_SIZE).saturating_add(offset))

@@ -4,8 +4,8 @@ ghost use Rattle.std.specs.Prelude.{◌≢◌};
 use crate::levels::{Stage, Tables};
 use crate::told::ContextPlace;
 use iom_base::{DeviceId, DeviceKind};
+use iom_board::Board;
 use iom_device_dir::{Context, FirstStage, SecondStage, fits_directory, locate};
-use iom_hardware::Hardware;
 use iom_registers::{DirectoryMode, DirectoryPointer};
 use iom_tlb::Space;
 
@@ -18,12 +18,12 @@ pub(crate) fn has_directory(mode: DirectoryMode) -> bool {
 }
 
 /// The directory's mode.
-pub(crate) fn mode_of(hardware: &Hardware) -> DirectoryMode {
+pub(crate) fn mode_of(hardware: &Board) -> DirectoryMode {
     hardware.iommu.registers().directory_mode()
 }
 
 /// The context that memory has for the device.
-fn stored_context(hardware: &Hardware, device: DeviceId) -> Option<Context> {
+fn stored_context(hardware: &Board, device: DeviceId) -> Option<Context> {
     let mode = mode_of(hardware);
     if mode == DirectoryMode::Bare {
         return None;
@@ -36,7 +36,7 @@ fn stored_context(hardware: &Hardware, device: DeviceId) -> Option<Context> {
 }
 
 /// The context that is cached for the device, where its id isn't too wide for the directory.
-fn cached_context(hardware: &Hardware, device: DeviceId) -> Option<Context> {
+fn cached_context(hardware: &Board, device: DeviceId) -> Option<Context> {
     if fits_directory(mode_of(hardware), device) {
         hardware.iommu.cached_context(device)
     } else {
@@ -46,7 +46,7 @@ fn cached_context(hardware: &Hardware, device: DeviceId) -> Option<Context> {
 
 /// The context of the device that a request may find there. None without a directory, or where no such device is plugged in.
 pub(crate) fn context_at(
-    hardware: &Hardware,
+    hardware: &Board,
     device: DeviceId,
     place: ContextPlace,
 ) -> Option<Context> {
@@ -108,7 +108,7 @@ pub(crate) struct Contexts {
 }
 
 impl Contexts {
-    pub(crate) fn of(hardware: &Hardware, device: DeviceId) -> Contexts {
+    pub(crate) fn of(hardware: &Board, device: DeviceId) -> Contexts {
         Contexts {
             cached: context_at(hardware, device, ContextPlace::Cached),
             stored: context_at(hardware, device, ContextPlace::Stored),

@@ -1,7 +1,7 @@
 // The frames of the queues, and of the words that waiting fences store.
 use iom_base::{FRAME_SIZE, PAGE_SIZE};
+use iom_board::Board;
 use iom_command_queue::{COMMAND_SIZE, Command};
-use iom_hardware::Hardware;
 use iom_phys_mem::Memory;
 use iom_registers::Registers;
 
@@ -95,7 +95,7 @@ fn word_frame(memory: &Memory, frame: u32, place: usize) -> Option<u64> {
 }
 
 /// Whether a fence that waits in one frame stores its word into another.
-fn stores_from(hardware: &Hardware, from: u32, into: u32) -> bool {
+fn stores_from(hardware: &Board, from: u32, into: u32) -> bool {
     let registers = hardware.iommu.registers();
     for place in 0..COMMANDS {
         if is_waiting(registers, place_address(from, place))
@@ -108,7 +108,7 @@ fn stores_from(hardware: &Hardware, from: u32, into: u32) -> bool {
 }
 
 /// Whether a fence that waits stores its word into the frame.
-pub(crate) fn has_word(hardware: &Hardware, frame: u32) -> bool {
+pub(crate) fn has_word(hardware: &Board, frame: u32) -> bool {
     for from in 0..hardware.iommu.frames() {
         if stores_from(hardware, from, frame) {
             return true;

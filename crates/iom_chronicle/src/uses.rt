@@ -5,10 +5,10 @@ use crate::found::{context_at, has_directory, mode_of, tables_of};
 use crate::queues::{has_waiting, has_word, is_of_commands, is_of_faults};
 use crate::told::{ContextPlace, ReadAs, Use};
 use iom_base::DeviceId;
-use iom_hardware::Hardware;
+use iom_board::Board;
 
 /// Whether walks by the device's context in that place read the frame as a table.
-fn walks_read(hardware: &Hardware, device: DeviceId, place: ContextPlace, frame: u32) -> bool {
+fn walks_read(hardware: &Board, device: DeviceId, place: ContextPlace, frame: u32) -> bool {
     let Some(context) = context_at(hardware, device, place) else {
         return false;
     };
@@ -19,13 +19,13 @@ fn walks_read(hardware: &Hardware, device: DeviceId, place: ContextPlace, frame:
 }
 
 /// Whether the frame is the root of the directory.
-fn is_root(hardware: &Hardware, frame: u32) -> bool {
+fn is_root(hardware: &Board, frame: u32) -> bool {
     has_directory(mode_of(hardware))
         && hardware.iommu.registers().directory_root() == u64::from(frame)
 }
 
 /// Whether the walk to the context of a device that is plugged in reads the frame.
-fn is_of_directory(hardware: &Hardware, frame: u32) -> bool {
+fn is_of_directory(hardware: &Board, frame: u32) -> bool {
     for device in hardware.devices.iter() {
         if path_reads(hardware, device.id, frame) {
             return true;
@@ -37,7 +37,7 @@ fn is_of_directory(hardware: &Hardware, frame: u32) -> bool {
 impl Chronicle {
     /// How the hardware uses the frame, the first that applies: a queue that is on, or the word of a fence that waits; the
     /// directory, its root or a page on the path of a plugged device; a table that walks of a plugged device read.
-    pub fn use_of(&self, hardware: &Hardware, frame: u32) -> Option<Use> {
+    pub fn use_of(&self, hardware: &Board, frame: u32) -> Option<Use> {
         let registers = hardware.iommu.registers();
         if is_of_commands(registers, frame) {
             return Some(Use::CommandQueue);
@@ -56,7 +56,7 @@ impl Chronicle {
 
     /// As what the hardware reads the frame and relies on what it finds: the first that applies of a table, the directory, and
     /// commands that wait.
-    pub fn read_as(&self, hardware: &Hardware, frame: u32) -> Option<ReadAs> {
+    pub fn read_as(&self, hardware: &Board, frame: u32) -> Option<ReadAs> {
         if let Some(Use::Table { walker, .. }) = self.table_use(hardware, frame) {
             return Some(ReadAs::Table { walker });
         }
@@ -71,7 +71,7 @@ impl Chronicle {
 
     /// Whose walks read the frame as a table: the first device's in the order of plugging, by its stored context, else by the
     /// cached one.
-    fn table_use(&self, hardware: &Hardware, frame: u32) -> Option<Use> {
+    fn table_use(&self, hardware: &Board, frame: u32) -> Option<Use> {
         for device in hardware.devices.iter() {
             let walker = device.id;
             if walks_read(hardware, walker, ContextPlace::Stored, frame) {

@@ -9,7 +9,7 @@ use crate::levels::Target;
 use crate::sent::{Said, Sent, sent_at};
 use crate::told::{ContextPlace, WayFound};
 use iom_base::{AccessKind, DeviceId, ENTRY_SIZE, MAX_IN_FLIGHT};
-use iom_hardware::Hardware;
+use iom_board::Board;
 use iom_registers::DirectoryMode;
 use iom_tlb::PLACES;
 
@@ -38,7 +38,7 @@ impl Chronicle {
     /// device's cache, an answer under way, a cached translation, an entry, or what lets everything through.
     pub fn way(
         &self,
-        hardware: &Hardware,
+        hardware: &Board,
         device: DeviceId,
         frame: u32,
         kind: AccessKind,
@@ -60,12 +60,7 @@ impl Chronicle {
         self.open_way(hardware, device, &contexts)
     }
 
-    fn flight_way(
-        &self,
-        hardware: &Hardware,
-        device: DeviceId,
-        target: Target,
-    ) -> Option<WayFound> {
+    fn flight_way(&self, hardware: &Board, device: DeviceId, target: Target) -> Option<WayFound> {
         for place in 0..MAX_IN_FLIGHT {
             let waiting = hardware.iommu.waiting_at(device, place)?;
             if waiting.frame == target.frame && waiting.kind == target.kind {
@@ -82,7 +77,7 @@ impl Chronicle {
     /// What a device has in its own cache, or would have by an answer under way.
     fn ats_way(
         &self,
-        hardware: &Hardware,
+        hardware: &Board,
         device: DeviceId,
         contexts: &Contexts,
         target: Target,
@@ -96,7 +91,7 @@ impl Chronicle {
         self.answer_way(hardware, device, target)
     }
 
-    fn kept_way(&self, hardware: &Hardware, id: DeviceId, target: Target) -> Option<WayFound> {
+    fn kept_way(&self, hardware: &Board, id: DeviceId, target: Target) -> Option<WayFound> {
         let device = hardware.devices.iter().find(|device| device.id == id)?;
         for entry in entries_of(device).iter() {
             if entry.frame == target.frame && entry.rights.allows(target.kind) {
@@ -111,12 +106,7 @@ impl Chronicle {
         None
     }
 
-    fn answer_way(
-        &self,
-        hardware: &Hardware,
-        device: DeviceId,
-        target: Target,
-    ) -> Option<WayFound> {
+    fn answer_way(&self, hardware: &Board, device: DeviceId, target: Target) -> Option<WayFound> {
         let epoch = hardware.epoch_of(device);
         for place in 0..hardware.fabric.len() {
             let sent = sent_at(&hardware.fabric, place)?;
@@ -130,7 +120,7 @@ impl Chronicle {
 
     fn translation_way(
         &self,
-        hardware: &Hardware,
+        hardware: &Board,
         contexts: &Contexts,
         target: Target,
     ) -> Option<WayFound> {
@@ -156,7 +146,7 @@ impl Chronicle {
     /// An entry of the device's own walks, else of those of other devices in the same address space.
     fn entry_way(
         &self,
-        hardware: &Hardware,
+        hardware: &Board,
         device: DeviceId,
         contexts: &Contexts,
         target: Target,
@@ -178,7 +168,7 @@ impl Chronicle {
     /// An entry of the walks of this device, by its stored context, else by the cached one.
     fn walker_way(
         &self,
-        hardware: &Hardware,
+        hardware: &Board,
         device: DeviceId,
         walker: Option<DeviceId>,
         contexts: &Contexts,
@@ -213,7 +203,7 @@ impl Chronicle {
     /// What lets a device reach every frame.
     fn open_way(
         &self,
-        hardware: &Hardware,
+        hardware: &Board,
         device: DeviceId,
         contexts: &Contexts,
     ) -> Option<WayFound> {
@@ -232,7 +222,7 @@ impl Chronicle {
     }
 
     /// Since when the context with EN_ATS is cached, or stored, where the cached one hasn't it.
-    fn ats_since(&self, hardware: &Hardware, device: DeviceId, contexts: &Contexts) -> u64 {
+    fn ats_since(&self, hardware: &Board, device: DeviceId, contexts: &Contexts) -> u64 {
         if lets_ats(contexts.cached) {
             return match self.contexts.since(device) {
                 Some(line) => line,
@@ -259,7 +249,7 @@ impl Chronicle {
 /// The entry at which a walk ends to the target, by the device's context in that place, where it translates in an address space
 /// of these contexts.
 fn leaf_by(
-    hardware: &Hardware,
+    hardware: &Board,
     device: DeviceId,
     place: ContextPlace,
     contexts: &Contexts,

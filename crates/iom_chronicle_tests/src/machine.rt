@@ -1,15 +1,15 @@
 // Hardware without a driver, and the chronicle that is told of it: each act is a line.
 ghost use Rattle.std.specs.Prelude.{◌+◌, ◌<◌, ◌^◌};
-ghost use Rattle.iom_hardware.specs.HardwareParts.{hardware_parts};
-ghost use Rattle.iom_hardware.specs.Sound.{IsSoundHardware};
-ghost use Rattle.iom_hardware.specs.SoundIsFact.{sound_hardware_prop};
+ghost use Rattle.iom_board.specs.BoardParts.{board_parts};
+ghost use Rattle.iom_board.specs.Sound.{IsSoundBoard};
+ghost use Rattle.iom_board.specs.SoundIsFact.{sound_board_prop};
 
 use crate::expect::expect;
 use iom_base::{AccessKind, NewDevice};
+use iom_board::laws::software_keeps_sound;
+use iom_board::{Board, CacheReply, Sender};
 use iom_chronicle::{Chronicle, Entrance, Origin, WayFound};
 use iom_fabric::PageNumber;
-use iom_hardware::laws::software_keeps_sound;
-use iom_hardware::{CacheReply, Hardware, Sender};
 use iom_iommu::Reply;
 use iom_registers::Mmio;
 use std::alloc::Global;
@@ -50,9 +50,9 @@ pub(crate) enum Act<'a> {
 /// The hardware, and the chronicle of it.
 #[derive(Drop)]
 pub(crate) struct Machine {
-    hardware: Hardware,
+    hardware: Board,
     chronicle: Box<Chronicle>,
-    ghost sound: { IsSoundHardware (hardware_parts hardware) hardware.events } by { sound_hardware_prop (hardware_parts hardware) hardware.events },
+    ghost sound: { IsSoundBoard (board_parts hardware) hardware.events } by { sound_board_prop (board_parts hardware) hardware.events },
 }
 
 /// The memory of a test.
@@ -61,7 +61,7 @@ const FRAMES: u32 = 64;
 impl Machine {
     /// At power-on. Boxed: of what a test owns in place each later proof would carry every part.
     fn at_power_on(rt: &impl Abort, alloc: Global) -> Box<Machine> {
-        let hardware = Hardware::new(alloc, FRAMES, &[]).expect(rt, "memory for the hardware");
+        let hardware = Board::new(alloc, FRAMES, &[]).expect(rt, "memory for the hardware");
         let chronicle = Chronicle::new(alloc, FRAMES).expect(rt, "memory for the chronicle");
         let chronicle = Box::new(alloc, chronicle).expect(rt, "memory for the chronicle");
         let machine = Machine {

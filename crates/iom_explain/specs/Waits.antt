@@ -6,7 +6,7 @@ use Rattle.iom_command_queue.specs.declared.command.Command.{Command}
 use Rattle.iom_command_queue.specs.declared.command.Command.TheVariants.{IotinvalVma, IotinvalGvma, IofenceC, IodirInvalDdt, AtsInval}
 use Rattle.iom_command_queue.specs.declared.entry.QueueEntry.{QueueEntry}
 use Rattle.iom_command_queue.specs.declared.entry.QueueEntry.TheVariants as stands
-use Rattle.iom_hardware.specs.declared.hardware.Hardware.{Hardware}
+use Rattle.iom_board.specs.declared.board.Board.{Board}
 use Rattle.iom_inflight.specs.declared.made.MadeAt.{MadeAt}
 use Rattle.iom_inflight.specs.Flights.{row_of, oldest_in, oldest_number_in, accepted_in, count_in}
 use Rattle.iom_iommu.specs.Fetches.{head_entry, has_open, are_full, counted_in}
@@ -32,7 +32,7 @@ is_waited_for Write pr pw = pw
 
 -- The oldest access of the device is in flight, was accepted up to this number, and a fence with PR and PW waits for its kind. It has this number among those
 -- of its device.
-pub record IsAwaited (hardware : Hardware) (pr pw : Bool) (before : ℕ) (access : AwaitedAccess) : Type 0 where
+pub record IsAwaited (hardware : Board) (pr pw : Bool) (before : ℕ) (access : AwaitedAccess) : Type 0 where
   pub place : ℕ
   pub made : MadeAt
   pub oldest : oldest_in (row_of (flights_of hardware.iommu).rows access.device) ≡ Some made
@@ -42,7 +42,7 @@ pub record IsAwaited (hardware : Hardware) (pr pw : Bool) (before : ℕ) (access
   pub number : access.number ≡ accepted_in (row_of (flights_of hardware.iommu).rows access.device) - (count_in (row_of (flights_of hardware.iommu).rows access.device) - 1)
 
 -- what a fence at the head waits for: the request that has been open longest; where none is, an access that was accepted before it counted, if it names one
-abbrev pub FenceWaits : Hardware → Bool → Bool → HeadWait → Type 0
+abbrev pub FenceWaits : Board → Bool → Bool → HeadWait → Type 0
 FenceWaits hardware pr pw (Request device serial) = slice_get (slots_of hardware.iommu).open_slots 0 ≡ Some (record { serial = serial; device = device })
 FenceWaits hardware pr pw (Access access) = (slice_get (slots_of hardware.iommu).open_slots 0 ≡ None) × IsAwaited hardware pr pw (counted_in hardware.iommu) access
 FenceWaits hardware pr pw (Next name) = (slice_get (slots_of hardware.iommu).open_slots 0 ≡ None) × (name ≡ named.IofenceC)
@@ -52,11 +52,11 @@ FenceWaits hardware pr pw Unreadable = ⊥
 FenceWaits hardware pr pw NoSlot = ⊥
 
 -- ATS.INVAL waits while as many requests are open as may be
-abbrev pub RequestWaits : Hardware → HeadWait → Type 0
+abbrev pub RequestWaits : Board → HeadWait → Type 0
 RequestWaits hardware wait = wait ≡ (if are_full (slots_of hardware.iommu) then NoSlot else Next named.AtsInval)
 
 -- what the command at the head waits for; an invalidation of translations or contexts for nothing
-abbrev pub CommandWaits : Hardware → Command → HeadWait → Type 0
+abbrev pub CommandWaits : Board → Command → HeadWait → Type 0
 CommandWaits hardware (IofenceC store wsi pr pw) wait = FenceWaits hardware pr pw wait
 CommandWaits hardware (AtsInval device range) wait = RequestWaits hardware wait
 CommandWaits hardware (IotinvalVma gscid pscid page) wait = wait ≡ Next named.IotinvalVma
@@ -64,7 +64,7 @@ CommandWaits hardware (IotinvalGvma gscid page) wait = wait ≡ Next named.Iotin
 CommandWaits hardware (IodirInvalDdt device) wait = wait ≡ Next named.IodirInvalDdt
 
 -- by whether commands are processed, and what stands at the head
-abbrev pub HeadWaits : Hardware → Bool → Option QueueEntry → HeadWait → Type 0
+abbrev pub HeadWaits : Board → Bool → Option QueueEntry → HeadWait → Type 0
 HeadWaits hardware false entry wait = wait ≡ Stopped
 HeadWaits hardware true None wait = wait ≡ Empty
 HeadWaits hardware true (Some stands.Outside) wait = wait ≡ Unreadable
@@ -72,6 +72,6 @@ HeadWaits hardware true (Some (stands.Illegal reason)) wait = wait ≡ Unreadabl
 HeadWaits hardware true (Some (stands.Command command)) wait = CommandWaits hardware command wait
 
 -- WHAT THE COMMAND QUEUE STANDS AT
-abbrev pub IsHeadWait : Hardware → HeadWait → Type 0
+abbrev pub IsHeadWait : Board → HeadWait → Type 0
 IsHeadWait hardware wait =
     HeadWaits hardware (is_processing_commands (registers_of hardware.iommu)) (head_entry hardware.memory (registers_of hardware.iommu)) wait

@@ -4,8 +4,8 @@ ghost use Rattle.iom_iommu.specs.Fetches.{counted_in};
 ghost use Rattle.iom_explain.specs.Waits.{name_of, is_waited_for, IsAwaited, FenceWaits, CommandWaits, IsHeadWait};
 
 use iom_base::{AccessKind, DeviceId};
+use iom_board::Board;
 use iom_command_queue::{Command, CommandRing, MAX_SLOTS, QueueEntry};
-use iom_hardware::Hardware;
 use iom_machine::CommandName;
 use std::fmt;
 
@@ -61,7 +61,7 @@ fn is_waited_for(kind: AccessKind, pr: bool, pw: bool) -> bool
 
 /// The device's oldest access, where it was accepted up to this number and a fence with PR and PW waits for its kind.
 fn awaited_of(
-    hardware: &Hardware,
+    hardware: &Board,
     device: DeviceId,
     pr: bool,
     pw: bool,
@@ -84,7 +84,7 @@ fn awaited_of(
 
 /// The first access, in the order in which the devices were plugged in, that a fence with PR and PW waits for: the oldest of its device,
 /// and accepted before the fence counted.
-fn awaited_access(hardware: &Hardware, pr: bool, pw: bool) -> Option<AwaitedAccess>
+fn awaited_access(hardware: &Board, pr: bool, pw: bool) -> Option<AwaitedAccess>
     ensures { IfSome result (IsAwaited hardware.now pr pw (counted_in hardware.now.iommu)) }
 {
     let before = hardware
@@ -100,7 +100,7 @@ fn awaited_access(hardware: &Hardware, pr: bool, pw: bool) -> Option<AwaitedAcce
 }
 
 /// What a fence at the head waits for.
-fn fence_wait(hardware: &Hardware, pr: bool, pw: bool) -> HeadWait
+fn fence_wait(hardware: &Board, pr: bool, pw: bool) -> HeadWait
     ensures { FenceWaits hardware.now pr pw result }
 {
     if let Some(slot) = hardware.iommu.slots().oldest() {
@@ -116,7 +116,7 @@ fn fence_wait(hardware: &Hardware, pr: bool, pw: bool) -> HeadWait
 }
 
 /// What the command, which stands at the head, waits for.
-fn command_wait(hardware: &Hardware, command: &Command) -> HeadWait
+fn command_wait(hardware: &Board, command: &Command) -> HeadWait
     ensures { CommandWaits hardware.now command.now result }
 {
     match *command {
@@ -130,7 +130,7 @@ fn command_wait(hardware: &Hardware, command: &Command) -> HeadWait
 }
 
 /// What the command queue stands at: what its next command waits for, by what a fetch would find. It changes nothing.
-pub fn head_wait(hardware: &Hardware) -> HeadWait
+pub fn head_wait(hardware: &Board) -> HeadWait
     ensures { IsHeadWait hardware.now result }
 {
     let registers = hardware.iommu.registers();

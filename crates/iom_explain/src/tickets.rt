@@ -3,8 +3,8 @@ ghost use Rattle.std.specs.Prelude.{◌≡◌, IsTrue, IfSome};
 ghost use Rattle.iom_explain.specs.Tickets.{IsDone, IsTicketWait, StandsAt};
 
 use crate::head::{HeadWait, head_wait};
+use iom_board::Board;
 use iom_command_queue::{Command, CommandRing, QueueEntry};
-use iom_hardware::Hardware;
 use iom_world::World;
 use std::fmt;
 

@@ -8,8 +8,8 @@ ghost use Rattle.iom_iommu.specs.Parts.{contexts_of, registers_of};
 use crate::found::ContextSource;
 use crate::untranslated::pointer_in;
 use iom_base::{Cause, DeviceId, PAGE_SIZE};
+use iom_board::Board;
 use iom_device_dir::{Context, fits_directory};
-use iom_hardware::Hardware;
 use iom_phys_mem::{Bytes, Memory};
 use iom_registers::{DirectoryMode, DirectoryPointer};
 use iom_stepped_walk::EntryLoad;
@@ -113,7 +113,7 @@ fn why(
 
 /// Where the way of a request of the device that says that it is translated would end now. Where such a request is refused
 /// now, this is why (`reason_law`).
-pub fn why_translated(hardware: &Hardware, id: DeviceId, address: u64) -> WhyTranslated
+pub fn why_translated(hardware: &Board, id: DeviceId, address: u64) -> WhyTranslated
     ensures { IsWhyTranslated hardware.now.memory (registers_of hardware.now.iommu).ddtp (contexts_of hardware.now.iommu id) id address result }
 {
     why(

@@ -6,8 +6,8 @@ ghost use Rattle.iom_iommu.specs.Parts.{contexts_of, registers_of};
 
 use crate::found::{ContextSource, WhyFault, by_context, own_page};
 use iom_base::{AccessKind, DeviceId};
+use iom_board::Board;
 use iom_device_dir::{Context, fits_directory};
-use iom_hardware::Hardware;
 use iom_phys_mem::Memory;
 use iom_registers::{DirectoryMode, DirectoryPointer, Registers};
 use iom_walk_stops::{DirectoryEnd, end_of_directory};
@@ -85,7 +85,7 @@ fn why(
 
 /// Where the way of an untranslated request of the device would end now, by the registers, the context that is cached for
 /// it, the directory and the tables. Where such a request is refused now, this is why (`reason_law`).
-pub fn why_fault(hardware: &Hardware, id: DeviceId, address: u64, kind: AccessKind) -> WhyFault
+pub fn why_fault(hardware: &Board, id: DeviceId, address: u64, kind: AccessKind) -> WhyFault
     ensures { IsWhy hardware.now.memory (registers_of hardware.now.iommu).ddtp (contexts_of hardware.now.iommu id) id address kind result }
 {
     why(

@@ -3,17 +3,17 @@
 // A test is a table of acts, which one function takes: what a test owns, and what it compares in place, each later
 // proof would carry.
 ghost use Rattle.std.specs.Prelude.{◌+◌, ◌<◌, ◌^◌};
-ghost use Rattle.iom_hardware.specs.HardwareParts.{hardware_parts};
-ghost use Rattle.iom_hardware.specs.Sound.{IsSoundHardware};
-ghost use Rattle.iom_hardware.specs.SoundIsFact.{sound_hardware_prop};
+ghost use Rattle.iom_board.specs.BoardParts.{board_parts};
+ghost use Rattle.iom_board.specs.Sound.{IsSoundBoard};
+ghost use Rattle.iom_board.specs.SoundIsFact.{sound_board_prop};
 
 use crate::expect::expect;
 use crate::setup::{Answer, BASE_VALUE, CQB, CQCSR, FRAMES, RING, did, fetched_as, width_at};
 use iom_base::{AccessKind, DeviceKind, NewDevice, Refusal};
+use iom_board::laws::software_keeps_sound;
+use iom_board::{Board, CacheReply, Delivered, NoPlace, Sender};
 use iom_fabric::{PageNumber, Repeat};
 use iom_fault_reasons::{WhyFault, WhyTranslated, why_fault, why_translated};
-use iom_hardware::laws::software_keeps_sound;
-use iom_hardware::{CacheReply, Delivered, Hardware, NoPlace, Sender};
 use iom_iommu::{Fetched, Reply};
 use iom_registers::Mmio;
 use std::alloc::Global;
@@ -67,14 +67,14 @@ pub(crate) enum Act<'a> {
 /// The hardware.
 #[derive(Drop)]
 pub(crate) struct Machine {
-    hardware: Hardware,
-    ghost sound: { IsSoundHardware (hardware_parts hardware) hardware.events } by { sound_hardware_prop (hardware_parts hardware) hardware.events },
+    hardware: Board,
+    ghost sound: { IsSoundBoard (board_parts hardware) hardware.events } by { sound_board_prop (board_parts hardware) hardware.events },
 }
 
 impl Machine {
     /// At power-on, with the disks 3 and 4. Boxed: of what a test owns in place each later proof would carry every part.
     fn at_power_on(rt: &impl Abort, alloc: Global) -> Box<Machine> {
-        let hardware = Hardware::new(alloc, FRAMES, &[3, 4]).expect(rt, "memory for the hardware");
+        let hardware = Board::new(alloc, FRAMES, &[3, 4]).expect(rt, "memory for the hardware");
         Box::new(alloc, Machine { hardware }).expect(rt, "memory for the machine")
     }
 

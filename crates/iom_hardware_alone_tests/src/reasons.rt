@@ -3,8 +3,8 @@
 use crate::machine::{Act, run};
 use crate::setup::{CONTEXT, DDTP, DEVICE, ONE_LEVEL, WORDS};
 use iom_base::{AccessKind, Cause, NewDevice};
+use iom_board::Sender;
 use iom_fault_reasons::{ContextSource, WhyFault, WhyTranslated};
-use iom_hardware::Sender;
 use iom_iommu::Reply;
 use iom_stage_walk::WalkFault;
 use iom_stepped_walk::{EntryLoad, Flaw, Table};

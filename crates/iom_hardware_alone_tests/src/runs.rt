@@ -6,8 +6,8 @@ use crate::setup::{
 };
 use iom_ats_cache::Taken;
 use iom_base::{Cause, DeviceKind, NewDevice, Refusal, Rights};
+use iom_board::{CacheReply, Delivered, NoPlace, Sender};
 use iom_fabric::{Repeat, Translation};
-use iom_hardware::{CacheReply, Delivered, NoPlace, Sender};
 use iom_iommu::Reply;
 
 /// A page is reached by its tables, and after its leaf is cleared and the invalidation and the fence are done it isn't.

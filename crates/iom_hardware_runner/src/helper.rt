@@ -5,7 +5,7 @@ ghost use Rattle.iom_hardware_runner.specs.Parts.{is_off};
 use crate::draws::Draws;
 use crate::step::Step;
 use iom_base::{DeviceId, Refusal};
-use iom_hardware::Hardware;
+use iom_board::Board;
 use std::alloc::{AllocError, Global};
 
 /// For so many lines of software a mood lasts.
@@ -62,7 +62,7 @@ impl Helper {
     /// From here on the device makes requests at these pages, and no more at others. Why not, if it can't.
     pub(crate) fn direct(
         &mut self,
-        hardware: &Hardware,
+        hardware: &Board,
         device: DeviceId,
         first: u64,
         last: u64,
@@ -114,7 +114,7 @@ impl Helper {
     }
 
     /// The step that it takes next, of those that it can take now. None where it can take none.
-    pub(crate) fn step(&mut self, hardware: &Hardware) -> Result<Option<Step>, AllocError> {
+    pub(crate) fn step(&mut self, hardware: &Board) -> Result<Option<Step>, AllocError> {
         self.steps.clear();
         if can_fetch(hardware) {
             self.steps.push(Step::Fetch)?;
@@ -127,7 +127,7 @@ impl Helper {
         Ok(self.draws.one_of(&self.steps))
     }
 
-    fn add_commits(&mut self, hardware: &Hardware) -> Result<(), AllocError> {
+    fn add_commits(&mut self, hardware: &Board) -> Result<(), AllocError> {
         for device in hardware.devices.iter() {
             if hardware.oldest(device.id).is_some() {
                 self.steps.push(Step::Commit(device.id))?;
@@ -137,7 +137,7 @@ impl Helper {
     }
 
     /// For each device with traffic a page is drawn, and which request it makes there.
-    fn add_requests(&mut self, hardware: &Hardware) -> Result<(), AllocError> {
+    fn add_requests(&mut self, hardware: &Board) -> Result<(), AllocError> {
         for row in self.traffic.iter() {
             let pages = row.last.saturating_sub(row.first).saturating_add(1);
             let page = row.first.saturating_add(self.draws.below(pages));
@@ -157,13 +157,13 @@ impl Helper {
 }
 
 /// Whether a command waits and the queue runs.
-fn can_fetch(hardware: &Hardware) -> bool {
+fn can_fetch(hardware: &Board) -> bool {
     let registers = hardware.iommu.registers();
     registers.is_processing_commands() && registers.command_head() != registers.command_tail()
 }
 
 /// The step that hardware takes next while it comes to rest. None where there is nothing left to do.
-pub(crate) fn settling_step(hardware: &Hardware) -> Option<Step> {
+pub(crate) fn settling_step(hardware: &Board) -> Option<Step> {
     if let Some(device) = hardware.first_busy() {
         return Some(Step::Commit(device));
     }

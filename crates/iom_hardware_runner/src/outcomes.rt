@@ -9,9 +9,9 @@ ghost use Rattle.iom_script.specs.Lines.{answer_text};
 
 use iom_ats_cache::Taken;
 use iom_base::{AccessKind, Refusal, Rights};
+use iom_board::{Board, CacheReply, Delivered, NoPlace};
 use iom_command_queue::Command;
 use iom_fabric::{Repeat, Translation};
-use iom_hardware::{CacheReply, Delivered, Hardware, NoPlace};
 use iom_inflight::MadeAt;
 use iom_iommu::{Fetched, Reply};
 use iom_script::{BUFFER_SIZE, LineBuffer};
@@ -201,7 +201,7 @@ fn append_hex(out: &mut LineBuffer, bytes: &[u8]) {
 }
 
 /// Writes a word, and the bytes that stand at the address; or why none do.
-fn put_standing(out: &mut LineBuffer, word: &[u8], hardware: &Hardware, address: u64, len: u64)
+fn put_standing(out: &mut LineBuffer, word: &[u8], hardware: &Board, address: u64, len: u64)
     requires { length word.now ≤ 40 }
 {
     match hardware.load(address, len) {
@@ -214,12 +214,12 @@ fn put_standing(out: &mut LineBuffer, word: &[u8], hardware: &Hardware, address:
 }
 
 /// Writes what the processor loads.
-pub(crate) fn put_loaded(out: &mut LineBuffer, hardware: &Hardware, address: u64, len: u64) {
+pub(crate) fn put_loaded(out: &mut LineBuffer, hardware: &Board, address: u64, len: u64) {
     put_standing(out, b"bytes ", hardware, address, len);
 }
 
 /// Writes the access that was made, with the bytes of a read, which stand where it was made.
-fn put_made(out: &mut LineBuffer, hardware: &Hardware, made: MadeAt) {
+fn put_made(out: &mut LineBuffer, hardware: &Board, made: MadeAt) {
     match made.kind {
         AccessKind::Write => put_numbered(out, b"wrote ", u64::from(made.len)),
         AccessKind::Read => {
@@ -232,7 +232,7 @@ fn put_made(out: &mut LineBuffer, hardware: &Hardware, made: MadeAt) {
 /// Writes what came of a commit.
 pub(crate) fn put_committed(
     out: &mut LineBuffer,
-    hardware: &Hardware,
+    hardware: &Board,
     answer: Result<Option<MadeAt>, Refusal>,
 ) {
     match answer {

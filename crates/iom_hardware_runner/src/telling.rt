@@ -3,7 +3,7 @@ use crate::outcomes::{
     put_cache, put_committed, put_delivered, put_done, put_fetched, put_loaded, put_refusal,
     put_repeated, put_replied, put_sent, put_stored, put_words,
 };
-use iom_hardware::Hardware;
+use iom_board::Board;
 use iom_hardware_script::{Answer as Text, HardwareLine, append_answer};
 use iom_hardware_session::{Answer, ClaimAnswer};
 use iom_machine::Event;
@@ -37,14 +37,14 @@ fn put_claim(out: &mut LineBuffer, found: ClaimAnswer) {
 }
 
 /// What the processor loads stands in memory.
-fn put_bytes(out: &mut LineBuffer, line: &HardwareLine, hardware: &Hardware) {
+fn put_bytes(out: &mut LineBuffer, line: &HardwareLine, hardware: &Board) {
     if let HardwareLine::Event(Event::Peek { address, len }) = line {
         put_loaded(out, hardware, *address, *len);
     }
 }
 
 /// Writes the answer of the line, in place of what stood there; of a claim that is wrong only `wrong: `.
-pub fn put_answer(out: &mut LineBuffer, line: &HardwareLine, answer: &Answer, hardware: &Hardware) {
+pub fn put_answer(out: &mut LineBuffer, line: &HardwareLine, answer: &Answer, hardware: &Board) {
     match *answer {
         Answer::Plugged(done) | Answer::Reset(done) => put_done(out, done),
         Answer::Replied(reply) => put_replied(out, reply),

@@ -13,7 +13,7 @@ use Rattle.iom_claims.specs.declared.grant.Grant.{Grant}
 use Rattle.iom_claims.specs.declared.grant.OpenClaim.{OpenClaim}
 use Rattle.iom_claims.specs.Rows.{Rows}
 use Rattle.iom_claims.specs.Shown.{ShowsClaimed}
-use Rattle.iom_hardware.specs.declared.hardware.Hardware.{Hardware}
+use Rattle.iom_board.specs.declared.board.Board.{Board}
 use Rattle.iom_hardware_script.specs.declared.script.Claim.{Claim as Said}
 use Rattle.iom_hardware_script.specs.declared.script.Claim.TheVariants as said
 use Rattle.iom_hardware_session.proofs.KeepLemmas.{IsWatched, AllowsStill, same_holds, holds_still}
@@ -220,7 +220,7 @@ beside_hand_off free claim frame new before watched means is was holds = by (is_
     )
 
 -- ANY CLAIM, where it isn't wrong, leaves what was good
-pub claim_keeps : DoneStaysDone → HandedOffStaysFree → (own : Said) (answer : ClaimAnswer) (claim : GoodClaim) (hardware : Hardware) (rows : Rows) (new : Session) (before : Claimed) (watched : List Watched)
+pub claim_keeps : DoneStaysDone → HandedOffStaysFree → (own : Said) (answer : ClaimAnswer) (claim : GoodClaim) (hardware : Board) (rows : Rows) (new : Session) (before : Claimed) (watched : List Watched)
     → ShowsClaimed rows before → ClaimIsAdmitted own answer hardware before → (answer ≡ found.Good → GoodMeans own (scene_in new) before (claimed_after own answer before))
     → WatchesClaim own answer before watched new.watched.items → is_wrong_claim (Some answer) ≡ false → IsNotEnded claim own answer → IsWatched claim watched → HoldsOn claim new before
     → IsKept claim new (claimed_after own answer before)

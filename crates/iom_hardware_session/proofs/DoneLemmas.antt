@@ -9,7 +9,7 @@ use Rattle.iom_claims.specs.Rows.{Rows}
 use Rattle.iom_claims.specs.Shown.{ShowsClaimed}
 use Rattle.iom_claims.specs.declared.grant.Grant.{Grant}
 use Rattle.iom_claims.specs.declared.grant.OpenClaim.{OpenClaim}
-use Rattle.iom_hardware.specs.declared.hardware.Hardware.{Hardware}
+use Rattle.iom_board.specs.declared.board.Board.{Board}
 use Rattle.iom_hardware_script.specs.declared.script.Claim.{Claim as Said}
 use Rattle.iom_hardware_script.specs.declared.script.Claim.TheVariants as claim
 use Rattle.iom_hardware_session.specs.Admitted.{CanBeMade, IsOpenClaim, IsJudged, ClaimIsAdmitted}
@@ -57,7 +57,7 @@ pub reaches_beyond : (survey : Survey) (scene : HardwareScene) (claimed : Claime
 reaches_beyond survey scene claimed device frame kind invents (reached, never) = (reached_is_way survey scene device frame kind invents reached, never)
 
 -- that a claim is done isn't: what it withdrew is this grant
-pub done_wrong : (hardware : Hardware) (trusted : List ℕ) (claimed : Claimed) (number : ℕ) (own : Grant) (answer : ClaimAnswer) → is_judgement answer ≡ true
+pub done_wrong : (hardware : Board) (trusted : List ℕ) (claimed : Claimed) (number : ℕ) (own : Grant) (answer : ClaimAnswer) → is_judgement answer ≡ true
     → IsOpen claimed.history (record { number = number; grant = own }) → IfWrong answer (λ why. DoneIsWrong why hardware trusted (after_done number claimed) own.device own.frame)
     → IfWrong answer (λ why. WrongMeans (claim.Done number) why hardware trusted claimed (claimed_after (claim.Done number) answer claimed))
 done_wrong hardware trusted claimed number own (found.Wrong why) made opened is = (own, opened, is)
@@ -68,7 +68,7 @@ done_wrong hardware trusted claimed number own (found.Refused why) made opened i
 done_wrong hardware trusted claimed number own found.NoSuchClaim made opened is = is
 
 -- that a frame is handed off
-pub hand_off_wrong : (hardware : Hardware) (trusted : List ℕ) (claimed : Claimed) (number frame : ℕ) (answer : ClaimAnswer) → number ≡ frame → is_judgement answer ≡ true
+pub hand_off_wrong : (hardware : Board) (trusted : List ℕ) (claimed : Claimed) (number frame : ℕ) (answer : ClaimAnswer) → number ≡ frame → is_judgement answer ≡ true
     → IfWrong answer (λ why. HandOffIsWrong why hardware trusted claimed number)
     → IfWrong answer (λ why. WrongMeans (claim.HandOff frame) why hardware trusted claimed (claimed_after (claim.HandOff frame) answer claimed))
 hand_off_wrong hardware trusted claimed number frame (found.Wrong why) same made is = subst (λ (f : ℕ). HandOffIsWrong why hardware trusted claimed f) same is
@@ -81,7 +81,7 @@ hand_off_wrong hardware trusted claimed number frame found.NoSuchClaim same made
 -- WHICH CLAIMS ARE MADE
 
 -- a claim that is judged can be made
-pub judgement_admitted : (said : Said) (answer : ClaimAnswer) (hardware : Hardware) (before : Claimed) → is_judgement answer ≡ true → IsJudged said → CanBeMade said hardware before
+pub judgement_admitted : (said : Said) (answer : ClaimAnswer) (hardware : Board) (before : Claimed) → is_judgement answer ≡ true → IsJudged said → CanBeMade said hardware before
     → ClaimIsAdmitted said answer hardware before
 judgement_admitted said found.Good hardware before judges judged can = (judged, can)
 judgement_admitted said (found.Wrong why) hardware before judges judged can = (judged, can)

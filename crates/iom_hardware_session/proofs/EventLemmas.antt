@@ -5,9 +5,9 @@ use Rattle.iom_base.specs.declared.access.AccessKind.{AccessKind}
 use Rattle.iom_base.specs.declared.access.AccessKind.TheVariants as kind
 use Rattle.iom_base.specs.declared.refusal.Refusal.{Refusal}
 use Rattle.iom_base.specs.Accesses.{read_of, write_of}
-use Rattle.iom_hardware.specs.HardwareParts.{hardware_parts}
-use Rattle.iom_hardware.specs.declared.hardware.Hardware.{Hardware}
-use Rattle.iom_hardware.specs.declared.sender.Sender.TheVariants.{Own}
+use Rattle.iom_board.specs.BoardParts.{board_parts}
+use Rattle.iom_board.specs.declared.board.Board.{Board}
+use Rattle.iom_board.specs.declared.sender.Sender.TheVariants.{Own}
 use Rattle.iom_hardware_ways.specs.Calls.{HardwareCall, CallDoes, DoesHarmlessly, IsMadeHarmlessly}
 use Rattle.iom_hardware_ways.specs.Calls as call
 use Rattle.iom_hardware_script.specs.declared.script.HardwareLine.TheVariants as line
@@ -15,32 +15,32 @@ use Rattle.iom_hardware_session.specs.Answered.{reply_in, cache_reply_in, sendin
 use Rattle.iom_hardware_session.specs.Events.{CallOrNothing, Stays, LoadsAsAnswered, EventOrNone}
 use Rattle.iom_hardware_session.specs.Lines.{is_write, is_made_write, is_of_software}
 use Rattle.iom_hardware_session.specs.declared.answer.Answer.{Answer}
-use Rattle.iom_hardware.specs.declared.answers.NoPlace.{NoPlace}
+use Rattle.iom_board.specs.declared.answers.NoPlace.{NoPlace}
 use Rattle.iom_inflight.specs.declared.made.MadeAt.{MadeAt}
 use Rattle.iom_machine.specs.declared.event.Event.{Event}
 use Rattle.iom_machine.specs.declared.event.Event.TheVariants as event
 use Rattle.iom_way_survey.specs.Surveys.{is_id_among}
 
 -- hardware does this by a call, and what a trusted device writes isn't what hardware reads
-abbrev pub DoesByCall : List ℕ → Hardware → Hardware → Type 0
-DoesByCall trusted old new = (done : HardwareCall) × CallDoes done (hardware_parts old) (hardware_parts new) × DoesHarmlessly (is_id_among trusted) done (hardware_parts old)
+abbrev pub DoesByCall : List ℕ → Board → Board → Type 0
+DoesByCall trusted old new = (done : HardwareCall) × CallDoes done (board_parts old) (board_parts new) × DoesHarmlessly (is_id_among trusted) done (board_parts old)
 
 -- nothing is done, or something by a call
-abbrev pub StaysOrDoes : List ℕ → Hardware → Hardware → Type 0
+abbrev pub StaysOrDoes : List ℕ → Board → Board → Type 0
 StaysOrDoes trusted old new = Stays old new ⊎ DoesByCall trusted old new
 
-by_call : {X : Type 0} (trusted : List ℕ) (old new : Hardware) (of : X → HardwareCall) (answer : Option X) → ((x : X) → answer ≡ Some x → DoesHarmlessly (is_id_among trusted) (of x) (hardware_parts old))
+by_call : {X : Type 0} (trusted : List ℕ) (old new : Board) (of : X → HardwareCall) (answer : Option X) → ((x : X) → answer ≡ Some x → DoesHarmlessly (is_id_among trusted) (of x) (board_parts old))
     → CallOrNothing (option_map of answer) old new → StaysOrDoes trusted old new
 by_call trusted old new of None harmless does = absurd does
 by_call trusted old new of (Some x) harmless does = inr (of x, does.0, harmless x refl)
 
-loads_nothing : (old new : Hardware) (address len : ℕ) (answer : Option (Result (Unit {0}) NoPlace)) → LoadsAsAnswered answer address len old new → Stays old new
+loads_nothing : (old new : Board) (address len : ℕ) (answer : Option (Result (Unit {0}) NoPlace)) → LoadsAsAnswered answer address len old new → Stays old new
 loads_nothing old new address len None does = absurd does
 loads_nothing old new address len (Some answer) does = does.1
 
 -- a commit that isn't a trusted device's write is harmless
-harmless_commit : (trusted : List ℕ) (old : Hardware) (id : ℕ) (answer : Result (Option MadeAt) Refusal) → (is_made_write (Some answer) && is_id_among trusted id) ≡ false
-    → IsMadeHarmlessly (is_id_among trusted) (hardware_parts old) id answer
+harmless_commit : (trusted : List ℕ) (old : Board) (id : ℕ) (answer : Result (Option MadeAt) Refusal) → (is_made_write (Some answer) && is_id_among trusted id) ≡ false
+    → IsMadeHarmlessly (is_id_among trusted) (board_parts old) id answer
 harmless_commit trusted old id (Ok (Some made)) none = λ among write read. absurd (false≢true (sym none ∙ and_from (is_write made.kind) (is_id_among trusted id) (writing made.kind write) among))
   where
     writing : (k : AccessKind) → k ≡ kind.Write → is_write k ≡ true
@@ -48,13 +48,13 @@ harmless_commit trusted old id (Ok (Some made)) none = λ among write read. absu
 harmless_commit trusted old id (Ok None) none = tt
 harmless_commit trusted old id (Err why) none = tt
 
-commits : (trusted : List ℕ) (old new : Hardware) (id : ℕ) (answer : Option (Result (Option MadeAt) Refusal)) → (is_made_write answer && is_id_among trusted id) ≡ false
+commits : (trusted : List ℕ) (old new : Board) (id : ℕ) (answer : Option (Result (Option MadeAt) Refusal)) → (is_made_write answer && is_id_among trusted id) ≡ false
     → CallOrNothing (option_map (call.Commit id) answer) old new → StaysOrDoes trusted old new
 commits trusted old new id None none does = absurd does
 commits trusted old new id (Some answer) none does = inr (call.Commit id answer, does.0, harmless_commit trusted old id answer none)
 
 -- AN EVENT that isn't of software stays, or is a call of hardware
-pub event_does : (trusted : List ℕ) (old new : Hardware) (said : Event) (answer : Answer) → is_of_software (line.Event said) answer trusted ≡ false → EventOrNone said answer old new
+pub event_does : (trusted : List ℕ) (old new : Board) (said : Event) (answer : Answer) → is_of_software (line.Event said) answer trusted ≡ false → EventOrNone said answer old new
     → StaysOrDoes trusted old new
 event_does trusted old new (event.Plug device what) answer soft does = absurd (false≢true (sym soft))
 event_does trusted old new (event.Poke address bytes) answer soft does = absurd (false≢true (sym soft))

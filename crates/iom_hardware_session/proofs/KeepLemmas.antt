@@ -7,7 +7,7 @@ use Rattle.std.proofs.lemmas.List.Folds.{list_any-append}
 use Rattle.iom_base.specs.declared.access.AccessKind.{AccessKind}
 use Rattle.iom_claims.proofs.ListLemmas.{contains_filter, any_from_passing}
 use Rattle.iom_claims.specs.Claimed.{Claimed}
-use Rattle.iom_hardware.specs.HardwareParts.{HardwareParts, hardware_parts}
+use Rattle.iom_board.specs.BoardParts.{BoardParts, board_parts}
 use Rattle.iom_hardware_session.proofs.EventLemmas.{DoesByCall}
 use Rattle.iom_hardware_session.proofs.TurnLemmas.{AreFewer, comes_before, comes_fewer}
 use Rattle.iom_hardware_session.specs.Laws.{ComesFromParts, ComesToMake, HoldsOn, GoodAgainHolds}
@@ -92,18 +92,18 @@ still_watched claim watched (own, there, same, fine) =
 abbrev pub ComesSooner : Session → Session → Type 0
 ComesSooner old new = (calls : List HardwareCall) (id : ℕ) (made : MadeAt) → ComesToMake new calls id made → (sooner : List HardwareCall) × ComesToMake old sooner id made
 
-pub stays_sooner : (old new : Session) → hardware_parts new.hardware ≡ hardware_parts old.hardware → AreFewer (is_id_among old.trusted.items) (is_id_among new.trusted.items) → ComesSooner old new
+pub stays_sooner : (old new : Session) → board_parts new.hardware ≡ board_parts old.hardware → AreFewer (is_id_among old.trusted.items) (is_id_among new.trusted.items) → ComesSooner old new
 stays_sooner old new same fewer = λ calls id made comes. (
   calls,
-  comes_fewer (is_id_among old.trusted.items) (is_id_among new.trusted.items) (hardware_parts old.hardware) calls id made fewer
-      (subst (λ (parts : HardwareParts). ComesFromParts (is_id_among new.trusted.items) parts calls id made) same comes),
+  comes_fewer (is_id_among old.trusted.items) (is_id_among new.trusted.items) (board_parts old.hardware) calls id made fewer
+      (subst (λ (parts : BoardParts). ComesFromParts (is_id_among new.trusted.items) parts calls id made) same comes),
 )
 
 pub call_sooner : (old new : Session) → new.trusted.items ≡ old.trusted.items → DoesByCall old.trusted.items old.hardware new.hardware → ComesSooner old new
 call_sooner old new same (done, does, harmless) = λ calls id made comes. (
   done ∷ calls,
-  comes_before (is_id_among old.trusted.items) done calls old.hardware.events id made (hardware_parts old.hardware) (hardware_parts new.hardware) old.sound harmless does
-      (subst (λ (trusted : List ℕ). ComesFromParts (is_id_among trusted) (hardware_parts new.hardware) calls id made) same comes),
+  comes_before (is_id_among old.trusted.items) done calls old.hardware.events id made (board_parts old.hardware) (board_parts new.hardware) old.sound harmless does
+      (subst (λ (trusted : List ℕ). ComesFromParts (is_id_among trusted) (board_parts new.hardware) calls id made) same comes),
 )
 
 -- who was trusted is

@@ -6,7 +6,7 @@ use Rattle.iom_claims.proofs.HistoryLemmas.{claim_from}
 use Rattle.iom_claims.specs.Claimed.{Claimed, IsOpen, after_done, after_mark}
 use Rattle.iom_claims.specs.declared.grant.Grant.{Grant}
 use Rattle.iom_claims.specs.Shown.{ShowsClaimed}
-use Rattle.iom_hardware.specs.HardwareParts.{hardware_parts}
+use Rattle.iom_board.specs.BoardParts.{board_parts}
 use Rattle.iom_hardware_script.specs.declared.script.Claim.{Claim as Said}
 use Rattle.iom_hardware_script.specs.declared.script.Claim.TheVariants as said
 use Rattle.iom_hardware_script.specs.declared.script.HardwareLine.{HardwareLine}
@@ -74,7 +74,7 @@ software_claims_nothing (line.Help help) answer trusted before is = refl
 
 -- a claim, where it is judged
 claim_line : DoneStaysDone → HandedOffStaysFree → (own : Said) (answer : Option ClaimAnswer) (claim : GoodClaim) (old new : Session) (before : Claimed) → ShowsClaimed old.claims before
-    → hardware_parts new.hardware ≡ hardware_parts old.hardware → TrustsWhere own answer old.trusted.items new.trusted.items → IsAdmittedWhere own answer old.hardware before
+    → board_parts new.hardware ≡ board_parts old.hardware → TrustsWhere own answer old.trusted.items new.trusted.items → IsAdmittedWhere own answer old.hardware before
     → IsGoodWhere own answer (scene_in new) before → WatchesClaimWhere own answer before (still_good old.watched.items) new.watched.items → is_wrong_claim answer ≡ false
     → IsNotEndedWhere claim own answer → IsKept claim old before → IsKept claim new (claimed_where own answer before)
 claim_line stays free own None claim old new before shows same trusts admitted means watches fine ends (was, holds) = absurd admitted
@@ -87,7 +87,7 @@ not_ended_claim (good.Done number device frame) own answer ends = tt
 not_ended_claim (good.HandedOff frame) own answer ends = ends
 
 -- where hardware stays
-stays_line : (claim : GoodClaim) (old new : Session) (before : Claimed) → hardware_parts new.hardware ≡ hardware_parts old.hardware → new.trusted.items ≡ old.trusted.items
+stays_line : (claim : GoodClaim) (old new : Session) (before : Claimed) → board_parts new.hardware ≡ board_parts old.hardware → new.trusted.items ≡ old.trusted.items
     → new.watched.items ≡ still_good old.watched.items → IsKept claim old before → IsKept claim new before
 stays_line claim old new before same trusts watches (was, holds) = (
   subst (λ (w : List Watched). IsWatched claim w) (sym watches) (still_watched claim old.watched.items was),

@@ -6,7 +6,7 @@ use Rattle.iom_fabric.specs.declared.fabric.OnLink.{OnLink}
 use Rattle.iom_fabric.specs.declared.message.Message.{Message as Sent}
 use Rattle.iom_fabric.specs.declared.message.Message.TheVariants as sent
 use Rattle.iom_fabric.specs.declared.message.Translation.TheVariants as told
-use Rattle.iom_hardware.specs.HardwareParts.{HardwareParts}
+use Rattle.iom_board.specs.BoardParts.{BoardParts}
 use Rattle.iom_hardware_ways.specs.Scenes.{message_of, said_on, scene_of}
 use Rattle.iom_reach.specs.Safe.{AreTimely}
 use Rattle.iom_reach.specs.Scene.{Message, Question, Answer, Other, Mapping}
@@ -46,7 +46,7 @@ answered_by now device (sent.InvReq serial range) d epoch page mapping is by = a
 answered_by now device (sent.InvDone serial) d epoch page mapping is by = absurd (cc)
 
 -- where all are of no epoch to come, the scene is timely
-pub timely : (trusted : ℕ → Bool) (parts : HardwareParts) → ((k : ℕ) (on : OnLink) → slice_get parts.fabric k ≡ Some on → IsTimelyMessage parts on) → AreTimely (scene_of trusted parts)
+pub timely : (trusted : ℕ → Bool) (parts : BoardParts) → ((k : ℕ) (on : OnLink) → slice_get parts.fabric k ≡ Some on → IsTimelyMessage parts on) → AreTimely (scene_of trusted parts)
 timely trusted parts each = record {
   asked = λ device epoch page caches inside.
       let (k, on, there, same) = on_link parts.fabric (Question device epoch page) inside in

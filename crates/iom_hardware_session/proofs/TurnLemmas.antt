@@ -1,8 +1,8 @@
 -- Calls of hardware one after another: after more events, with fewer devices trusted, with one call before them.
 use Rattle.std.proofs.Common.{◌≡◌, inl, inr, ℕ, ◌+◌, Bool, true, List, [], ◌∷◌, Option, None, Some, Result, Ok, Err, subst, arith}
 use Rattle.iom_base.specs.declared.refusal.Refusal.{Refusal}
-use Rattle.iom_hardware.specs.HardwareParts.{HardwareParts}
-use Rattle.iom_hardware.specs.Sound.{IsSoundHardware}
+use Rattle.iom_board.specs.BoardParts.{BoardParts}
+use Rattle.iom_board.specs.Sound.{IsSoundBoard}
 use Rattle.iom_hardware_ways.specs.Calls.{HardwareCall, Request, Translated, ThroughCache, Ask, Forge, Fetch, Timeout, Deliver, Drop, Repeat, Commit, Reset, CallDoes, IsMadeHarmlessly, DoesHarmlessly, DoInTurn}
 use Rattle.iom_hardware_ways.specs.Scenes.{scene_of}
 use Rattle.iom_hardware_session.specs.Laws.{ComesFromParts}
@@ -13,7 +13,7 @@ use Rattle.iom_reach.specs.Scene.{AddressSpace}
 use Rattle.iom_reach.specs.Ways.{WalkBegins, AtRoot, PartWay}
 
 -- what is sound after so many events is after more
-pub sound_later : (parts : HardwareParts) (events more : ℕ) → IsSoundHardware parts events → IsSoundHardware parts (events + more)
+pub sound_later : (parts : BoardParts) (events more : ℕ) → IsSoundBoard parts events → IsSoundBoard parts (events + more)
 sound_later parts events more sound = record {
   size = sound.size;
   own_ids = sound.own_ids;
@@ -25,7 +25,7 @@ sound_later parts events more sound = record {
   epochs = λ id. let is = sound.epochs id in omega (arith, is);
 }
 
-pub turns_later : (trusted : ℕ → Bool) (calls : List HardwareCall) (events more : ℕ) (old new : HardwareParts) → DoInTurn trusted events old calls new
+pub turns_later : (trusted : ℕ → Bool) (calls : List HardwareCall) (events more : ℕ) (old new : BoardParts) → DoInTurn trusted events old calls new
     → DoInTurn trusted (events + more) old calls new
 turns_later trusted [] events more old new turns = turns
 turns_later trusted (first ∷ others) events more old new (sound, harmless, (between, does, rest)) =
@@ -35,7 +35,7 @@ turns_later trusted (first ∷ others) events more old new (sound, harmless, (be
     swap a b = omega arith
 
 -- what may come after a call may come with the call before it
-pub comes_before : (trusted : ℕ → Bool) (call : HardwareCall) (calls : List HardwareCall) (events id : ℕ) (made : MadeAt) (old new : HardwareParts) → IsSoundHardware old events
+pub comes_before : (trusted : ℕ → Bool) (call : HardwareCall) (calls : List HardwareCall) (events id : ℕ) (made : MadeAt) (old new : BoardParts) → IsSoundBoard old events
     → DoesHarmlessly trusted call old → CallDoes call old new → ComesFromParts trusted new calls id made → ComesFromParts trusted old (call ∷ calls) id made
 comes_before trusted call calls events id made old new sound harmless does (more, between, last, turns, makes) = (
   events + more,
@@ -53,25 +53,25 @@ abbrev pub AreFewer : (ℕ → Bool) → (ℕ → Bool) → Type 0
 AreFewer fewer more = (id : ℕ) → fewer id ≡ true → more id ≡ true
 
 -- hardware reads the same, whoever is trusted
-walk_begins : (fewer more : ℕ → Bool) (parts : HardwareParts) (space : AddressSpace) (table : ℕ) (steps_to : ℕ → List WalkStep) → WalkBegins (scene_of fewer parts) space table steps_to
+walk_begins : (fewer more : ℕ → Bool) (parts : BoardParts) (space : AddressSpace) (table : ℕ) (steps_to : ℕ → List WalkStep) → WalkBegins (scene_of fewer parts) space table steps_to
     → WalkBegins (scene_of more parts) space table steps_to
 walk_begins fewer more parts space table steps_to (AtRoot device context tables find inside tables_are root steps) = AtRoot device context tables find inside tables_are root steps
 walk_begins fewer more parts space table steps_to (PartWay device partial) = PartWay device partial
 
-tables_either : (fewer more : ℕ → Bool) (parts : HardwareParts) (frame : ℕ) → IsOfTables (scene_of fewer parts) frame → IsOfTables (scene_of more parts) frame
+tables_either : (fewer more : ℕ → Bool) (parts : BoardParts) (frame : ℕ) → IsOfTables (scene_of fewer parts) frame → IsOfTables (scene_of more parts) frame
 tables_either fewer more parts frame (space, table, steps_to, page, begins, reads) = (space, table, steps_to, page, walk_begins fewer more parts space table steps_to begins, reads)
 
-read_either : (fewer more : ℕ → Bool) (parts : HardwareParts) (frame : ℕ) → IsRead (scene_of fewer parts) frame → IsRead (scene_of more parts) frame
+read_either : (fewer more : ℕ → Bool) (parts : BoardParts) (frame : ℕ) → IsRead (scene_of fewer parts) frame → IsRead (scene_of more parts) frame
 read_either fewer more parts frame (inl tables) = inl (tables_either fewer more parts frame tables)
 read_either fewer more parts frame (inr others) = inr others
 
-made_fewer : (fewer more : ℕ → Bool) (parts : HardwareParts) (id : ℕ) (answer : Result (Option MadeAt) Refusal) → AreFewer fewer more → IsMadeHarmlessly more parts id answer
+made_fewer : (fewer more : ℕ → Bool) (parts : BoardParts) (id : ℕ) (answer : Result (Option MadeAt) Refusal) → AreFewer fewer more → IsMadeHarmlessly more parts id answer
     → IsMadeHarmlessly fewer parts id answer
 made_fewer fewer more parts id (Ok (Some made)) are is = λ trusted write read. is (are id trusted) write (read_either fewer more parts made.frame read)
 made_fewer fewer more parts id (Ok None) are is = is
 made_fewer fewer more parts id (Err why) are is = is
 
-does_fewer : (fewer more : ℕ → Bool) (call : HardwareCall) (parts : HardwareParts) → AreFewer fewer more → DoesHarmlessly more call parts → DoesHarmlessly fewer call parts
+does_fewer : (fewer more : ℕ → Bool) (call : HardwareCall) (parts : BoardParts) → AreFewer fewer more → DoesHarmlessly more call parts → DoesHarmlessly fewer call parts
 does_fewer fewer more (Commit id answer) parts are is = made_fewer fewer more parts id answer are is
 does_fewer fewer more (Request sender id access answer) parts are is = is
 does_fewer fewer more (Translated id access answer) parts are is = is
@@ -85,13 +85,13 @@ does_fewer fewer more (Drop place found) parts are is = is
 does_fewer fewer more (Repeat place again) parts are is = is
 does_fewer fewer more (Reset id answer) parts are is = is
 
-turns_fewer : (fewer more : ℕ → Bool) (calls : List HardwareCall) (events : ℕ) (old new : HardwareParts) → AreFewer fewer more → DoInTurn more events old calls new
+turns_fewer : (fewer more : ℕ → Bool) (calls : List HardwareCall) (events : ℕ) (old new : BoardParts) → AreFewer fewer more → DoInTurn more events old calls new
     → DoInTurn fewer events old calls new
 turns_fewer fewer more [] events old new are turns = turns
 turns_fewer fewer more (first ∷ others) events old new are (sound, harmless, (between, does, rest)) =
     (sound, does_fewer fewer more first old are harmless, (between, does, turns_fewer fewer more others (events + 1) between new are rest))
 
-pub comes_fewer : (fewer more : ℕ → Bool) (parts : HardwareParts) (calls : List HardwareCall) (id : ℕ) (made : MadeAt) → AreFewer fewer more → ComesFromParts more parts calls id made
+pub comes_fewer : (fewer more : ℕ → Bool) (parts : BoardParts) (calls : List HardwareCall) (id : ℕ) (made : MadeAt) → AreFewer fewer more → ComesFromParts more parts calls id made
     → ComesFromParts fewer parts calls id made
 comes_fewer fewer more parts calls id made are (events, between, new, turns, (commits, harmless)) =
     (events, between, new, turns_fewer fewer more calls events parts between are turns, (commits, made_fewer fewer more between id (Ok (Some made)) are harmless))

@@ -6,8 +6,8 @@ use Rattle.iom_base.specs.declared.access.AccessKind.TheVariants.{Read, Write}
 use Rattle.iom_base.specs.declared.device_kind.DeviceKind.{DeviceKind}
 use Rattle.iom_device.specs.Caches.{device_with, kind_in}
 use Rattle.iom_device.specs.declared.device.Device.{Device}
-use Rattle.iom_hardware.specs.HardwareParts.{HardwareParts}
-use Rattle.iom_hardware.specs.Sound.{IsSoundHardware, flight_ids, device_ids}
+use Rattle.iom_board.specs.BoardParts.{BoardParts}
+use Rattle.iom_board.specs.Sound.{IsSoundBoard, flight_ids, device_ids}
 use Rattle.iom_hardware_ways.specs.Scenes.{ats_kind, flights_in, scene_of}
 use Rattle.iom_inflight.specs.Flights.{FlightRow, row_of}
 use Rattle.iom_iommu.specs.Parts.{flights_of}
@@ -78,7 +78,7 @@ flying rows devices id access same inside = by (row_of rows id) refl inside
     by (Some row) e there = rowed rows devices id row same e
 
 -- A device that has a way is plugged in
-pub has_place : (trusted : ℕ → Bool) (parts : HardwareParts) (events device frame : ℕ) (kind : AccessKind) → IsSoundHardware parts events → Way (scene_of trusted parts) device frame kind
+pub has_place : (trusted : ℕ → Bool) (parts : BoardParts) (events device frame : ℕ) (kind : AccessKind) → IsSoundBoard parts events → Way (scene_of trusted parts) device frame kind
     → (k : ℕ) × (own : Device) × (slice_get parts.devices k ≡ Some own) × (own.id ≡ device)
 has_place trusted parts events device frame kind sound (Accepted inside) = flying (flights_of parts.iommu).rows parts.devices device (record { frame = frame; kind = kind }) sound.rows inside
 has_place trusted parts events device frame kind sound (AnyFrame (own, is) bare) = plugged parts.devices device own is

@@ -5,7 +5,7 @@ use Rattle.iom_base.specs.declared.refusal.Refusal.TheVariants as refusal
 use Rattle.iom_claims.specs.Claimed.{Claimed, IsOpen}
 use Rattle.iom_claims.specs.declared.grant.Grant.{Grant}
 use Rattle.iom_device.specs.Caches.{kind_in}
-use Rattle.iom_hardware.specs.declared.hardware.Hardware.{Hardware}
+use Rattle.iom_board.specs.declared.board.Board.{Board}
 use Rattle.iom_hardware_script.specs.declared.script.Claim.{Claim as Said}
 use Rattle.iom_hardware_script.specs.declared.script.Claim.TheVariants as claim
 use Rattle.iom_hardware_session.specs.declared.answer.ClaimAnswer.{ClaimAnswer}
@@ -13,14 +13,14 @@ use Rattle.iom_hardware_session.specs.declared.answer.ClaimAnswer.TheVariants as
 use Rattle.iom_ledger.specs.History.{held_at}
 
 -- a device with this id is plugged in, or none is
-abbrev pub IsDeviceKnown : Hardware → ℕ → Type 0
+abbrev pub IsDeviceKnown : Board → ℕ → Type 0
 IsDeviceKnown hardware device = IsSome (kind_in hardware.devices.items device)
 
-abbrev pub IsDeviceUnknown : Hardware → ℕ → Type 0
+abbrev pub IsDeviceUnknown : Board → ℕ → Type 0
 IsDeviceUnknown hardware device = kind_in hardware.devices.items device ≡ None
 
 -- memory has the frame
-abbrev pub IsFrameOfMemory : Hardware → ℕ → Type 0
+abbrev pub IsFrameOfMemory : Board → ℕ → Type 0
 IsFrameOfMemory hardware frame = frame < length hardware.memory
 
 -- the device holds something at the page
@@ -32,7 +32,7 @@ abbrev pub IsOpenClaim : Claimed → ℕ → Type 0
 IsOpenClaim before number = (grant : Grant) × IsOpen before.history (record { number = number; grant = grant })
 
 -- WHAT IS SO WHERE A CLAIM IS MADE
-abbrev pub CanBeMade : Said → Hardware → Claimed → Type 0
+abbrev pub CanBeMade : Said → Board → Claimed → Type 0
 CanBeMade (claim.Grant device page frame rights) hardware before =
     IsDeviceKnown hardware device × IsFrameOfMemory hardware frame × (page < 2 ^ 52) × (held_at before.history device page ≡ None)
 CanBeMade (claim.Ready device page) hardware before = IsDeviceKnown hardware device × HoldsAtPage before device page
@@ -43,7 +43,7 @@ CanBeMade (claim.Take frame) hardware before = IsFrameOfMemory hardware frame
 CanBeMade (claim.Trust device) hardware before = IsDeviceKnown hardware device
 
 -- WHY A GRANT ISN'T CLAIMED
-abbrev pub GrantIsRefused : Refusal → (device page frame : ℕ) → Hardware → Claimed → Type 0
+abbrev pub GrantIsRefused : Refusal → (device page frame : ℕ) → Board → Claimed → Type 0
 GrantIsRefused refusal.NoSuchDevice device page frame hardware before = IsDeviceUnknown hardware device
 GrantIsRefused refusal.FrameOutOfRange device page frame hardware before = length hardware.memory ≤ frame
 GrantIsRefused refusal.IovaOutOfRange device page frame hardware before = 2 ^ 52 ≤ page
@@ -52,13 +52,13 @@ GrantIsRefused refusal.Memory device page frame hardware before = ⊤
 GrantIsRefused why device page frame hardware before = ⊥
 
 -- why it isn't claimed that a page is ready
-abbrev pub ReadyIsRefused : Refusal → (device page : ℕ) → Hardware → Claimed → Type 0
+abbrev pub ReadyIsRefused : Refusal → (device page : ℕ) → Board → Claimed → Type 0
 ReadyIsRefused refusal.NoSuchDevice device page hardware before = IsDeviceUnknown hardware device
 ReadyIsRefused refusal.NotGranted device page hardware before = held_at before.history device page ≡ None
 ReadyIsRefused why device page hardware before = ⊥
 
 -- why nothing is withdrawn
-abbrev pub ReleaseIsRefused : Refusal → (device page : ℕ) → Hardware → Claimed → Type 0
+abbrev pub ReleaseIsRefused : Refusal → (device page : ℕ) → Board → Claimed → Type 0
 ReleaseIsRefused refusal.NoSuchDevice device page hardware before = IsDeviceUnknown hardware device
 ReleaseIsRefused refusal.NotGranted device page hardware before = held_at before.history device page ≡ None
 ReleaseIsRefused refusal.TooManyPending device page hardware before = before.last ≡ 2 ^ 32 - 1
@@ -66,11 +66,11 @@ ReleaseIsRefused refusal.Memory device page hardware before = ⊤
 ReleaseIsRefused why device page hardware before = ⊥
 
 -- why nothing is claimed of a frame
-abbrev pub FrameIsRefused : Refusal → ℕ → Hardware → Type 0
+abbrev pub FrameIsRefused : Refusal → ℕ → Board → Type 0
 FrameIsRefused refusal.FrameOutOfRange frame hardware = length hardware.memory ≤ frame
 FrameIsRefused why frame hardware = ⊥
 
-abbrev pub HandOffIsRefused : Refusal → ℕ → Hardware → Type 0
+abbrev pub HandOffIsRefused : Refusal → ℕ → Board → Type 0
 HandOffIsRefused refusal.Memory frame hardware = ⊤
 HandOffIsRefused why frame hardware = FrameIsRefused why frame hardware
 
@@ -80,12 +80,12 @@ IsWantOfMemory refusal.Memory = ⊤
 IsWantOfMemory why = ⊥
 
 -- why a device isn't trusted
-abbrev pub TrustIsRefused : Refusal → ℕ → Hardware → Type 0
+abbrev pub TrustIsRefused : Refusal → ℕ → Board → Type 0
 TrustIsRefused refusal.NoSuchDevice device hardware = IsDeviceUnknown hardware device
 TrustIsRefused why device hardware = IsWantOfMemory why
 
 -- WHY A CLAIM ISN'T MADE: what the refusal says is so
-abbrev pub IsRefusedFor : Said → Refusal → Hardware → Claimed → Type 0
+abbrev pub IsRefusedFor : Said → Refusal → Board → Claimed → Type 0
 IsRefusedFor (claim.Grant device page frame rights) why hardware before = GrantIsRefused why device page frame hardware before
 IsRefusedFor (claim.Ready device page) why hardware before = ReadyIsRefused why device page hardware before
 IsRefusedFor (claim.Release device page) why hardware before = ReleaseIsRefused why device page hardware before
@@ -120,7 +120,7 @@ IsTrust (claim.Trust device) = ⊤
 IsTrust said = ⊥
 
 -- WHAT IS SO OF A CLAIM by its answer, as hardware stands and by what was claimed before
-abbrev pub ClaimIsAdmitted : Said → ClaimAnswer → Hardware → Claimed → Type 0
+abbrev pub ClaimIsAdmitted : Said → ClaimAnswer → Board → Claimed → Type 0
 ClaimIsAdmitted said found.Good hardware before = IsJudged said × CanBeMade said hardware before
 ClaimIsAdmitted said (found.Wrong why) hardware before = IsJudged said × CanBeMade said hardware before
 ClaimIsAdmitted said (found.Released number) hardware before = IsReleasedAs said number before × CanBeMade said hardware before

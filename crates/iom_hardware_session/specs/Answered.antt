@@ -2,9 +2,9 @@
 use Rattle.std.specs.Prelude.{Bool, Option, None, Some, Result}
 use Rattle.iom_base.specs.declared.refusal.Refusal.{Refusal}
 use Rattle.iom_fabric.specs.declared.fabric.Repeat.{Repeat as Repeated}
-use Rattle.iom_hardware.specs.declared.answers.CacheReply.{CacheReply}
-use Rattle.iom_hardware.specs.declared.answers.Delivered.{Delivered}
-use Rattle.iom_hardware.specs.declared.answers.NoPlace.{NoPlace}
+use Rattle.iom_board.specs.declared.answers.CacheReply.{CacheReply}
+use Rattle.iom_board.specs.declared.answers.Delivered.{Delivered}
+use Rattle.iom_board.specs.declared.answers.NoPlace.{NoPlace}
 use Rattle.iom_inflight.specs.declared.made.MadeAt.{MadeAt}
 use Rattle.iom_iommu.specs.declared.fetched.Fetched.{Fetched}
 use Rattle.iom_iommu.specs.declared.reply.Reply.{Reply}

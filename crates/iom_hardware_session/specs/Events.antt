@@ -2,12 +2,12 @@
 use Rattle.std.specs.Prelude.{◌≡◌, ℕ, false, List, Option, Some, None, option_map, Result, Ok, Err}
 use Rattle.iom_base.specs.Accesses.{read_of, write_of}
 use Rattle.iom_base.specs.declared.refusal.Refusal.{Refusal}
-use Rattle.iom_hardware.specs.HardwareParts.{hardware_parts, disks_at_hand}
-use Rattle.iom_hardware.specs.Plugging.{PlugsNewDevice}
-use Rattle.iom_hardware.specs.Processor.{ProcessorWrites, BytesStandAt, HaveNoPlace}
-use Rattle.iom_hardware.specs.declared.answers.NoPlace.{NoPlace}
-use Rattle.iom_hardware.specs.declared.hardware.Hardware.{Hardware}
-use Rattle.iom_hardware.specs.declared.sender.Sender.TheVariants.{Own}
+use Rattle.iom_board.specs.BoardParts.{board_parts, disks_at_hand}
+use Rattle.iom_board.specs.Plugging.{PlugsNewDevice}
+use Rattle.iom_board.specs.Processor.{ProcessorWrites, BytesStandAt, HaveNoPlace}
+use Rattle.iom_board.specs.declared.answers.NoPlace.{NoPlace}
+use Rattle.iom_board.specs.declared.board.Board.{Board}
+use Rattle.iom_board.specs.declared.sender.Sender.TheVariants.{Own}
 use Rattle.iom_hardware_ways.specs.Calls.{HardwareCall, CallDoes}
 use Rattle.iom_hardware_ways.specs.Calls as call
 use Rattle.iom_hardware_script.specs.Grammar.{is_of_hardware, IsOfHardware}
@@ -38,17 +38,17 @@ call_of (Reset device) answer = option_map (call.Reset device) (reset_in answer)
 call_of event answer = None
 
 -- the call does this, and leaves the disks at hand
-abbrev pub CallOrNothing : Option HardwareCall → Hardware → Hardware → Type 0
+abbrev pub CallOrNothing : Option HardwareCall → Board → Board → Type 0
 CallOrNothing None old new = ⊥
-CallOrNothing (Some call) old new = CallDoes call (hardware_parts old) (hardware_parts new) × (disks_at_hand new ≡ disks_at_hand old)
+CallOrNothing (Some call) old new = CallDoes call (board_parts old) (board_parts new) × (disks_at_hand new ≡ disks_at_hand old)
 
 -- all stays
-abbrev pub Stays : Hardware → Hardware → Type 0
-Stays old new = (hardware_parts new ≡ hardware_parts old) × (disks_at_hand new ≡ disks_at_hand old)
+abbrev pub Stays : Board → Board → Type 0
+Stays old new = (board_parts new ≡ board_parts old) × (disks_at_hand new ≡ disks_at_hand old)
 
 -- memory alone changes
-abbrev pub MemoryChanges : Hardware → Hardware → Type 0
-MemoryChanges old new = (hardware_parts new ≡ record (hardware_parts old) { memory = new.memory }) × (disks_at_hand new ≡ disks_at_hand old)
+abbrev pub MemoryChanges : Board → Board → Type 0
+MemoryChanges old new = (board_parts new ≡ record (board_parts old) { memory = new.memory }) × (disks_at_hand new ≡ disks_at_hand old)
 
 -- the processor's load of so many bytes has a place, or hasn't
 abbrev pub Loads : List (List ℕ) → ℕ → ℕ → Result (Unit {0}) NoPlace → Type 0
@@ -56,28 +56,28 @@ Loads memory address len (Ok done) = (bytes : List ℕ) × BytesStandAt memory a
 Loads memory address len (Err why) = HaveNoPlace memory address len why
 
 -- the processor stores; it loads
-abbrev pub StoresAsAnswered : Option (Result (Unit {0}) NoPlace) → ℕ → List ℕ → Hardware → Hardware → Type 0
+abbrev pub StoresAsAnswered : Option (Result (Unit {0}) NoPlace) → ℕ → List ℕ → Board → Board → Type 0
 StoresAsAnswered None address bytes old new = ⊥
 StoresAsAnswered (Some answer) address bytes old new = ProcessorWrites old.memory address bytes answer new.memory × MemoryChanges old new
 
-abbrev pub LoadsAsAnswered : Option (Result (Unit {0}) NoPlace) → ℕ → ℕ → Hardware → Hardware → Type 0
+abbrev pub LoadsAsAnswered : Option (Result (Unit {0}) NoPlace) → ℕ → ℕ → Board → Board → Type 0
 LoadsAsAnswered None address len old new = ⊥
 LoadsAsAnswered (Some answer) address len old new = Loads old.memory address len answer × Stays old new
 
 -- a device is plugged in
-abbrev pub PlugsAsAnswered : Option (Result (Unit {0}) Refusal) → ℕ → NewDevice → Hardware → Hardware → Type 0
+abbrev pub PlugsAsAnswered : Option (Result (Unit {0}) Refusal) → ℕ → NewDevice → Board → Board → Type 0
 PlugsAsAnswered None device what old new = ⊥
-PlugsAsAnswered (Some answer) device what old new = PlugsNewDevice (disks_at_hand old) (hardware_parts old) device what answer (hardware_parts new) (disks_at_hand new)
+PlugsAsAnswered (Some answer) device what old new = PlugsNewDevice (disks_at_hand old) (board_parts old) device what answer (board_parts new) (disks_at_hand new)
 
 -- WHAT AN EVENT DOES TO HARDWARE, by its answer. Events of the model's own driver aren't of hardware, nor are those of block devices
-abbrev pub EventDoes : Event → Answer → Hardware → Hardware → Type 0
+abbrev pub EventDoes : Event → Answer → Board → Board → Type 0
 EventDoes (Plug device what) answer old new = PlugsAsAnswered (plug_in answer) device what old new
 EventDoes (Poke address bytes) answer old new = StoresAsAnswered (store_in answer) address bytes old new
 EventDoes (Peek address len) answer old new = LoadsAsAnswered (load_in answer) address len old new
 EventDoes event answer old new = CallOrNothing (call_of event answer) old new
 
 -- the same of any event: one that is none of hardware is answered so, and does nothing
-abbrev pub EventOrNone : Event → Answer → Hardware → Hardware → Type 0
+abbrev pub EventOrNone : Event → Answer → Board → Board → Type 0
 EventOrNone event answer old new = (IsOfHardware event → EventDoes event answer old new) × (is_of_hardware event ≡ false → (answer ≡ answered.NotOfHardware) × Stays old new)
 
 -- the event is a request for an access, at an address that the IOMMU translates

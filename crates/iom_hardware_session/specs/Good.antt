@@ -4,8 +4,8 @@ use Rattle.iom_base.specs.declared.access.AccessKind.{AccessKind}
 use Rattle.iom_claims.specs.Claimed.{Claimed, IsHeld, IsOpen}
 use Rattle.iom_claims.specs.declared.grant.Grant.{Grant}
 use Rattle.iom_claims.specs.declared.grant.OpenClaim.{OpenClaim}
-use Rattle.iom_hardware.specs.HardwareParts.{hardware_parts}
-use Rattle.iom_hardware.specs.declared.hardware.Hardware.{Hardware}
+use Rattle.iom_board.specs.BoardParts.{board_parts}
+use Rattle.iom_board.specs.declared.board.Board.{Board}
 use Rattle.iom_hardware_script.specs.declared.script.Claim.{Claim as Said}
 use Rattle.iom_hardware_script.specs.declared.script.Claim.TheVariants as claim
 use Rattle.iom_hardware_session.specs.declared.state.Session.{Session}
@@ -18,8 +18,8 @@ use Rattle.iom_reach.specs.Ways.{Way}
 use Rattle.iom_way_survey.specs.Surveys.{is_id_among}
 
 -- what lies between devices and memory, where these devices are trusted with all memory
-abbrev pub scene_with : Hardware → List ℕ → HardwareScene
-scene_with hardware trusted = scene_of (is_id_among trusted) (hardware_parts hardware)
+abbrev pub scene_with : Board → List ℕ → HardwareScene
+scene_with hardware trusted = scene_of (is_id_among trusted) (board_parts hardware)
 
 abbrev pub scene_in : Session → HardwareScene
 scene_in session = scene_with session.hardware session.trusted.items

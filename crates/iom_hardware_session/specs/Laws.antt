@@ -2,7 +2,7 @@
 use Rattle.std.specs.Prelude.{◌≡◌, ℕ, Bool, List, None}
 use Rattle.iom_claims.specs.Claimed.{Claimed, IsOpen, after_done}
 use Rattle.iom_claims.specs.declared.grant.Grant.{Grant}
-use Rattle.iom_hardware.specs.HardwareParts.{HardwareParts, hardware_parts}
+use Rattle.iom_board.specs.BoardParts.{BoardParts, board_parts}
 use Rattle.iom_hardware_script.specs.declared.script.Claim.TheVariants as claim
 use Rattle.iom_hardware_session.specs.declared.state.Session.{Session}
 use Rattle.iom_hardware_session.specs.declared.watched.GoodClaim.{GoodClaim}
@@ -16,13 +16,13 @@ use Rattle.iom_ledger.specs.History.{May}
 use Rattle.iom_way_survey.specs.Surveys.{is_id_among}
 
 -- these calls of hardware and devices alone come one after another from there, and then the device makes this access
-abbrev pub ComesFromParts : (ℕ → Bool) → HardwareParts → List HardwareCall → ℕ → MadeAt → Type 0
+abbrev pub ComesFromParts : (ℕ → Bool) → BoardParts → List HardwareCall → ℕ → MadeAt → Type 0
 ComesFromParts trusted parts calls id made =
-    (events : ℕ) × (between : HardwareParts) × (new : HardwareParts) × DoInTurn trusted events parts calls between × MakesIn trusted between id made new
+    (events : ℕ) × (between : BoardParts) × (new : BoardParts) × DoInTurn trusted events parts calls between × MakesIn trusted between id made new
 
 -- so from where the session stands
 abbrev pub ComesToMake : Session → List HardwareCall → ℕ → MadeAt → Type 0
-ComesToMake session calls id made = ComesFromParts (is_id_among session.trusted.items) (hardware_parts session.hardware) calls id made
+ComesToMake session calls id made = ComesFromParts (is_id_among session.trusted.items) (board_parts session.hardware) calls id made
 
 -- WHAT WAS WITHDRAWN IS OUT OF REACH. After a claim is done and good, the device makes no access to that frame but those that what is claimed allows
 abbrev pub DoneStaysDone : Type 0

@@ -4,8 +4,8 @@ use Rattle.iom_base.specs.declared.access.AccessKind.{AccessKind}
 use Rattle.iom_base.specs.declared.access.AccessKind.TheVariants.{Read, Write}
 use Rattle.iom_base.specs.declared.refusal.Refusal.{Refusal}
 use Rattle.iom_claims.specs.Claimed.{Claimed}
-use Rattle.iom_hardware.specs.HardwareParts.{hardware_parts, disks_at_hand}
-use Rattle.iom_hardware.specs.declared.hardware.Hardware.{Hardware}
+use Rattle.iom_board.specs.BoardParts.{board_parts, disks_at_hand}
+use Rattle.iom_board.specs.declared.board.Board.{Board}
 use Rattle.iom_hardware_script.specs.declared.script.Claim.{Claim as Said}
 use Rattle.iom_hardware_script.specs.declared.script.Claim.TheVariants as claim
 use Rattle.iom_hardware_script.specs.declared.script.HardwareLine.{HardwareLine}
@@ -55,24 +55,24 @@ abbrev pub is_hardwired : (offset width : ℕ) → Bool
 is_hardwired offset width = ((offset == 80) && (width == 4)) || ((offset == 760) && (width == 8))
 
 -- the value of the register at the offset, or why there is none
-abbrev pub value_at : Bool → (offset width : ℕ) → Hardware → Result ℕ RegFault
+abbrev pub value_at : Bool → (offset width : ℕ) → Board → Result ℕ RegFault
 value_at true offset width old = Ok 0
 value_at false offset width old = answer_of (value_of (registers_of old.iommu)) (register_at offset (short_width width))
 
 -- THE DRIVER READS a register
-abbrev pub ReadsRegister : (offset width : ℕ) → Hardware → Answer → Type 0
+abbrev pub ReadsRegister : (offset width : ℕ) → Board → Answer → Type 0
 ReadsRegister offset width old answer = answer ≡ answered.Value (value_at (is_hardwired offset width) offset width old)
 
 -- what a write of a register does, by whether it is one of those
-abbrev pub WritesWhere : Bool → (offset width value : ℕ) → Hardware → Answer → Hardware → Type 0
+abbrev pub WritesWhere : Bool → (offset width value : ℕ) → Board → Answer → Board → Type 0
 WritesWhere true offset width value old answer new = (answer ≡ answered.Written (Ok tt)) × Stays old new
 WritesWhere false offset width value old answer new =
     (answer ≡ answered.Written (done_of (register_at offset (short_width width))))
-    × (hardware_parts new ≡ record (hardware_parts old) { iommu = changed_by (after_write old.iommu) old.iommu value (register_at offset (short_width width)) })
+    × (board_parts new ≡ record (board_parts old) { iommu = changed_by (after_write old.iommu) old.iommu value (register_at offset (short_width width)) })
     × (disks_at_hand new ≡ disks_at_hand old)
 
 -- THE DRIVER WRITES a register
-abbrev pub WritesRegister : (offset width value : ℕ) → Hardware → Answer → Hardware → Type 0
+abbrev pub WritesRegister : (offset width value : ℕ) → Board → Answer → Board → Type 0
 WritesRegister offset width value old answer new = WritesWhere (is_hardwired offset width) offset width value old answer new
 
 -- the device is trusted, besides those that are
@@ -86,7 +86,7 @@ Trusts (claim.Trust device) answer old new = TrustsAlso device answer old new
 Trusts said answer old new = new ≡ old
 
 -- WHAT A LINE DOES TO HARDWARE, by its answer
-abbrev pub LineDoes : HardwareLine → Answer → Hardware → Hardware → Type 0
+abbrev pub LineDoes : HardwareLine → Answer → Board → Board → Type 0
 LineDoes (line.Event event) answer old new = EventOrNone event answer old new
 LineDoes (line.RegisterRead offset width) answer old new = ReadsRegister offset width old answer × Stays old new
 LineDoes (line.RegisterWrite offset width value) answer old new = WritesRegister offset width value old answer new
@@ -140,11 +140,11 @@ IsGoodLine (line.Claim said) answer scene before = IsGoodWhere said (judgement_i
 IsGoodLine said answer scene before = ⊤
 
 -- what a claim that is answered so means, where it isn't true
-abbrev pub IsWrongWhere : Said → Option ClaimAnswer → Hardware → List ℕ → Claimed → Type 0
+abbrev pub IsWrongWhere : Said → Option ClaimAnswer → Board → List ℕ → Claimed → Type 0
 IsWrongWhere said None hardware trusted before = ⊤
 IsWrongWhere said (Some answer) hardware trusted before = IfWrong answer (λ why. WrongMeans said why hardware trusted before (claimed_after said answer before))
 
-abbrev pub IsWrongLine : HardwareLine → Answer → Hardware → List ℕ → Claimed → Type 0
+abbrev pub IsWrongLine : HardwareLine → Answer → Board → List ℕ → Claimed → Type 0
 IsWrongLine (line.Claim said) answer hardware trusted before = IsWrongWhere said (judgement_in answer) hardware trusted before
 IsWrongLine said answer hardware trusted before = ⊤
 
@@ -189,11 +189,11 @@ abbrev pub WatchesBy : HardwareLine → Answer → Claimed → Session → Sessi
 WatchesBy said answer before old new = WatchesWhere (is_of_software said answer old.trusted.items) said answer before old new
 
 -- a claim is judged, and this is so of it by its answer
-abbrev pub IsAdmittedWhere : Said → Option ClaimAnswer → Hardware → Claimed → Type 0
+abbrev pub IsAdmittedWhere : Said → Option ClaimAnswer → Board → Claimed → Type 0
 IsAdmittedWhere said None hardware before = ⊥
 IsAdmittedWhere said (Some answer) hardware before = ClaimIsAdmitted said answer hardware before
 
-abbrev pub IsAdmittedLine : HardwareLine → Answer → Hardware → Claimed → Type 0
+abbrev pub IsAdmittedLine : HardwareLine → Answer → Board → Claimed → Type 0
 IsAdmittedLine (line.Claim said) answer hardware before = IsAdmittedWhere said (judgement_in answer) hardware before
 IsAdmittedLine said answer hardware before = ⊤
 

@@ -3,7 +3,7 @@ use Rattle.std.specs.Prelude.{◌≡◌, ℕ, ◌↔◌, ◌||◌, Bool, true, f
 use Rattle.std.specs.List.{list_any}
 use Rattle.iom_claims.specs.Claimed.{Claimed, nothing_claimed}
 use Rattle.iom_claims.specs.Shown.{ShowsClaimed}
-use Rattle.iom_hardware.specs.PowerOn.{IsHardwareAtPowerOn}
+use Rattle.iom_board.specs.PowerOn.{IsBoardAtPowerOn}
 use Rattle.iom_hardware_script.specs.declared.script.HardwareLine.{HardwareLine}
 use Rattle.iom_hardware_session.specs.Answered.{judgement_in}
 use Rattle.iom_hardware_session.specs.declared.answer.ClaimAnswer.{ClaimAnswer}
@@ -69,7 +69,7 @@ is_any_told_wrong all = list_any is_wrong all
 
 -- A SESSION BEGINS: hardware at power-on with so many frames of memory and four disks at hand, nothing claimed, nobody trusted, nothing watched
 pub record IsSessionAtPowerOn (frames : ℕ) (session : Session) : Type 0 where
-  pub power_on : IsHardwareAtPowerOn frames (0 ∷ 1 ∷ 2 ∷ 3 ∷ []) session.hardware
+  pub power_on : IsBoardAtPowerOn frames (0 ∷ 1 ∷ 2 ∷ 3 ∷ []) session.hardware
   pub claims : ShowsClaimed session.claims nothing_claimed
   pub trusted : session.trusted.items ≡ []
   pub watched : session.watched.items ≡ []

@@ -4,7 +4,7 @@ use Rattle.iom_device.specs.Caches.{epoch_in}
 use Rattle.iom_fabric.specs.declared.fabric.OnLink.{OnLink}
 use Rattle.iom_fabric.specs.declared.message.Message.{Message}
 use Rattle.iom_fabric.specs.declared.message.Message.TheVariants.{Ask, Answer, InvReq, InvDone}
-use Rattle.iom_hardware.specs.HardwareParts.{HardwareParts}
+use Rattle.iom_board.specs.BoardParts.{BoardParts}
 
 -- its epoch isn't above this one
 abbrev pub IsBy : ℕ → Message → Type 0
@@ -13,5 +13,5 @@ IsBy now (Answer epoch page translation) = epoch ≤ now
 IsBy now (InvReq serial range) = ⊤
 IsBy now (InvDone serial) = ⊤
 
-abbrev pub IsTimelyMessage : HardwareParts → OnLink → Type 0
+abbrev pub IsTimelyMessage : BoardParts → OnLink → Type 0
 IsTimelyMessage parts on = IsBy (epoch_in parts.devices on.device) on.message

@@ -2,7 +2,7 @@
 use Rattle.std.specs.Prelude.{◌≡◌, ℕ, ◌==◌, Bool, false, not, ◌&&◌, List, [], ◌∷◌, ◌++◌, map, filter, slice_get, Option, None, Some, is_some, if◌then◌else◌}
 use Rattle.iom_claims.specs.Claimed.{Claimed, IsOpen}
 use Rattle.iom_claims.specs.declared.grant.Grant.{Grant}
-use Rattle.iom_hardware.specs.declared.hardware.Hardware.{Hardware}
+use Rattle.iom_board.specs.declared.board.Board.{Board}
 use Rattle.iom_hardware_script.specs.declared.script.Claim.{Claim as Said}
 use Rattle.iom_hardware_script.specs.declared.script.Claim.TheVariants as claim
 use Rattle.iom_hardware_session.specs.declared.answer.ClaimAnswer.{ClaimAnswer}
@@ -47,12 +47,12 @@ IsStillSo (good.Done number device frame) scene claimed = HasClaimedWaysAlone sc
 IsStillSo (good.HandedOff frame) scene claimed = IsOutOfReach scene frame × IsUnused scene frame
 
 -- why it isn't
-abbrev pub IsNoMore : Wrong → GoodClaim → Hardware → List ℕ → Claimed → Type 0
+abbrev pub IsNoMore : Wrong → GoodClaim → Board → List ℕ → Claimed → Type 0
 IsNoMore why (good.Done number device frame) hardware trusted claimed = DoneIsWrong why hardware trusted claimed device frame
 IsNoMore why (good.HandedOff frame) hardware trusted claimed = HandOffIsWrong why hardware trusted claimed frame
 
 -- what is told of it is true
-abbrev pub IsToldOf : Option Wrong → GoodClaim → Hardware → List ℕ → Claimed → Type 0
+abbrev pub IsToldOf : Option Wrong → GoodClaim → Board → List ℕ → Claimed → Type 0
 IsToldOf None claim hardware trusted claimed = IsCertain (scene_with hardware trusted) × IsStillSo claim (scene_with hardware trusted) claimed
 IsToldOf (Some why) claim hardware trusted claimed = IsNoMore why claim hardware trusted claimed
 
@@ -61,7 +61,7 @@ abbrev pub claims_of : List Watched → List GoodClaim
 claims_of watched = map (λ (own : Watched). own.claim) watched
 
 -- ALL WERE JUDGED AGAIN, as hardware stands and by what is claimed
-pub record AreJudgedAgain (old new : List Watched) (hardware : Hardware) (trusted : List ℕ) (claimed : Claimed) : Type 0 where
+pub record AreJudgedAgain (old new : List Watched) (hardware : Board) (trusted : List ℕ) (claimed : Claimed) : Type 0 where
   pub same : claims_of new ≡ claims_of old
   pub told : (k : ℕ) (own : Watched) → slice_get new k ≡ Some own → IsToldOf own.why own.claim hardware trusted claimed
 

@@ -3,8 +3,8 @@ ghost use Rattle.iom_hardware_session.specs.Found.{frame_found};
 ghost use Rattle.iom_hardware_session.specs.declared.answer.Found.TheVariants as found;
 
 use iom_base::{AccessKind, Cause, DeviceId, Refusal};
+use iom_board::{CacheReply, Delivered, NoPlace};
 use iom_fabric::Repeat;
-use iom_hardware::{CacheReply, Delivered, NoPlace};
 use iom_inflight::MadeAt;
 use iom_iommu::{Fetched, Reply};
 use iom_registers::RegFault;

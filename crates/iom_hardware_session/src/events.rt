@@ -6,7 +6,7 @@ ghost use Rattle.iom_hardware_session.specs.Lines.{KeepsClaims};
 use crate::answer::Answer;
 use crate::state::Session;
 use iom_base::AccessKind;
-use iom_hardware::Sender;
+use iom_board::Sender;
 use iom_machine::Event;
 
 impl Session {

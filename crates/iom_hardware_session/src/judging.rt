@@ -4,7 +4,7 @@ ghost use Rattle.iom_base.specs.declared.access.AccessKind.{AccessKind};
 ghost use Rattle.iom_claims.specs.Claimed.{Claimed};
 ghost use Rattle.iom_claims.specs.Shown.{ShowsClaimed};
 ghost use Rattle.iom_fabric.specs.declared.fabric.OnLink.{OnLink};
-ghost use Rattle.iom_hardware.specs.HardwareParts.{hardware_parts};
+ghost use Rattle.iom_board.specs.BoardParts.{board_parts};
 ghost use Rattle.iom_hardware_session.specs.Claiming.{is_judgement};
 ghost use Rattle.iom_hardware_session.specs.Good.{scene_in, IsCertain, IsNobodys, IsUnused, HasClaimedWaysAlone};
 ghost use Rattle.iom_hardware_session.specs.Lines.{KeepsAll};
@@ -70,7 +70,7 @@ impl Session {
 
     /// Whether the message is of no epoch to come of its device's cache.
     fn is_timely_message(&self, on: &OnLink) -> bool
-        ensures { IsTrue result ↔ IsTimelyMessage (hardware_parts self.now.hardware) on.now }
+        ensures { IsTrue result ↔ IsTimelyMessage (board_parts self.now.hardware) on.now }
     {
         match on.message {
             Message::Ask { epoch, page: _ } => epoch <= self.hardware.epoch_of(on.device),
@@ -83,7 +83,7 @@ impl Session {
     /// messages are looked at sooner than it is carried through every line.
     fn is_timely(&self) -> bool
         ensures timely { IsTrue result → AreTimely (scene_in self.now) }
-        ensures untimely { result ≡ false → IsUntimely (hardware_parts self.now.hardware) }
+        ensures untimely { result ≡ false → IsUntimely (board_parts self.now.hardware) }
     {
         let messages = self.hardware.messages();
         for place in 0..messages.len() {

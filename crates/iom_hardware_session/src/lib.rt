@@ -1,6 +1,6 @@
 //! A session of a driver under test: hardware, and what its driver claims of it, line by line.
 //!
-//! The hardware is that of `iom_hardware` (RISC-V IOMMU Architecture Specification 1.0; PCI Express Base Specification,
+//! The hardware is that of `iom_board` (RISC-V IOMMU Architecture Specification 1.0; PCI Express Base Specification,
 //! chapter 10). Software writes its registers and memory, devices and hardware do what they do, and the driver claims
 //! who may reach which frame. What is claimed is a history (`iom_claims`). Each claim is judged by what could still
 //! happen (`iom_way_survey`), and each access that is made by what was claimed.

@@ -1,7 +1,7 @@
 ghost use Rattle.std.specs.Prelude.{◌≡◌, ◌↔◌, ◌+◌, ◌<◌, ◌^◌, ◌≤◌, [], ◌∷◌, Some, false, IfOk, IfSome, IfNone, IsTrue};
 ghost use Rattle.iom_claims.specs.Claimed.{Claimed, nothing_claimed};
 ghost use Rattle.iom_claims.specs.Shown.{ShowsClaimed};
-ghost use Rattle.iom_hardware.specs.PowerOn.{IsHardwareAtPowerOn};
+ghost use Rattle.iom_board.specs.PowerOn.{IsBoardAtPowerOn};
 ghost use Rattle.iom_hardware_session.specs.Admitted.{ClaimIsAdmitted};
 ghost use Rattle.iom_hardware_session.specs.Claiming.{claimed_after};
 ghost use Rattle.iom_hardware_session.specs.Answered.{judgement_in};
@@ -16,8 +16,8 @@ use crate::answer::{Answer, ClaimAnswer};
 use crate::state::Session;
 use crate::watched::{Watched, drop_fallen};
 use iom_base::{AccessKind, DeviceId};
+use iom_board::Board;
 use iom_claims::Claims;
-use iom_hardware::Hardware;
 use iom_hardware_script::{Claim, HardwareLine};
 use iom_inflight::MadeAt;
 use iom_machine::Event;
@@ -38,12 +38,12 @@ pub struct Stepped {
 impl Session {
     /// Hardware at power-on, with so many frames of memory and four disks at hand, and nothing claimed.
     pub fn new(alloc: Global, frames: u32) -> Result<Session, MemError>
-        ensures power_on { IfOk result (λ session. IsHardwareAtPowerOn frames (0 ∷ 1 ∷ 2 ∷ 3 ∷ []) session.hardware) }
+        ensures power_on { IfOk result (λ session. IsBoardAtPowerOn frames (0 ∷ 1 ∷ 2 ∷ 3 ∷ []) session.hardware) }
         ensures claims { IfOk result (λ session. ShowsClaimed session.claims nothing_claimed) }
         ensures trusted { IfOk result (λ session. session.trusted.items ≡ []) }
         ensures watched { IfOk result (λ session. session.watched.items ≡ []) }
     {
-        let hardware = Hardware::new(alloc, frames, &DISKS)?;
+        let hardware = Board::new(alloc, frames, &DISKS)?;
         let Ok(survey) = Survey::new(alloc) else {
             return Err(MemError::OutOfMemory);
         };
@@ -58,7 +58,7 @@ impl Session {
     }
 
     /// The hardware, to be looked at.
-    pub fn hardware(&self) -> &Hardware
+    pub fn hardware(&self) -> &Board
         ensures { result.now ≡ self.now.hardware }
     {
         &self.hardware

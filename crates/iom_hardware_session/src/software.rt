@@ -4,7 +4,7 @@ ghost use Rattle.iom_hardware_session.specs.Lines.{KeepsClaims, short_width, is_
 
 use crate::answer::Answer;
 use crate::state::Session;
-use iom_hardware::laws::software_keeps_sound;
+use iom_board::laws::software_keeps_sound;
 use iom_registers::Mmio;
 
 /// The width of an access in bytes, as registers take it. None of them has the widest.

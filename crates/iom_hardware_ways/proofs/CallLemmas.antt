@@ -1,7 +1,7 @@
 -- Each call of hardware is a list of occurrences.
 use Rattle.iom_hardware_ways.specs.Calls.{Request, Translated, ThroughCache, Ask, Forge, Fetch, Timeout, Deliver, Drop, Repeat, Commit, Reset}
 use Rattle.iom_hardware_ways.specs.Laws.{CallsAreOccurrences}
-use Rattle.iom_hardware.specs.Senders.{untranslated_by, cached_by}
+use Rattle.iom_board.specs.Senders.{untranslated_by, cached_by}
 use Rattle.iom_hardware_ways.proofs.RequestLemmas.{requests, requests_translated, requests_through_cache}
 use Rattle.iom_hardware_ways.proofs.FetchLemmas.{fetches}
 use Rattle.iom_hardware_ways.proofs.FlightLemmas.{commits}

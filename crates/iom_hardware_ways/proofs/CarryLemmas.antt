@@ -10,10 +10,10 @@ use Rattle.iom_fabric.specs.declared.fabric.Repeat.{Repeat}
 use Rattle.iom_fabric.specs.declared.message.Message.{Message as Sent}
 use Rattle.iom_fabric.specs.declared.message.Message.TheVariants as sent
 use Rattle.iom_fabric.specs.Messages.{repeated}
-use Rattle.iom_hardware.specs.ByDevice.{ByDevice}
-use Rattle.iom_hardware.specs.Commits.{GivesUpFence}
-use Rattle.iom_hardware.specs.HardwareParts.{HardwareParts}
-use Rattle.iom_hardware.specs.Messages.{with_message, SendsMessage, AsksTranslation, ClaimsCompletion, LosesMessage, CopiesMessage}
+use Rattle.iom_board.specs.ByDevice.{ByDevice}
+use Rattle.iom_board.specs.Commits.{GivesUpFence}
+use Rattle.iom_board.specs.BoardParts.{BoardParts}
+use Rattle.iom_board.specs.Messages.{with_message, SendsMessage, AsksTranslation, ClaimsCompletion, LosesMessage, CopiesMessage}
 use Rattle.iom_iommu.specs.Parts.{registers_of, contexts_of, translations_of, flights_of}
 use Rattle.iom_registers.specs.Queues.{with_cmd_to}
 use Rattle.iom_reach.specs.Occurrences.{CarryMessages, IsSendable}
@@ -24,8 +24,8 @@ use Rattle.iom_hardware_ways.proofs.SceneParts.{scene_is}
 use Rattle.iom_hardware_ways.proofs.Turns.{Comes, nothing, one}
 
 -- a device that isn't there, or is of another kind, changes nothing
-pub by_device : {A : Type 0} (trusted : ℕ → Bool) (can : DeviceKind → Bool) (Call : HardwareParts → A → HardwareParts → Type 0) (old : HardwareParts) (id : ℕ)
-    (answer : Result A Refusal) (new : HardwareParts) → ByDevice can Call old id answer new
+pub by_device : {A : Type 0} (trusted : ℕ → Bool) (can : DeviceKind → Bool) (Call : BoardParts → A → BoardParts → Type 0) (old : BoardParts) (id : ℕ)
+    (answer : Result A Refusal) (new : BoardParts) → ByDevice can Call old id answer new
     → ((given : A) → IsAble can old.devices id → answer ≡ Ok given → Call old given new → Comes (scene_of trusted old) (scene_of trusted new))
     → Comes (scene_of trusted old) (scene_of trusted new)
 by_device trusted can Call old id answer new (inl absent) does = nothing (scene_of trusted old) (scene_of trusted new) (ap (scene_of trusted) absent.same)
@@ -33,13 +33,13 @@ by_device trusted can Call old id answer new (inr (inl other)) does = nothing (s
 by_device trusted can Call old id answer new (inr (inr so)) does = does so.given so.able so.answered so.call
 
 -- other messages are under way
-pub carried : (trusted : ℕ → Bool) (old new : HardwareParts) (fabric : List OnLink) → new ≡ record old { fabric = fabric }
+pub carried : (trusted : ℕ → Bool) (old new : BoardParts) (fabric : List OnLink) → new ≡ record old { fabric = fabric }
     → ((message : Message) → Contains (map message_of fabric) message → IsSendable (scene_of trusted old) message ⊎ Contains (map message_of old.fabric) message)
     → Comes (scene_of trusted old) (scene_of trusted new)
 carried trusted old new fabric is from =
     one CarryMessages (scene_of trusted old) (scene_of trusted new) (map message_of fabric, from, ap (scene_of trusted) is)
 
-pub lost : (trusted : ℕ → Bool) (old : HardwareParts) (place : ℕ) (found : Bool) (new : HardwareParts) → LosesMessage old place found new
+pub lost : (trusted : ℕ → Bool) (old : BoardParts) (place : ℕ) (found : Bool) (new : BoardParts) → LosesMessage old place found new
     → Comes (scene_of trusted old) (scene_of trusted new)
 lost trusted old place found new loses = carried trusted old new (remove old.fabric place) loses.lost
     (λ message there. inr (map_among message_of (remove old.fabric place) old.fabric (remove_among old.fabric place) message there))
@@ -56,7 +56,7 @@ repeated_among fabric (Some own) there on c = by (nat_lt (length fabric) 64) c
       | inr same ↦ subst (Contains fabric) same (there own refl)
     ]
 
-pub repeats : (trusted : ℕ → Bool) (old : HardwareParts) (place : ℕ) (repeat : Repeat) (new : HardwareParts) → CopiesMessage old place repeat new
+pub repeats : (trusted : ℕ → Bool) (old : BoardParts) (place : ℕ) (repeat : Repeat) (new : BoardParts) → CopiesMessage old place repeat new
     → Comes (scene_of trusted old) (scene_of trusted new)
 repeats trusted old place what new copies = carried trusted old new (repeated old.fabric (slice_get old.fabric place)) copies.copied
     (λ message there. inr (map_among message_of (repeated old.fabric (slice_get old.fabric place)) old.fabric
@@ -78,7 +78,7 @@ sent_cases fabric device says message c = by (nat_lt (length fabric) 64) c
           | inr same ↦ inl (ap message_of same ∙ is)
         ]
 
-sends : (trusted : ℕ → Bool) (id : ℕ) (says : Sent) (old : HardwareParts) (is_sent : Bool) (new : HardwareParts) → SendsMessage id says old is_sent new
+sends : (trusted : ℕ → Bool) (id : ℕ) (says : Sent) (old : BoardParts) (is_sent : Bool) (new : BoardParts) → SendsMessage id says old is_sent new
     → IsSendable (scene_of trusted old) (said_on id says) → Comes (scene_of trusted old) (scene_of trusted new)
 sends trusted id says old is_sent new call may = carried trusted old new (with_message old.fabric id says) call.sent
     (λ message there. elim (sent_cases old.fabric id says message there) [
@@ -86,20 +86,20 @@ sends trusted id says old is_sent new call may = carried trusted old new (with_m
       | inr before ↦ inr before
     ])
 
-pub asks : (trusted : ℕ → Bool) (old : HardwareParts) (id page : ℕ) (answer : Result Bool Refusal) (new : HardwareParts) → AsksTranslation old id page answer new
+pub asks : (trusted : ℕ → Bool) (old : BoardParts) (id page : ℕ) (answer : Result Bool Refusal) (new : BoardParts) → AsksTranslation old id page answer new
     → Comes (scene_of trusted old) (scene_of trusted new)
 asks trusted old id page answer new call =
     by_device trusted asks_questions (λ old is_sent new. SendsMessage id (sent.Ask (epoch_in old.devices id) page) old is_sent new) old id answer new call
     (λ is_sent able told does. sends trusted id (sent.Ask (epoch_in old.devices id) page) old is_sent new does (λ caches. omega arith))
 
-pub forged : (trusted : ℕ → Bool) (old : HardwareParts) (id serial : ℕ) (answer : Result Bool Refusal) (new : HardwareParts) → ClaimsCompletion old id serial answer new
+pub forged : (trusted : ℕ → Bool) (old : BoardParts) (id serial : ℕ) (answer : Result Bool Refusal) (new : BoardParts) → ClaimsCompletion old id serial answer new
     → Comes (scene_of trusted old) (scene_of trusted new)
 forged trusted old id serial answer new call =
     by_device trusted forges (SendsMessage id (sent.InvDone serial)) old id answer new call
     (λ is_sent able told does. sends trusted id (sent.InvDone serial) old is_sent new does tt)
 
 -- a fence that is given up leaves commands, tables and caches as they are
-pub gives_up : (trusted : ℕ → Bool) (old : HardwareParts) (has_effect : Bool) (new : HardwareParts) → GivesUpFence old has_effect new
+pub gives_up : (trusted : ℕ → Bool) (old : BoardParts) (has_effect : Bool) (new : BoardParts) → GivesUpFence old has_effect new
     → Comes (scene_of trusted old) (scene_of trusted new)
 gives_up trusted old true new call =
     let is = call.call.1 in

@@ -7,7 +7,7 @@ use Rattle.iom_device_dir.specs.declared.context.Context.{Context as DeviceConte
 use Rattle.iom_device_dir.specs.Contents.{Content, IsSameContent, SetsOne}
 use Rattle.iom_device_dir.specs.Located.{located_context}
 use Rattle.iom_device_dir.specs.Paths.{fits_directory}
-use Rattle.iom_hardware.specs.HardwareParts.{HardwareParts}
+use Rattle.iom_board.specs.BoardParts.{BoardParts}
 use Rattle.iom_iommu.specs.Parts.{registers_of, contexts_of}
 use Rattle.iom_iommu.specs.Service.{found_context, context_or_cause, letting_ats, ats_context_in, ats_context_for, KeepsLocated, KeepsIn, KeepsContext}
 use Rattle.iom_registers.specs.declared.directory.DirectoryMode.{DirectoryMode}
@@ -55,7 +55,7 @@ sets_shown m id context old new (here, lost, others) key value is = elim (eqb_te
 ]
 
 -- what the context cache keeps is what the directory has
-kept_located : (trusted : ℕ → Bool) (parts : HardwareParts) (id : ℕ) (new : Content ℕ DeviceContext) (m : DirectoryMode) → m ≡ directory_mode (registers_of parts.iommu)
+kept_located : (trusted : ℕ → Bool) (parts : BoardParts) (id : ℕ) (new : Content ℕ DeviceContext) (m : DirectoryMode) → m ≡ directory_mode (registers_of parts.iommu)
     → HasDevice (scene_of trusted parts) id → (cached : Option DeviceContext) (located : Result DeviceContext Cause)
     → located ≡ located_context parts.memory (registers_of parts.iommu).ddtp id
     → KeepsLocated cached located (contexts_of parts.iommu) id new
@@ -71,7 +71,7 @@ kept_located trusted parts id new m is plugged None (Ok context) found (inl sets
       sets_shown (directory_mode (registers_of parts.iommu)) id context (contexts_of parts.iommu) new sets,
     )
 
-pub context_kept : (trusted : ℕ → Bool) (parts : HardwareParts) (id : ℕ) (new : Content ℕ DeviceContext) → HasDevice (scene_of trusted parts) id
+pub context_kept : (trusted : ℕ → Bool) (parts : BoardParts) (id : ℕ) (new : Content ℕ DeviceContext) → HasDevice (scene_of trusted parts) id
     → KeepsContext parts.memory (registers_of parts.iommu) (contexts_of parts.iommu) id new
     → ContextsChange (scene_of trusted parts) id (contexts_in (directory_mode (registers_of parts.iommu)) new)
 context_kept trusted parts id new plugged keeps = by (directory_mode (registers_of parts.iommu)) refl keeps
@@ -88,10 +88,10 @@ context_kept trusted parts id new plugged keeps = by (directory_mode (registers_
 -- WHICH CONTEXT IS FOUND
 
 -- there is a directory
-abbrev pub HasDirectory : (ℕ → Bool) → HardwareParts → Type 0
+abbrev pub HasDirectory : (ℕ → Bool) → BoardParts → Type 0
 HasDirectory trusted parts = (tables : Tables) × ((scene_of trusted parts).directory ≡ At tables)
 
-pub may_find : (trusted : ℕ → Bool) (parts : HardwareParts) (id : ℕ) (context : DeviceContext) → HasDevice (scene_of trusted parts) id → HasDirectory trusted parts
+pub may_find : (trusted : ℕ → Bool) (parts : BoardParts) (id : ℕ) (context : DeviceContext) → HasDevice (scene_of trusted parts) id → HasDirectory trusted parts
     → context_or_cause parts.memory (registers_of parts.iommu) (contexts_of parts.iommu) id ≡ Ok context → MayFind (scene_of trusted parts) id (context_of context)
 may_find trusted parts id context plugged directory found =
     by (fits_directory (directory_mode (registers_of parts.iommu)) id) refl (contexts_of parts.iommu id) refl found
@@ -118,7 +118,7 @@ lets (Ok own) context is = by own.en_ats refl is
     by false e told = absurd (cc)
     by true e told = let same : own ≡ context = cc in (told, ap (λ (c : DeviceContext). c.en_ats) (sym same) ∙ e)
 
-pub may_find_ats : (trusted : ℕ → Bool) (parts : HardwareParts) (id : ℕ) (context : DeviceContext) → HasDevice (scene_of trusted parts) id
+pub may_find_ats : (trusted : ℕ → Bool) (parts : BoardParts) (id : ℕ) (context : DeviceContext) → HasDevice (scene_of trusted parts) id
     → ats_context_for parts.memory (registers_of parts.iommu) (contexts_of parts.iommu) id ≡ Ok context
     → MayFind (scene_of trusted parts) id (context_of context) × (context.en_ats ≡ true)
 may_find_ats trusted parts id context plugged found = by (directory_mode (registers_of parts.iommu)) refl found

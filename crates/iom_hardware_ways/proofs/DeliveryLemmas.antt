@@ -24,12 +24,12 @@ use Rattle.iom_fabric.specs.declared.message.Translation.TheVariants as told
 use Rattle.iom_fault_queue.specs.Fields.{Fields}
 use Rattle.iom_fault_queue.specs.Records.{record_of}
 use Rattle.iom_fault_queue.specs.declared.transaction.Transaction.TheVariants.{AtsRequest}
-use Rattle.iom_hardware.specs.Deliveries.{TakesReply, TakesReplied, ObeysInvalidation, TakesCompletion, AnswersAsk, MessageArrives, MessageArrivesIfAny, DeliversAtPlace, with_delivery}
-use Rattle.iom_hardware.specs.HardwareParts.{HardwareParts}
-use Rattle.iom_hardware.specs.Messages.{with_message}
-use Rattle.iom_hardware.specs.Sound.{IsMessageOf}
-use Rattle.iom_hardware.specs.declared.answers.Delivered.{Delivered}
-use Rattle.iom_hardware.specs.declared.answers.Delivered.TheVariants.{Answered, Taken, Ignored, Invalidated, Closed, NotClosed}
+use Rattle.iom_board.specs.Deliveries.{TakesReply, TakesReplied, ObeysInvalidation, TakesCompletion, AnswersAsk, MessageArrives, MessageArrivesIfAny, DeliversAtPlace, with_delivery}
+use Rattle.iom_board.specs.BoardParts.{BoardParts}
+use Rattle.iom_board.specs.Messages.{with_message}
+use Rattle.iom_board.specs.Sound.{IsMessageOf}
+use Rattle.iom_board.specs.declared.answers.Delivered.{Delivered}
+use Rattle.iom_board.specs.declared.answers.Delivered.TheVariants.{Answered, Taken, Ignored, Invalidated, Closed, NotClosed}
 use Rattle.iom_inflight.specs.Flights.{Flights}
 use Rattle.iom_iommu.specs.Parts.{registers_of, contexts_of, translations_of, flights_of}
 use Rattle.iom_iommu.specs.Questions.{RecordsUnless, is_page_fault}
@@ -67,7 +67,7 @@ left_cases fabric place device says message there = elim (sent_cases (remove fab
 -- A QUESTION
 
 -- the device of a question is plugged in
-asker : (trusted : ℕ → Bool) (old : HardwareParts) (device epoch page : ℕ) → All (IsMessageOf old.devices) old.fabric
+asker : (trusted : ℕ → Bool) (old : BoardParts) (device epoch page : ℕ) → All (IsMessageOf old.devices) old.fabric
     → Contains old.fabric (record { device = device; message = sent.Ask epoch page }) → HasDevice (scene_of trusted old) device
 asker trusted old device epoch page askers there =
     by (device_with old.devices device) (All-contains (IsMessageOf old.devices) old.fabric (record { device = device; message = sent.Ask epoch page }) askers there).0
@@ -77,7 +77,7 @@ asker trusted old device epoch page askers there =
     by (Some own) is = (ats_kind own.kind, refl)
 
 -- what is sent, what is cached and what is recorded
-module _ (trusted : ℕ → Bool) (old new : HardwareParts) (place device epoch page : ℕ) (says : Told) (there : HasDevice (scene_of trusted old) device)
+module _ (trusted : ℕ → Bool) (old new : BoardParts) (place device epoch page : ℕ) (says : Told) (there : HasDevice (scene_of trusted old) device)
     (fabric : new.fabric ≡ with_message (remove old.fabric place) device (sent.Answer epoch page says)) (devices : new.devices ≡ old.devices)
     (flights : flights_of new.iommu ≡ flights_of old.iommu)
     (contexts : KeepsContext old.memory (registers_of old.iommu) (contexts_of old.iommu) device (contexts_of new.iommu))
@@ -115,7 +115,7 @@ page_back : (page : ℕ) → page * 4096 / 4096 ≡ page
 page_back page = omega arith
 
 -- by the context that lets it through
-told_by : (trusted : ℕ → Bool) (old : HardwareParts) (device epoch page : ℕ) (sure : Bool) (found : Result DeviceContext Cause) (answer : Translation) (kept : Translations)
+told_by : (trusted : ℕ → Bool) (old : BoardParts) (device epoch page : ℕ) (sure : Bool) (found : Result DeviceContext Cause) (answer : Translation) (kept : Translations)
     → HasDevice (scene_of trusted old) device → Contains (map message_of old.fabric) (Question device epoch page)
     → found ≡ ats_context_for old.memory (registers_of old.iommu) (contexts_of old.iommu) device
     → ServesBy sure found old.memory (page * 4096) Read (translations_of old.iommu) (Ok answer) kept
@@ -146,7 +146,7 @@ unless_there : (b : Bool) (memory : List (List ℕ)) (r : Registers) (f : Fields
 unless_there true memory r f new s (kept, same) = inl (ap slice_get kept)
 unless_there false memory r f new s (answer, puts) = recorded_there memory r f answer new s puts
 
-question_arrives : (trusted : ℕ → Bool) (old : HardwareParts) (place device epoch page : ℕ) (answer : Told) (new : HardwareParts) → HasDevice (scene_of trusted old) device
+question_arrives : (trusted : ℕ → Bool) (old : BoardParts) (place device epoch page : ℕ) (answer : Told) (new : BoardParts) → HasDevice (scene_of trusted old) device
     → Contains (map message_of old.fabric) (Question device epoch page)
     → AnswersAsk old device epoch page (remove old.fabric place) answer new → Comes (scene_of trusted old) (scene_of trusted new)
 question_arrives trusted old place device epoch page (told.Page frame rights) new there asked answers =
@@ -165,7 +165,7 @@ question_arrives trusted old place device epoch page (told.Refused cause) new th
     (unless_there (is_page_fault is.fault.cause) old.memory (registers_of old.iommu) fields new.memory (registers_of new.iommu) is.recorded)
 
 -- THE MESSAGE IS UNDER WAY NO MORE, and devices are as they were
-gone : (trusted : ℕ → Bool) (old : HardwareParts) (place : ℕ) (new : HardwareParts) (devices : List Device) → devices ≡ old.devices
+gone : (trusted : ℕ → Bool) (old : BoardParts) (place : ℕ) (new : BoardParts) (devices : List Device) → devices ≡ old.devices
     → new ≡ record old { devices = devices; fabric = remove old.fabric place } → Comes (scene_of trusted old) (scene_of trusted new)
 gone trusted old place new devices same is =
     carried trusted old new (remove old.fabric place) (is ∙ ap (λ (ds : List Device). record old { devices = ds; fabric = remove old.fabric place }) same)
@@ -192,7 +192,7 @@ with_entry_among entries own x c =
         by true is = is
         by false is = drop_among 1 left entry is
 
-module _ (trusted : ℕ → Bool) (old new : HardwareParts) (place device epoch page : ℕ) (mapping : Mapping) (cache kept : Cache) (own : Entry)
+module _ (trusted : ℕ → Bool) (old new : BoardParts) (place device epoch page : ℕ) (mapping : Mapping) (cache kept : Cache) (own : Entry)
     (at : cache_of old.devices device ≡ Some cache) (there : Contains (map message_of old.fabric) (Answer device epoch page mapping))
     (now : epoch ≡ cache.epoch) (is_kept : kept ≡ record { epoch = cache.epoch; entries = with_entry cache.entries own }) (own_entry : kept_entry own ≡ record { page = page; mapping = mapping })
     (is : new ≡ record old { devices = with_cache old.devices device (Some kept); fabric = remove old.fabric place }) where
@@ -224,7 +224,7 @@ module _ (trusted : ℕ → Bool) (old new : HardwareParts) (place device epoch 
   answer_kept =
       let s = scene_of trusted old in
       let entries = entries_in (with_cache old.devices device (Some kept)) in
-      let between : HardwareParts = record old { devices = with_cache old.devices device (Some kept) } in
+      let between : BoardParts = record old { devices = with_cache old.devices device (Some kept) } in
       in_succession s (scene_of trusted between) (scene_of trusted new)
       (one DeliverAnswer s (scene_of trusted between) (
         device,
@@ -240,7 +240,7 @@ module _ (trusted : ℕ → Bool) (old new : HardwareParts) (place device epoch 
       (carried trusted between new (remove old.fabric place) is
       (λ message c. inr (map_among message_of (remove old.fabric place) old.fabric (remove_among old.fabric place) message c)))
 
-answer_taken : (trusted : ℕ → Bool) (old : HardwareParts) (place device epoch page : ℕ) (answer : Told) (taking : HowTaken) (cache kept : Cache) (new : HardwareParts)
+answer_taken : (trusted : ℕ → Bool) (old : BoardParts) (place device epoch page : ℕ) (answer : Told) (taking : HowTaken) (cache kept : Cache) (new : BoardParts)
     → cache_of old.devices device ≡ Some cache → Contains (map message_of old.fabric) (said_on device (sent.Answer epoch page answer))
     → TakesAnswer cache epoch page answer taking kept
     → new ≡ record old { devices = with_cache old.devices device (Some kept); fabric = remove old.fabric place } → Comes (scene_of trusted old) (scene_of trusted new)
@@ -255,7 +255,7 @@ answer_taken trusted old place device epoch page (told.Refused cause) taken.Kept
 answer_taken trusted old place device epoch page (told.Page frame rights) taken.Kept cache kept new at there (own, same) is =
     answer_kept trusted old new place device epoch page (record { frame = frame; rights = rights }) cache kept (record { page = page; frame = frame; rights = rights }) at there own same refl is
 
-answer_arrives : (trusted : ℕ → Bool) (old : HardwareParts) (place device epoch page : ℕ) (answer : Told) (delivered : Delivered) (new : HardwareParts)
+answer_arrives : (trusted : ℕ → Bool) (old : BoardParts) (place device epoch page : ℕ) (answer : Told) (delivered : Delivered) (new : BoardParts)
     → Contains (map message_of old.fabric) (said_on device (sent.Answer epoch page answer))
     → TakesReplied old device epoch page answer (remove old.fabric place) delivered new → Comes (scene_of trusted old) (scene_of trusted new)
 answer_arrives trusted old place device epoch page answer delivered new there takes =
@@ -273,7 +273,7 @@ answer_arrives trusted old place device epoch page answer delivered new there ta
 
 -- A REQUEST TO INVALIDATE
 
-obeys : (trusted : ℕ → Bool) (old : HardwareParts) (place device serial : ℕ) (range : Range) (says : Option Sent) (fabric : List OnLink) (new : HardwareParts) (after : Option Cache)
+obeys : (trusted : ℕ → Bool) (old : BoardParts) (place device serial : ℕ) (range : Range) (says : Option Sent) (fabric : List OnLink) (new : BoardParts) (after : Option Cache)
     → (found : Option Cache) → cache_of old.devices device ≡ found → Obeys found serial range says after
     → ((done : Sent) → says ≡ Some done → fabric ≡ with_message (remove old.fabric place) device done) → (says ≡ None → fabric ≡ remove old.fabric place)
     → new ≡ with_delivery old device after fabric → Comes (scene_of trusted old) (scene_of trusted new)
@@ -283,7 +283,7 @@ obeys trusted old place device serial range None fabric new after None at none s
 obeys trusted old place device serial range (Some done) fabric new after None at never sends quiet is = absurd never
 obeys trusted old place device serial range None fabric new after (Some cache) at never sends quiet is = absurd never
 obeys trusted old place device serial range (Some done) fabric new after (Some cache) at (left, does, same) sends quiet is =
-    let between : HardwareParts = record old { devices = with_cache old.devices device (Some left) } in
+    let between : BoardParts = record old { devices = with_cache old.devices device (Some left) } in
     let left_is = does.left in
     in_succession (scene_of trusted old) (scene_of trusted between) (scene_of trusted new)
     (drops trusted old between device cache left at (ap (λ (c : Cache). c.epoch) left_is)
@@ -296,7 +296,7 @@ obeys trusted old place device serial range (Some done) fabric new after (Some c
       | inr before ↦ inr before
     ]))
 
-invalidation_arrives : (trusted : ℕ → Bool) (old : HardwareParts) (place device serial : ℕ) (range : Range) (delivered : Delivered) (new : HardwareParts)
+invalidation_arrives : (trusted : ℕ → Bool) (old : BoardParts) (place device serial : ℕ) (range : Range) (delivered : Delivered) (new : BoardParts)
     → ObeysInvalidation old device serial range (remove old.fabric place) delivered new → Comes (scene_of trusted old) (scene_of trusted new)
 invalidation_arrives trusted old place device serial range (Invalidated named) new (same, (done, after, does, is)) =
     obeys trusted old place device serial range (Some done) (with_message (remove old.fabric place) device done) new after (cache_of old.devices device) refl does
@@ -307,7 +307,7 @@ invalidation_arrives trusted old place device serial range Ignored new (after, d
 invalidation_arrives trusted old place device serial range _ new never = absurd never
 
 -- THE WORD THAT ONE IS COMPLETED
-completion_arrives : (trusted : ℕ → Bool) (old : HardwareParts) (place device serial : ℕ) (closed : Bool) (new : HardwareParts)
+completion_arrives : (trusted : ℕ → Bool) (old : BoardParts) (place device serial : ℕ) (closed : Bool) (new : BoardParts)
     → TakesCompletion old device serial (remove old.fabric place) closed new → Comes (scene_of trusted old) (scene_of trusted new)
 completion_arrives trusted old place device serial closed new takes =
     let same = takes.call.left in
@@ -320,7 +320,7 @@ completion_arrives trusted old place device serial closed new takes =
     )
 
 -- ANY MESSAGE
-arrives : (trusted : ℕ → Bool) (old : HardwareParts) (place device : ℕ) (message : Sent) (delivered : Delivered) (new : HardwareParts) → All (IsMessageOf old.devices) old.fabric
+arrives : (trusted : ℕ → Bool) (old : BoardParts) (place device : ℕ) (message : Sent) (delivered : Delivered) (new : BoardParts) → All (IsMessageOf old.devices) old.fabric
     → Contains old.fabric (record { device = device; message = message }) → MessageArrives message old device (remove old.fabric place) delivered new
     → Comes (scene_of trusted old) (scene_of trusted new)
 arrives trusted old place device (sent.Ask epoch page) (Answered answer) new askers there does =
@@ -334,7 +334,7 @@ arrives trusted old place device (sent.InvDone serial) (Closed named) new askers
 arrives trusted old place device (sent.InvDone serial) (NotClosed named) new askers there (same, does) = completion_arrives trusted old place device serial false new does
 arrives trusted old place device message _ new askers there never = absurd never
 
-pub delivers : (trusted : ℕ → Bool) (old : HardwareParts) (place : ℕ) (delivered : Delivered) (new : HardwareParts) → All (IsMessageOf old.devices) old.fabric
+pub delivers : (trusted : ℕ → Bool) (old : BoardParts) (place : ℕ) (delivered : Delivered) (new : BoardParts) → All (IsMessageOf old.devices) old.fabric
     → DeliversAtPlace old place delivered new → Comes (scene_of trusted old) (scene_of trusted new)
 delivers trusted old place delivered new askers call = by (slice_get old.fabric place) refl call
   where

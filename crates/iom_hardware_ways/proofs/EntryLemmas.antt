@@ -7,8 +7,8 @@ use Rattle.iom_base.specs.declared.refusal.Refusal.{Refusal}
 use Rattle.iom_device.specs.declared.device.Device.{Device}
 use Rattle.iom_device.specs.Caches.{kind_in, cache_of, epoch_of, epoch_in, with_cache}
 use Rattle.iom_device.specs.Calls.{reset_of}
-use Rattle.iom_hardware.specs.Commits.{ResetsAnyDevice, ClearsCache}
-use Rattle.iom_hardware.specs.HardwareParts.{HardwareParts}
+use Rattle.iom_board.specs.Commits.{ResetsAnyDevice, ClearsCache}
+use Rattle.iom_board.specs.BoardParts.{BoardParts}
 use Rattle.iom_reach.specs.Occurrences.{AreSomeOf, with_raised_epoch, DropEntries}
 use Rattle.iom_reach.specs.Scene.{AtsKind, AtsEntry}
 use Rattle.iom_hardware_ways.specs.Scenes.{ats_kind, kept_entry, kept_entries, scene_of}
@@ -22,7 +22,7 @@ abbrev pub entries_in : List Device → ℕ → List AtsEntry
 entries_in devices d = kept_entries (cache_of devices d)
 
 -- a scene with other caches and epochs, where the devices are of the same kinds
-pub with_devices : (trusted : ℕ → Bool) (old : HardwareParts) (id : ℕ) (cache : Option Cache)
+pub with_devices : (trusted : ℕ → Bool) (old : BoardParts) (id : ℕ) (cache : Option Cache)
     → scene_of trusted (record old { devices = with_cache old.devices id cache })
     ≡ record (scene_of trusted old) { ats_entries = entries_in (with_cache old.devices id cache); epoch_of = epoch_in (with_cache old.devices id cache) }
 with_devices trusted old id cache =
@@ -59,7 +59,7 @@ epochs_raised devices id cache left at next = same_function (epoch_in (with_cach
         ∙ ap (λ (b : Bool). if b then epoch_in devices d + 1 else epoch_in devices d) (sym ne.0)
 
 -- a cache drops entries, and begins an epoch
-pub drops : (trusted : ℕ → Bool) (old new : HardwareParts) (id : ℕ) (cache left : Cache) → cache_of old.devices id ≡ Some cache → left.epoch ≡ cache.epoch + 1
+pub drops : (trusted : ℕ → Bool) (old new : BoardParts) (id : ℕ) (cache left : Cache) → cache_of old.devices id ≡ Some cache → left.epoch ≡ cache.epoch + 1
     → ((x : AtsEntry) → Contains (map kept_entry left.entries) x → Contains (map kept_entry cache.entries) x)
     → new ≡ record old { devices = with_cache old.devices id (Some left) } → Comes (scene_of trusted old) (scene_of trusted new)
 drops trusted old new id cache left at next among is =
@@ -70,7 +70,7 @@ drops trusted old new id cache left at next among is =
           ∙ ap (λ (e : ℕ → ℕ). record (scene_of trusted old) { ats_entries = entries_in (with_cache old.devices id (Some left)); epoch_of = e }) (epochs_raised old.devices id cache left at next),
     )
 
-pub resets : (trusted : ℕ → Bool) (old : HardwareParts) (id : ℕ) (answer : Result (Unit {0}) Refusal) (new : HardwareParts) → ResetsAnyDevice old id answer new
+pub resets : (trusted : ℕ → Bool) (old : BoardParts) (id : ℕ) (answer : Result (Unit {0}) Refusal) (new : BoardParts) → ResetsAnyDevice old id answer new
     → Comes (scene_of trusted old) (scene_of trusted new)
 resets trusted old id answer new call =
     by_device trusted is_any_kind (ClearsCache id) old id answer new call (λ done able told does. by (cache_of old.devices id) refl does.cleared)

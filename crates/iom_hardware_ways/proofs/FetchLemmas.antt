@@ -16,9 +16,9 @@ use Rattle.iom_device_dir.specs.Paths.{fits_directory}
 use Rattle.iom_fabric.specs.declared.fabric.OnLink.{OnLink}
 use Rattle.iom_fabric.specs.declared.message.Message.{Message as Sent}
 use Rattle.iom_fabric.specs.declared.message.Message.TheVariants as sent
-use Rattle.iom_hardware.specs.Commits.{TakesCommand}
-use Rattle.iom_hardware.specs.HardwareParts.{HardwareParts}
-use Rattle.iom_hardware.specs.Messages.{named_range, with_message, with_opened}
+use Rattle.iom_board.specs.Commits.{TakesCommand}
+use Rattle.iom_board.specs.BoardParts.{BoardParts}
+use Rattle.iom_board.specs.Messages.{named_range, with_message, with_opened}
 use Rattle.iom_iommu.specs.OwnIommu.{Iommu}
 use Rattle.iom_inflight.specs.Flights.{Flights}
 use Rattle.iom_iommu.specs.Fetches.{with_store, head_entry, covers_device}
@@ -177,7 +177,7 @@ done_alike command r = by (asks_for_interrupt command)
     by true trusted memory contexts translations rows devices fabric = refl
     by false trusted memory contexts translations rows devices fabric = refl
 
-module _ (trusted : ℕ → Bool) (old new : HardwareParts) (command : Command) (fabric : List OnLink)
+module _ (trusted : ℕ → Bool) (old new : BoardParts) (command : Command) (fabric : List OnLink)
     (processing : is_processing_commands (registers_of old.iommu) ≡ true)
     (head : slice_get (commands_in old.memory (registers_of old.iommu)) 0 ≡ Some (stands.Command command))
     (memory : new.memory ≡ with_store old.memory (store_of command)) (left : IsLeft command old.iommu new.iommu)
@@ -209,7 +209,7 @@ module _ (trusted : ℕ → Bool) (old new : HardwareParts) (command : Command) 
 -- NOTHING IS DONE: a status bit is set at most
 
 -- the IOMMU as it was, but for registers that show the same
-stopped_so : (trusted : ℕ → Bool) (old new : HardwareParts) (r : Registers) → new.memory ≡ old.memory → registers_of new.iommu ≡ r → ShowAlike r (registers_of old.iommu)
+stopped_so : (trusted : ℕ → Bool) (old new : BoardParts) (r : Registers) → new.memory ≡ old.memory → registers_of new.iommu ≡ r → ShowAlike r (registers_of old.iommu)
     → contexts_of new.iommu ≡ contexts_of old.iommu → translations_of new.iommu ≡ translations_of old.iommu → (flights_of new.iommu).rows ≡ (flights_of old.iommu).rows
     → new.devices ≡ old.devices → new.fabric ≡ old.fabric → Comes (scene_of trusted old) (scene_of trusted new)
 stopped_so trusted old new r memory registers shows contexts translations rows devices fabric =
@@ -228,26 +228,26 @@ ill_alike : (r : Registers) → ShowAlike (with_cmd_ill r) r
 ill_alike r trusted memory contexts translations rows devices fabric = refl
 
 -- the IOMMU is this, whatever it counts of the fence at the head
-is_so : (trusted : ℕ → Bool) (old new : HardwareParts) (iommu : Iommu) → new.iommu ≡ iommu → ShowAlike (registers_of iommu) (registers_of old.iommu)
+is_so : (trusted : ℕ → Bool) (old new : BoardParts) (iommu : Iommu) → new.iommu ≡ iommu → ShowAlike (registers_of iommu) (registers_of old.iommu)
     → contexts_of iommu ≡ contexts_of old.iommu → translations_of iommu ≡ translations_of old.iommu → (flights_of iommu).rows ≡ (flights_of old.iommu).rows
     → new.memory ≡ old.memory → new.devices ≡ old.devices → new.fabric ≡ old.fabric → Comes (scene_of trusted old) (scene_of trusted new)
 is_so trusted old new iommu is shows contexts translations rows memory devices fabric =
     stopped_so trusted old new (registers_of iommu) memory (ap (λ i. registers_of i) is) shows (ap (λ i. contexts_of i) is ∙ contexts) (ap (λ i. translations_of i) is ∙ translations)
     (ap (λ i. (flights_of i).rows) is ∙ rows) devices fabric
 
-stops_at : (trusted : ℕ → Bool) (old new : HardwareParts) (found : Option QueueEntry) → StopsAtEntry old.memory found old.iommu new.iommu
+stops_at : (trusted : ℕ → Bool) (old new : BoardParts) (found : Option QueueEntry) → StopsAtEntry old.memory found old.iommu new.iommu
     → new.memory ≡ old.memory → new.devices ≡ old.devices → new.fabric ≡ old.fabric → Comes (scene_of trusted old) (scene_of trusted new)
 stops_at trusted old new None never memory devices fabric = absurd never
 stops_at trusted old new (Some stands.Outside) is memory devices fabric = is_so trusted old new _ is (cqmf_alike (registers_of old.iommu)) refl refl refl memory devices fabric
 stops_at trusted old new (Some (stands.Illegal reason)) is memory devices fabric = is_so trusted old new _ is (ill_alike (registers_of old.iommu)) refl refl refl memory devices fabric
 stops_at trusted old new (Some (stands.Command command)) (free, place, is) memory devices fabric = is_so trusted old new _ is (cqmf_alike (registers_of old.iommu)) refl refl refl memory devices fabric
 
-stops : (trusted : ℕ → Bool) (old new : HardwareParts) (processing : Bool) → StopsFetching processing old.memory old.iommu new.iommu
+stops : (trusted : ℕ → Bool) (old new : BoardParts) (processing : Bool) → StopsFetching processing old.memory old.iommu new.iommu
     → new.memory ≡ old.memory → new.devices ≡ old.devices → new.fabric ≡ old.fabric → Comes (scene_of trusted old) (scene_of trusted new)
 stops trusted old new false is memory devices fabric = is_so trusted old new _ is (shows_itself (registers_of old.iommu)) refl refl refl memory devices fabric
 stops trusted old new true is memory devices fabric = stops_at trusted old new (head_entry old.memory (registers_of old.iommu)) is memory devices fabric
 
-pub fetches : (trusted : ℕ → Bool) (old : HardwareParts) (fetched : Fetched) (new : HardwareParts) → TakesCommand old fetched new
+pub fetches : (trusted : ℕ → Bool) (old : BoardParts) (fetched : Fetched) (new : BoardParts) → TakesCommand old fetched new
     → Comes (scene_of trusted old) (scene_of trusted new)
 fetches trusted old fetched new takes = by fetched takes.fabric (by_answer old.memory new.memory old.iommu new.iommu fetched takes.call)
   where

@@ -11,8 +11,8 @@ use Rattle.iom_base.specs.declared.access.AccessKind.TheVariants.{Read, Write}
 use Rattle.iom_base.specs.declared.refusal.Refusal.{Refusal}
 use Rattle.iom_device_dir.specs.Cached.{cached_contexts}
 use Rattle.iom_tlb.specs.Chosen.{ioatc}
-use Rattle.iom_hardware.specs.Commits.{CommitsOldestAccess, MakesAccess}
-use Rattle.iom_hardware.specs.HardwareParts.{HardwareParts}
+use Rattle.iom_board.specs.Commits.{CommitsOldestAccess, MakesAccess}
+use Rattle.iom_board.specs.BoardParts.{BoardParts}
 use Rattle.iom_inflight.specs.Calls.{Performs, with_access}
 use Rattle.iom_inflight.specs.Flights.{NumberedAccess, FlightRow, Flights, row_of, with_row}
 use Rattle.iom_inflight.specs.declared.made.MadeAt.{MadeAt}
@@ -95,7 +95,7 @@ performed Write memory made new (bytes, there, is) =
     subst (λ m. DiffersAt made.frame (slice_get memory) (slice_get m)) (sym is) (set_differs memory made.frame (with_bytes bytes (offset_of made.access) made.access.bytes))
 
 -- the oldest access of the device is made
-pub makes : (trusted : ℕ → Bool) (old : HardwareParts) (id : ℕ) (made : MadeAt) (new : HardwareParts) → MakesAccess id old (Some made) new
+pub makes : (trusted : ℕ → Bool) (old : BoardParts) (id : ℕ) (made : MadeAt) (new : BoardParts) → MakesAccess id old (Some made) new
     → IsHarmless (scene_of trusted old) id (record { frame = made.frame; kind = made.kind })
     → ComesAbout (Make id (record { frame = made.frame; kind = made.kind })) (scene_of trusted old) (scene_of trusted new)
 makes trusted old id made new does harmless =
@@ -118,7 +118,7 @@ makes trusted old id made new does harmless =
     as_flight : MadeAt → PendingAccess
     as_flight m = record { frame = m.frame; kind = m.kind }
 
-pub commits : (trusted : ℕ → Bool) (old : HardwareParts) (id : ℕ) (answer : Result (Option MadeAt) Refusal) (new : HardwareParts) → CommitsOldestAccess old id answer new
+pub commits : (trusted : ℕ → Bool) (old : BoardParts) (id : ℕ) (answer : Result (Option MadeAt) Refusal) (new : BoardParts) → CommitsOldestAccess old id answer new
     → IsMadeHarmlessly trusted old id answer → Comes (scene_of trusted old) (scene_of trusted new)
 commits trusted old id answer new call harmless =
     by_device trusted is_any_kind (MakesAccess id) old id answer new call (λ given able told does. by given told does)

@@ -1,10 +1,10 @@
 -- The laws over lists of calls.
 use Rattle.std.proofs.Common.{◌≡◌, ◌∙◌, ◌+◌, inl, inr, ℕ, Bool, List, [], ◌∷◌, map, Contains, Some, Ok, sym, ap, subst}
 use Rattle.iom_fabric.specs.declared.fabric.OnLink.{OnLink}
-use Rattle.iom_hardware.specs.Commits.{MakesAccess}
-use Rattle.iom_hardware.specs.HardwareParts.{HardwareParts, hardware_parts}
-use Rattle.iom_hardware.specs.PowerOn.{IsHardwareAtPowerOn}
-use Rattle.iom_hardware.specs.declared.hardware.Hardware.{Hardware}
+use Rattle.iom_board.specs.Commits.{MakesAccess}
+use Rattle.iom_board.specs.BoardParts.{BoardParts, board_parts}
+use Rattle.iom_board.specs.PowerOn.{IsBoardAtPowerOn}
+use Rattle.iom_board.specs.declared.board.Board.{Board}
 use Rattle.iom_inflight.specs.declared.made.MadeAt.{MadeAt}
 use Rattle.iom_registers.specs.Queues.{directory_mode, directory_root}
 use Rattle.iom_registers.specs.declared.registers.Registers.{Registers}
@@ -23,7 +23,7 @@ use Rattle.iom_hardware_ways.proofs.ListLemmas.{in_none}
 use Rattle.iom_hardware_ways.proofs.Turns.{Comes, nothing, in_succession}
 
 -- a list of calls is a list of occurrences
-pub all_occur : (trusted : ℕ → Bool) (calls : List HardwareCall) (events : ℕ) (old new : HardwareParts) → DoInTurn trusted events old calls new
+pub all_occur : (trusted : ℕ → Bool) (calls : List HardwareCall) (events : ℕ) (old new : BoardParts) → DoInTurn trusted events old calls new
     → Comes (scene_of trusted old) (scene_of trusted new)
 all_occur trusted [] events old new same = nothing (scene_of trusted old) (scene_of trusted new) (ap (scene_of trusted) same)
 all_occur trusted (first ∷ others) events old new (sound, harmless, (between, does, later)) =
@@ -36,7 +36,7 @@ calls_add_no_way trusted calls events old new safe timely turns =
     turns_add_no_way occurrences (scene_of trusted old) (scene_of trusted new) safe timely all
 
 -- a commit that makes an access is one
-pub made_so : (trusted : ℕ → Bool) (old : HardwareParts) (id : ℕ) (made : MadeAt) (new : HardwareParts) → MakesIn trusted old id made new
+pub made_so : (trusted : ℕ → Bool) (old : BoardParts) (id : ℕ) (made : MadeAt) (new : BoardParts) → MakesIn trusted old id made new
     → ComesAbout (Make id (record { frame = made.frame; kind = made.kind })) (scene_of trusted old) (scene_of trusted new)
 made_so trusted old id made new (inl absent, harmless) = absurd (let never = absent.answered in cc)
 made_so trusted old id made new (inr (inl other), harmless) = absurd (let never = other.answered in cc)
@@ -68,15 +68,15 @@ free_stays_free trusted calls events id made old between new safe timely free tu
 off_at : (tables : Tables) → Off ≡ At tables → ⊥
 off_at tables same = cc
 
-module _ (trusted : ℕ → Bool) (frames : ℕ) (disks : List ℕ) (hardware : Hardware) (on : IsHardwareAtPowerOn frames disks hardware) where
-  no_directory : (tables : Tables) → (scene_of trusted (hardware_parts hardware)).directory ≡ At tables → ⊥
+module _ (trusted : ℕ → Bool) (frames : ℕ) (disks : List ℕ) (hardware : Board) (on : IsBoardAtPowerOn frames disks hardware) where
+  no_directory : (tables : Tables) → (scene_of trusted (board_parts hardware)).directory ≡ At tables → ⊥
   no_directory tables at = off_at tables (sym (ap (λ (r : Registers). directory_by (directory_mode r) (directory_root r)) on.iommu.registers) ∙ at)
 
-  none_begins : (space : AddressSpace) (table : ℕ) (steps_to : ℕ → List WalkStep) → WalkBegins (scene_of trusted (hardware_parts hardware)) space table steps_to → ⊥
+  none_begins : (space : AddressSpace) (table : ℕ) (steps_to : ℕ → List WalkStep) → WalkBegins (scene_of trusted (board_parts hardware)) space table steps_to → ⊥
   none_begins space table steps_to (AtRoot device context tables (plugged, (tree, at), stands) is decide root all) = no_directory tree at
   none_begins space table steps_to (PartWay device there) = in_none {X = PartialWalk} (record { device = device; space = space; table = table; steps_to = steps_to }) there
 
-  none_read : (frame : ℕ) → IsRead (scene_of trusted (hardware_parts hardware)) frame → ⊥
+  none_read : (frame : ℕ) → IsRead (scene_of trusted (board_parts hardware)) frame → ⊥
   none_read frame (inl (space, table, steps_to, page, begins, reads)) = none_begins space table steps_to begins
   none_read frame (inr (inl (device, tables, plugged, at, reads))) = no_directory tables at
   none_read frame (inr (inr (offset, there))) =
@@ -85,7 +85,7 @@ module _ (trusted : ℕ → Bool) (frames : ℕ) (disks : List ℕ) (hardware : 
   no_message : (message : Message) → Contains (map message_of hardware.fabric) message → ⊥
   no_message message there = in_none message (subst (λ (f : List OnLink). Contains (map message_of f) message) on.fabric there)
 
-  pub begins_safe_at : IsSafe (scene_of trusted (hardware_parts hardware)) × AreTimely (scene_of trusted (hardware_parts hardware))
+  pub begins_safe_at : IsSafe (scene_of trusted (board_parts hardware)) × AreTimely (scene_of trusted (board_parts hardware))
   begins_safe_at = (
     (λ frame read written. none_read frame read),
     record {

@@ -21,11 +21,11 @@ use Rattle.iom_device_dir.specs.declared.context.Context.{Context as DeviceConte
 use Rattle.iom_fault_queue.specs.Fields.{untranslated_of, translated_of}
 use Rattle.iom_fault_queue.specs.Records.{record_of}
 use Rattle.iom_fault_queue.specs.declared.transaction.Transaction.{Transaction}
-use Rattle.iom_hardware.specs.HardwareParts.{HardwareParts}
-use Rattle.iom_hardware.specs.Requests.{Replies, RequestsAccess, RequestsTranslatedAccess}
-use Rattle.iom_hardware.specs.ThroughCache.{frame_in_cache, GoesByCachedFrame, GoesByCache, RequestsAccessThroughCache}
-use Rattle.iom_hardware.specs.declared.answers.CacheReply.{CacheReply}
-use Rattle.iom_hardware.specs.declared.answers.CacheReply.TheVariants.{Miss, Replied}
+use Rattle.iom_board.specs.BoardParts.{BoardParts}
+use Rattle.iom_board.specs.Requests.{Replies, RequestsAccess, RequestsTranslatedAccess}
+use Rattle.iom_board.specs.ThroughCache.{frame_in_cache, GoesByCachedFrame, GoesByCache, RequestsAccessThroughCache}
+use Rattle.iom_board.specs.declared.answers.CacheReply.{CacheReply}
+use Rattle.iom_board.specs.declared.answers.CacheReply.TheVariants.{Miss, Replied}
 use Rattle.iom_inflight.specs.Calls.{with_access}
 use Rattle.iom_inflight.specs.Flights.{Flights, row_of, with_row}
 use Rattle.iom_iommu.specs.Parts.{registers_of, contexts_of, translations_of, flights_of}
@@ -57,7 +57,7 @@ use Rattle.iom_hardware_ways.proofs.TranslationLemmas.{answered_by, faulted_by, 
 use Rattle.iom_hardware_ways.proofs.Turns.{Comes, nothing, one, in_succession, ends_as}
 
 -- a device that does something is plugged in
-pub plugged : (trusted : ℕ → Bool) (old : HardwareParts) (can : DeviceKind → Bool) (id : ℕ) → IsAble can old.devices id → HasDevice (scene_of trusted old) id
+pub plugged : (trusted : ℕ → Bool) (old : BoardParts) (can : DeviceKind → Bool) (id : ℕ) → IsAble can old.devices id → HasDevice (scene_of trusted old) id
 plugged trusted old can id (kind, there, able) = (ats_kind kind, ap (option_map ats_kind) there)
 
 -- what is kept of a walk is so too where other accesses and messages are under way
@@ -73,7 +73,7 @@ change_so s f m kept (inr (space, table, steps_to, page, mapping, begins, walked
     inr (space, table, steps_to, page, mapping, begins_so s f m space table steps_to begins, walked, part)
 
 -- AN ACCESS IS ACCEPTED
-accepted : (trusted : ℕ → Bool) (old new : HardwareParts) (id : ℕ) (access : Access) (number : ℕ) (Served : Result Translation WalkFault → Translations → Type 0)
+accepted : (trusted : ℕ → Bool) (old new : BoardParts) (id : ℕ) (access : Access) (number : ℕ) (Served : Result Translation WalkFault → Translations → Type 0)
     → HasDevice (scene_of trusted old) id → IommuAccepts Served old.memory old.iommu id access number new.iommu → new.memory ≡ old.memory → new.devices ≡ old.devices → new.fabric ≡ old.fabric
     → ((answer : Translation) (kept : Translations) → Served (Ok answer) kept
     → IsAdmitted (scene_of trusted old) id answer.frame access.kind × TranslationsChange (scene_of trusted old) (mappings_in kept))
@@ -100,7 +100,7 @@ accepted trusted old new id access number Served there accepts memory devices fa
     (context_kept trusted old id (contexts_of new.iommu) there accepts.contexts) (inl refl)))
 
 -- IT IS REFUSED
-refused : (trusted : ℕ → Bool) (old new : HardwareParts) (id : ℕ) (access : Access) (cause : Cause) (Served : Result Translation WalkFault → Translations → Type 0) (transaction : Transaction)
+refused : (trusted : ℕ → Bool) (old new : BoardParts) (id : ℕ) (access : Access) (cause : Cause) (Served : Result Translation WalkFault → Translations → Type 0) (transaction : Transaction)
     → HasDevice (scene_of trusted old) id → Refuses Served transaction old.memory old.iommu id access cause new.memory new.iommu → new.devices ≡ old.devices → new.fabric ≡ old.fabric
     → ((fault : WalkFault) (kept : Translations) → Served (Err fault) kept → TranslationsStay (translations_of old.iommu) kept)
     → Comes (scene_of trusted old) (scene_of trusted new)
@@ -120,7 +120,7 @@ refused trusted old new id access cause Served transaction there refuses devices
     (recorded_there old.memory (registers_of old.iommu) fields refuses.answer new.memory (registers_of new.iommu) refuses.recorded))
 
 -- nothing changes
-unchanged : (trusted : ℕ → Bool) (old new : HardwareParts) → new.iommu ≡ old.iommu → new.memory ≡ old.memory → new.devices ≡ old.devices → new.fabric ≡ old.fabric
+unchanged : (trusted : ℕ → Bool) (old new : BoardParts) → new.iommu ≡ old.iommu → new.memory ≡ old.memory → new.devices ≡ old.devices → new.fabric ≡ old.fabric
     → Comes (scene_of trusted old) (scene_of trusted new)
 unchanged trusted old new same memory devices fabric =
     nothing (scene_of trusted old) (scene_of trusted new)
@@ -128,7 +128,7 @@ unchanged trusted old new same memory devices fabric =
     memory (ap (λ i. registers_of i) same) (ap (λ i. contexts_of i) same) (ap (λ i. translations_of i) same) (ap (λ i. (flights_of i).rows) same) devices fabric)
 
 -- WHATEVER THE ANSWER
-answered : (trusted : ℕ → Bool) (old new : HardwareParts) (id : ℕ) (access : Access) (Served : Result Translation WalkFault → Translations → Type 0) (transaction : Transaction) (reply : Reply)
+answered : (trusted : ℕ → Bool) (old new : BoardParts) (id : ℕ) (access : Access) (Served : Result Translation WalkFault → Translations → Type 0) (transaction : Transaction) (reply : Reply)
     → HasDevice (scene_of trusted old) id → Replies (Answers Served transaction old.memory old.iommu id access) old reply new
     → ((answer : Translation) (kept : Translations) → Served (Ok answer) kept
     → IsAdmitted (scene_of trusted old) id answer.frame access.kind × TranslationsChange (scene_of trusted old) (mappings_in kept))
@@ -144,7 +144,7 @@ answered trusted old new id access Served transaction (Fault cause) there replie
 -- UNTRANSLATED REQUESTS
 
 -- by the context that was found
-served_by : (trusted : ℕ → Bool) (old : HardwareParts) (id address : ℕ) (kind : AccessKind) (sure : Bool) (found : Result DeviceContext Cause) (answer : Translation) (kept : Translations)
+served_by : (trusted : ℕ → Bool) (old : BoardParts) (id address : ℕ) (kind : AccessKind) (sure : Bool) (found : Result DeviceContext Cause) (answer : Translation) (kept : Translations)
     → HasDevice (scene_of trusted old) id → HasDirectory trusted old → found ≡ context_or_cause old.memory (registers_of old.iommu) (contexts_of old.iommu) id
     → ServesBy sure found old.memory address kind (translations_of old.iommu) (Ok answer) kept
     → IsAdmitted (scene_of trusted old) id answer.frame kind × TranslationsChange (scene_of trusted old) (mappings_in kept)
@@ -154,7 +154,7 @@ served_by trusted old id address kind sure (Ok context) answer kept there direct
     let so = answered_by trusted old id context context.first_stage context.second_stage sure address kind answer kept find refl serves in
     (Requested (context_of context) (address / 4096) (mapping_of answer) find so.translates (refl, so.allowed), so.change)
 
-served_in : (trusted : ℕ → Bool) (old : HardwareParts) (id address : ℕ) (kind : AccessKind) (sure : Bool) (answer : Translation) (kept : Translations)
+served_in : (trusted : ℕ → Bool) (old : BoardParts) (id address : ℕ) (kind : AccessKind) (sure : Bool) (answer : Translation) (kept : Translations)
     → HasDevice (scene_of trusted old) id → (m : DirectoryMode) → m ≡ directory_mode (registers_of old.iommu)
     → ServesIn sure m (context_or_cause old.memory (registers_of old.iommu) (contexts_of old.iommu) id) old.memory address kind (translations_of old.iommu) (Ok answer) kept
     → IsAdmitted (scene_of trusted old) id answer.frame kind × TranslationsChange (scene_of trusted old) (mappings_in kept)
@@ -184,7 +184,7 @@ faults_in sure mode.OneLevel found memory address kind old fault kept serves = f
 faults_in sure mode.TwoLevels found memory address kind old fault kept serves = faults_by sure found memory address kind old fault kept serves
 faults_in sure mode.ThreeLevels found memory address kind old fault kept serves = faults_by sure found memory address kind old fault kept serves
 
-pub requests : (trusted : ℕ → Bool) (can : DeviceKind → Bool) (old : HardwareParts) (id : ℕ) (access : Access) (answer : Result Reply Refusal) (new : HardwareParts)
+pub requests : (trusted : ℕ → Bool) (can : DeviceKind → Bool) (old : BoardParts) (id : ℕ) (access : Access) (answer : Result Reply Refusal) (new : BoardParts)
     → RequestsAccess can old id access answer new → Comes (scene_of trusted old) (scene_of trusted new)
 requests trusted can old id access answer new call =
     by_device trusted can (λ old reply new. Replies (AnswersRequest old.memory old.iommu id access) old reply new) old id answer new call
@@ -196,7 +196,7 @@ requests trusted can old id access answer new call =
 -- TRANSLATED REQUESTS
 
 -- at the address itself, by a context that lets it through
-module _ (trusted : ℕ → Bool) (old : HardwareParts) (id : ℕ) (access : Access) (there : HasDevice (scene_of trusted old) id)
+module _ (trusted : ℕ → Bool) (old : BoardParts) (id : ℕ) (access : Access) (there : HasDevice (scene_of trusted old) id)
     (why : (context : DeviceContext) (answer : Translation) → ats_context_for old.memory (registers_of old.iommu) (contexts_of old.iommu) id ≡ Ok context
     → answer.frame ≡ access.address / 4096 → IsAdmitted (scene_of trusted old) id answer.frame access.kind) where
   let_through : (found : Result DeviceContext Cause) → found ≡ ats_context_for old.memory (registers_of old.iommu) (contexts_of old.iommu) id
@@ -204,7 +204,7 @@ module _ (trusted : ℕ → Bool) (old : HardwareParts) (id : ℕ) (access : Acc
   let_through (Err cause) is answer told = absurd (cc)
   let_through (Ok context) is answer told = why context answer (sym is) (own_frame old.memory access.address access.kind answer told).0
 
-  pub translated : (reply : Reply) (new : HardwareParts) → Replies (AnswersTranslated old.memory old.iommu id access) old reply new → Comes (scene_of trusted old) (scene_of trusted new)
+  pub translated : (reply : Reply) (new : BoardParts) → Replies (AnswersTranslated old.memory old.iommu id access) old reply new → Comes (scene_of trusted old) (scene_of trusted new)
   translated reply new replies =
       answered trusted old new id access (ServesTranslated old.memory old.iommu id access) (translated_of access.kind) reply there replies
       (λ answer kept serves. (let_through (ats_context_for old.memory (registers_of old.iommu) (contexts_of old.iommu) id) refl answer serves.0, inl (stays_shown (translations_of old.iommu) kept serves.1)))
@@ -217,7 +217,7 @@ forges_all kinds.Ats able = absurd (cc)
 forges_all kinds.Block able = absurd (cc)
 forges_all kinds.CachedBlock able = absurd (cc)
 
-pub requests_translated : (trusted : ℕ → Bool) (old : HardwareParts) (id : ℕ) (access : Access) (answer : Result Reply Refusal) (new : HardwareParts)
+pub requests_translated : (trusted : ℕ → Bool) (old : BoardParts) (id : ℕ) (access : Access) (answer : Result Reply Refusal) (new : BoardParts)
     → RequestsTranslatedAccess old id access answer new → Comes (scene_of trusted old) (scene_of trusted new)
 requests_translated trusted old id access answer new call =
     by_device trusted forges (λ old reply new. Replies (AnswersTranslated old.memory old.iommu id access) old reply new) old id answer new call
@@ -273,8 +273,8 @@ cache_gives devices id page kind frame is = by (cache_of devices id) refl is
 back_at : (frame offset : ℕ) → (frame * 4096 + offset % 4096) / 4096 ≡ frame
 back_at frame offset = omega arith
 
-goes_by_cache : (trusted : ℕ → Bool) (old : HardwareParts) (id : ℕ) (access : Access) (there : HasDevice (scene_of trusted old) id) → HaveTheirCaches old.devices
-    → (found : Option ℕ) → found ≡ frame_in_cache old id access → (reply : CacheReply) (new : HardwareParts) → GoesByCachedFrame found id access old reply new
+goes_by_cache : (trusted : ℕ → Bool) (old : BoardParts) (id : ℕ) (access : Access) (there : HasDevice (scene_of trusted old) id) → HaveTheirCaches old.devices
+    → (found : Option ℕ) → found ≡ frame_in_cache old id access → (reply : CacheReply) (new : BoardParts) → GoesByCachedFrame found id access old reply new
     → Comes (scene_of trusted old) (scene_of trusted new)
 goes_by_cache trusted old id access there caches None is Miss new same = nothing (scene_of trusted old) (scene_of trusted new) (ap (scene_of trusted) same)
 goes_by_cache trusted old id access there caches None is (Replied reply) new never = absurd never
@@ -291,7 +291,7 @@ goes_by_cache trusted old id access there caches (Some frame) is (Replied reply)
     (subst (λ o. Contains (kept_entries o) (kept_entry entry)) (sym at) kept) (same ∙ sym (own ∙ back_at frame access.address), allowed))
     reply new replies
 
-pub requests_through_cache : (trusted : ℕ → Bool) (can : DeviceKind → Bool) (old : HardwareParts) (id : ℕ) (access : Access) (answer : Result CacheReply Refusal) (new : HardwareParts)
+pub requests_through_cache : (trusted : ℕ → Bool) (can : DeviceKind → Bool) (old : BoardParts) (id : ℕ) (access : Access) (answer : Result CacheReply Refusal) (new : BoardParts)
     → HaveTheirCaches old.devices → RequestsAccessThroughCache can old id access answer new → Comes (scene_of trusted old) (scene_of trusted new)
 requests_through_cache trusted can old id access answer new caches call =
     by_device trusted can (GoesByCache id access) old id answer new call (λ reply able told goes. by reply (plugged trusted old can id able) goes)

@@ -5,7 +5,7 @@ use Rattle.iom_device.specs.declared.device.Device.{Device}
 use Rattle.iom_device_dir.specs.declared.context.Context.{Context as DeviceContext}
 use Rattle.iom_device_dir.specs.Contents.{Content}
 use Rattle.iom_fabric.specs.declared.fabric.OnLink.{OnLink}
-use Rattle.iom_hardware.specs.HardwareParts.{HardwareParts}
+use Rattle.iom_board.specs.BoardParts.{BoardParts}
 use Rattle.iom_inflight.specs.Flights.{FlightRow, row_of}
 use Rattle.iom_iommu.specs.Parts.{registers_of, contexts_of, translations_of, flights_of}
 use Rattle.iom_registers.specs.declared.registers.Registers.{Registers}
@@ -33,7 +33,7 @@ scene_by trusted memory r contexts translations rows devices fabric = record {
   in_flight = λ device. flights_in (row_of rows device);
 }
 
-pub scene_is : (trusted : ℕ → Bool) (parts : HardwareParts) (memory : List (List ℕ)) (r : Registers) (contexts : Content ℕ DeviceContext) (translations : Translations)
+pub scene_is : (trusted : ℕ → Bool) (parts : BoardParts) (memory : List (List ℕ)) (r : Registers) (contexts : Content ℕ DeviceContext) (translations : Translations)
     (rows : List FlightRow) (devices : List Device) (fabric : List OnLink)
     → parts.memory ≡ memory → registers_of parts.iommu ≡ r → contexts_of parts.iommu ≡ contexts → translations_of parts.iommu ≡ translations
     → (flights_of parts.iommu).rows ≡ rows → parts.devices ≡ devices → parts.fabric ≡ fabric

@@ -11,7 +11,7 @@ use Rattle.iom_device_dir.specs.declared.stages.FirstStage.{FirstStage as First}
 use Rattle.iom_device_dir.specs.declared.stages.FirstStage.TheVariants as first
 use Rattle.iom_device_dir.specs.declared.stages.SecondStage.{SecondStage as Second}
 use Rattle.iom_device_dir.specs.declared.stages.SecondStage.TheVariants as second
-use Rattle.iom_hardware.specs.HardwareParts.{HardwareParts}
+use Rattle.iom_board.specs.BoardParts.{BoardParts}
 use Rattle.iom_iommu.specs.Parts.{translations_of}
 use Rattle.iom_iommu.specs.Service.{own_page, first_key, second_key, both_key, cached_for, translation_of, LooksOrWalks, Translates as TranslatesBy}
 use Rattle.iom_stage_walk.specs.declared.walked.Walked.{Walked}
@@ -97,14 +97,14 @@ used (Some found) kind own is = by (allows found.rights kind) refl is
 abbrev IsWalkOf : HardwareScene → ℕ → (ℕ → List WalkStep) → AccessKind → Walked → Type 0
 IsWalkOf scene table steps_to kind walked = WalkGives scene table steps_to (mapping_of (translation_of walked)) × (allows walked.rights kind ≡ true)
 
-first_walked : (trusted : ℕ → Bool) (parts : HardwareParts) (levels root address : ℕ) (kind : AccessKind) (walked : Walked)
+first_walked : (trusted : ℕ → Bool) (parts : BoardParts) (levels root address : ℕ) (kind : AccessKind) (walked : Walked)
     → ReachesFirst levels parts.memory root address kind walked → IsWalkOf (scene_of trusted parts) root (λ page. steps_along (first_widths levels) page) kind walked
 first_walked trusted parts levels root address kind walked reaches = (
   (mapping_of (translation_of walked), first_stages_lead levels parts.memory root address kind walked reaches, refl, (λ k allowed. allowed)),
   reaches_allowed (entries parts.memory) kind root (first_path levels address) walked.frame walked.rights reaches.path,
 )
 
-second_walked : (trusted : ℕ → Bool) (parts : HardwareParts) (levels root address : ℕ) (kind : AccessKind) (walked : Walked)
+second_walked : (trusted : ℕ → Bool) (parts : BoardParts) (levels root address : ℕ) (kind : AccessKind) (walked : Walked)
     → ReachesSecond levels parts.memory root address kind walked → IsWalkOf (scene_of trusted parts) root (λ page. steps_along (second_widths levels) page) kind walked
 second_walked trusted parts levels root address kind walked reaches = (
   (mapping_of (translation_of walked), second_stages_lead levels parts.memory root address kind walked reaches, refl, (λ k allowed. allowed)),
@@ -123,7 +123,7 @@ both_allowed : (levels levels' : ℕ) (memory : List (List ℕ)) (guest root add
 both_allowed levels levels' memory guest root address Read walked reaches = ap (λ u. allows u Read) reaches.rights ∙ reads_of_both reaches.given reaches.given'
 both_allowed levels levels' memory guest root address Write walked reaches = (both_writes levels levels' memory guest root address walked reaches).1
 
-both_walked : (trusted : ℕ → Bool) (parts : HardwareParts) (levels levels' guest root address : ℕ) (kind : AccessKind) (walked : Walked)
+both_walked : (trusted : ℕ → Bool) (parts : BoardParts) (levels levels' guest root address : ℕ) (kind : AccessKind) (walked : Walked)
     → ReachesBoth levels levels' parts.memory guest root address kind walked → IsWalkOf (scene_of trusted parts) root (λ page. steps_along (second_widths levels') page) kind walked
 both_walked trusted parts levels levels' guest root address kind walked reaches =
     let (given, leads, rights) = both_stages_lead levels levels' parts.memory guest root address kind walked reaches in
@@ -138,7 +138,7 @@ pub record IsAnswered (scene : HardwareScene) (context : Context) (page : ℕ) (
   pub change : TranslationsChange scene kept
 
 -- by the cache, or by a walk
-module _ (trusted : ℕ → Bool) (parts : HardwareParts) (context : Context) (s : AddressSpace) (page : ℕ) (kind : AccessKind) (table : ℕ) (steps_to : ℕ → List WalkStep)
+module _ (trusted : ℕ → Bool) (parts : BoardParts) (context : Context) (s : AddressSpace) (page : ℕ) (kind : AccessKind) (table : ℕ) (steps_to : ℕ → List WalkStep)
     (within : space_of context.stages ≡ Some s) (begins : WalkBegins (scene_of trusted parts) s table steps_to) where
   looked_or_walked : (Reaches : Walked → Type 0) (Stops : WalkFault → Type 0) (sure : Bool) (answer : Translation) (new : Translations)
       → ((walked : Walked) → Reaches walked → IsWalkOf (scene_of trusted parts) table steps_to kind walked)
@@ -194,7 +194,7 @@ own_frame memory address kind answer told = by (nat_lt (address / 4096) (length 
     by false is = absurd (cc)
 
 -- by the stages of a context that the device may find
-pub answered_by : (trusted : ℕ → Bool) (parts : HardwareParts) (id : ℕ) (context : DeviceContext) (one : First) (two : Second) (sure : Bool) (address : ℕ) (kind : AccessKind)
+pub answered_by : (trusted : ℕ → Bool) (parts : BoardParts) (id : ℕ) (context : DeviceContext) (one : First) (two : Second) (sure : Bool) (address : ℕ) (kind : AccessKind)
     (answer : Translation) (new : Translations) → MayFind (scene_of trusted parts) id (context_of context)
     → (context_of context).stages ≡ stages_in one two context.gscid context.pscid.number
     → TranslatesBy sure one two context parts.memory address kind (translations_of parts.iommu) (Ok answer) new

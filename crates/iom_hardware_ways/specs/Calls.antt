@@ -3,17 +3,17 @@ use Rattle.std.specs.Prelude.{◌≡◌, ℕ, ◌+◌, Bool, List, [], ◌∷◌
 use Rattle.iom_base.specs.declared.access.Access.{Access}
 use Rattle.iom_base.specs.declared.refusal.Refusal.{Refusal}
 use Rattle.iom_fabric.specs.declared.fabric.Repeat.{Repeat as Repeated}
-use Rattle.iom_hardware.specs.Commits.{CommitsOldestAccess, ResetsAnyDevice, TakesCommand, GivesUpFence}
-use Rattle.iom_hardware.specs.Deliveries.{DeliversAtPlace}
-use Rattle.iom_hardware.specs.HardwareParts.{HardwareParts}
-use Rattle.iom_hardware.specs.Messages.{AsksTranslation, ClaimsCompletion, LosesMessage, CopiesMessage}
-use Rattle.iom_hardware.specs.Requests.{RequestsAccess, RequestsTranslatedAccess}
-use Rattle.iom_hardware.specs.Senders.{untranslated_by, cached_by}
-use Rattle.iom_hardware.specs.Sound.{IsSoundHardware}
-use Rattle.iom_hardware.specs.ThroughCache.{RequestsAccessThroughCache}
-use Rattle.iom_hardware.specs.declared.answers.CacheReply.{CacheReply}
-use Rattle.iom_hardware.specs.declared.answers.Delivered.{Delivered}
-use Rattle.iom_hardware.specs.declared.sender.Sender.{Sender}
+use Rattle.iom_board.specs.Commits.{CommitsOldestAccess, ResetsAnyDevice, TakesCommand, GivesUpFence}
+use Rattle.iom_board.specs.Deliveries.{DeliversAtPlace}
+use Rattle.iom_board.specs.BoardParts.{BoardParts}
+use Rattle.iom_board.specs.Messages.{AsksTranslation, ClaimsCompletion, LosesMessage, CopiesMessage}
+use Rattle.iom_board.specs.Requests.{RequestsAccess, RequestsTranslatedAccess}
+use Rattle.iom_board.specs.Senders.{untranslated_by, cached_by}
+use Rattle.iom_board.specs.Sound.{IsSoundBoard}
+use Rattle.iom_board.specs.ThroughCache.{RequestsAccessThroughCache}
+use Rattle.iom_board.specs.declared.answers.CacheReply.{CacheReply}
+use Rattle.iom_board.specs.declared.answers.Delivered.{Delivered}
+use Rattle.iom_board.specs.declared.sender.Sender.{Sender}
 use Rattle.iom_inflight.specs.declared.made.MadeAt.{MadeAt}
 use Rattle.iom_iommu.specs.declared.fetched.Fetched.{Fetched}
 use Rattle.iom_iommu.specs.declared.reply.Reply.{Reply}
@@ -35,7 +35,7 @@ pub data HardwareCall : Type 0 where
   Reset : (id : ℕ) (answer : Result (Unit {0}) Refusal) → HardwareCall
 
 -- what each does is said of hardware itself
-abbrev pub CallDoes : HardwareCall → HardwareParts → HardwareParts → Type 0
+abbrev pub CallDoes : HardwareCall → BoardParts → BoardParts → Type 0
 CallDoes (Request sender id access answer) old new = RequestsAccess (untranslated_by sender) old id access answer new
 CallDoes (Translated id access answer) old new = RequestsTranslatedAccess old id access answer new
 CallDoes (ThroughCache sender id access answer) old new = RequestsAccessThroughCache (cached_by sender) old id access answer new
@@ -50,18 +50,18 @@ CallDoes (Commit id answer) old new = CommitsOldestAccess old id answer new
 CallDoes (Reset id answer) old new = ResetsAnyDevice old id answer new
 
 -- a device that software trusts writes nothing of what hardware reads
-abbrev pub IsMadeHarmlessly : (ℕ → Bool) → HardwareParts → ℕ → Result (Option MadeAt) Refusal → Type 0
+abbrev pub IsMadeHarmlessly : (ℕ → Bool) → BoardParts → ℕ → Result (Option MadeAt) Refusal → Type 0
 IsMadeHarmlessly trusted old id (Ok (Some made)) = IsHarmless (scene_of trusted old) id (record { frame = made.frame; kind = made.kind })
 IsMadeHarmlessly trusted old id (Ok None) = ⊤
 IsMadeHarmlessly trusted old id (Err why) = ⊤
 
-abbrev pub DoesHarmlessly : (ℕ → Bool) → HardwareCall → HardwareParts → Type 0
+abbrev pub DoesHarmlessly : (ℕ → Bool) → HardwareCall → BoardParts → Type 0
 DoesHarmlessly trusted (Commit id answer) old = IsMadeHarmlessly trusted old id answer
 DoesHarmlessly trusted _ old = ⊤
 
 -- These calls one after another, after so many events. Hardware is sound before each, as each call asks for it and leaves it
-abbrev pub DoInTurn : (ℕ → Bool) → ℕ → HardwareParts → List HardwareCall → HardwareParts → Type 0
+abbrev pub DoInTurn : (ℕ → Bool) → ℕ → BoardParts → List HardwareCall → BoardParts → Type 0
 DoInTurn trusted events old [] new = new ≡ old
 DoInTurn trusted events old (first ∷ others) new =
-    IsSoundHardware old events × DoesHarmlessly trusted first old
-    × ((between : HardwareParts) × CallDoes first old between × DoInTurn trusted (events + 1) between others new)
+    IsSoundBoard old events × DoesHarmlessly trusted first old
+    × ((between : BoardParts) × CallDoes first old between × DoInTurn trusted (events + 1) between others new)

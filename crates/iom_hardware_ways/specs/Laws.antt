@@ -12,11 +12,11 @@ use Rattle.iom_stage_walk.specs.declared.walked.Walked.{Walked}
 use Rattle.iom_stage_walk.specs.Paths.{ReachesFirst, IsInMemory, path_of, first_widths}
 use Rattle.iom_stage_walk.specs.Second.{ReachesSecond, second_widths}
 use Rattle.iom_stage_walk.specs.Both.{ReachesBoth}
-use Rattle.iom_hardware.specs.Commits.{CommitsOldestAccess}
-use Rattle.iom_hardware.specs.HardwareParts.{HardwareParts, hardware_parts}
-use Rattle.iom_hardware.specs.PowerOn.{IsHardwareAtPowerOn}
-use Rattle.iom_hardware.specs.Sound.{IsSoundHardware}
-use Rattle.iom_hardware.specs.declared.hardware.Hardware.{Hardware}
+use Rattle.iom_board.specs.Commits.{CommitsOldestAccess}
+use Rattle.iom_board.specs.BoardParts.{BoardParts, board_parts}
+use Rattle.iom_board.specs.PowerOn.{IsBoardAtPowerOn}
+use Rattle.iom_board.specs.Sound.{IsSoundBoard}
+use Rattle.iom_board.specs.declared.board.Board.{Board}
 use Rattle.iom_inflight.specs.declared.made.MadeAt.{MadeAt}
 use Rattle.iom_ledger.specs.History.{History, May}
 use Rattle.iom_reach.specs.Laws.{AddsNoWay, UsesNoMore, Permission, HasAllowedWaysAlone, IsOutOfReach}
@@ -99,51 +99,51 @@ DirectoriesAreFound = (memory : List (List ℕ)) (ddtp : DirectoryPointer) (id :
 -- THE CALLS
 
 -- the scene of the one comes of that of the other by a list of occurrences
-abbrev pub AreOccurrences : (ℕ → Bool) → HardwareParts → HardwareParts → Type 0
+abbrev pub AreOccurrences : (ℕ → Bool) → BoardParts → BoardParts → Type 0
 AreOccurrences trusted old new = (occurrences : List Occurrence) × ComeInTurn (scene_of trusted old) occurrences (scene_of trusted new)
 
 -- each call of sound hardware is a list of occurrences
 abbrev pub CallsAreOccurrences : Type 0
-CallsAreOccurrences = (trusted : ℕ → Bool) (call : HardwareCall) (events : ℕ) (old new : HardwareParts) → IsSoundHardware old events
+CallsAreOccurrences = (trusted : ℕ → Bool) (call : HardwareCall) (events : ℕ) (old new : BoardParts) → IsSoundBoard old events
     → CallDoes call old new → DoesHarmlessly trusted call old → AreOccurrences trusted old new
 
 -- NO CALL ADDS A WAY: where hardware and devices can't write what hardware reads, no list of calls does
 abbrev pub CallsAddNoWay : Type 0
-CallsAddNoWay = (trusted : ℕ → Bool) (calls : List HardwareCall) (events : ℕ) (old new : HardwareParts)
+CallsAddNoWay = (trusted : ℕ → Bool) (calls : List HardwareCall) (events : ℕ) (old new : BoardParts)
     → IsSafe (scene_of trusted old) → AreTimely (scene_of trusted old) → DoInTurn trusted events old calls new
     → AddsNoWay (scene_of trusted old) (scene_of trusted new) × UsesNoMore (scene_of trusted old) (scene_of trusted new)
     × IsSafe (scene_of trusted new) × AreTimely (scene_of trusted new)
 
 -- a commit makes this access, and a device that is trusted makes it harmlessly
-abbrev pub MakesIn : (ℕ → Bool) → HardwareParts → ℕ → MadeAt → HardwareParts → Type 0
+abbrev pub MakesIn : (ℕ → Bool) → BoardParts → ℕ → MadeAt → BoardParts → Type 0
 MakesIn trusted old id made new = CommitsOldestAccess old id (Ok (Some made)) new × IsMadeHarmlessly trusted old id (Ok (Some made))
 
 -- each access that is made after any list of calls had its way at the beginning
 abbrev pub MadeAccessesHadWays : Type 0
-MadeAccessesHadWays = (trusted : ℕ → Bool) (calls : List HardwareCall) (events : ℕ) (id : ℕ) (made : MadeAt) (old between new : HardwareParts)
+MadeAccessesHadWays = (trusted : ℕ → Bool) (calls : List HardwareCall) (events : ℕ) (id : ℕ) (made : MadeAt) (old between new : BoardParts)
     → IsSafe (scene_of trusted old) → AreTimely (scene_of trusted old) → DoInTurn trusted events old calls between → MakesIn trusted between id made new
     → Way (scene_of trusted old) id made.frame made.kind
 
 -- WHAT WAS WITHDRAWN IS OUT OF REACH: a device without a way to a frame, but those that it may take, makes no other access there
 abbrev pub QuietStaysQuiet : Type 0
-QuietStaysQuiet = (trusted : ℕ → Bool) (may : Permission) (calls : List HardwareCall) (events : ℕ) (id : ℕ) (made : MadeAt) (old between new : HardwareParts)
+QuietStaysQuiet = (trusted : ℕ → Bool) (may : Permission) (calls : List HardwareCall) (events : ℕ) (id : ℕ) (made : MadeAt) (old between new : BoardParts)
     → IsSafe (scene_of trusted old) → AreTimely (scene_of trusted old) → HasAllowedWaysAlone may (scene_of trusted old) id made.frame
     → DoInTurn trusted events old calls between → MakesIn trusted between id made new → may id made.frame made.kind ≡ true
 
 -- A CLAIM THAT IS GOOD STAYS TRUE: where each way of a device to a frame is one that what was claimed allows, the device makes no other access there
 abbrev pub GoodClaimsHold : Type 0
-GoodClaimsHold = (trusted : ℕ → Bool) (claimed : History) (calls : List HardwareCall) (events : ℕ) (id : ℕ) (made : MadeAt) (old between new : HardwareParts)
+GoodClaimsHold = (trusted : ℕ → Bool) (claimed : History) (calls : List HardwareCall) (events : ℕ) (id : ℕ) (made : MadeAt) (old between new : BoardParts)
     → IsSafe (scene_of trusted old) → AreTimely (scene_of trusted old)
     → ((kind : AccessKind) → Way (scene_of trusted old) id made.frame kind → May claimed id made.frame kind)
     → DoInTurn trusted events old calls between → MakesIn trusted between id made new → May claimed id made.frame made.kind
 
 -- NOBODY USES THE FRAME: where no device has a way to it, no access is made there
 abbrev pub FreeStaysFree : Type 0
-FreeStaysFree = (trusted : ℕ → Bool) (calls : List HardwareCall) (events : ℕ) (id : ℕ) (made : MadeAt) (old between new : HardwareParts)
+FreeStaysFree = (trusted : ℕ → Bool) (calls : List HardwareCall) (events : ℕ) (id : ℕ) (made : MadeAt) (old between new : BoardParts)
     → IsSafe (scene_of trusted old) → AreTimely (scene_of trusted old) → IsOutOfReach (scene_of trusted old) made.frame
     → DoInTurn trusted events old calls between → ¬ MakesIn trusted between id made new
 
 -- at power-on all that the theorem asks for holds
 abbrev pub BeginsSafe : Type 0
-BeginsSafe = (trusted : ℕ → Bool) (frames : ℕ) (disks : List ℕ) (hardware : Hardware) → IsHardwareAtPowerOn frames disks hardware
-    → IsSafe (scene_of trusted (hardware_parts hardware)) × AreTimely (scene_of trusted (hardware_parts hardware))
+BeginsSafe = (trusted : ℕ → Bool) (frames : ℕ) (disks : List ℕ) (hardware : Board) → IsBoardAtPowerOn frames disks hardware
+    → IsSafe (scene_of trusted (board_parts hardware)) × AreTimely (scene_of trusted (board_parts hardware))

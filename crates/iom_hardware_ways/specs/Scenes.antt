@@ -17,7 +17,7 @@ use Rattle.iom_fabric.specs.declared.message.Message.{Message as Sent}
 use Rattle.iom_fabric.specs.declared.message.Message.TheVariants as sent
 use Rattle.iom_fabric.specs.declared.message.Translation.TheVariants as told
 use Rattle.iom_fault_queue.specs.Ring.{record_place}
-use Rattle.iom_hardware.specs.HardwareParts.{HardwareParts}
+use Rattle.iom_board.specs.BoardParts.{BoardParts}
 use Rattle.iom_inflight.specs.Flights.{NumberedAccess, FlightRow, row_of}
 use Rattle.iom_iommu.specs.Parts.{registers_of, contexts_of, translations_of, flights_of}
 use Rattle.iom_registers.specs.declared.directory.DirectoryMode.{DirectoryMode}
@@ -114,7 +114,7 @@ abbrev pub mappings_in : Translations → SpacePage → Option Mapping
 mappings_in content at = option_map mapping_of (content (cached_key at))
 
 -- THE SCENE of hardware, where software entrusts these devices with all memory. Walks are whole, so no part of one is under way; and no pointer is cached
-abbrev pub scene_of : (ℕ → Bool) → HardwareParts → HardwareScene
+abbrev pub scene_of : (ℕ → Bool) → BoardParts → HardwareScene
 scene_of trusted parts = record {
   formats = formats;
   memory = slice_get parts.memory;

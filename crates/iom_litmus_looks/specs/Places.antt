@@ -2,7 +2,7 @@
 use Rattle.std.specs.Prelude.{ℕ, List, map}
 use Rattle.iom_device.specs.declared.device.Device.{Device}
 use Rattle.iom_fabric.specs.declared.fabric.OnLink.{OnLink}
-use Rattle.iom_hardware.specs.declared.hardware.Hardware.{Hardware}
+use Rattle.iom_board.specs.declared.board.Board.{Board}
 use Rattle.iom_iommu.specs.OwnIommu.{Iommu}
 
 -- The parts of the hardware. How many events there were, and how much room lists have, aren't among them.
@@ -13,7 +13,7 @@ pub record HardwarePlace : Type 0 where
   pub messages : List OnLink
   pub disks : List ℕ
 
-abbrev pub hardware_place : Hardware → HardwarePlace
+abbrev pub hardware_place : Board → HardwarePlace
 hardware_place hardware = record {
   memory = hardware.memory;
   iommu = hardware.iommu;

@@ -1,6 +1,6 @@
+use iom_board::Board;
 use iom_device::Device;
 use iom_fabric::{Message, OnLink};
-use iom_hardware::Hardware;
 
 /// The number with one more mixed in. Nothing rests on which number it is but time.
 pub fn mixed(number: u64, next: u64) -> u64 {
@@ -8,7 +8,7 @@ pub fn mixed(number: u64, next: u64) -> u64 {
 }
 
 /// Of a device: its accesses in flight and those that were accepted, and what its cache has.
-fn of_device(number: u64, hardware: &Hardware, device: &Device) -> u64 {
+fn of_device(number: u64, hardware: &Board, device: &Device) -> u64 {
     let in_flight = mixed(number, hardware.iommu.in_flight(device.id) as u64);
     let accepted = mixed(in_flight, hardware.iommu.accepted(device.id));
     let context = hardware.iommu.cached_context(device.id).is_some();
@@ -31,7 +31,7 @@ fn of_message(number: u64, on_link: OnLink) -> u64 {
     }
 }
 
-fn of_messages(mut number: u64, hardware: &Hardware) -> u64 {
+fn of_messages(mut number: u64, hardware: &Board) -> u64 {
     let messages = hardware.messages();
     for place in 0..messages.len() {
         if let Some(on_link) = messages.get(place) {
@@ -42,7 +42,7 @@ fn of_messages(mut number: u64, hardware: &Hardware) -> u64 {
 }
 
 /// A number by which equal hardware is looked for. Nothing rests on it but time.
-pub fn fingerprint_of(hardware: &Hardware) -> u64 {
+pub fn fingerprint_of(hardware: &Board) -> u64 {
     let registers = hardware.iommu.registers();
     let mut number = mixed(0, u64::from(registers.command_head()));
     number = mixed(number, u64::from(registers.command_tail()));

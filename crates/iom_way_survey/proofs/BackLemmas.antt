@@ -20,7 +20,7 @@ use Rattle.iom_device_dir.specs.declared.stages.SecondStage.TheVariants as secon
 use Rattle.iom_fabric.specs.declared.message.Message.{Message as Sent}
 use Rattle.iom_fabric.specs.declared.message.Message.TheVariants as sent
 use Rattle.iom_fabric.specs.declared.message.Translation.TheVariants as told
-use Rattle.iom_hardware.specs.HardwareParts.{HardwareParts}
+use Rattle.iom_board.specs.BoardParts.{BoardParts}
 use Rattle.iom_inflight.specs.declared.made.MadeAt.{MadeAt}
 use Rattle.iom_inflight.specs.Flights.{NumberedAccess, FlightRow, row_of, waiting_at, made_at}
 use Rattle.iom_iommu.specs.Parts.{registers_of, contexts_of, translation_cache_of, translations_of, flights_of}
@@ -134,7 +134,7 @@ both_true true true cached own is = (refl, (refl, is))
 both_true true false cached own is = absurd (none_is_some own is)
 both_true false b cached own is = absurd (none_is_some own is)
 
-module _ (trusted : ℕ → Bool) (parts : HardwareParts) where
+module _ (trusted : ℕ → Bool) (parts : BoardParts) where
   abbrev S : HardwareScene
   S = scene_of trusted parts
 

@@ -6,7 +6,7 @@ use Rattle.iom_device_dir.specs.Located.{loaded_entry}
 use Rattle.iom_device_dir.specs.Paths.{ddi, ids_below}
 use Rattle.iom_device_dir.specs.declared.context.Context.{Context as DeviceContext}
 use Rattle.iom_device_dir.specs.declared.entry.NonLeafEntry.{NonLeafEntry}
-use Rattle.iom_hardware.specs.HardwareParts.{HardwareParts}
+use Rattle.iom_board.specs.BoardParts.{BoardParts}
 use Rattle.iom_iommu.specs.Parts.{registers_of}
 use Rattle.iom_reach.specs.Memory.{Tables, WalkStep, Goes, ReadsFrame}
 use Rattle.iom_reach.specs.Safe.{IsOfTables, IsOfDirectory}
@@ -83,7 +83,7 @@ path_reads mode.TwoLevels memory root id frame tables is reads =
 path_reads mode.ThreeLevels memory root id frame tables is reads =
     on_levels memory 2 root id frame (subst (λ (t : Tables). ReadsFrame context_format (slice_get memory) t.root (steps_of t.levels id) frame) (sym (ap tree_of is)) reads)
 
-module _ (trusted : ℕ → Bool) (parts : HardwareParts) where
+module _ (trusted : ℕ → Bool) (parts : BoardParts) where
   pub directory_reads : (frame : ℕ) → IsOfDirectory (scene_of trusted parts) frame → DirectoryReads parts frame
   directory_reads frame (id, tables, device, at, reads) =
       let (plug, found) = plugged trusted parts id device in

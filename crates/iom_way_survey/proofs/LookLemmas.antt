@@ -5,8 +5,8 @@ use Rattle.std.proofs.lemmas.Bool.Decides.{eqb_tells}
 use Rattle.iom_base.specs.declared.access.AccessKind.{AccessKind}
 use Rattle.iom_device.specs.Caches.{device_with}
 use Rattle.iom_device.specs.declared.device.Device.{Device}
-use Rattle.iom_hardware.specs.HardwareParts.{HardwareParts}
-use Rattle.iom_hardware.specs.Sound.{device_ids, flight_ids, IsSoundHardware}
+use Rattle.iom_board.specs.BoardParts.{BoardParts}
+use Rattle.iom_board.specs.Sound.{device_ids, flight_ids, IsSoundBoard}
 use Rattle.iom_hardware_ways.specs.Scenes.{flights_in, waiting_places, scene_of}
 use Rattle.iom_hardware_ways.proofs.ListLemmas.{in_none}
 use Rattle.iom_inflight.specs.Flights.{FlightRow, row_of}
@@ -36,7 +36,7 @@ same_place (a ∷ xs) (b ∷ ys) zero x long at = (b, refl)
 same_place (a ∷ xs) (b ∷ ys) (suc k) x long at = same_place xs ys k x (omega (arith, long)) at
 
 -- the device's row is found by the device's id
-row_found : (parts : HardwareParts) (trusted : List ℕ) (rows : List DeviceReach) (devices : List Device) (id : ℕ) (plug : Device) → length rows ≡ length devices
+row_found : (parts : BoardParts) (trusted : List ℕ) (rows : List DeviceReach) (devices : List Device) (id : ℕ) (plug : Device) → length rows ≡ length devices
     → ((k : ℕ) (row : DeviceReach) (device : Device) → slice_get rows k ≡ Some row → slice_get devices k ≡ Some device → IsReachRow parts trusted row device)
     → device_with devices id ≡ Some plug → (row : DeviceReach) × (find (λ (own : DeviceReach). own.id == id) rows ≡ Some row) × IsReachRow parts trusted row plug
 row_found parts trusted rows [] id plug long each found = absurd (none_is_some plug found)
@@ -55,13 +55,13 @@ row_found parts trusted (row ∷ rows) (device ∷ devices) id plug long each fo
           (next, ap (λ (b : Bool). if b then Some row else find (λ (o : DeviceReach). o.id == id) rows) other ∙ at, is)
     ]
 
-rows_reach : (parts : HardwareParts) (trusted : List ℕ) (rows : List DeviceReach) (id : ℕ) (plug : Device) (kind : AccessKind) (frame : ℕ) → AreRowsOf parts trusted rows
+rows_reach : (parts : BoardParts) (trusted : List ℕ) (rows : List DeviceReach) (id : ℕ) (plug : Device) (kind : AccessKind) (frame : ℕ) → AreRowsOf parts trusted rows
     → device_with parts.devices id ≡ Some plug → WayOf parts plug kind frame → reaches_in_rows rows id kind frame ≡ true
 rows_reach parts trusted rows id plug kind frame are found way =
     let (row, at, is) = row_found parts trusted rows parts.devices id plug are.long are.each found in
     ap (λ (o : Option DeviceReach). reach_in o kind frame) at ∙ (is.reach kind).all frame way
 
-pub rows_trust : (parts : HardwareParts) (trusted : List ℕ) (rows : List DeviceReach) → AreRowsOf parts trusted rows → TellsTrust (scene_of (is_id_among trusted) parts) rows
+pub rows_trust : (parts : BoardParts) (trusted : List ℕ) (rows : List DeviceReach) → AreRowsOf parts trusted rows → TellsTrust (scene_of (is_id_among trusted) parts) rows
 rows_trust parts trusted rows are k row at =
     let (device, here) = same_place rows parts.devices k row are.long at in
     let is = are.each k row device at here in
@@ -88,7 +88,7 @@ flying : (row : Option FlightRow) (access : PendingAccess) → Contains (flights
 flying None access there = absurd (in_none access there)
 flying (Some own) access there = (own, refl)
 
-way_plugged : (trusted : ℕ → Bool) (parts : HardwareParts) (id frame : ℕ) (kind : AccessKind) → flight_ids (flights_of parts.iommu).rows ≡ device_ids parts.devices
+way_plugged : (trusted : ℕ → Bool) (parts : BoardParts) (id frame : ℕ) (kind : AccessKind) → flight_ids (flights_of parts.iommu).rows ≡ device_ids parts.devices
     → Way (scene_of trusted parts) id frame kind → (plug : Device) × (device_with parts.devices id ≡ Some plug)
 way_plugged trusted parts id frame kind rows (Accepted there) =
     let (own, at) = flying (row_of (flights_of parts.iommu).rows id) (record { frame = frame; kind = kind }) there in row_plugged (flights_of parts.iommu).rows parts.devices id own rows at
@@ -97,7 +97,7 @@ way_plugged trusted parts id frame kind rows (ByContext context may through) = p
 way_plugged trusted parts id frame kind rows (OnTheWalk s table steps_to mapping there leads serves) =
     absurd (in_none (record { device = Some id; space = s; table = table; steps_to = steps_to }) there)
 
-pub ways_reached : (parts : HardwareParts) (trusted : List ℕ) (rows : List DeviceReach) (events : ℕ) → IsSoundHardware parts events → AreFlights (flights_of parts.iommu) → AreRowsOf parts trusted rows
+pub ways_reached : (parts : BoardParts) (trusted : List ℕ) (rows : List DeviceReach) (events : ℕ) → IsSoundBoard parts events → AreFlights (flights_of parts.iommu) → AreRowsOf parts trusted rows
     → (id frame : ℕ) (kind : AccessKind) → Way (scene_of (is_id_among trusted) parts) id frame kind → reaches_in_rows rows id kind frame ≡ true
 ways_reached parts trusted rows events sound flights are id frame kind way =
     let (plug, found) = way_plugged (is_id_among trusted) parts id frame kind sound.rows way in
@@ -109,13 +109,13 @@ ways_reached parts trusted rows events sound flights are id frame kind way =
 
 -- WHAT IS READ AND STORED
 
-pub all_read : (trusted : ℕ → Bool) (parts : HardwareParts) (none tables directory all : List ℕ) → GrowsBy none tables (SomeTable parts) → GrowsBy tables directory (DirectoryReads parts)
+pub all_read : (trusted : ℕ → Bool) (parts : BoardParts) (none tables directory all : List ℕ) → GrowsBy none tables (SomeTable parts) → GrowsBy tables directory (DirectoryReads parts)
     → GrowsBy directory all (IsFrameAmong (waiting_places (registers_of parts.iommu))) → (frame : ℕ) → IsRead (scene_of trusted parts) frame → row_has all frame ≡ true
 all_read trusted parts none tables directory all one two three frame (inl table) = three.stays frame (two.stays frame (one.added frame (tables_read trusted parts frame table)))
 all_read trusted parts none tables directory all one two three frame (inr (inl path)) = three.stays frame (two.added frame (directory_reads trusted parts frame path))
 all_read trusted parts none tables directory all one two three frame (inr (inr (offset, there))) = three.added frame (record { frame = frame; offset = offset }, there, refl)
 
-pub all_stored : (trusted : ℕ → Bool) (parts : HardwareParts) (none words all : List ℕ) → GrowsBy none words (IsWordAmong parts.memory (waiting_places (registers_of parts.iommu)))
+pub all_stored : (trusted : ℕ → Bool) (parts : BoardParts) (none words all : List ℕ) → GrowsBy none words (IsWordAmong parts.memory (waiting_places (registers_of parts.iommu)))
     → GrowsBy words all (IsOfFaults (registers_of parts.iommu)) → (frame : ℕ) → Contains (scene_of trusted parts).fault_frames frame ⊎ HasWord (scene_of trusted parts) frame → row_has all frame ≡ true
 all_stored trusted parts none words all one two frame (inl fault) = two.added frame (fault_stored (registers_of parts.iommu) frame fault)
 all_stored trusted parts none words all one two frame (inr word) = two.stays frame (one.added frame word)

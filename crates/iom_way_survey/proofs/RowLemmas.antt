@@ -2,7 +2,7 @@
 use Rattle.std.proofs.Common.{◌≡◌, ◌⊎◌, ◌∙◌, inl, inr, ℕ, ◌+◌, List, [], ◌∷◌, ◌++◌, length, slice_get, Some, Result, Ok, Err, is_ok, if◌then◌else◌, subst, refl, sym, ap}
 use Rattle.std.proofs.lemmas.List.{length_push}
 use Rattle.iom_device.specs.declared.device.Device.{Device}
-use Rattle.iom_hardware.specs.HardwareParts.{HardwareParts}
+use Rattle.iom_board.specs.BoardParts.{BoardParts}
 use Rattle.iom_way_survey.specs.Surveys.{IsReachRow, HaveRows}
 use Rattle.iom_way_survey.specs.declared.findings.DeviceReach.{DeviceReach}
 use Rattle.iom_way_survey.proofs.StepLemmas.{push_get}
@@ -15,11 +15,11 @@ pushed_items xs ys new (Err x) u e is = cc
 none_there : (row : DeviceReach) (k : ℕ) → slice_get [] k ≡ Some row → ⊥
 none_there row k is = cc
 
-pub no_rows : (parts : HardwareParts) (trusted : List ℕ) (rows : List DeviceReach) → rows ≡ [] → HaveRows parts trusted rows 0
+pub no_rows : (parts : BoardParts) (trusted : List ℕ) (rows : List DeviceReach) → rows ≡ [] → HaveRows parts trusted rows 0
 no_rows parts trusted rows empty = subst (λ rs. HaveRows parts trusted rs 0) (sym empty)
     (record { long = refl; each = λ k row device at here. absurd (none_there row k at) })
 
-pub one_more_row : (parts : HardwareParts) (trusted : List ℕ) (old new : List DeviceReach) (count : ℕ) (row : DeviceReach) (device : Device) → HaveRows parts trusted old count
+pub one_more_row : (parts : BoardParts) (trusted : List ℕ) (old new : List DeviceReach) (count : ℕ) (row : DeviceReach) (device : Device) → HaveRows parts trusted old count
     → slice_get parts.devices count ≡ Some device → IsReachRow parts trusted row device → new ≡ old ++ row ∷ [] → HaveRows parts trusted new (count + 1)
 one_more_row parts trusted old new count row device have there is_of is = subst (λ rs. HaveRows parts trusted rs (count + 1)) (sym is) (record {
   long = length_push old row ∙ ap (λ n. n + 1) have.long;

@@ -11,8 +11,8 @@ use Rattle.iom_device.specs.declared.device.Device.{Device}
 use Rattle.iom_device_dir.specs.Located.{loaded_entry}
 use Rattle.iom_device_dir.specs.Paths.{ddi, ids_below, fits_directory}
 use Rattle.iom_device_dir.specs.declared.entry.NonLeafEntry.{NonLeafEntry}
-use Rattle.iom_hardware.specs.HardwareParts.{HardwareParts}
-use Rattle.iom_hardware.specs.Sound.{AreOfOneId}
+use Rattle.iom_board.specs.BoardParts.{BoardParts}
+use Rattle.iom_board.specs.Sound.{AreOfOneId}
 use Rattle.iom_iommu.specs.Parts.{registers_of}
 use Rattle.iom_phys_mem.specs.Words.{word_at}
 use Rattle.iom_reach.specs.Memory.{Tables, WalkStep, Goes, ReadsFrame}
@@ -109,7 +109,7 @@ fault_back r frame (on, (least, most)) =
     (subst (λ (f : ℕ). Contains (map (λ i. (fault_base r + 32 * i) / 4096) (range_with_len 0 (fault_entries r))) f) is
     (contains_map (λ (i : ℕ). (fault_base r + 32 * i) / 4096) (range_with_len 0 (fault_entries r)) index (range_has (fault_entries r) 0 index (omega arith) (omega (arith, low)))))
 
-module _ (trusted : ℕ → Bool) (parts : HardwareParts) where
+module _ (trusted : ℕ → Bool) (parts : BoardParts) where
   pub directory_back : (frame : ℕ) → DirectoryReads parts frame → IsOfDirectory (scene_of trusted parts) frame
   directory_back frame (k, low, (device, at, reads)) =
       let (own, found) = found_with parts.devices k device at in
@@ -130,7 +130,7 @@ module _ (trusted : ℕ → Bool) (parts : HardwareParts) where
 none_of : (row : List ℕ) (frame : ℕ) → ((f : ℕ) → row_has row f ≡ false) → row_has row frame ≡ true → ⊥
 none_of row frame clear is = false≢true (sym (clear frame) ∙ is)
 
-pub read_back : (trusted : ℕ → Bool) (parts : HardwareParts) (none tables directory all : List ℕ) → ((f : ℕ) → row_has none f ≡ false) → GrowsBy none tables (SomeTable parts)
+pub read_back : (trusted : ℕ → Bool) (parts : BoardParts) (none tables directory all : List ℕ) → ((f : ℕ) → row_has none f ≡ false) → GrowsBy none tables (SomeTable parts)
     → GrowsBy tables directory (DirectoryReads parts) → GrowsBy directory all (IsFrameAmong (waiting_places (registers_of parts.iommu))) → (frame : ℕ) → row_has all frame ≡ true
     → (other : ℕ) × IsRead (scene_of trusted parts) other × (frame_place other ≡ frame_place frame)
 read_back trusted parts none tables directory all clear one two three frame is = elim (three.sole frame is) [
@@ -144,7 +144,7 @@ read_back trusted parts none tables directory all clear one two three frame is =
   ]
 ]
 
-pub stored_back : (trusted : ℕ → Bool) (parts : HardwareParts) (none words all : List ℕ) → ((f : ℕ) → row_has none f ≡ false)
+pub stored_back : (trusted : ℕ → Bool) (parts : BoardParts) (none words all : List ℕ) → ((f : ℕ) → row_has none f ≡ false)
     → GrowsBy none words (IsWordAmong parts.memory (waiting_places (registers_of parts.iommu))) → GrowsBy words all (IsOfFaults (registers_of parts.iommu)) → (frame : ℕ) → row_has all frame ≡ true
     → (other : ℕ) × (Contains (scene_of trusted parts).fault_frames other ⊎ HasWord (scene_of trusted parts) other) × (frame_place other ≡ frame_place frame)
 stored_back trusted parts none words all clear one two frame is = elim (two.sole frame is) [
@@ -166,7 +166,7 @@ device_at devices k device single at =
     let both : Some own ≡ Some device = sym here ∙ ap (slice_get devices) place ∙ at in
     found ∙ both
 
-pub rows_back : (parts : HardwareParts) (trusted : List ℕ) (rows : List DeviceReach) → AreOfOneId parts.devices → AreRowsOf parts trusted rows
+pub rows_back : (parts : BoardParts) (trusted : List ℕ) (rows : List DeviceReach) → AreOfOneId parts.devices → AreRowsOf parts trusted rows
     → (k : ℕ) (row : DeviceReach) (frame : ℕ) (kind : AccessKind) → slice_get rows k ≡ Some row → row_has (frames_by row.reach kind) frame ≡ true
     → (other : ℕ) × Way (scene_of (is_id_among trusted) parts) row.id other kind × (frame_place other ≡ frame_place frame)
 rows_back parts trusted rows single are k row frame kind at is =

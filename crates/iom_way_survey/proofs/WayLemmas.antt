@@ -20,7 +20,7 @@ use Rattle.iom_device_dir.specs.declared.stages.SecondStage.TheVariants as secon
 use Rattle.iom_fabric.specs.declared.message.Message.{Message as Sent}
 use Rattle.iom_fabric.specs.declared.message.Message.TheVariants as sent
 use Rattle.iom_fabric.specs.declared.message.Translation.TheVariants as told
-use Rattle.iom_hardware.specs.HardwareParts.{HardwareParts}
+use Rattle.iom_board.specs.BoardParts.{BoardParts}
 use Rattle.iom_inflight.specs.Flights.{NumberedAccess, FlightRow, row_of, waiting_at, made_at}
 use Rattle.iom_iommu.specs.Parts.{registers_of, contexts_of, translation_cache_of, translations_of, flights_of}
 use Rattle.iom_iommu.specs.Stages.{space_through}
@@ -146,7 +146,7 @@ there : (found : Option Device) (kind : AtsKind) → option_map ats_kind (option
 there None kind is = absurd (none_is_some kind is)
 there (Some device) kind is = (device, refl, (let same : Some (ats_kind device.kind) ≡ Some kind = is in cc))
 
-module _ (trusted : ℕ → Bool) (parts : HardwareParts) where
+module _ (trusted : ℕ → Bool) (parts : BoardParts) where
   abbrev S : HardwareScene
   S = scene_of trusted parts
 

@@ -5,7 +5,7 @@ use Rattle.iom_device.specs.declared.device.Device.{Device}
 use Rattle.iom_device_dir.specs.Located.{loaded_entry}
 use Rattle.iom_device_dir.specs.Paths.{ddi, entry_place, fits_directory}
 use Rattle.iom_device_dir.specs.declared.entry.NonLeafEntry.{NonLeafEntry}
-use Rattle.iom_hardware.specs.HardwareParts.{HardwareParts}
+use Rattle.iom_board.specs.BoardParts.{BoardParts}
 use Rattle.iom_iommu.specs.Parts.{registers_of}
 use Rattle.iom_phys_mem.specs.Words.{word_at}
 use Rattle.iom_registers.specs.declared.directory.DirectoryMode.{DirectoryMode}
@@ -41,6 +41,6 @@ abbrev pub PathReads : List (List ℕ) → DirectoryMode → ℕ → ℕ → ℕ
 PathReads memory own root id frame = IsOnLevels own memory root id frame × (fits_directory own id ≡ true)
 
 -- of some device that is plugged in
-abbrev pub DirectoryReads : HardwareParts → ℕ → Type 0
+abbrev pub DirectoryReads : BoardParts → ℕ → Type 0
 DirectoryReads parts frame = (k : ℕ) × (k < length parts.devices) × ((device : Device) × (slice_get parts.devices k ≡ Some device)
     × PathReads parts.memory (directory_mode (registers_of parts.iommu)) (directory_root (registers_of parts.iommu)) device.id frame)

@@ -21,7 +21,7 @@ use Rattle.iom_fabric.specs.declared.fabric.OnLink.{OnLink}
 use Rattle.iom_fabric.specs.declared.message.Message.{Message as Sent}
 use Rattle.iom_fabric.specs.declared.message.Message.TheVariants as sent
 use Rattle.iom_fabric.specs.declared.message.Translation.TheVariants as told
-use Rattle.iom_hardware.specs.HardwareParts.{HardwareParts}
+use Rattle.iom_board.specs.BoardParts.{BoardParts}
 use Rattle.iom_iommu.specs.Parts.{registers_of, contexts_of, translation_cache_of, flights_of}
 use Rattle.iom_iommu.specs.Stages.{space_through}
 use Rattle.iom_inflight.specs.Flights.{waiting_at, row_of}
@@ -45,7 +45,7 @@ has_directory mode.OneLevel = true
 has_directory mode.TwoLevels = true
 has_directory mode.ThreeLevels = true
 
-abbrev pub mode_in : HardwareParts → DirectoryMode
+abbrev pub mode_in : BoardParts → DirectoryMode
 mode_in parts = directory_mode (registers_of parts.iommu)
 
 abbrev pub found_of : Result DeviceContext Cause → Option DeviceContext
@@ -53,15 +53,15 @@ found_of (Ok context) = Some context
 found_of (Err cause) = None
 
 -- the context that is cached for the id, where a request finds it
-abbrev pub cached_found : HardwareParts → ℕ → Option DeviceContext
+abbrev pub cached_found : BoardParts → ℕ → Option DeviceContext
 cached_found parts id = if has_directory (mode_in parts) && fits_directory (mode_in parts) id then contexts_of parts.iommu id else None
 
 -- the context that the directory has for the id
-abbrev pub stored_found : HardwareParts → ℕ → Option DeviceContext
+abbrev pub stored_found : BoardParts → ℕ → Option DeviceContext
 stored_found parts id = found_of (located_by_mode (mode_in parts) parts.memory (directory_root (registers_of parts.iommu)) id)
 
 -- a request of a device with the id may find this context
-abbrev pub Finds : HardwareParts → ℕ → DeviceContext → Type 0
+abbrev pub Finds : BoardParts → ℕ → DeviceContext → Type 0
 Finds parts id context = (cached_found parts id ≡ Some context) ⊎ (stored_found parts id ≡ Some context)
 
 -- what is looked at beside the cached context: the stored one, or nothing where that is the same
@@ -97,17 +97,17 @@ FoundLeaf memory own None kind frame = ⊥
 FoundLeaf memory own (Some context) kind frame = (space_of_context context ≡ Some own) × HaveLeaf memory context.first_stage context.second_stage kind frame
 
 -- so of one of the contexts that a request of the device may find
-abbrev pub DeviceTable : HardwareParts → Space → ℕ → ℕ → Type 0
+abbrev pub DeviceTable : BoardParts → Space → ℕ → ℕ → Type 0
 DeviceTable parts own id frame = FoundTable parts.memory own (cached_found parts id) frame ⊎ FoundTable parts.memory own (stored_found parts id) frame
 
-abbrev pub DeviceLeaf : HardwareParts → Space → ℕ → AccessKind → ℕ → Type 0
+abbrev pub DeviceLeaf : BoardParts → Space → ℕ → AccessKind → ℕ → Type 0
 DeviceLeaf parts own id kind frame = FoundLeaf parts.memory own (cached_found parts id) kind frame ⊎ FoundLeaf parts.memory own (stored_found parts id) kind frame
 
 -- of any device's
-abbrev pub SpaceTable : HardwareParts → Space → ℕ → Type 0
+abbrev pub SpaceTable : BoardParts → Space → ℕ → Type 0
 SpaceTable parts own frame = (k : ℕ) × (k < length parts.devices) × ((device : Device) × (slice_get parts.devices k ≡ Some device) × DeviceTable parts own device.id frame)
 
-abbrev pub SpaceLeaf : HardwareParts → Space → AccessKind → ℕ → Type 0
+abbrev pub SpaceLeaf : BoardParts → Space → AccessKind → ℕ → Type 0
 SpaceLeaf parts own kind frame = (k : ℕ) × (k < length parts.devices) × ((device : Device) × (slice_get parts.devices k ≡ Some device) × DeviceLeaf parts own device.id kind frame)
 
 -- ADDRESS SPACES
@@ -120,7 +120,7 @@ abbrev pub IsCachedIn : List Ways → Space → AccessKind → ℕ → Type 0
 IsCachedIn sets own kind frame = (cached : CachedPage) × IsCached sets cached × CachedLeadsTo own cached kind frame
 
 -- what is reached in the space
-abbrev pub InSpace : HardwareParts → Space → AccessKind → ℕ → Type 0
+abbrev pub InSpace : BoardParts → Space → AccessKind → ℕ → Type 0
 InSpace parts own kind frame = IsCachedIn (translation_cache_of parts.iommu) own kind frame ⊎ SpaceLeaf parts own kind frame
 
 -- EN_ATS
@@ -162,20 +162,20 @@ ByAts fabric device lets kind frame = LetsDevice fabric device kind frame × (le
 -- CONTEXTS
 
 -- through a context with this address space; where it has none nothing is translated
-abbrev pub ThroughSpace : HardwareParts → Option Space → AccessKind → ℕ → Type 0
+abbrev pub ThroughSpace : BoardParts → Option Space → AccessKind → ℕ → Type 0
 ThroughSpace parts None kind frame = ⊤
 ThroughSpace parts (Some own) kind frame = InSpace parts own kind frame
 
-abbrev pub TablesThrough : HardwareParts → Option Space → ℕ → Type 0
+abbrev pub TablesThrough : BoardParts → Option Space → ℕ → Type 0
 TablesThrough parts None frame = ⊥
 TablesThrough parts (Some own) frame = SpaceTable parts own frame
 
 -- through a context that was found
-abbrev pub ThroughFound : HardwareParts → Device → Option DeviceContext → AccessKind → ℕ → Type 0
+abbrev pub ThroughFound : BoardParts → Device → Option DeviceContext → AccessKind → ℕ → Type 0
 ThroughFound parts device None kind frame = ⊥
 ThroughFound parts device (Some context) kind frame = ByAts parts.fabric device context.en_ats kind frame ⊎ ThroughSpace parts (space_of_context context) kind frame
 
-abbrev pub TablesFound : HardwareParts → Option DeviceContext → ℕ → Type 0
+abbrev pub TablesFound : BoardParts → Option DeviceContext → ℕ → Type 0
 TablesFound parts None frame = ⊥
 TablesFound parts (Some context) frame = TablesThrough parts (space_of_context context) frame
 
@@ -186,22 +186,22 @@ IsThatAccess None kind frame = ⊥
 IsThatAccess (Some made) kind frame = (frame ≡ made.frame) × (kind ≡ made.kind)
 
 -- an access in flight is of this kind, and on the frame
-abbrev pub IsInFlight : HardwareParts → ℕ → AccessKind → ℕ → Type 0
+abbrev pub IsInFlight : BoardParts → ℕ → AccessKind → ℕ → Type 0
 IsInFlight parts id kind frame = (k : ℕ) × (k < 8) × IsThatAccess (waiting_at (row_of (flights_of parts.iommu).rows id) k) kind frame
 
-abbrev pub IsModeBare : HardwareParts → Type 0
+abbrev pub IsModeBare : BoardParts → Type 0
 IsModeBare parts = mode_in parts ≡ mode.Bare
 
 -- all ways of a device that is plugged in
-abbrev pub WayOf : HardwareParts → Device → AccessKind → ℕ → Type 0
+abbrev pub WayOf : BoardParts → Device → AccessKind → ℕ → Type 0
 WayOf parts device kind frame =
     ((IsInFlight parts device.id kind frame ⊎ IsModeBare parts) ⊎ ThroughFound parts device (cached_found parts device.id) kind frame)
     ⊎ ThroughFound parts device (stored_found parts device.id) kind frame
 
 -- the tables of the address spaces of its contexts
-abbrev pub TablesOfDevice : HardwareParts → ℕ → ℕ → Type 0
+abbrev pub TablesOfDevice : BoardParts → ℕ → ℕ → Type 0
 TablesOfDevice parts id frame = TablesFound parts (cached_found parts id) frame ⊎ TablesFound parts (stored_found parts id) frame
 
 -- of some device that is plugged in
-abbrev pub SomeTable : HardwareParts → ℕ → Type 0
+abbrev pub SomeTable : BoardParts → ℕ → Type 0
 SomeTable parts frame = (k : ℕ) × (k < length parts.devices) × ((device : Device) × (slice_get parts.devices k ≡ Some device) × TablesOfDevice parts device.id frame)

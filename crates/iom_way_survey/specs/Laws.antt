@@ -9,7 +9,7 @@ use Rattle.iom_reach.specs.Scene.{Mapping}
 use Rattle.iom_reach.specs.Ways.{LeadsToMapping, ServesKind, Way}
 use Rattle.iom_device.specs.Caches.{device_with}
 use Rattle.iom_device.specs.declared.device.Device.{Device}
-use Rattle.iom_hardware.specs.HardwareParts.{HardwareParts}
+use Rattle.iom_board.specs.BoardParts.{BoardParts}
 use Rattle.iom_hardware_ways.specs.Scenes.{scene_of}
 use Rattle.iom_inflight.specs.Flights.{FlightRow, row_of}
 use Rattle.iom_iommu.specs.Parts.{registers_of, flights_of}
@@ -40,27 +40,27 @@ LevelsAreWalks = (memory : List (List ℕ)) (root frames below : ℕ) → PagesA
 
 -- each way of a device that is plugged in, of whose accesses at most eight are in flight, is one of those that are looked for
 abbrev pub WaysAreLookedFor : Type 0
-WaysAreLookedFor = (trusted : ℕ → Bool) (parts : HardwareParts) (device : Device) (frame : ℕ) (kind : AccessKind) → device_with parts.devices device.id ≡ Some device
+WaysAreLookedFor = (trusted : ℕ → Bool) (parts : BoardParts) (device : Device) (frame : ℕ) (kind : AccessKind) → device_with parts.devices device.id ≡ Some device
     → ((own : FlightRow) → row_of (flights_of parts.iommu).rows device.id ≡ Some own → length own.waiting ≤ 8)
     → Way (scene_of trusted parts) device.id frame kind → WayOf parts device kind frame
 
 -- and each of these is one
 abbrev pub LooksFindWays : Type 0
-LooksFindWays = (trusted : ℕ → Bool) (parts : HardwareParts) (device : Device) (frame : ℕ) (kind : AccessKind) → device_with parts.devices device.id ≡ Some device
+LooksFindWays = (trusted : ℕ → Bool) (parts : BoardParts) (device : Device) (frame : ℕ) (kind : AccessKind) → device_with parts.devices device.id ≡ Some device
     → WayOf parts device kind frame → Way (scene_of trusted parts) device.id frame kind
 
 -- the frames of tables that hardware reads are looked for
 abbrev pub TablesAreLookedFor : Type 0
-TablesAreLookedFor = (trusted : ℕ → Bool) (parts : HardwareParts) (frame : ℕ) → IsOfTables (scene_of trusted parts) frame → SomeTable parts frame
+TablesAreLookedFor = (trusted : ℕ → Bool) (parts : BoardParts) (frame : ℕ) → IsOfTables (scene_of trusted parts) frame → SomeTable parts frame
 
 -- and each of these is read
 abbrev pub LooksFindTables : Type 0
-LooksFindTables = (trusted : ℕ → Bool) (parts : HardwareParts) (frame : ℕ) → SomeTable parts frame → IsOfTables (scene_of trusted parts) frame
+LooksFindTables = (trusted : ℕ → Bool) (parts : BoardParts) (frame : ℕ) → SomeTable parts frame → IsOfTables (scene_of trusted parts) frame
 
 -- so are those of the directory
 abbrev pub DirectoryIsLookedFor : Type 0
-DirectoryIsLookedFor = (trusted : ℕ → Bool) (parts : HardwareParts) (frame : ℕ) → IsOfDirectory (scene_of trusted parts) frame → DirectoryReads parts frame
+DirectoryIsLookedFor = (trusted : ℕ → Bool) (parts : BoardParts) (frame : ℕ) → IsOfDirectory (scene_of trusted parts) frame → DirectoryReads parts frame
 
 -- so are those of the fault queue, into which the IOMMU stores records
 abbrev pub FaultsAreLookedFor : Type 0
-FaultsAreLookedFor = (trusted : ℕ → Bool) (parts : HardwareParts) (frame : ℕ) → Contains (scene_of trusted parts).fault_frames frame → IsOfFaults (registers_of parts.iommu) frame
+FaultsAreLookedFor = (trusted : ℕ → Bool) (parts : BoardParts) (frame : ℕ) → Contains (scene_of trusted parts).fault_frames frame → IsOfFaults (registers_of parts.iommu) frame

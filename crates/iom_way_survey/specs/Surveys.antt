@@ -3,7 +3,7 @@ use Rattle.std.specs.Prelude.{◌≡◌, ◌⊎◌, ℕ, ◌==◌, Bool, true, f
 use Rattle.std.specs.List.{find, list_any}
 use Rattle.iom_base.specs.declared.access.AccessKind.{AccessKind}
 use Rattle.iom_device.specs.declared.device.Device.{Device}
-use Rattle.iom_hardware.specs.HardwareParts.{HardwareParts}
+use Rattle.iom_board.specs.BoardParts.{BoardParts}
 use Rattle.iom_reach.specs.Safe.{IsRead, HasWord, IsWritable}
 use Rattle.iom_reach.specs.Scene.{HardwareScene}
 use Rattle.iom_reach.specs.Ways.{Way}
@@ -27,18 +27,18 @@ abbrev pub reaches_in_rows : List DeviceReach → ℕ → AccessKind → ℕ →
 reaches_in_rows rows id kind frame = reach_in (find (λ (row : DeviceReach). row.id == id) rows) kind frame
 
 -- the row is the device's: what it reaches is all that is looked for
-pub record IsReachRow (parts : HardwareParts) (trusted : List ℕ) (row : DeviceReach) (device : Device) : Type 0 where
+pub record IsReachRow (parts : BoardParts) (trusted : List ℕ) (row : DeviceReach) (device : Device) : Type 0 where
   pub id : row.id ≡ device.id
   pub is_trusted : row.is_trusted ≡ is_id_among trusted device.id
   pub reach : IsReachOf row.reach (WayOf parts device)
 
 -- so many devices have their rows, in their order
-pub record HaveRows (parts : HardwareParts) (trusted : List ℕ) (rows : List DeviceReach) (count : ℕ) : Type 0 where
+pub record HaveRows (parts : BoardParts) (trusted : List ℕ) (rows : List DeviceReach) (count : ℕ) : Type 0 where
   pub long : length rows ≡ count
   pub each : (k : ℕ) (row : DeviceReach) (device : Device) → slice_get rows k ≡ Some row → slice_get parts.devices k ≡ Some device → IsReachRow parts trusted row device
 
 -- each device has its own
-abbrev pub AreRowsOf : HardwareParts → List ℕ → List DeviceReach → Type 0
+abbrev pub AreRowsOf : BoardParts → List ℕ → List DeviceReach → Type 0
 AreRowsOf parts trusted rows = HaveRows parts trusted rows (length parts.devices)
 
 -- nothing was found

@@ -1,6 +1,6 @@
 // The contexts that a request of a device may find, and what the tables of a context lead to.
 ghost use Rattle.std.specs.Prelude.{◌≡◌, ◌<◌, ◌≤◌, length, slice_get, Some};
-ghost use Rattle.iom_hardware.specs.HardwareParts.{hardware_parts};
+ghost use Rattle.iom_board.specs.BoardParts.{board_parts};
 ghost use Rattle.iom_iommu.specs.Stages.{space_through};
 ghost use Rattle.iom_table_survey.specs.Reaches.{AddsReach};
 ghost use Rattle.iom_table_survey.specs.Rows.{GrowsBy};
@@ -8,9 +8,9 @@ ghost use Rattle.iom_way_survey.specs.Found.{has_directory, cached_found, stored
 
 use crate::same::is_same;
 use iom_base::{Cause, DeviceId};
+use iom_board::Board;
 use iom_device::Device;
 use iom_device_dir::{Context, FirstStage, SecondStage, fits_directory, locate};
-use iom_hardware::Hardware;
 use iom_phys_mem::Memory;
 use iom_registers::{DirectoryMode, DirectoryPointer};
 use iom_table_survey::{FrameRow, Reach, survey};
@@ -27,7 +27,7 @@ fn has_directory(mode: DirectoryMode) -> bool
 }
 
 /// The device at a place.
-pub(crate) fn device_at(hardware: &Hardware, place: usize) -> &Device
+pub(crate) fn device_at(hardware: &Board, place: usize) -> &Device
     requires { place < length hardware.now.devices.items }
     ensures { slice_get hardware.now.devices.items place ≡ Some result.now }
 {
@@ -48,8 +48,8 @@ fn located(answer: Result<Context, Cause>) -> Option<Context>
 }
 
 /// The context that is cached for the device, where a request finds it.
-pub(crate) fn cached_in(hardware: &Hardware, id: DeviceId) -> Option<Context>
-    ensures { result ≡ cached_found (hardware_parts hardware.now) id }
+pub(crate) fn cached_in(hardware: &Board, id: DeviceId) -> Option<Context>
+    ensures { result ≡ cached_found (board_parts hardware.now) id }
 {
     let mode = hardware.iommu.registers().directory_mode();
     if has_directory(mode) && fits_directory(mode, id) {
@@ -60,8 +60,8 @@ pub(crate) fn cached_in(hardware: &Hardware, id: DeviceId) -> Option<Context>
 
 /// The context that the directory has for the device.
 #[tactic(auto, unfolding(iom_device_dir::specs::Located::located_by_mode))]
-pub(crate) fn stored_in(hardware: &Hardware, id: DeviceId) -> Option<Context>
-    ensures { result ≡ stored_found (hardware_parts hardware.now) id }
+pub(crate) fn stored_in(hardware: &Board, id: DeviceId) -> Option<Context>
+    ensures { result ≡ stored_found (board_parts hardware.now) id }
 {
     let registers = hardware.iommu.registers();
     let mode = registers.directory_mode();
@@ -77,11 +77,11 @@ pub(crate) fn stored_in(hardware: &Hardware, id: DeviceId) -> Option<Context>
 
 /// The context that the directory has for the device, where it isn't the one that is cached: that one is looked at anyway.
 pub(crate) fn stored_beside(
-    hardware: &Hardware,
+    hardware: &Board,
     id: DeviceId,
     cached: Option<Context>,
 ) -> Option<Context>
-    ensures { IsBeside cached (stored_found (hardware_parts hardware.now) id) result }
+    ensures { IsBeside cached (stored_found (board_parts hardware.now) id) result }
 {
     let stored = stored_in(hardware, id);
     if is_same(stored, cached) {

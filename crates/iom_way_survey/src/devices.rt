@@ -1,6 +1,6 @@
 // All ways of a device.
 ghost use Rattle.std.specs.Prelude.{◌≡◌, ◌<◌, ◌≤◌, ℕ, true, length, slice_get, Some};
-ghost use Rattle.iom_hardware.specs.HardwareParts.{hardware_parts};
+ghost use Rattle.iom_board.specs.BoardParts.{board_parts};
 ghost use Rattle.iom_inflight.specs.Flights.{waiting_at, row_of};
 ghost use Rattle.iom_inflight.specs.declared.made.MadeAt.{MadeAt};
 ghost use Rattle.iom_iommu.specs.Parts.{flights_of};
@@ -13,16 +13,16 @@ use crate::contexts::{cached_in, space_of, stored_beside};
 use crate::kept::survey_ats;
 use crate::spaces::survey_space;
 use iom_base::MAX_IN_FLIGHT;
+use iom_board::Board;
 use iom_device::Device;
 use iom_device_dir::Context;
-use iom_hardware::Hardware;
 use iom_inflight::MadeAt;
 use iom_registers::DirectoryMode;
 use iom_table_survey::{FrameRow, Reach};
 use iom_tlb::Space;
 
 /// By EN_ATS.
-fn survey_by_ats(hardware: &Hardware, device: &Device, lets_ats: bool, reach: &mut Reach)
+fn survey_by_ats(hardware: &Board, device: &Device, lets_ats: bool, reach: &mut Reach)
     ensures { AddsReach reach.old reach.new (ByAts hardware.now.fabric device.now lets_ats) }
 {
     if lets_ats {
@@ -31,15 +31,10 @@ fn survey_by_ats(hardware: &Hardware, device: &Device, lets_ats: bool, reach: &m
 }
 
 /// By the address space, and by having none.
-fn survey_by_space(
-    hardware: &Hardware,
-    space: Option<Space>,
-    tables: &mut FrameRow,
-    reach: &mut Reach,
-)
+fn survey_by_space(hardware: &Board, space: Option<Space>, tables: &mut FrameRow, reach: &mut Reach)
     requires { length hardware.now.memory ≤ 4096 }
-    ensures tables { GrowsBy tables.old tables.new (TablesThrough (hardware_parts hardware.now) space) }
-    ensures reached { AddsReach reach.old reach.new (ThroughSpace (hardware_parts hardware.now) space) }
+    ensures tables { GrowsBy tables.old tables.new (TablesThrough (board_parts hardware.now) space) }
+    ensures reached { AddsReach reach.old reach.new (ThroughSpace (board_parts hardware.now) space) }
 {
     match space {
         Some(space) => survey_space(hardware, space, tables, reach),
@@ -49,15 +44,15 @@ fn survey_by_space(
 
 /// Through a context that was found.
 fn survey_through(
-    hardware: &Hardware,
+    hardware: &Board,
     device: &Device,
     found: Option<Context>,
     tables: &mut FrameRow,
     reach: &mut Reach,
 )
     requires { length hardware.now.memory ≤ 4096 }
-    ensures tables { GrowsBy tables.old tables.new (TablesFound (hardware_parts hardware.now) found) }
-    ensures reached { AddsReach reach.old reach.new (ThroughFound (hardware_parts hardware.now) device.now found) }
+    ensures tables { GrowsBy tables.old tables.new (TablesFound (board_parts hardware.now) found) }
+    ensures reached { AddsReach reach.old reach.new (ThroughFound (board_parts hardware.now) device.now found) }
 {
     if let Some(context) = found {
         survey_by_ats(hardware, device, context.en_ats, reach);
@@ -75,8 +70,8 @@ fn survey_access(made: Option<MadeAt>, reach: &mut Reach)
 }
 
 /// The accesses in flight.
-fn survey_flights(hardware: &Hardware, device: &Device, reach: &mut Reach)
-    ensures { AddsReach reach.old reach.new (IsInFlight (hardware_parts hardware.now) device.now.id) }
+fn survey_flights(hardware: &Board, device: &Device, reach: &mut Reach)
+    ensures { AddsReach reach.old reach.new (IsInFlight (board_parts hardware.now) device.now.id) }
 {
     for place in 0..MAX_IN_FLIGHT {
         survey_access(hardware.iommu.waiting_at(device.id, place), reach);
@@ -98,14 +93,14 @@ fn survey_bare(mode: DirectoryMode, reach: &mut Reach)
 
 /// All ways of the device, and the tables of the contexts that have the address spaces of its own.
 pub(crate) fn survey_device(
-    hardware: &Hardware,
+    hardware: &Board,
     device: &Device,
     tables: &mut FrameRow,
     reach: &mut Reach,
 )
     requires { length hardware.now.memory ≤ 4096 }
-    ensures tables { GrowsBy tables.old tables.new (TablesOfDevice (hardware_parts hardware.now) device.now.id) }
-    ensures reached { AddsReach reach.old reach.new (WayOf (hardware_parts hardware.now) device.now) }
+    ensures tables { GrowsBy tables.old tables.new (TablesOfDevice (board_parts hardware.now) device.now.id) }
+    ensures reached { AddsReach reach.old reach.new (WayOf (board_parts hardware.now) device.now) }
 {
     survey_flights(hardware, device, reach);
     survey_bare(hardware.iommu.registers().directory_mode(), reach);

@@ -3,7 +3,7 @@ ghost use Rattle.std.specs.Prelude.{◌≡◌, ◌<◌, option_map};
 ghost use Rattle.iom_base.specs.declared.ppn.Ppn.{Ppn};
 ghost use Rattle.iom_device_dir.specs.Located.{loaded_entry};
 ghost use Rattle.iom_device_dir.specs.Paths.{entry_place};
-ghost use Rattle.iom_hardware.specs.HardwareParts.{hardware_parts};
+ghost use Rattle.iom_board.specs.BoardParts.{board_parts};
 ghost use Rattle.iom_phys_mem.specs.Words.{word_at};
 ghost use Rattle.iom_registers.specs.Queues.{directory_root};
 ghost use Rattle.iom_table_survey.specs.Rows.{GrowsBy};
@@ -11,8 +11,8 @@ ghost use Rattle.iom_way_survey.specs.Directories.{next_page_of, IsOnPath, PathR
 
 use crate::contexts::device_at;
 use iom_base::{DeviceId, ENTRY_SIZE, PAGE_SIZE, Ppn};
+use iom_board::Board;
 use iom_device_dir::{NonLeafEntry, fits_directory};
-use iom_hardware::Hardware;
 use iom_phys_mem::{Bytes, Memory};
 use iom_registers::{DirectoryMode, Registers};
 use iom_table_survey::FrameRow;
@@ -79,8 +79,8 @@ fn root_of(registers: &Registers) -> Ppn
 }
 
 /// The paths of all devices that are plugged in.
-pub(crate) fn survey_directory(hardware: &Hardware, read: &mut FrameRow)
-    ensures { GrowsBy read.old read.new (DirectoryReads (hardware_parts hardware.now)) }
+pub(crate) fn survey_directory(hardware: &Board, read: &mut FrameRow)
+    ensures { GrowsBy read.old read.new (DirectoryReads (board_parts hardware.now)) }
 {
     let registers = hardware.iommu.registers();
     let root = root_of(registers);

@@ -1,14 +1,14 @@
 // What a context with EN_ATS lets through of a device.
 ghost use Rattle.std.specs.Prelude.{◌≡◌, ◌<◌, ℕ, length, slice_get, Some};
-ghost use Rattle.iom_hardware.specs.HardwareParts.{hardware_parts};
+ghost use Rattle.iom_board.specs.BoardParts.{board_parts};
 ghost use Rattle.iom_table_survey.specs.Reaches.{AddsReach};
 ghost use Rattle.iom_way_survey.specs.Found.{IsKeptAmong, AnswersWith, IsAnsweredAmong, IsInCache, LetsDevice};
 
 use iom_ats_cache::Entry;
 use iom_base::{DeviceId, DeviceKind};
+use iom_board::Board;
 use iom_device::Device;
 use iom_fabric::{Fabric, Message, OnLink, Translation};
-use iom_hardware::Hardware;
 use iom_table_survey::Reach;
 
 /// The entry at a place.
@@ -83,7 +83,7 @@ fn survey_cache(device: &Device, reach: &mut Reach)
 }
 
 /// What is let through of the device.
-pub(crate) fn survey_ats(hardware: &Hardware, device: &Device, reach: &mut Reach)
+pub(crate) fn survey_ats(hardware: &Board, device: &Device, reach: &mut Reach)
     ensures { AddsReach reach.old reach.new (LetsDevice hardware.now.fabric device.now) }
 {
     match device.kind {

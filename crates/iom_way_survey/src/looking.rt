@@ -1,7 +1,7 @@
 // A survey is made.
 ghost use Rattle.std.specs.Prelude.{◌≡◌, ◌≤◌, length, IfOk};
-ghost use Rattle.iom_hardware.specs.HardwareParts.{hardware_parts};
-ghost use Rattle.iom_hardware.specs.Sound.{IsSoundHardware};
+ghost use Rattle.iom_board.specs.BoardParts.{board_parts};
+ghost use Rattle.iom_board.specs.Sound.{IsSoundBoard};
 ghost use Rattle.iom_hardware_ways.specs.Scenes.{scene_of};
 ghost use Rattle.iom_way_survey.specs.Surveys.{is_id_among, IsOfNothing, Surveys, InventsNone};
 
@@ -10,7 +10,7 @@ use crate::findings::Survey;
 use crate::queues::{survey_faults, survey_queue};
 use crate::survey::survey_devices;
 use iom_base::{DeviceId, MAX_DEVICES};
-use iom_hardware::Hardware;
+use iom_board::Board;
 use iom_table_survey::FrameRow;
 use std::alloc::{AllocError, Global};
 
@@ -29,11 +29,11 @@ impl Survey {
     /// Looks at the hardware, of which software entrusts these devices with all memory. What was found before is forgotten.
     /// The hardware has at most 4,096 frames, and is sound, as each of its calls leaves it. Nothing of it changes, and no
     /// memory is taken.
-    pub fn look(&mut self, hardware: &Hardware, trusted: &[DeviceId])
+    pub fn look(&mut self, hardware: &Board, trusted: &[DeviceId])
         requires size { length hardware.now.memory ≤ 4096 }
-        requires sound { IsSoundHardware (hardware_parts hardware.now) hardware.now.events }
-        ensures missed { Surveys self.new (scene_of (is_id_among trusted.now) (hardware_parts hardware.now)) }
-        ensures invented { InventsNone self.new (scene_of (is_id_among trusted.now) (hardware_parts hardware.now)) }
+        requires sound { IsSoundBoard (board_parts hardware.now) hardware.now.events }
+        ensures missed { Surveys self.new (scene_of (is_id_among trusted.now) (board_parts hardware.now)) }
+        ensures invented { InventsNone self.new (scene_of (is_id_among trusted.now) (board_parts hardware.now)) }
     {
         hardware.facts();
         self.devices.clear();

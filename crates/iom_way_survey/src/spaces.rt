@@ -1,7 +1,7 @@
 // What is reached in an address space: by what is cached of it, and by the tables of each context that has it.
 ghost use Rattle.std.specs.Prelude.{◌≡◌, ◌<◌, ◌≤◌, ℕ, length, slice_get, Some};
 ghost use Rattle.iom_device.specs.declared.device.Device.{Device};
-ghost use Rattle.iom_hardware.specs.HardwareParts.{hardware_parts};
+ghost use Rattle.iom_board.specs.BoardParts.{board_parts};
 ghost use Rattle.iom_table_survey.specs.Reaches.{AddsReach};
 ghost use Rattle.iom_table_survey.specs.Rows.{GrowsBy};
 ghost use Rattle.iom_way_survey.specs.Found.{FoundTable, FoundLeaf, DeviceTable, DeviceLeaf, SpaceTable, SpaceLeaf, CachedLeadsTo, IsCachedIn, InSpace};
@@ -9,7 +9,7 @@ ghost use Rattle.iom_tlb.specs.declared.cached_page.CachedPage.{CachedPage};
 
 use crate::contexts::{cached_in, device_at, stored_beside, survey_found};
 use iom_base::DeviceId;
-use iom_hardware::Hardware;
+use iom_board::Board;
 use iom_table_survey::{FrameRow, Reach};
 use iom_tlb::{CachedPage, Ioatc, PLACES, Space};
 
@@ -36,15 +36,15 @@ fn survey_translations(cache: &Ioatc, space: Space, reach: &mut Reach)
 
 /// The tables of the contexts that a request of the device may find, where these have the space.
 fn survey_contexts(
-    hardware: &Hardware,
+    hardware: &Board,
     id: DeviceId,
     space: Space,
     tables: &mut FrameRow,
     reach: &mut Reach,
 )
     requires { length hardware.now.memory ≤ 4096 }
-    ensures tables { GrowsBy tables.old tables.new (DeviceTable (hardware_parts hardware.now) space id) }
-    ensures leaves { AddsReach reach.old reach.new (DeviceLeaf (hardware_parts hardware.now) space id) }
+    ensures tables { GrowsBy tables.old tables.new (DeviceTable (board_parts hardware.now) space id) }
+    ensures leaves { AddsReach reach.old reach.new (DeviceLeaf (board_parts hardware.now) space id) }
 {
     let cached = cached_in(hardware, id);
     survey_found(&hardware.memory, cached, space, tables, reach);
@@ -53,10 +53,10 @@ fn survey_contexts(
 }
 
 /// The same of each device.
-fn survey_all_contexts(hardware: &Hardware, space: Space, tables: &mut FrameRow, reach: &mut Reach)
+fn survey_all_contexts(hardware: &Board, space: Space, tables: &mut FrameRow, reach: &mut Reach)
     requires { length hardware.now.memory ≤ 4096 }
-    ensures tables { GrowsBy tables.old tables.new (SpaceTable (hardware_parts hardware.now) space) }
-    ensures leaves { AddsReach reach.old reach.new (SpaceLeaf (hardware_parts hardware.now) space) }
+    ensures tables { GrowsBy tables.old tables.new (SpaceTable (board_parts hardware.now) space) }
+    ensures leaves { AddsReach reach.old reach.new (SpaceLeaf (board_parts hardware.now) space) }
 {
     for place in 0..hardware.devices.len() {
         let device = device_at(hardware, place);
@@ -65,15 +65,10 @@ fn survey_all_contexts(hardware: &Hardware, space: Space, tables: &mut FrameRow,
 }
 
 /// What is reached in the space, and the tables that are walked for it.
-pub(crate) fn survey_space(
-    hardware: &Hardware,
-    space: Space,
-    tables: &mut FrameRow,
-    reach: &mut Reach,
-)
+pub(crate) fn survey_space(hardware: &Board, space: Space, tables: &mut FrameRow, reach: &mut Reach)
     requires { length hardware.now.memory ≤ 4096 }
-    ensures tables { GrowsBy tables.old tables.new (SpaceTable (hardware_parts hardware.now) space) }
-    ensures reached { AddsReach reach.old reach.new (InSpace (hardware_parts hardware.now) space) }
+    ensures tables { GrowsBy tables.old tables.new (SpaceTable (board_parts hardware.now) space) }
+    ensures reached { AddsReach reach.old reach.new (InSpace (board_parts hardware.now) space) }
 {
     survey_translations(hardware.iommu.translations(), space, reach);
     survey_all_contexts(hardware, space, tables, reach);

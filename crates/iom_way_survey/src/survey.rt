@@ -1,7 +1,7 @@
 ghost use Rattle.std.specs.Prelude.{◌≡◌, ◌≤◌, ◌<◌, ℕ, true, false, [], length, slice_get, vec_capacity, ◌==◌, option_map, IfSome, IfNone, Some};
 ghost use Rattle.std.specs.List.{find};
 ghost use Rattle.iom_device.specs.declared.device.Device.{Device};
-ghost use Rattle.iom_hardware.specs.HardwareParts.{hardware_parts};
+ghost use Rattle.iom_board.specs.BoardParts.{board_parts};
 ghost use Rattle.iom_reach.specs.Safe.{IsSafe};
 ghost use Rattle.iom_reach.specs.Scene.{HardwareScene};
 ghost use Rattle.iom_table_survey.specs.Rows.{row_has, GrowsBy, StandInBoth};
@@ -14,8 +14,8 @@ use crate::contexts::device_at;
 use crate::devices::survey_device;
 use crate::findings::{Conflict, DeviceReach, Survey};
 use iom_base::{AccessKind, DeviceId};
+use iom_board::Board;
 use iom_device::Device;
-use iom_hardware::Hardware;
 use iom_table_survey::{FrameRow, Reach};
 
 /// Whether the id is one of these.
@@ -27,14 +27,14 @@ fn is_among(ids: &[DeviceId], id: DeviceId) -> bool
 
 /// All ways of a device; the tables that are walked for it go into `read`.
 fn survey_one(
-    hardware: &Hardware,
+    hardware: &Board,
     device: &Device,
     trusted: &[DeviceId],
     read: &mut FrameRow,
 ) -> DeviceReach
     requires { length hardware.now.memory ≤ 4096 }
-    ensures row { IsReachRow (hardware_parts hardware.now) trusted.now result device.now }
-    ensures tables { GrowsBy read.old read.new (TablesOfDevice (hardware_parts hardware.now) device.now.id) }
+    ensures row { IsReachRow (board_parts hardware.now) trusted.now result device.now }
+    ensures tables { GrowsBy read.old read.new (TablesOfDevice (board_parts hardware.now) device.now.id) }
 {
     let mut reach = Reach::new();
     survey_device(hardware, device, read, &mut reach);
@@ -47,7 +47,7 @@ fn survey_one(
 
 /// All ways of all devices.
 pub(crate) fn survey_devices(
-    hardware: &Hardware,
+    hardware: &Board,
     trusted: &[DeviceId],
     rows: &mut Vec<DeviceReach>,
     read: &mut FrameRow,
@@ -56,8 +56,8 @@ pub(crate) fn survey_devices(
     requires few { length hardware.now.devices.items ≤ 16 }
     requires room { 16 ≤ vec_capacity rows.old }
     requires empty { rows.old.items ≡ [] }
-    ensures rows { AreRowsOf (hardware_parts hardware.now) trusted.now rows.new.items }
-    ensures tables { GrowsBy read.old read.new (SomeTable (hardware_parts hardware.now)) }
+    ensures rows { AreRowsOf (board_parts hardware.now) trusted.now rows.new.items }
+    ensures tables { GrowsBy read.old read.new (SomeTable (board_parts hardware.now)) }
     ensures room { 16 ≤ vec_capacity rows.new }
 {
     for place in 0..hardware.devices.len() {

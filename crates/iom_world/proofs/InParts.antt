@@ -15,19 +15,19 @@ use Rattle.iom_fabric.specs.declared.fabric.Repeat.{Repeat}
 use Rattle.iom_fabric.specs.declared.message.Message.{Message}
 use Rattle.iom_fabric.specs.declared.message.Message.TheVariants as sent
 use Rattle.iom_fabric.specs.declared.message.Translation.{Translation}
-use Rattle.iom_hardware.specs.ByDevice.{ByDevice}
-use Rattle.iom_hardware.specs.Commits as hardware
-use Rattle.iom_hardware.specs.declared.answers.CacheReply.{CacheReply}
-use Rattle.iom_hardware.specs.declared.answers.CacheReply.TheVariants.{Miss, Replied}
-use Rattle.iom_hardware.specs.declared.answers.Delivered.{Delivered}
-use Rattle.iom_hardware.specs.declared.answers.Delivered.TheVariants as delivered
-use Rattle.iom_hardware.specs.Deliveries.{TakesReply, MessageArrives, MessageArrivesIfAny, DeliversAtPlace}
-use Rattle.iom_hardware.specs.HardwareParts.{HardwareParts}
-use Rattle.iom_hardware.specs.Messages.{AsksTranslation, ClaimsCompletion, LosesMessage, CopiesMessage}
+use Rattle.iom_board.specs.ByDevice.{ByDevice}
+use Rattle.iom_board.specs.Commits as hardware
+use Rattle.iom_board.specs.declared.answers.CacheReply.{CacheReply}
+use Rattle.iom_board.specs.declared.answers.CacheReply.TheVariants.{Miss, Replied}
+use Rattle.iom_board.specs.declared.answers.Delivered.{Delivered}
+use Rattle.iom_board.specs.declared.answers.Delivered.TheVariants as delivered
+use Rattle.iom_board.specs.Deliveries.{TakesReply, MessageArrives, MessageArrivesIfAny, DeliversAtPlace}
+use Rattle.iom_board.specs.BoardParts.{BoardParts}
+use Rattle.iom_board.specs.Messages.{AsksTranslation, ClaimsCompletion, LosesMessage, CopiesMessage}
 use Rattle.iom_iommu.specs.OwnIommu.{Iommu}
-use Rattle.iom_hardware.specs.Plugging.{PutsDiskIntoDevice}
-use Rattle.iom_hardware.specs.Requests.{Replies, RequestsAccess, RequestsTranslatedAccess}
-use Rattle.iom_hardware.specs.ThroughCache.{GoesByCachedFrame, GoesByCache, RequestsAccessThroughCache}
+use Rattle.iom_board.specs.Plugging.{PutsDiskIntoDevice}
+use Rattle.iom_board.specs.Requests.{Replies, RequestsAccess, RequestsTranslatedAccess}
+use Rattle.iom_board.specs.ThroughCache.{GoesByCachedFrame, GoesByCache, RequestsAccessThroughCache}
 use Rattle.iom_inflight.specs.declared.made.MadeAt.{MadeAt}
 use Rattle.iom_iommu.specs.declared.fetched.Fetched.{Fetched}
 use Rattle.iom_iommu.specs.declared.reply.Reply.{Reply}
@@ -53,11 +53,11 @@ use Rattle.iom_world.specs.OnHardware.{hardware_of, told_unless, cache_reply_tol
 -- parts are their hardware and their driver
 same_parts : (old new : Parts) → hardware_of new ≡ hardware_of old → new.driver ≡ old.driver → new ≡ old
 same_parts old new hardware driver =
-    ap (λ (h : HardwareParts). record { memory = h.memory; iommu = h.iommu; driver = new.driver; devices = h.devices; fabric = h.fabric }) hardware
+    ap (λ (h : BoardParts). record { memory = h.memory; iommu = h.iommu; driver = new.driver; devices = h.devices; fabric = h.fabric }) hardware
     ∙ ap (λ d. record { memory = old.memory; iommu = old.iommu; driver = d; devices = old.devices; fabric = old.fabric }) driver
 
 -- the hardware is this, and the driver stays
-parts_with : (old new : Parts) (parts : HardwareParts) → hardware_of new ≡ parts → new.driver ≡ old.driver
+parts_with : (old new : Parts) (parts : BoardParts) → hardware_of new ≡ parts → new.driver ≡ old.driver
     → new ≡ record { memory = parts.memory; iommu = parts.iommu; driver = old.driver; devices = parts.devices; fabric = parts.fabric }
 parts_with old new parts hardware driver =
     same_parts (record { memory = parts.memory; iommu = parts.iommu; driver = old.driver; devices = parts.devices; fabric = parts.fabric }) new hardware driver
@@ -71,7 +71,7 @@ block_device devices id able = by (device_with devices id) refl able.1
     by (Some device) at is = let same : device.kind ≡ able.0 = cc in (device, record { there = at; able = ap is_block_device same ∙ able.2 })
 
 -- the disks at hand, once one is put in
-pub disks_left : (disks left : List ℕ) (old new : HardwareParts) (id disk : ℕ) (answer : Result (Unit {0}) Refusal) → PutsDiskIntoDevice disks old id disk answer new left
+pub disks_left : (disks left : List ℕ) (old new : BoardParts) (id disk : ℕ) (answer : Result (Unit {0}) Refusal) → PutsDiskIntoDevice disks old id disk answer new left
     → left ≡ disks_after (events.Medium id disk) (told_of answer) disks
 disks_left disks left old new id disk answer (inl (none, kept)) = kept ∙ sym (ap (λ a. disks_after (events.Medium id disk) (told_of a) disks) none.answered)
 disks_left disks left old new id disk answer (inr (inl (wrong, kept))) = kept ∙ sym (ap (λ a. disks_after (events.Medium id disk) (told_of a) disks) wrong.answered)
@@ -80,7 +80,7 @@ disks_left disks left old new id disk answer (inr (inr (inr takes))) = takes.tak
 
 module _ (old new : Parts) (driver : new.driver ≡ old.driver) where
   -- a call of a device
-  by_device : {A : Type 0} (can : DeviceKind → Bool) (Call : HardwareParts → A → HardwareParts → Type 0) (Effect : Outcome → Type 0) (told_as : A → Outcome) (id : ℕ) (answer : Result A Refusal)
+  by_device : {A : Type 0} (can : DeviceKind → Bool) (Call : BoardParts → A → BoardParts → Type 0) (Effect : Outcome → Type 0) (told_as : A → Outcome) (id : ℕ) (answer : Result A Refusal)
       → ((given : A) → Call (hardware_of old) given (hardware_of new) → Effect (told_as given))
       → ByDevice can Call (hardware_of old) id answer (hardware_of new)
       → IsUnknown old id (told_unless told_as answer) new ⊎ IsUnable can old id (told_unless told_as answer) new ⊎ (IsAble can old.devices id × Effect (told_unless told_as answer))

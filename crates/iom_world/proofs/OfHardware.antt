@@ -7,9 +7,9 @@ use Rattle.iom_driver.specs.State.{DriverState}
 use Rattle.iom_fabric.specs.declared.fabric.OnLink.{OnLink}
 use Rattle.iom_fabric.specs.declared.message.Message.{Message}
 use Rattle.iom_fabric.specs.declared.message.Message.TheVariants as sent
-use Rattle.iom_hardware.specs.declared.hardware.Hardware.{Hardware}
-use Rattle.iom_hardware.specs.Commits.{CommitsOldestAccess, StandWhereMade}
-use Rattle.iom_hardware.specs.Sound.{IsOfPlugged, IsSoundHardware}
+use Rattle.iom_board.specs.declared.board.Board.{Board}
+use Rattle.iom_board.specs.Commits.{CommitsOldestAccess, StandWhereMade}
+use Rattle.iom_board.specs.Sound.{IsOfPlugged, IsSoundBoard}
 use Rattle.iom_inflight.specs.declared.made.MadeAt.{MadeAt}
 use Rattle.iom_iommu.specs.Parts.{flights_of}
 use Rattle.iom_machine.specs.declared.outcome.Outcome.{Outcome}
@@ -31,7 +31,7 @@ use Rattle.iom_world.proofs.InParts.{uncommitted, committed}
 use Rattle.iom_world_refinement.proofs.EventLemmas.{sound_counted}
 
 -- hardware, with a driver
-abbrev pub with_driver : Hardware → DriverState → Parts
+abbrev pub with_driver : Board → DriverState → Parts
 with_driver hardware driver =
     record { memory = hardware.memory; iommu = hardware.iommu; driver = driver; devices = hardware.devices.items; fabric = hardware.fabric }
 
@@ -50,7 +50,7 @@ of_plugged is_plugged (sent.InvReq serial range) asked = tt
 of_plugged is_plugged (sent.InvDone serial) asked = tt
 
 -- the hardware of a sound world is sound
-pub hardware_sound : (parts : Parts) (events : ℕ) → AreSound parts events → IsSoundHardware (hardware_of parts) events
+pub hardware_sound : (parts : Parts) (events : ℕ) → AreSound parts events → IsSoundBoard (hardware_of parts) events
 hardware_sound parts events sound = record {
   size = sound.size;
   own_ids = sound.known.own_ids;

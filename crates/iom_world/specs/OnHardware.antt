@@ -3,13 +3,13 @@
 use Rattle.std.specs.Prelude.{Bool, Result, Ok, Err, if◌then◌else◌}
 use Rattle.iom_base.specs.declared.refusal.Refusal.{Refusal}
 use Rattle.iom_base.specs.declared.refusal.Refusal.TheVariants.{FrameOutOfRange}
-use Rattle.iom_hardware.specs.declared.answers.CacheReply.{CacheReply}
-use Rattle.iom_hardware.specs.declared.answers.CacheReply.TheVariants.{Miss, Replied}
-use Rattle.iom_hardware.specs.declared.answers.NoPlace.{NoPlace}
-use Rattle.iom_hardware.specs.declared.answers.NoPlace.TheVariants.{BadSpan, OutsideMemory}
-use Rattle.iom_hardware.specs.declared.answers.Delivered.{Delivered}
-use Rattle.iom_hardware.specs.declared.answers.Delivered.TheVariants as delivered
-use Rattle.iom_hardware.specs.HardwareParts.{HardwareParts}
+use Rattle.iom_board.specs.declared.answers.CacheReply.{CacheReply}
+use Rattle.iom_board.specs.declared.answers.CacheReply.TheVariants.{Miss, Replied}
+use Rattle.iom_board.specs.declared.answers.NoPlace.{NoPlace}
+use Rattle.iom_board.specs.declared.answers.NoPlace.TheVariants.{BadSpan, OutsideMemory}
+use Rattle.iom_board.specs.declared.answers.Delivered.{Delivered}
+use Rattle.iom_board.specs.declared.answers.Delivered.TheVariants as delivered
+use Rattle.iom_board.specs.BoardParts.{BoardParts}
 use Rattle.iom_machine.specs.declared.outcome.Outcome.{Outcome}
 use Rattle.iom_machine.specs.declared.outcome.Outcome.TheVariants as outcome
 use Rattle.iom_world_effects.specs.Deliveries.{taken_told}
@@ -17,7 +17,7 @@ use Rattle.iom_world_effects.specs.Parts.{Parts}
 use Rattle.iom_world_effects.specs.Requests.{reply_told_of}
 
 -- all of it but the driver
-abbrev pub hardware_of : Parts → HardwareParts
+abbrev pub hardware_of : Parts → BoardParts
 hardware_of parts = record { memory = parts.memory; iommu = parts.iommu; devices = parts.devices; fabric = parts.fabric }
 
 -- what a device's call is told as, by what comes of it where it isn't refused

@@ -1,4 +1,4 @@
-//! The world: hardware (`iom_hardware`) and its driver, as one value that takes events and answers each with one
+//! The world: hardware (`iom_board`) and its driver, as one value that takes events and answers each with one
 //! outcome. An event either goes to the hardware, or is a call of the driver, which is lent the hardware's memory and
 //! registers.
 //!

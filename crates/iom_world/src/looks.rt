@@ -8,13 +8,13 @@ ghost use Rattle.iom_table_frames.specs.Marks.{is_marked};
 
 use crate::world::World;
 use iom_base::DeviceId;
+use iom_board::Board;
 use iom_driver::Driver;
-use iom_hardware::Hardware;
 use iom_inflight::MadeAt;
 
 impl World {
     /// Its hardware, to be looked at.
-    pub fn hardware(&self) -> &Hardware
+    pub fn hardware(&self) -> &Board
         ensures { result.now ≡ self.now.hardware }
     {
         &self.hardware

@@ -12,8 +12,8 @@ use crate::told::Told;
 use crate::world::World;
 use iom_ats_cache::Taken;
 use iom_base::{DeviceId, Refusal};
+use iom_board::Delivered;
 use iom_fabric::{PageNumber, Repeat};
-use iom_hardware::Delivered;
 use iom_world_effects::laws_below;
 
 impl Told {

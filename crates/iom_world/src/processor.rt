@@ -10,7 +10,7 @@ use crate::kept_outcomes::KeptOutcomes;
 use crate::told::{Told, tell_shown};
 use crate::world::World;
 use iom_base::{PAGE_SIZE, Refusal, Span};
-use iom_hardware::NoPlace;
+use iom_board::NoPlace;
 use iom_machine::Outcome;
 use iom_phys_mem::Bytes;
 use iom_world_effects::laws_below;

@@ -2,7 +2,7 @@
 ghost use Rattle.std.specs.Prelude.{◌≡◌, ◌+◌, ◌<◌, ◌^◌};
 ghost use Rattle.iom_base.specs.Accesses.{read_of, write_of};
 ghost use Rattle.iom_base.specs.DeviceKinds.{sends_untranslated};
-ghost use Rattle.iom_hardware.specs.Senders.{untranslated_by};
+ghost use Rattle.iom_board.specs.Senders.{untranslated_by};
 ghost use Rattle.iom_inflight.specs.Sound.{CarriesBytes};
 ghost use Rattle.iom_iommu.specs.Requests.{access_of};
 ghost use Rattle.iom_world_effects.specs.Requests.{AsksAccess, AsksTranslated, reply_told_of};
@@ -13,7 +13,7 @@ ghost use Rattle.iom_world.specs.Told.{outcome_of};
 use crate::told::Told;
 use crate::world::World;
 use iom_base::{AccessKind, DeviceId, Refusal};
-use iom_hardware::Sender;
+use iom_board::Sender;
 use iom_iommu::Reply;
 use iom_world_effects::laws_below;
 

@@ -8,9 +8,9 @@ ghost use Rattle.iom_world.specs.PowerOn.{WorldBeginsAt, WorldBeginsFrom};
 
 use crate::world::World;
 use iom_base::MAX_DEVICES;
+use iom_board::Board;
 use iom_driver::Driver;
 use iom_fabric::Fabric;
-use iom_hardware::Hardware;
 use iom_iommu::Iommu;
 use iom_phys_mem::{MemError, Memory};
 use iom_tlb::Ioatc;
@@ -74,7 +74,7 @@ impl World {
         };
         driver.start_from(first_fence, &mut memory, &mut iommu);
         let fabric = Fabric::new();
-        let hardware = Hardware {
+        let hardware = Board {
             memory,
             iommu,
             devices,

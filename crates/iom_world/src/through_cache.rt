@@ -3,7 +3,7 @@
 ghost use Rattle.std.specs.Prelude.{◌≡◌, ◌+◌, ◌<◌, ◌^◌};
 ghost use Rattle.iom_base.specs.Accesses.{read_of, write_of};
 ghost use Rattle.iom_base.specs.DeviceKinds.{sends_through_cache};
-ghost use Rattle.iom_hardware.specs.Senders.{cached_by};
+ghost use Rattle.iom_board.specs.Senders.{cached_by};
 ghost use Rattle.iom_inflight.specs.Sound.{CarriesBytes};
 ghost use Rattle.iom_iommu.specs.Requests.{access_of};
 ghost use Rattle.iom_world_effects.specs.ThroughCache.{DeviceAsksThroughCache};
@@ -14,7 +14,7 @@ ghost use Rattle.iom_world.specs.Told.{outcome_of};
 use crate::told::Told;
 use crate::world::World;
 use iom_base::{AccessKind, DeviceId, Refusal};
-use iom_hardware::{CacheReply, Sender};
+use iom_board::{CacheReply, Sender};
 use iom_world_effects::laws_below;
 
 impl Told {

@@ -1,5 +1,5 @@
 use Rattle.std.proofs.Common.{Option, subst, sym}
-use Rattle.iom_hardware.specs.HardwareParts.{hardware_parts}
+use Rattle.iom_board.specs.BoardParts.{board_parts}
 use Rattle.iom_table_survey.specs.Reaches.{AddsReach}
 use Rattle.iom_table_survey.specs.Rows.{GrowsBy}
 use Rattle.iom_tlb.specs.declared.space.Space.{Space}
@@ -8,7 +8,7 @@ use Rattle.iom_way_survey.proofs.devices.survey_by_space.Goals as goal
 
 pub returns-in-Some : goal.returns-in-Some
 returns-in-Some c =
-    let parts = hardware_parts c.args.hardware.now in
+    let parts = board_parts c.args.hardware.now in
     record {
       tables = subst (λ (o : Option Space). GrowsBy c.args.tables.now c.survey_space.new.tables (TablesThrough parts o)) (sym c.in-Some.is) c.survey_space.ensures.tables;
       reached = subst (λ (o : Option Space). AddsReach c.args.reach.now c.survey_space.new.reach (ThroughSpace parts o)) (sym c.in-Some.is) c.survey_space.ensures.reached;

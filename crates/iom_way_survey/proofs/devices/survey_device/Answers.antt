@@ -1,6 +1,6 @@
 use Rattle.std.proofs.Common.{◌≡◌, ◌⊎◌, ◌∙◌, inr, Option, subst, ap}
 use Rattle.iom_device_dir.specs.declared.context.Context.{Context as DeviceContext}
-use Rattle.iom_hardware.specs.HardwareParts.{hardware_parts}
+use Rattle.iom_board.specs.BoardParts.{board_parts}
 use Rattle.iom_registers.specs.Queues.{directory_mode}
 use Rattle.iom_registers.specs.declared.directory.DirectoryMode.{DirectoryMode}
 use Rattle.iom_registers.specs.declared.directory.DirectoryMode.TheVariants.{Bare}
@@ -13,7 +13,7 @@ use Rattle.iom_way_survey.proofs.devices.survey_device.Goals as goal
 
 pub returns : goal.returns
 returns c =
-    let parts = hardware_parts c.args.hardware.now in
+    let parts = board_parts c.args.hardware.now in
     let device = c.args.device.now in
     let start = c.args.reach.now in
     let one = c.survey_flights.new.reach in

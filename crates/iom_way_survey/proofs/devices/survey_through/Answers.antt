@@ -1,5 +1,5 @@
 use Rattle.std.proofs.Common.{sym, subst}
-use Rattle.iom_hardware.specs.HardwareParts.{hardware_parts}
+use Rattle.iom_board.specs.BoardParts.{board_parts}
 use Rattle.iom_table_survey.specs.Reaches.{AddsReach}
 use Rattle.iom_table_survey.specs.Rows.{GrowsBy}
 use Rattle.iom_table_survey.proofs.AddLemmas.{reach_then}
@@ -8,7 +8,7 @@ use Rattle.iom_way_survey.proofs.devices.survey_through.Goals as goal
 
 pub returns-in-Some : goal.returns-in-Some
 returns-in-Some c =
-    let parts = hardware_parts c.args.hardware.now in
+    let parts = board_parts c.args.hardware.now in
     let own = c.in-Some.context in
     record {
       tables = subst (λ o. GrowsBy c.args.tables.now c.survey_by_space.new.tables (TablesFound parts o)) (sym c.in-Some.is)

@@ -1,6 +1,6 @@
 use Rattle.std.proofs.Common.{Option, subst}
 use Rattle.iom_device_dir.specs.declared.context.Context.{Context as DeviceContext}
-use Rattle.iom_hardware.specs.HardwareParts.{hardware_parts}
+use Rattle.iom_board.specs.BoardParts.{board_parts}
 use Rattle.iom_table_survey.specs.Reaches.{AddsReach}
 use Rattle.iom_table_survey.specs.Rows.{GrowsBy}
 use Rattle.iom_way_survey.specs.Found.{FoundTable, FoundLeaf, IsBeside, cached_found, stored_found}
@@ -9,7 +9,7 @@ use Rattle.iom_way_survey.proofs.spaces.survey_contexts.Goals as goal
 
 pub returns : goal.returns
 returns c =
-    let parts = hardware_parts c.args.hardware.now in
+    let parts = board_parts c.args.hardware.now in
     let memory = c.args.hardware.now.memory in
     let cached : Option DeviceContext = cached_found parts c.args.id in
     let stored : Option DeviceContext = stored_found parts c.args.id in

@@ -1,5 +1,5 @@
 use Rattle.std.proofs.Common.{subst}
-use Rattle.iom_hardware.specs.HardwareParts.{hardware_parts}
+use Rattle.iom_board.specs.BoardParts.{board_parts}
 use Rattle.iom_iommu.specs.Parts.{translation_cache_of}
 use Rattle.iom_table_survey.specs.Reaches.{AddsReach}
 use Rattle.iom_table_survey.proofs.AddLemmas.{reach_then}
@@ -8,7 +8,7 @@ use Rattle.iom_way_survey.proofs.spaces.survey_space.Goals as goal
 
 pub returns : goal.returns
 returns c =
-    let parts = hardware_parts c.args.hardware.now in
+    let parts = board_parts c.args.hardware.now in
     record {
       tables = c.survey_all_contexts.ensures.tables;
       reached = reach_then c.args.reach.now c.survey_translations.new.reach c.survey_all_contexts.new.reach (IsCachedIn (translation_cache_of parts.iommu) c.args.space) (SpaceLeaf parts c.args.space)

@@ -1,6 +1,6 @@
 use Rattle.std.proofs.Common.{◌≡◌, ◌<◌, ℕ, length, slice_get, Some, subst, arith}
 use Rattle.iom_device.specs.declared.device.Device.{Device}
-use Rattle.iom_hardware.specs.HardwareParts.{hardware_parts}
+use Rattle.iom_board.specs.BoardParts.{board_parts}
 use Rattle.iom_table_survey.specs.Rows.{GrowsBy}
 use Rattle.iom_table_survey.proofs.AddLemmas.{adds_none_yet, adds_next}
 use Rattle.iom_way_survey.specs.Found.{TablesOfDevice}
@@ -11,14 +11,14 @@ use Rattle.iom_way_survey.proofs.survey.survey_devices.Goals as goal
 
 pub loop-place-init : goal.loop-place-init
 loop-place-init c = record {
-  rows = no_rows (hardware_parts c.args.hardware.now) c.args.trusted.now c.args.rows.now.items c.requires.empty;
-  tables = adds_none_yet c.args.read.now (λ k f. (device : Device) × (slice_get c.args.hardware.now.devices.items k ≡ Some device) × TablesOfDevice (hardware_parts c.args.hardware.now) device.id f);
+  rows = no_rows (board_parts c.args.hardware.now) c.args.trusted.now c.args.rows.now.items c.requires.empty;
+  tables = adds_none_yet c.args.read.now (λ k f. (device : Device) × (slice_get c.args.hardware.now.devices.items k ≡ Some device) × TablesOfDevice (board_parts c.args.hardware.now) device.id f);
   room = c.requires.room;
 }
 
 pub loop-place-preserved : goal.loop-place-preserved
 loop-place-preserved c =
-    let parts = hardware_parts c.args.hardware.now in
+    let parts = board_parts c.args.hardware.now in
     let devices = c.args.hardware.now.devices.items in
     let here = c.device_at-device.ensures in
     let items = pushed_items _ _ _ c.push.result c.unwrap.result c.unwrap.ensures c.push.ensures.items in
@@ -32,7 +32,7 @@ loop-place-preserved c =
 
 pub returns : goal.returns
 returns c =
-    let parts = hardware_parts c.args.hardware.now in
+    let parts = board_parts c.args.hardware.now in
     let devices = c.args.hardware.now.devices.items in
     let last : c.loop-place.place ≡ length devices = omega arith in
     record {

@@ -1,7 +1,7 @@
 use Rattle.std.proofs.Common.{◌≡◌, ◌<◌, ◌≤◌, ℕ, slice_get, Some}
 use Rattle.std.specs.Prelude.{vec_capacity}
 use Rattle.iom_device.specs.declared.device.Device.{Device}
-use Rattle.iom_hardware.specs.HardwareParts.{hardware_parts}
+use Rattle.iom_board.specs.BoardParts.{board_parts}
 use Rattle.iom_table_survey.specs.Rows.{GrowsBy}
 use Rattle.iom_way_survey.specs.Found.{TablesOfDevice}
 use Rattle.iom_way_survey.specs.Surveys.{HaveRows}
@@ -10,7 +10,7 @@ use Rattle.iom_way_survey.proofs.survey.survey_devices.Given as goal
 -- the devices before this one have their rows
 abbrev pub invariant-loop-place : goal.invariant-loop-place
 invariant-loop-place l = record {
-  rows : HaveRows (hardware_parts l.hardware) l.trusted l.rows.items l.place;
-  tables : GrowsBy l.fn.read l.read (λ f. (k : ℕ) × (k < l.place) × ((device : Device) × (slice_get l.hardware.devices.items k ≡ Some device) × TablesOfDevice (hardware_parts l.hardware) device.id f));
+  rows : HaveRows (board_parts l.hardware) l.trusted l.rows.items l.place;
+  tables : GrowsBy l.fn.read l.read (λ f. (k : ℕ) × (k < l.place) × ((device : Device) × (slice_get l.hardware.devices.items k ≡ Some device) × TablesOfDevice (board_parts l.hardware) device.id f));
   room : 16 ≤ vec_capacity l.rows;
 }

@@ -1,6 +1,6 @@
 use Rattle.std.proofs.Common.{refl}
 use Rattle.iom_base.specs.declared.access.AccessKind.{AccessKind}
-use Rattle.iom_hardware.specs.HardwareParts.{hardware_parts}
+use Rattle.iom_board.specs.BoardParts.{board_parts}
 use Rattle.iom_table_survey.specs.Reaches.{frames_by}
 use Rattle.iom_table_survey.proofs.AddLemmas.{of_none}
 use Rattle.iom_way_survey.specs.Found.{WayOf}
@@ -11,7 +11,7 @@ returns c = record {
   row = record {
     id = refl;
     is_trusted = c.is_among.ensures;
-    reach = λ (kind : AccessKind). of_none (frames_by c.new-reach.result kind) (frames_by c.survey_device.new.reach kind) (WayOf (hardware_parts c.args.hardware.now) c.args.device.now kind)
+    reach = λ (kind : AccessKind). of_none (frames_by c.new-reach.result kind) (frames_by c.survey_device.new.reach kind) (WayOf (board_parts c.args.hardware.now) c.args.device.now kind)
         (c.new-reach.ensures kind) (c.survey_device.ensures.reached kind);
   };
   tables = c.survey_device.ensures.tables;

@@ -1,5 +1,5 @@
 use Rattle.iom_registers.specs.Places.{register_at}
-use Rattle.iom_hardware.specs.HardwareParts.{hardware_parts}
+use Rattle.iom_board.specs.BoardParts.{board_parts}
 use Rattle.iom_hardware_alone_tests.proofs.Written.{written_sound}
 use Rattle.iom_hardware_alone_tests.proofs.machine.Machine.write.Goals as goal
 
@@ -7,6 +7,6 @@ pub invariant_of-self : goal.invariant_of-self
 invariant_of-self g c =
     let h = c.args.self.now.hardware in
     record {
-      sound = written_sound c.software_keeps_sound.ensures.keeps c.software_keeps_sound.ensures.writes (hardware_parts h) h.events c.args.value (register_at c.args.offset c.width_at.result)
+      sound = written_sound c.software_keeps_sound.ensures.keeps c.software_keeps_sound.ensures.writes (board_parts h) h.events c.args.value (register_at c.args.offset c.width_at.result)
           c.write-written.new.self c.args.self.now.sound c.write-written.ensures.left;
     }

@@ -3,7 +3,7 @@ use Rattle.std.proofs.lemmas.Bool.Decides.{eqb_tells}
 use Rattle.std.proofs.lemmas.Option.{slice_get_within, slice_get_read}
 use Rattle.iom_base.specs.declared.access.AccessKind.{AccessKind}
 use Rattle.iom_device.specs.declared.device.Device.{Device}
-use Rattle.iom_hardware.specs.HardwareParts.{hardware_parts}
+use Rattle.iom_board.specs.BoardParts.{board_parts}
 use Rattle.iom_reach.specs.Ways.{Way}
 use Rattle.iom_way_survey.specs.Surveys.{is_id_among}
 use Rattle.iom_hardware_session.specs.Good.{scene_in}
@@ -13,7 +13,7 @@ use Rattle.iom_hardware_session.proofs.state.Session.first_way_to.Goals as goal
 pub returns-clause-none : goal.returns-clause-none
 returns-clause-none c = λ is device kind way.
     let session = c.args.self.now in
-    let (k, own, there, same) = has_place (is_id_among session.trusted.items) (hardware_parts session.hardware) session.hardware.events device c.args.frame kind session.sound way in
+    let (k, own, there, same) = has_place (is_id_among session.trusted.items) (board_parts session.hardware) session.hardware.events device c.args.frame kind session.sound way in
     let within = slice_get_within session.hardware.devices.items k own there in
     c.loop-place.invariant k own kind (omega (arith, within, c.len-place-end.ensures, c.loop-place-test.false, session.hardware.devices.ok.0)) there
     (subst (λ (d : ℕ). Way (scene_in session) d c.args.frame kind) (sym same) way)

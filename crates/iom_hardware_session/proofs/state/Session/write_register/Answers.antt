@@ -1,4 +1,4 @@
-use Rattle.iom_hardware.specs.HardwareParts.{hardware_parts}
+use Rattle.iom_board.specs.BoardParts.{board_parts}
 use Rattle.iom_registers.specs.Places.{register_at}
 use Rattle.iom_hardware_session.proofs.SoftwareLemmas.{after_writes}
 use Rattle.iom_hardware_session.proofs.state.Session.write_register.Goals as goal
@@ -7,6 +7,6 @@ pub invariant_of-self : goal.invariant_of-self
 invariant_of-self c =
     let session = c.args.self.now in
     record {
-      sound = c.software_keeps_sound.ensures.keeps (hardware_parts session.hardware) _ session.hardware.events session.sound
-          (after_writes c.software_keeps_sound.ensures.writes (hardware_parts session.hardware) c.args.value (register_at c.args.offset c.width_of.result) c.write.new.self c.write.ensures.left);
+      sound = c.software_keeps_sound.ensures.keeps (board_parts session.hardware) _ session.hardware.events session.sound
+          (after_writes c.software_keeps_sound.ensures.writes (board_parts session.hardware) c.args.value (register_at c.args.offset c.width_of.result) c.write.new.self c.write.ensures.left);
     }

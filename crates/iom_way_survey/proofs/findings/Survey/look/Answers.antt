@@ -1,5 +1,5 @@
 use Rattle.std.proofs.Common.{subst}
-use Rattle.iom_hardware.specs.HardwareParts.{hardware_parts}
+use Rattle.iom_board.specs.BoardParts.{board_parts}
 use Rattle.iom_hardware_ways.specs.Scenes.{waiting_places}
 use Rattle.iom_registers.specs.declared.registers.Registers.{Registers}
 use Rattle.iom_table_survey.specs.Rows.{GrowsBy}
@@ -12,7 +12,7 @@ use Rattle.iom_way_survey.proofs.findings.Survey.look.Goals as goal
 pub returns-clause-missed : goal.returns-clause-missed
 returns-clause-missed c =
     let hardware = c.args.hardware.now in
-    let parts = hardware_parts hardware in
+    let parts = board_parts hardware in
     let trusted = c.args.trusted.now in
     let rows = c.survey_devices.new.rows.items in
     let here = c.registers-registers.ensures in
@@ -30,7 +30,7 @@ returns-clause-missed c =
 pub returns-clause-invented : goal.returns-clause-invented
 returns-clause-invented c =
     let hardware = c.args.hardware.now in
-    let parts = hardware_parts hardware in
+    let parts = board_parts hardware in
     let trusted = c.args.trusted.now in
     let rows = c.survey_devices.new.rows.items in
     let here = c.registers-registers.ensures in

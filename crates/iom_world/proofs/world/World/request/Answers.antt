@@ -1,5 +1,5 @@
 use Rattle.std.proofs.Common.{◌+◌, refl}
-use Rattle.iom_hardware.specs.Senders.{untranslated_by}
+use Rattle.iom_board.specs.Senders.{untranslated_by}
 use Rattle.iom_iommu.specs.Requests.{access_of}
 use Rattle.iom_world_effects.specs.Requests.{reply_told_of}
 use Rattle.iom_world_effects.proofs.DriverLemmas.{sound_driver}

@@ -1,5 +1,5 @@
 use Rattle.std.proofs.Common.{◌+◌, refl, sym, subst}
-use Rattle.iom_hardware.specs.Senders.{cached_by}
+use Rattle.iom_board.specs.Senders.{cached_by}
 use Rattle.iom_iommu.specs.Requests.{access_of}
 use Rattle.iom_machine.specs.declared.outcome.Outcome.{Outcome}
 use Rattle.iom_world_effects.specs.ThroughCache.{DeviceAsksThroughCache}

@@ -1,0 +1,17 @@
+pub mod BoardParts
+pub mod ByDevice
+pub mod Permits
+pub mod Requests
+pub mod ThroughCache
+pub mod Messages
+pub mod Deliveries
+pub mod Commits
+pub mod Processor
+pub mod Plugging
+pub mod Sound
+pub mod Senders
+pub mod PowerOn
+pub mod Counted
+pub mod SoundIsFact
+pub mod Software
+pub mod Same
