@@ -1,0 +1,10 @@
+pub mod Inside
+pub mod Agreement
+pub mod AgreementIsFact
+pub mod Sound
+pub mod PowerOn
+pub mod Blocks
+pub mod Queues
+pub mod Status
+pub mod Steps
+pub mod Permits
