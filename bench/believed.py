@@ -1,10 +1,10 @@
 #!/usr/bin/env python3
 """Which definitions of specs/ a statement rests on, and how many lines they are.
 
-    python3 bench/believed.py [--platform] [--missed] [NAME..]
+    python3 bench/believed.py [--world] [--missed] [NAME..]
 
 At the top of the repository. It starts from `IsScript`, which says which bytes are a script, and `WritesLines`, which says what is written for it
-(with --platform from `WritesText` in its place, or from the definitions that are named), and follows every name that a definition uses to the
+(with --world from `WritesText` in its place, or from the definitions that are named), and follows every name that a definition uses to the
 definition that the file itself or its `use` lines give it. It prints, for each file of specs/ that is reached, how many of its lines are reached and
 how many aren't (comments, imports and empty lines not counted), with --missed also the names of those that aren't; and then the types that the
 definitions import from the code, with the lines of their declarations."""
@@ -124,7 +124,7 @@ def declaration(crate, name, module):
 def main():
     flags = {word for word in sys.argv[1:] if word.startswith('--')}
     roots = [word for word in sys.argv[1:] if not word.startswith('--')]
-    roots = roots or ['IsScript', 'WritesText' if '--platform' in flags else 'WritesLines']
+    roots = roots or ['IsScript', 'WritesText' if '--world' in flags else 'WritesLines']
     files = {(path.parts[1], path.stem): File(path) for path in ROOT.glob('*/specs/*.antt')}
     start = [(key, root) for root in roots for key, file in files.items() if root in file.defined]
     if len(start) != len(roots):

@@ -15,29 +15,31 @@ use Rattle.iom_virtio_blk.specs.declared.front.Front.{Front}
 use Rattle.iom_virtio_blk.specs.Blocks.{wanted_by}
 use Rattle.iom_virtio_blk.specs.Steps.{Device}
 use Rattle.iom_virtqueue.specs.Accesses.{Access as Wanted, AreOf, nothing, reads, writes}
-use Rattle.iom_world.specs.declared.world.World.{World}
-use Rattle.iom_world.specs.Counts.{oldest_number}
-use Rattle.iom_world.specs.Seen.{parts_of}
 use Rattle.iom_world_effects.specs.Commits.{CommitsAccess, TellsKind, TellsMade}
-use Rattle.iom_platform.specs.Blocks.{block_with, CommitsOf, HearsMade, HearsOldest, Stay}
-use Rattle.iom_platform.specs.EachWaits.{EachWaitsInFlight}
-use Rattle.iom_platform.specs.Happens.{HappensHere}
-use Rattle.iom_platform.specs.Seen.{BlockSeen, Seen}
-use Rattle.iom_platform.specs.Waiting.{wanted_access, in_flight_as, IsOwnAccess, WaitsFor, WaitsInFlight}
-use Rattle.iom_platform.proofs.BlockChanges.{IsChanged, as_device, one_changes}
-use Rattle.iom_platform.proofs.NumberLemmas.{numbered_oldest}
+use Rattle.iom_world_effects.specs.Parts.{Parts}
+use Rattle.iom_block_devices.specs.Changes.{block_with, HearsMade}
+use Rattle.iom_block_devices.specs.Seen.{BlockSeen, BlocksSeen}
+use Rattle.iom_block_devices.specs.Wanted.{wanted_access}
+use Rattle.iom_block_devices.proofs.BlockChanges.{IsChanged, as_device, one_changes}
+use Rattle.iom_hardware.specs.Blocks.{HearsOldest, Stay, oldest_number}
+use Rattle.iom_world.specs.Blocks.{CommitsOf}
+use Rattle.iom_world.specs.EachWaits.{EachWaitsInFlight}
+use Rattle.iom_world.specs.Happens.{Happens}
+use Rattle.iom_world.specs.Seen.{Seen}
+use Rattle.iom_world.specs.Waiting.{in_flight_as, IsOwnAccess, WaitsFor, WaitsInFlight}
+use Rattle.iom_world.proofs.NumberLemmas.{numbered_oldest}
 use Rattle.iom_block_life.specs.Waits.{IsInStageOf}
 
-module _ (old new : World) (id number : ℕ) (front : Front) (waits : WaitsInFlight (Some front) (row_of (flights_of (parts_of old).iommu).rows id))
-    (oldest : oldest_number (row_of (flights_of (parts_of old).iommu).rows id) ≡ Some number) (own : front.waits ≡ Some number) where
+module _ (old new : Parts) (id number : ℕ) (front : Front) (waits : WaitsInFlight (Some front) (row_of (flights_of old.iommu).rows id))
+    (oldest : oldest_number (row_of (flights_of old.iommu).rows id) ≡ Some number) (own : front.waits ≡ Some number) where
   -- what it waits for is what was made
-  wanted_made : (made : MadeAt) (is : IsMade (parts_of old).memory (flights_of (parts_of old).iommu) id made (parts_of new).memory (flights_of (parts_of new).iommu))
+  wanted_made : (made : MadeAt) (is : IsMade old.memory (flights_of old.iommu) id made new.memory (flights_of new.iommu))
       → IsOwnAccess (Some is.oldest.accepted) (wanted_access (wanted_by front))
   wanted_made made is =
       let found = ap (λ (r : Option FlightRow). in_flight_as r number) is.stands
       ∙ numbered_oldest is.row is.oldest is.later number is.waiting (ap oldest_number (sym is.stands) ∙ oldest) in
       subst (λ (a : Option AcceptedAccess). IsOwnAccess a (wanted_access (wanted_by front))) found
-      (subst (λ (n : Option ℕ). WaitsFor n front (row_of (flights_of (parts_of old).iommu).rows id)) own waits)
+      (subst (λ (n : Option ℕ). WaitsFor n front (row_of (flights_of old.iommu).rows id)) own waits)
 
   of_read : (wanted : Wanted) (accepted : AcceptedAccess) (bytes : List ℕ) → IsOwnAccess (Some accepted) (wanted_access wanted) → accepted.access.kind ≡ Read
       → length bytes ≡ accepted.access.len → AreOf bytes wanted
@@ -52,8 +54,8 @@ module _ (old new : World) (id number : ℕ) (front : Front) (waits : WaitsInFli
 
   module _ (told : Outcome) where
     read_kind : (made : MadeAt) (held : ArrayVec ℕ) (kind : AccessKind) → made.kind ≡ kind → told ≡ outcome.Read held
-        → (is : IsMade (parts_of old).memory (flights_of (parts_of old).iommu) id made (parts_of new).memory (flights_of (parts_of new).iommu))
-        → TellsKind (parts_of old).memory made kind told → AreOf held.items (wanted_by front)
+        → (is : IsMade old.memory (flights_of old.iommu) id made new.memory (flights_of new.iommu))
+        → TellsKind old.memory made kind told → AreOf held.items (wanted_by front)
     read_kind made held Read reads_it gave is tells =
         let both : outcome.Read tells.told_so.0 ≡ outcome.Read held = sym tells.told_so.1 ∙ gave in
         let same : tells.told_so.0 ≡ held = cc in
@@ -62,26 +64,26 @@ module _ (old new : World) (id number : ℕ) (front : Front) (waits : WaitsInFli
     read_kind made held Write writes_it gave is tells = let both = sym tells ∙ gave in cc
 
     write_kind : (made : MadeAt) (count : ℕ) (kind : AccessKind) → made.kind ≡ kind → told ≡ outcome.Wrote count
-        → (is : IsMade (parts_of old).memory (flights_of (parts_of old).iommu) id made (parts_of new).memory (flights_of (parts_of new).iommu))
-        → TellsKind (parts_of old).memory made kind told → AreOf [] (wanted_by front)
+        → (is : IsMade old.memory (flights_of old.iommu) id made new.memory (flights_of new.iommu))
+        → TellsKind old.memory made kind told → AreOf [] (wanted_by front)
     write_kind made count Read reads_it gave is tells = let both = sym tells.told_so.1 ∙ gave in cc
     write_kind made count Write writes_it gave is tells = of_write (wanted_by front) is.oldest.accepted (wanted_made made is) (sym (ap (λ (m : MadeAt). m.kind) is.told) ∙ writes_it)
 
-    read_made : (made : Option MadeAt) (held : ArrayVec ℕ) → told ≡ outcome.Read held → TellsMade (parts_of old).memory made told
-        → MakesOldestInFlight (parts_of old).memory (flights_of (parts_of old).iommu) id made (parts_of new).memory (flights_of (parts_of new).iommu) → AreOf held.items (wanted_by front)
+    read_made : (made : Option MadeAt) (held : ArrayVec ℕ) → told ≡ outcome.Read held → TellsMade old.memory made told
+        → MakesOldestInFlight old.memory (flights_of old.iommu) id made new.memory (flights_of new.iommu) → AreOf held.items (wanted_by front)
     read_made None held gave tells makes = let both = sym tells ∙ gave in cc
     read_made (Some made) held gave tells makes = read_kind made held made.kind refl gave makes tells
 
-    write_made : (made : Option MadeAt) (count : ℕ) → told ≡ outcome.Wrote count → TellsMade (parts_of old).memory made told
-        → MakesOldestInFlight (parts_of old).memory (flights_of (parts_of old).iommu) id made (parts_of new).memory (flights_of (parts_of new).iommu) → AreOf [] (wanted_by front)
+    write_made : (made : Option MadeAt) (count : ℕ) → told ≡ outcome.Wrote count → TellsMade old.memory made told
+        → MakesOldestInFlight old.memory (flights_of old.iommu) id made new.memory (flights_of new.iommu) → AreOf [] (wanted_by front)
     write_made None count gave tells makes = let both = sym tells ∙ gave in cc
     write_made (Some made) count gave tells makes = write_kind made count made.kind refl gave makes tells
 
-    reads_fit : (held : ArrayVec ℕ) → told ≡ outcome.Read held → CommitsAccess (parts_of old) id told (parts_of new) → AreOf held.items (wanted_by front)
+    reads_fit : (held : ArrayVec ℕ) → told ≡ outcome.Read held → CommitsAccess old id told new → AreOf held.items (wanted_by front)
     reads_fit held gave (inl unknown) = let both = sym unknown.told_so ∙ gave in cc
     reads_fit held gave (inr makes) = read_made makes.made held gave makes.told_so makes.call.makes
 
-    writes_fit : (count : ℕ) → told ≡ outcome.Wrote count → CommitsAccess (parts_of old) id told (parts_of new) → AreOf [] (wanted_by front)
+    writes_fit : (count : ℕ) → told ≡ outcome.Wrote count → CommitsAccess old id told new → AreOf [] (wanted_by front)
     writes_fit count gave (inl unknown) = let both = sym unknown.told_so ∙ gave in cc
     writes_fit count gave (inr makes) = write_made makes.made count gave makes.told_so makes.call.makes
 
@@ -92,10 +94,10 @@ stage_made number bytes before after fits (inl (own, inl taken, same)) = ap (λ 
 stage_made number bytes before after fits (inl (own, inr gone, same)) = absurd (gone.0 (fits own))
 stage_made number bytes before after fits (inr (never, same)) = ap (λ d. d.front.stage) same
 
-stays : (id : ℕ) (old new : Seen) (block : BlockSeen) → block_with old.blocks id ≡ Some block → Stay old new → IsInStageOf block (block_with new.blocks id)
-stays id old new block there stay = (block, ap (λ (blocks : List BlockSeen). block_with blocks id) stay.0 ∙ there, refl)
+stays : (id : ℕ) (old new : BlocksSeen) (block : BlockSeen) → block_with old.blocks id ≡ Some block → Stay old new → IsInStageOf block (block_with new.blocks id)
+stays id old new block there stay = (block, ap (λ (inside : BlocksSeen). block_with inside.blocks id) stay ∙ there, refl)
 
-hears : (number : Option ℕ) (bytes : List ℕ) (id other : ℕ) (old new : Seen) (block : BlockSeen) → block_with old.blocks id ≡ Some block
+hears : (number : Option ℕ) (bytes : List ℕ) (id other : ℕ) (old new : BlocksSeen) (block : BlockSeen) → block_with old.blocks id ≡ Some block
     → ((n : ℕ) → number ≡ Some n → other ≡ id → block.device.front.waits ≡ Some n → AreOf bytes (wanted_by block.device.front)) → HearsOldest number bytes old other new
     → IsInStageOf block (block_with new.blocks id)
 hears None bytes id other old new block there fits stay = stays id old new block there stay
@@ -106,26 +108,26 @@ hears (Some number) bytes id other old new block there fits changes = by (one_ch
     by (inr is) = (as_device block is.after, is.there, stage_made number bytes block.device is.after (fits number refl is.same) is.changed)
 
 -- the device waits in flight, of those that do
-waits_so : (old : Seen) (id : ℕ) (block : BlockSeen) → EachWaitsInFlight old → block_with old.blocks id ≡ Some block
-    → WaitsInFlight (Some block.device.front) (row_of (flights_of (parts_of old.world).iommu).rows id)
+waits_so : (old : Seen) (id : ℕ) (block : BlockSeen) → EachWaitsInFlight old → block_with old.inside.blocks id ≡ Some block
+    → WaitsInFlight (Some block.device.front) (row_of (flights_of old.parts.iommu).rows id)
 waits_so old id block each there =
-    subst (λ (b : Option BlockSeen). WaitsInFlight (option_map (λ (one : BlockSeen). one.device.front) b) (row_of (flights_of (parts_of old.world).iommu).rows id)) there (each id)
+    subst (λ (b : Option BlockSeen). WaitsInFlight (option_map (λ (one : BlockSeen). one.device.front) b) (row_of (flights_of old.parts.iommu).rows id)) there (each id)
 
 -- A COMMIT leaves each block device in the stage in which it was
-pub leaves_stages : (old new : Seen) (id other : ℕ) (told : Outcome) (block : BlockSeen) → EachWaitsInFlight old → HappensHere old (events.Commit other) told new
-    → block_with old.blocks id ≡ Some block → IsInStageOf block (block_with new.blocks id)
-leaves_stages old new id other told block each happens there = by told refl happens.1
+pub leaves_stages : (old new : Seen) (id other : ℕ) (told : Outcome) (block : BlockSeen) → EachWaitsInFlight old → Happens old (events.Commit other) told new
+    → block_with old.inside.blocks id ≡ Some block → IsInStageOf block (block_with new.inside.blocks id)
+leaves_stages old new id other told block each happens there = by told refl happens.blocks
   where
     oldest : Option ℕ
-    oldest = oldest_number (row_of (flights_of (parts_of old.world).iommu).rows other)
+    oldest = oldest_number (row_of (flights_of old.parts.iommu).rows other)
 
-    by : (what : Outcome) → told ≡ what → CommitsOf old other what new → IsInStageOf block (block_with new.blocks id)
-    by (outcome.Read held) gave changes = hears oldest held.items id other old new block there
-        (λ n is same own. reads_fit old.world new.world id n block.device.front (waits_so old id block each there)
-        (subst (λ (k : ℕ). oldest_number (row_of (flights_of (parts_of old.world).iommu).rows k) ≡ Some n) same is) own told held gave
-        (subst (λ (k : ℕ). CommitsAccess (parts_of old.world) k told (parts_of new.world)) same happens.0.does)) changes
-    by (outcome.Wrote count) gave changes = hears oldest [] id other old new block there
-        (λ n is same own. writes_fit old.world new.world id n block.device.front (waits_so old id block each there)
-        (subst (λ (k : ℕ). oldest_number (row_of (flights_of (parts_of old.world).iommu).rows k) ≡ Some n) same is) own told count gave
-        (subst (λ (k : ℕ). CommitsAccess (parts_of old.world) k told (parts_of new.world)) same happens.0.does)) changes
-    by what gave stay = stays id old new block there stay
+    by : (what : Outcome) → told ≡ what → CommitsOf oldest old.inside other what new.inside → IsInStageOf block (block_with new.inside.blocks id)
+    by (outcome.Read held) gave changes = hears oldest held.items id other old.inside new.inside block there
+        (λ n is same own. reads_fit old.parts new.parts id n block.device.front (waits_so old id block each there)
+        (subst (λ (k : ℕ). oldest_number (row_of (flights_of old.parts.iommu).rows k) ≡ Some n) same is) own told held gave
+        (subst (λ (k : ℕ). CommitsAccess old.parts k told new.parts) same happens.does)) changes
+    by (outcome.Wrote count) gave changes = hears oldest [] id other old.inside new.inside block there
+        (λ n is same own. writes_fit old.parts new.parts id n block.device.front (waits_so old id block each there)
+        (subst (λ (k : ℕ). oldest_number (row_of (flights_of old.parts.iommu).rows k) ≡ Some n) same is) own told count gave
+        (subst (λ (k : ℕ). CommitsAccess old.parts k told new.parts) same happens.does)) changes
+    by what gave stay = stays id old.inside new.inside block there stay

@@ -4,6 +4,8 @@ use Rattle.std.specs.Prelude.{slice_get}
 use Rattle.std.proofs.lemmas.Bool.{eq-eqb, ne_eqb, true≢false}
 use Rattle.iom_base.specs.declared.access.Access.{Access}
 use Rattle.iom_fabric.specs.declared.fabric.OnLink.{OnLink}
+use Rattle.iom_inflight.specs.Flights.{row_of}
+use Rattle.iom_iommu.specs.Parts.{flights_of}
 use Rattle.iom_iommu.specs.declared.reply.Reply.{Reply as Answer}
 use Rattle.iom_iommu.specs.declared.reply.Reply.TheVariants as answer
 use Rattle.iom_machine.specs.declared.event.Event.{Event}
@@ -19,18 +21,20 @@ use Rattle.iom_world_effects.specs.BlockDevices.{GoesToMemory, AsksIfMissed}
 use Rattle.iom_world_effects.specs.Parts.{Parts}
 use Rattle.iom_world_effects.specs.Requests.{reply_told_of}
 use Rattle.iom_world_effects.specs.ThroughCache.{DeviceAsksThroughCache, cached_frame, FindsFrame}
-use Rattle.iom_world.specs.Seen.{parts_of}
 use Rattle.iom_virtio_blk.specs.declared.step.Step.{Step}
 use Rattle.iom_virtio_blk.specs.declared.step.Step.TheVariants as step
 use Rattle.iom_virtio_blk.specs.Steps.{Device, BlockDeviceSteps}
 use Rattle.iom_virtqueue.specs.declared.layout.Layout.{Layout}
 use Rattle.iom_virtqueue.specs.Layouts.{layout_of}
-use Rattle.iom_platform.specs.Blocks as model
-use Rattle.iom_platform.specs.Blocks.{block_with, Changes, Stay, StepsOnce, EndsStep, HasDisk, IsGivenUp, IsReset, SetsUp, DoesToBlocks, HearsOldest, BringsRefusal, HearsAnswer, PlugsBlock, refused_page, reply_of}
-use Rattle.iom_platform.specs.Seen.{BlockSeen, Seen}
+use Rattle.iom_block_devices.specs.Changes as devices
+use Rattle.iom_block_devices.specs.Changes.{block_with, Changes, HasDisk, IsGivenUp, IsReset, SetsUp}
+use Rattle.iom_block_devices.specs.Seen.{BlockSeen, BlocksSeen}
+use Rattle.iom_block_devices.proofs.BlockChanges.{as_device, there_before, IsChanged, one_changes}
+use Rattle.iom_hardware.specs.Blocks.{BringsRefusal, HearsAnswer, HearsOldest, Stay, oldest_number, refused_page}
+use Rattle.iom_world.specs.Blocks.{CommitsOf, DeliversTo, DoesToBlocks, EndsStep, InsertsIntoBlock, LeavesBlock, PlugsBlock, ResetsBlock, SetsQueueOf, StepsOnce, reply_of}
+use Rattle.iom_world.specs.Seen.{Seen}
 use Rattle.iom_block_life.specs.Lives.{Turn, Turns, Taken, Lives, entry_in, finished_at, TakesStep, HearsMade, HearsReply, HearsRefusal, ChangesDisk, taken_at}
 use Rattle.iom_block_life.specs.Runs.{ends_life, finished_in, head_in, went_on, entry_by, taken_in}
-use Rattle.iom_platform.proofs.BlockChanges.{as_device, there_before, IsChanged, one_changes}
 
 -- the device with the id goes on with its life, takes these entries, and finishes the requests with these heads
 pub record GoesOn (id : ℕ) (old : Device) (new : List BlockSeen) (taken : List Taken) (heads : List ℕ) : Type 0 where
@@ -43,8 +47,8 @@ pub record GoesOn (id : ℕ) (old : Device) (new : List BlockSeen) (taken : List
 pub same_on : (id : ℕ) (new : List BlockSeen) (block : BlockSeen) → block_with new id ≡ Some block → GoesOn id block.device new [] []
 same_on id new block there = record { block = block; there = there; turns = []; lives = (refl, refl, refl) }
 
-stay_on : (id : ℕ) (old new : Seen) (block : BlockSeen) → block_with old.blocks id ≡ Some block → Stay old new → GoesOn id block.device new.blocks [] []
-stay_on id old new block there same = same_on id new.blocks block (ap (λ blocks. block_with blocks id) same.0 ∙ there)
+stay_on : (id : ℕ) (old new : BlocksSeen) (block : BlockSeen) → block_with old.blocks id ≡ Some block → Stay old new → GoesOn id block.device new.blocks [] []
+stay_on id old new block there same = same_on id new.blocks block (ap (λ (inside : BlocksSeen). block_with inside.blocks id) same ∙ there)
 
 -- a call that finishes nothing
 one_turn : (old new : Device) (turn : Turn) → taken_at old turn ≡ [] → finished_at turn ≡ []
@@ -62,7 +66,7 @@ turn_on id new block after turn there none_taken none_finished happens = record 
 }
 
 -- one of the devices changes by such a call, or by one that would end its life
-called : (How : Device → Device → Type 0) (old new : Seen) (id other : ℕ) (block : BlockSeen) → block_with old.blocks id ≡ Some block → Changes How old other new
+called : (How : Device → Device → Type 0) (old new : BlocksSeen) (id other : ℕ) (block : BlockSeen) → block_with old.blocks id ≡ Some block → Changes How old other new
     → (IsChanged How new.blocks id other block → GoesOn id block.device new.blocks [] []) → GoesOn id block.device new.blocks [] []
 called How old new id other block there changes when = by (one_changes How old.blocks new.blocks id other block there changes.0)
   where
@@ -170,28 +174,28 @@ steps old new id told before after once = by once.taken once.steps once.ends
           );
         })
 
-step_on : (id other : ℕ) (old new : Seen) (told : Outcome) (block : BlockSeen) → block_with old.blocks id ≡ Some block
-    → Changes (StepsOnce (parts_of old.world) other told (parts_of new.world)) old other new
-    → GoesOn id block.device new.blocks (taken_in id old (events.Step other) told) (head_in id (events.Step other) told)
+step_on : (id other : ℕ) (old new : Seen) (told : Outcome) (block : BlockSeen) → block_with old.inside.blocks id ≡ Some block
+    → Changes (StepsOnce old.parts other told new.parts) old.inside other new.inside
+    → GoesOn id block.device new.inside.blocks (taken_in id old (events.Step other) told) (head_in id (events.Step other) told)
 step_on id other old new told block there changes =
-    by (one_changes (StepsOnce (parts_of old.world) other told (parts_of new.world)) old.blocks new.blocks id other block there changes.0)
+    by (one_changes (StepsOnce old.parts other told new.parts) old.inside.blocks new.inside.blocks id other block there changes.0)
   where
     entry : List Taken
-    entry = entry_by (went_on told) (block_with old.blocks id)
+    entry = entry_by (went_on told) (block_with old.inside.blocks id)
 
-    as_told : (c : Bool) → (id == other) ≡ c → GoesOn id block.device new.blocks (if c then entry else []) (if c then finished_in told else [])
-        → GoesOn id block.device new.blocks (taken_in id old (events.Step other) told) (head_in id (events.Step other) told)
-    as_told c is on = subst (λ (b : Bool). GoesOn id block.device new.blocks (if b then entry else []) (if b then finished_in told else [])) (sym is) on
+    as_told : (c : Bool) → (id == other) ≡ c → GoesOn id block.device new.inside.blocks (if c then entry else []) (if c then finished_in told else [])
+        → GoesOn id block.device new.inside.blocks (taken_in id old (events.Step other) told) (head_in id (events.Step other) told)
+    as_told c is on = subst (λ (b : Bool). GoesOn id block.device new.inside.blocks (if b then entry else []) (if b then finished_in told else [])) (sym is) on
 
     same_entry : (c : Bool) → entry_by c (Some block) ≡ entry_at c block.device
     same_entry true = refl
     same_entry false = refl
 
-    by : ((other ≢ id) × (block_with new.blocks id ≡ Some block)) ⊎ IsChanged (StepsOnce (parts_of old.world) other told (parts_of new.world)) new.blocks id other block
-        → GoesOn id block.device new.blocks (taken_in id old (events.Step other) told) (head_in id (events.Step other) told)
-    by (inl (differ, stays)) = as_told false (ne_eqb id other (λ same. differ (sym same))) (same_on id new.blocks block stays)
+    by : ((other ≢ id) × (block_with new.inside.blocks id ≡ Some block)) ⊎ IsChanged (StepsOnce old.parts other told new.parts) new.inside.blocks id other block
+        → GoesOn id block.device new.inside.blocks (taken_in id old (events.Step other) told) (head_in id (events.Step other) told)
+    by (inl (differ, stays)) = as_told false (ne_eqb id other (λ same. differ (sym same))) (same_on id new.inside.blocks block stays)
     by (inr changed) =
-        let on = steps (parts_of old.world) (parts_of new.world) other told block.device changed.after changed.changed in
+        let on = steps old.parts new.parts other told block.device changed.after changed.changed in
         as_told true (eq-eqb id other (sym changed.same))
         (record {
           block = as_device block changed.after;
@@ -204,18 +208,14 @@ step_on id other old new told block there changes =
 
 -- the other events
 
-plugs : (number id other : ℕ) (old new : Seen) (told : Outcome) (block : BlockSeen) → block_with old.blocks id ≡ Some block → PlugsBlock number old other told new
-    → GoesOn id block.device new.blocks [] []
-plugs number id other old new outcome.Done block there plugged =
+plugs : (number : Option ℕ) (id other : ℕ) (old new : BlocksSeen) (told : Outcome) (block : BlockSeen) → block_with old.blocks id ≡ Some block
+    → PlugsBlock number old other told new → GoesOn id block.device new.blocks [] []
+plugs None id other old new told block there same = stay_on id old new block there same
+plugs (Some number) id other old new outcome.Done block there plugged =
     same_on id new.blocks block (ap (λ blocks. block_with blocks id) plugged.behind ∙ there_before old.blocks _ id block there)
-plugs number id other old new told block there same = stay_on id old new block there same
+plugs (Some number) id other old new told block there same = stay_on id old new block there same
 
-plugs_any : (number : Option ℕ) (id other : ℕ) (old new : Seen) (told : Outcome) (block : BlockSeen) → block_with old.blocks id ≡ Some block
-    → model.PlugsAny number old other told new → GoesOn id block.device new.blocks [] []
-plugs_any None id other old new told block there same = stay_on id old new block there same
-plugs_any (Some number) id other old new told block there plugged = plugs number id other old new told block there plugged
-
-inserts : (number id other : ℕ) (old new : Seen) (told : Outcome) (block : BlockSeen) → block_with old.blocks id ≡ Some block → model.InsertsIntoBlock number old other told new
+inserts : (number id other : ℕ) (old new : BlocksSeen) (told : Outcome) (block : BlockSeen) → block_with old.blocks id ≡ Some block → InsertsIntoBlock number old other told new
     → GoesOn id block.device new.blocks [] []
 inserts number id other old new outcome.Done block there put =
     by (one_changes (HasDisk put.disk) old.blocks new.blocks id other block there put.changed)
@@ -225,75 +225,75 @@ inserts number id other old new outcome.Done block there put =
     by (inr changed) = turn_on id new.blocks block changed.after ChangesDisk changed.there refl refl (ap (λ d. d.front) changed.changed.1)
 inserts number id other old new told block there same = stay_on id old new block there same
 
-leaves : (id other : ℕ) (old new : Seen) (told : Outcome) (block : BlockSeen) → block_with old.blocks id ≡ Some block → ends_life id (events.Detach other) told ≡ false → model.LeavesBlock old other told new
+leaves : (id other : ℕ) (old new : BlocksSeen) (told : Outcome) (block : BlockSeen) → block_with old.blocks id ≡ Some block → ends_life id (events.Detach other) told ≡ false → LeavesBlock old other told new
     → GoesOn id block.device new.blocks [] []
 leaves id other old new (outcome.Ticket ticket) block there alive changes =
     called IsGivenUp old new id other block there changes (kept_alive IsGivenUp new.blocks id other block alive)
 leaves id other old new told block there alive same = stay_on id old new block there same
 
-resets : (id other : ℕ) (old new : Seen) (told : Outcome) (block : BlockSeen) → block_with old.blocks id ≡ Some block → ends_life id (events.Reset other) told ≡ false → model.ResetsBlock old other told new
+resets : (id other : ℕ) (old new : BlocksSeen) (told : Outcome) (block : BlockSeen) → block_with old.blocks id ≡ Some block → ends_life id (events.Reset other) told ≡ false → ResetsBlock old other told new
     → GoesOn id block.device new.blocks [] []
 resets id other old new outcome.Done block there alive changes =
     called IsReset old new id other block there changes (kept_alive IsReset new.blocks id other block alive)
 resets id other old new told block there alive same = stay_on id old new block there same
 
-queues : (layout : Layout) (id other : ℕ) (old new : Seen) (told : Outcome) (block : BlockSeen) → block_with old.blocks id ≡ Some block
+queues : (layout : Layout) (id other : ℕ) (old new : BlocksSeen) (told : Outcome) (block : BlockSeen) → block_with old.blocks id ≡ Some block
     → ends_life id (events.Reset other) told ≡ false
-    → model.SetsQueueOf layout old other told new → GoesOn id block.device new.blocks [] []
+    → SetsQueueOf layout old other told new → GoesOn id block.device new.blocks [] []
 queues layout id other old new outcome.Done block there alive changes =
     called (SetsUp layout) old new id other block there changes (kept_alive (SetsUp layout) new.blocks id other block alive)
 queues layout id other old new told block there alive same = stay_on id old new block there same
 
-hears_made : (number : ℕ) (bytes : List ℕ) (old new : Device) → model.HearsMade number bytes old new → Turns old (HearsMade number bytes) new
+hears_made : (number : ℕ) (bytes : List ℕ) (old new : Device) → devices.HearsMade number bytes old new → Turns old (HearsMade number bytes) new
 hears_made number bytes old new (inl own) = (λ is. own.1, λ differs. absurd (differs own.0))
 hears_made number bytes old new (inr other) = (λ is. absurd (other.0 is), λ differs. ap (λ d. d.front) other.1)
 
-hears_oldest : (number : Option ℕ) (bytes : List ℕ) (id other : ℕ) (old new : Seen) (block : BlockSeen) → block_with old.blocks id ≡ Some block
+hears_oldest : (number : Option ℕ) (bytes : List ℕ) (id other : ℕ) (old new : BlocksSeen) (block : BlockSeen) → block_with old.blocks id ≡ Some block
     → HearsOldest number bytes old other new → GoesOn id block.device new.blocks [] []
 hears_oldest None bytes id other old new block there same = stay_on id old new block there same
 hears_oldest (Some number) bytes id other old new block there changes =
-    called (model.HearsMade number bytes) old new id other block there changes
+    called (devices.HearsMade number bytes) old new id other block there changes
     (λ changed. turn_on id new.blocks block changed.after (HearsMade number bytes) changed.there refl refl
     (hears_made number bytes block.device changed.after changed.changed))
 
-commits : (id other : ℕ) (old new : Seen) (told : Outcome) (block : BlockSeen) → block_with old.blocks id ≡ Some block → model.CommitsOf old other told new
+commits : (number : Option ℕ) (id other : ℕ) (old new : BlocksSeen) (told : Outcome) (block : BlockSeen) → block_with old.blocks id ≡ Some block → CommitsOf number old other told new
     → GoesOn id block.device new.blocks [] []
-commits id other old new (outcome.Read bytes) block there changes = hears_oldest _ bytes.items id other old new block there changes
-commits id other old new (outcome.Wrote count) block there changes = hears_oldest _ [] id other old new block there changes
-commits id other old new told block there same = stay_on id old new block there same
+commits number id other old new (outcome.Read bytes) block there changes = hears_oldest number bytes.items id other old new block there changes
+commits number id other old new (outcome.Wrote count) block there changes = hears_oldest number [] id other old new block there changes
+commits number id other old new told block there same = stay_on id old new block there same
 
-hears_refusal : (page : ℕ) (old new : Device) → model.HearsRefusal page old new → Turns old (HearsRefusal page) new
+hears_refusal : (page : ℕ) (old new : Device) → devices.HearsRefusal page old new → Turns old (HearsRefusal page) new
 hears_refusal page old new (inl own) = (λ is. ap (λ d. d.front) own.1, λ differs. absurd (differs own.0))
 hears_refusal page old new (inr other) = (λ is. absurd (other.0 is), λ differs. ap (λ d. d.front) other.1)
 
-hears_answer : (page : Option ℕ) (id other : ℕ) (old new : Seen) (block : BlockSeen) → block_with old.blocks id ≡ Some block → HearsAnswer page old other new
+hears_answer : (page : Option ℕ) (id other : ℕ) (old new : BlocksSeen) (block : BlockSeen) → block_with old.blocks id ≡ Some block → HearsAnswer page old other new
     → GoesOn id block.device new.blocks [] []
 hears_answer None id other old new block there same = stay_on id old new block there same
 hears_answer (Some page) id other old new block there changes =
-    called (model.HearsRefusal page) old new id other block there changes
+    called (devices.HearsRefusal page) old new id other block there changes
     (λ changed. turn_on id new.blocks block changed.after (HearsRefusal page) changed.there refl refl (hears_refusal page block.device changed.after changed.changed))
 
-brings : (on : Option OnLink) (id : ℕ) (old new : Seen) (block : BlockSeen) → block_with old.blocks id ≡ Some block → BringsRefusal on old new → GoesOn id block.device new.blocks [] []
+brings : (on : Option OnLink) (id : ℕ) (old new : BlocksSeen) (block : BlockSeen) → block_with old.blocks id ≡ Some block → BringsRefusal on old new → GoesOn id block.device new.blocks [] []
 brings None id old new block there same = stay_on id old new block there same
 brings (Some on) id old new block there heard = hears_answer (refused_page on.message) id on.device old new block there heard
 
-delivers : (place id : ℕ) (old new : Seen) (told : Outcome) (block : BlockSeen) → block_with old.blocks id ≡ Some block → model.DeliversTo old place told new
+delivers : (on : Option OnLink) (id : ℕ) (old new : BlocksSeen) (told : Outcome) (block : BlockSeen) → block_with old.blocks id ≡ Some block → DeliversTo on old told new
     → GoesOn id block.device new.blocks [] []
-delivers place id old new outcome.AnswerRefused block there brought = brings (slice_get (parts_of old.world).fabric place) id old new block there brought
-delivers place id old new told block there same = stay_on id old new block there same
+delivers on id old new outcome.AnswerRefused block there brought = brings on id old new block there brought
+delivers on id old new told block there same = stay_on id old new block there same
 
 -- any event
-pub event_on : (id : ℕ) (old new : Seen) (event : Event) (told : Outcome) (block : BlockSeen) → block_with old.blocks id ≡ Some block → ends_life id event told ≡ false
-    → DoesToBlocks old event told new → GoesOn id block.device new.blocks (taken_in id old event told) (head_in id event told)
-event_on id old new (events.Plug other what) told block there alive does = plugs_any (disk_of what) id other old new told block there does
-event_on id old new (events.Medium other number) told block there alive does = inserts number id other old new told block there does
-event_on id old new (events.Detach other) told block there alive does = leaves id other old new told block there alive does
-event_on id old new (events.Revive other) told block there alive does = resets id other old new told block there alive does
-event_on id old new (events.Reset other) told block there alive does = resets id other old new told block there alive does
+pub event_on : (id : ℕ) (old new : Seen) (event : Event) (told : Outcome) (block : BlockSeen) → block_with old.inside.blocks id ≡ Some block → ends_life id event told ≡ false
+    → DoesToBlocks old event told new → GoesOn id block.device new.inside.blocks (taken_in id old event told) (head_in id event told)
+event_on id old new (events.Plug other what) told block there alive does = plugs (disk_of what) id other old.inside new.inside told block there does
+event_on id old new (events.Medium other number) told block there alive does = inserts number id other old.inside new.inside told block there does
+event_on id old new (events.Detach other) told block there alive does = leaves id other old.inside new.inside told block there alive does
+event_on id old new (events.Revive other) told block there alive does = resets id other old.inside new.inside told block there alive does
+event_on id old new (events.Reset other) told block there alive does = resets id other old.inside new.inside told block there alive does
 event_on id old new (events.Queue other size descriptors available used) told block there alive does =
-    queues (layout_of size descriptors available used) id other old new told block there alive does
-event_on id old new (events.Commit other) told block there alive does = commits id other old new told block there does
-event_on id old new (events.Deliver place) told block there alive does = delivers place id old new told block there does
+    queues (layout_of size descriptors available used) id other old.inside new.inside told block there alive does
+event_on id old new (events.Commit other) told block there alive does = commits (oldest_number (row_of (flights_of old.parts.iommu).rows other)) id other old.inside new.inside told block there does
+event_on id old new (events.Deliver place) told block there alive does = delivers (slice_get old.parts.fabric place) id old.inside new.inside told block there does
 event_on id old new (events.Step other) told block there alive does = step_on id other old new told block there does.1
-event_on id old new (events.Status other) told block there alive does = stay_on id old new block there does.2
-event_on id old new event told block there alive does = stay_on id old new block there does
+event_on id old new (events.Status other) told block there alive does = stay_on id old.inside new.inside block there does.2
+event_on id old new event told block there alive does = stay_on id old.inside new.inside block there does

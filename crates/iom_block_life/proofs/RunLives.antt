@@ -15,16 +15,16 @@ use Rattle.iom_virtio_blk.specs.declared.front.Front.{Front}
 use Rattle.iom_virtio_blk.specs.declared.stage.Stage.{Stage}
 use Rattle.iom_virtio_blk.specs.declared.stage.Stage.TheVariants.{Reset, FeaturesOk}
 use Rattle.iom_virtio_blk.specs.Blocks.{with_queue}
-use Rattle.iom_platform.specs.Blocks.{block_with, SetsUp}
-use Rattle.iom_platform.specs.Happens.{HappensHere}
-use Rattle.iom_platform.specs.Runs.{GoesThrough}
-use Rattle.iom_world.specs.Seen.{parts_of}
+use Rattle.iom_block_devices.specs.Changes.{block_with, SetsUp}
+use Rattle.iom_block_devices.specs.Seen.{BlockSeen}
+use Rattle.iom_block_devices.proofs.BlockChanges.{as_device, IsChanged, one_changes}
 use Rattle.iom_world_effects.specs.Parts.{Parts}
 use Rattle.iom_world_effects.specs.BlockDevices.{SetsBlockQueue}
-use Rattle.iom_platform.specs.Seen.{BlockSeen, Seen}
+use Rattle.iom_world.specs.Happens.{Happens}
+use Rattle.iom_world.specs.Runs.{GoesThrough}
+use Rattle.iom_world.specs.Seen.{Seen}
 use Rattle.iom_block_life.specs.Lives.{Turn, Taken, Lives, taken_at, finished_at, HasFreshQueue, UsesEachOnce}
 use Rattle.iom_block_life.specs.Runs.{LivesThrough, heads_in, entries_taken}
-use Rattle.iom_platform.proofs.BlockChanges.{as_device, IsChanged, one_changes}
 use Rattle.iom_block_life.proofs.EventLives.{GoesOn, same_on, event_on}
 use Rattle.iom_block_life.proofs.LifeLemmas.{uses_each_once}
 
@@ -45,16 +45,16 @@ lives_append (turn ∷ first) later old mid new taken more finished ends (next, 
 )
 
 runs_on : (events : List Event) (outcomes : List Outcome) (traces : List (Option Trace)) (state last : State) (run : Run state events outcomes last) (old new : Seen)
-    (id : ℕ) (block : BlockSeen) (through : GoesThrough state old events outcomes traces last run new) → block_with old.blocks id ≡ Some block
-    → LivesThrough id events outcomes → GoesOn id block.device new.blocks (entries_taken id state old events outcomes traces last run new through) (heads_in id events outcomes)
+    (id : ℕ) (block : BlockSeen) (through : GoesThrough state old events outcomes traces last run new) → block_with old.inside.blocks id ≡ Some block
+    → LivesThrough id events outcomes → GoesOn id block.device new.inside.blocks (entries_taken id state old events outcomes traces last run new through) (heads_in id events outcomes)
 runs_on [] [] [] state last run old new id block through there alive =
-    same_on id new.blocks block (ap (λ seen. block_with seen.blocks id) through.1 ∙ there)
+    same_on id new.inside.blocks block (ap (λ seen. block_with seen.inside.blocks id) through.1 ∙ there)
 runs_on [] [] (trace ∷ traces) state last run old new id block through there alive = absurd through
 runs_on [] (told ∷ outcomes) traces state last run old new id block through there alive = absurd through
 runs_on (event ∷ events) [] traces state last run old new id block through there alive = absurd through
 runs_on (event ∷ events) (told ∷ outcomes) [] state last run old new id block through there alive = absurd through
 runs_on (event ∷ events) (told ∷ outcomes) (trace ∷ traces) state last (next, step, rest) old new id block (shows, mid, happens, counts, later) there (lives, alive) =
-    let one = event_on id old mid event told block there lives happens.1 in
+    let one = event_on id old mid event told block there lives happens.blocks in
     let more = runs_on events outcomes traces next last rest mid new id one.block later one.there alive in
     record {
       block = more.block;
@@ -65,8 +65,8 @@ runs_on (event ∷ events) (told ∷ outcomes) (trace ∷ traces) state last (ne
 
 pub runs_use : (state last : State) (old new : Seen) (events : List Event) (outcomes : List Outcome) (traces : List (Option Trace)) (run : Run state events outcomes last)
     (id : ℕ) (layout : Layout) (block : BlockSeen) (through : GoesThrough state old events outcomes traces last run new)
-    → block_with old.blocks id ≡ Some block → HasFreshQueue layout block.device → LivesThrough id events outcomes
-    → (after : BlockSeen) × (block_with new.blocks id ≡ Some after)
+    → block_with old.inside.blocks id ≡ Some block → HasFreshQueue layout block.device → LivesThrough id events outcomes
+    → (after : BlockSeen) × (block_with new.inside.blocks id ≡ Some after)
     × UsesEachOnce layout (entries_taken id state old events outcomes traces last run new through) (heads_in id events outcomes) after.device
 runs_use state last old new events outcomes traces run id layout block through there fresh alive =
     let on = runs_on events outcomes traces state last run old new id block through there alive in
@@ -104,20 +104,20 @@ lies_lawfully old new id layout (inr (inr (able, inl lawful))) = lawful.0
 lies_lawfully old new id layout (inr (inr (able, inr refused))) = absurd (subst IsDone refused.1 tt)
 
 pub queues_begin : (old new : Seen) (id size descriptors available used : ℕ) (block : BlockSeen)
-    → HappensHere old (events.Queue id size descriptors available used) outcome.Done new → block_with old.blocks id ≡ Some block
-    → (after : BlockSeen) × (block_with new.blocks id ≡ Some after) × HasFreshQueue (layout_of size descriptors available used) after.device
+    → Happens old (events.Queue id size descriptors available used) outcome.Done new → block_with old.inside.blocks id ≡ Some block
+    → (after : BlockSeen) × (block_with new.inside.blocks id ≡ Some after) × HasFreshQueue (layout_of size descriptors available used) after.device
 queues_begin old new id size descriptors available used block happens there =
-    by (one_changes (SetsUp layout) old.blocks new.blocks id id block there happens.1.0)
+    by (one_changes (SetsUp layout) old.inside.blocks new.inside.blocks id id block there happens.blocks.0)
   where
     layout : Layout
     layout = layout_of size descriptors available used
 
-    by : ((id ≢ id) × (block_with new.blocks id ≡ Some block)) ⊎ IsChanged (SetsUp layout) new.blocks id id block
-        → (after : BlockSeen) × (block_with new.blocks id ≡ Some after) × HasFreshQueue layout after.device
+    by : ((id ≢ id) × (block_with new.inside.blocks id ≡ Some block)) ⊎ IsChanged (SetsUp layout) new.inside.blocks id id block
+        → (after : BlockSeen) × (block_with new.inside.blocks id ≡ Some after) × HasFreshQueue layout after.device
     by (inl (differ, stays)) = absurd (differ refl)
     by (inr changed) = (
       as_device block changed.after,
       changed.there,
       set_fresh layout block.device changed.after
-          (lies_lawfully (parts_of old.world) (parts_of new.world) id layout happens.0.does) changed.changed,
+          (lies_lawfully old.parts new.parts id layout happens.does) changed.changed,
     )

@@ -21,7 +21,8 @@ use Rattle.iom_virtio_blk.specs.Steps.{Device, device}
 use Rattle.iom_virtio_blk.proofs.DiskStays.{name_stays}
 use Rattle.iom_virtio_blk.proofs.StepLemmas.{tells_inserted, tells_kept}
 use Rattle.iom_world_effects.specs.Parts.{Parts}
-use Rattle.iom_platform.specs.Blocks.{EndsStep, HasDisk, HearsMade, HearsRefusal, IsGivenUp, IsNew, IsReset, SetsUp, StepsOnce}
+use Rattle.iom_block_devices.specs.Changes.{HasDisk, HearsMade, HearsRefusal, IsGivenUp, IsNew, IsReset, SetsUp}
+use Rattle.iom_world.specs.Blocks.{EndsStep, StepsOnce}
 use Rattle.iom_block_life.specs.Stories.{Story, Tells, begins, ended}
 use Rattle.iom_block_life.proofs.RunLives.{queue_set}
 

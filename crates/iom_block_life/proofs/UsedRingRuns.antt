@@ -6,6 +6,8 @@ use Rattle.iom_coherence.specs.Attachments.{caches_translations}
 use Rattle.iom_world_effects.specs.Parts.{Parts}
 use Rattle.iom_device.specs.Caches.{kind_in}
 use Rattle.iom_fabric.specs.declared.fabric.OnLink.{OnLink}
+use Rattle.iom_inflight.specs.Flights.{row_of}
+use Rattle.iom_iommu.specs.Parts.{flights_of}
 use Rattle.iom_machine.specs.declared.event.Event.{Event}
 use Rattle.iom_machine.specs.declared.event.Event.TheVariants as events
 use Rattle.iom_machine.specs.declared.outcome.BlockStep.TheVariants as rest
@@ -23,15 +25,16 @@ use Rattle.iom_virtio_blk.proofs.ElementLemmas.{steps_write}
 use Rattle.iom_virtqueue.specs.declared.layout.Layout.{Layout}
 use Rattle.iom_virtqueue.specs.Layouts.{layout_of}
 use Rattle.iom_virtqueue.specs.Queues.{QueueState, more_finished}
-use Rattle.iom_world.specs.Seen.{parts_of}
-use Rattle.iom_platform.specs.Blocks as model
-use Rattle.iom_platform.specs.Blocks.{block_with, Changes, Stay, StepsOnce, EndsStep, HasDisk, IsGivenUp, IsReset, SetsUp, DoesToBlocks, HearsOldest, BringsRefusal, HearsAnswer, PlugsBlock, refused_page}
-use Rattle.iom_platform.specs.Runs.{GoesThrough}
-use Rattle.iom_platform.specs.Seen.{BlockSeen, Seen}
+use Rattle.iom_block_devices.specs.Changes.{block_with, Changes, HasDisk, HearsMade, HearsRefusal, IsGivenUp, IsReset, SetsUp}
+use Rattle.iom_block_devices.specs.Seen.{BlockSeen, BlocksSeen}
+use Rattle.iom_block_devices.proofs.BlockChanges.{as_device, there_before, IsChanged, one_changes}
+use Rattle.iom_hardware.specs.Blocks.{BringsRefusal, HearsAnswer, HearsOldest, Stay, oldest_number, refused_page}
+use Rattle.iom_world.specs.Blocks.{CommitsOf, DeliversTo, DoesToBlocks, EndsStep, InsertsIntoBlock, LeavesBlock, PlugsBlock, ResetsBlock, SetsQueueOf, StepsOnce}
+use Rattle.iom_world.specs.Runs.{GoesThrough}
+use Rattle.iom_world.specs.Seen.{Seen}
 use Rattle.iom_block_life.specs.Lives.{HasFreshQueue}
 use Rattle.iom_block_life.specs.Runs.{LivesThrough, ends_life, went_on}
 use Rattle.iom_block_life.specs.UsedRings.{bytes_by, bytes_in, done_by_device, done_in, requests_in, wrote_when}
-use Rattle.iom_platform.proofs.BlockChanges.{as_device, there_before, IsChanged, one_changes}
 use Rattle.iom_block_life.proofs.EventLives.{to_memory}
 use Rattle.iom_block_life.proofs.StoryLemmas.{ends, hears_made, hears_refusal}
 
@@ -78,20 +81,20 @@ pub record WritesOn (id : ℕ) (old : QueueState) (new : List BlockSeen) (wrote 
   pub writes : Writes old block.device.front.queue wrote done
 
 -- a device that is there
-record Has (id : ℕ) (old : Seen) (block : BlockSeen) : Type 0 where
+record Has (id : ℕ) (old : BlocksSeen) (block : BlockSeen) : Type 0 where
   there : block_with old.blocks id ≡ Some block
   within : IsWithin block.device.front.queue
 
-same_on : (id : ℕ) (old : Seen) (new : List BlockSeen) (block : BlockSeen) → Has id old block → block_with new id ≡ Some block
+same_on : (id : ℕ) (old : BlocksSeen) (new : List BlockSeen) (block : BlockSeen) → Has id old block → block_with new id ≡ Some block
     → WritesOn id block.device.front.queue new [] []
 same_on id old new block has there =
     record { block = block; there = there; writes = kept block.device.front.queue block.device.front.queue refl has.within }
 
-stay_on : (id : ℕ) (old new : Seen) (block : BlockSeen) → Has id old block → Stay old new → WritesOn id block.device.front.queue new.blocks [] []
-stay_on id old new block has same = same_on id old new.blocks block has (ap (λ blocks. block_with blocks id) same.0 ∙ has.there)
+stay_on : (id : ℕ) (old new : BlocksSeen) (block : BlockSeen) → Has id old block → Stay old new → WritesOn id block.device.front.queue new.blocks [] []
+stay_on id old new block has same = same_on id old new.blocks block has (ap (λ (inside : BlocksSeen). block_with inside.blocks id) same ∙ has.there)
 
 -- one of the devices changes, and this one's queue stays, or is that of another life
-changes_on : (How : Device → Device → Type 0) (id other : ℕ) (old new : Seen) (block : BlockSeen) → Has id old block
+changes_on : (How : Device → Device → Type 0) (id other : ℕ) (old new : BlocksSeen) (block : BlockSeen) → Has id old block
     → (id ≡ other → (after : Device) → How block.device after → after.front.queue ≡ block.device.front.queue) → Changes How old other new
     → WritesOn id block.device.front.queue new.blocks [] []
 changes_on How id other old new block has stays changes = by (one_changes How old.blocks new.blocks id other block has.there changes.0)
@@ -158,26 +161,26 @@ step_writes old new id told before after once within = by once.taken once.steps 
         (steps_write before once.between (step.Wants want) steps within) (ends (step.Wants want) old new id told once.between after begins).queue
         (ap (λ (c : Bool). wrote_if c before) goes) (none_done told goes)
 
-steps_on : (id other : ℕ) (old new : Seen) (told : Outcome) (block : BlockSeen) → Has id old block
-    → Changes (StepsOnce (parts_of old.world) other told (parts_of new.world)) old other new
-    → WritesOn id block.device.front.queue new.blocks (bytes_by id old (events.Step other) told) (done_by_device id (events.Step other) told)
+steps_on : (id other : ℕ) (old new : Seen) (told : Outcome) (block : BlockSeen) → Has id old.inside block
+    → Changes (StepsOnce old.parts other told new.parts) old.inside other new.inside
+    → WritesOn id block.device.front.queue new.inside.blocks (bytes_by id old (events.Step other) told) (done_by_device id (events.Step other) told)
 steps_on id other old new told block has changes =
-    by (one_changes (StepsOnce (parts_of old.world) other told (parts_of new.world)) old.blocks new.blocks id other block has.there changes.0)
+    by (one_changes (StepsOnce old.parts other told new.parts) old.inside.blocks new.inside.blocks id other block has.there changes.0)
   where
     wrote : List Byte
-    wrote = wrote_when (went_on told) (block_with old.blocks id)
+    wrote = wrote_when (went_on told) (block_with old.inside.blocks id)
 
-    as_is : (c : Bool) → (id == other) ≡ c → WritesOn id block.device.front.queue new.blocks (if c then wrote else []) (if c then done_in told else [])
-        → WritesOn id block.device.front.queue new.blocks (bytes_by id old (events.Step other) told) (done_by_device id (events.Step other) told)
-    as_is c is on = subst (λ (b : Bool). WritesOn id block.device.front.queue new.blocks (if b then wrote else []) (if b then done_in told else [])) (sym is) on
+    as_is : (c : Bool) → (id == other) ≡ c → WritesOn id block.device.front.queue new.inside.blocks (if c then wrote else []) (if c then done_in told else [])
+        → WritesOn id block.device.front.queue new.inside.blocks (bytes_by id old (events.Step other) told) (done_by_device id (events.Step other) told)
+    as_is c is on = subst (λ (b : Bool). WritesOn id block.device.front.queue new.inside.blocks (if b then wrote else []) (if b then done_in told else [])) (sym is) on
 
     same_bytes : (c : Bool) → wrote_when c (Some block) ≡ wrote_if c block.device
     same_bytes true = refl
     same_bytes false = refl
 
-    by : ((other ≢ id) × (block_with new.blocks id ≡ Some block)) ⊎ IsChanged (StepsOnce (parts_of old.world) other told (parts_of new.world)) new.blocks id other block
-        → WritesOn id block.device.front.queue new.blocks (bytes_by id old (events.Step other) told) (done_by_device id (events.Step other) told)
-    by (inl (differ, stays)) = as_is false (ne_eqb id other (λ same. differ (sym same))) (same_on id old new.blocks block has stays)
+    by : ((other ≢ id) × (block_with new.inside.blocks id ≡ Some block)) ⊎ IsChanged (StepsOnce old.parts other told new.parts) new.inside.blocks id other block
+        → WritesOn id block.device.front.queue new.inside.blocks (bytes_by id old (events.Step other) told) (done_by_device id (events.Step other) told)
+    by (inl (differ, stays)) = as_is false (ne_eqb id other (λ same. differ (sym same))) (same_on id old.inside new.inside.blocks block has stays)
     by (inr changed) = as_is true (eq-eqb id other (sym changed.same))
         (record {
           block = as_device block changed.after;
@@ -185,23 +188,19 @@ steps_on id other old new told block has changes =
           writes =
               subst (λ (w : List Byte). Writes block.device.front.queue changed.after.front.queue w (done_in told))
               (sym (ap (λ (o : Option BlockSeen). wrote_when (went_on told) o) has.there ∙ same_bytes (went_on told)))
-              (step_writes (parts_of old.world) (parts_of new.world) other told block.device changed.after changed.changed has.within);
+              (step_writes old.parts new.parts other told block.device changed.after changed.changed has.within);
         })
 
 -- the other events
 
-plugs : (number id other : ℕ) (old new : Seen) (told : Outcome) (block : BlockSeen) → Has id old block → PlugsBlock number old other told new
+plugs : (number : Option ℕ) (id other : ℕ) (old new : BlocksSeen) (told : Outcome) (block : BlockSeen) → Has id old block → PlugsBlock number old other told new
     → WritesOn id block.device.front.queue new.blocks [] []
-plugs number id other old new outcome.Done block has plugged =
+plugs None id other old new told block has same = stay_on id old new block has same
+plugs (Some number) id other old new outcome.Done block has plugged =
     same_on id old new.blocks block has (ap (λ blocks. block_with blocks id) plugged.behind ∙ there_before old.blocks _ id block has.there)
-plugs number id other old new told block has same = stay_on id old new block has same
+plugs (Some number) id other old new told block has same = stay_on id old new block has same
 
-plugs_any : (number : Option ℕ) (id other : ℕ) (old new : Seen) (told : Outcome) (block : BlockSeen) → Has id old block → model.PlugsAny number old other told new
-    → WritesOn id block.device.front.queue new.blocks [] []
-plugs_any None id other old new told block has same = stay_on id old new block has same
-plugs_any (Some number) id other old new told block has plugged = plugs number id other old new told block has plugged
-
-inserts : (number id other : ℕ) (old new : Seen) (told : Outcome) (block : BlockSeen) → Has id old block → model.InsertsIntoBlock number old other told new
+inserts : (number id other : ℕ) (old new : BlocksSeen) (told : Outcome) (block : BlockSeen) → Has id old block → InsertsIntoBlock number old other told new
     → WritesOn id block.device.front.queue new.blocks [] []
 inserts number id other old new outcome.Done block has put = by (one_changes (HasDisk put.disk) old.blocks new.blocks id other block has.there put.changed)
   where
@@ -215,80 +214,80 @@ inserts number id other old new outcome.Done block has put = by (one_changes (Ha
     }
 inserts number id other old new told block has same = stay_on id old new block has same
 
-leaves : (id other : ℕ) (old new : Seen) (told : Outcome) (block : BlockSeen) → Has id old block → ends_life id (events.Detach other) told ≡ false
-    → model.LeavesBlock old other told new → WritesOn id block.device.front.queue new.blocks [] []
+leaves : (id other : ℕ) (old new : BlocksSeen) (told : Outcome) (block : BlockSeen) → Has id old block → ends_life id (events.Detach other) told ≡ false
+    → LeavesBlock old other told new → WritesOn id block.device.front.queue new.blocks [] []
 leaves id other old new (outcome.Ticket ticket) block has lives changes =
     changes_on IsGivenUp id other old new block has (λ same after how. alive id other lives same) changes
 leaves id other old new told block has lives same = stay_on id old new block has same
 
-resets : (id other : ℕ) (old new : Seen) (told : Outcome) (block : BlockSeen) → Has id old block → ends_life id (events.Reset other) told ≡ false
-    → model.ResetsBlock old other told new → WritesOn id block.device.front.queue new.blocks [] []
+resets : (id other : ℕ) (old new : BlocksSeen) (told : Outcome) (block : BlockSeen) → Has id old block → ends_life id (events.Reset other) told ≡ false
+    → ResetsBlock old other told new → WritesOn id block.device.front.queue new.blocks [] []
 resets id other old new outcome.Done block has lives changes =
     changes_on IsReset id other old new block has (λ same after how. alive id other lives same) changes
 resets id other old new told block has lives same = stay_on id old new block has same
 
-queues : (layout : Layout) (id other : ℕ) (old new : Seen) (told : Outcome) (block : BlockSeen) → Has id old block → ends_life id (events.Reset other) told ≡ false
-    → model.SetsQueueOf layout old other told new → WritesOn id block.device.front.queue new.blocks [] []
+queues : (layout : Layout) (id other : ℕ) (old new : BlocksSeen) (told : Outcome) (block : BlockSeen) → Has id old block → ends_life id (events.Reset other) told ≡ false
+    → SetsQueueOf layout old other told new → WritesOn id block.device.front.queue new.blocks [] []
 queues layout id other old new outcome.Done block has lives changes =
     changes_on (SetsUp layout) id other old new block has (λ same after how. alive id other lives same) changes
 queues layout id other old new told block has lives same = stay_on id old new block has same
 
-hears_oldest : (number : Option ℕ) (bytes : List ℕ) (id other : ℕ) (old new : Seen) (block : BlockSeen) → Has id old block → HearsOldest number bytes old other new
+hears_oldest : (number : Option ℕ) (bytes : List ℕ) (id other : ℕ) (old new : BlocksSeen) (block : BlockSeen) → Has id old block → HearsOldest number bytes old other new
     → WritesOn id block.device.front.queue new.blocks [] []
 hears_oldest None bytes id other old new block has same = stay_on id old new block has same
 hears_oldest (Some number) bytes id other old new block has changes =
-    changes_on (model.HearsMade number bytes) id other old new block has (λ same after how. (hears_made number bytes block.device after how).queue) changes
+    changes_on (HearsMade number bytes) id other old new block has (λ same after how. (hears_made number bytes block.device after how).queue) changes
 
-commits : (id other : ℕ) (old new : Seen) (told : Outcome) (block : BlockSeen) → Has id old block → model.CommitsOf old other told new
+commits : (number : Option ℕ) (id other : ℕ) (old new : BlocksSeen) (told : Outcome) (block : BlockSeen) → Has id old block → CommitsOf number old other told new
     → WritesOn id block.device.front.queue new.blocks [] []
-commits id other old new (outcome.Read bytes) block has changes = hears_oldest _ bytes.items id other old new block has changes
-commits id other old new (outcome.Wrote count) block has changes = hears_oldest _ [] id other old new block has changes
-commits id other old new told block has same = stay_on id old new block has same
+commits number id other old new (outcome.Read bytes) block has changes = hears_oldest number bytes.items id other old new block has changes
+commits number id other old new (outcome.Wrote count) block has changes = hears_oldest number [] id other old new block has changes
+commits number id other old new told block has same = stay_on id old new block has same
 
-hears_answer : (page : Option ℕ) (id other : ℕ) (old new : Seen) (block : BlockSeen) → Has id old block → HearsAnswer page old other new
+hears_answer : (page : Option ℕ) (id other : ℕ) (old new : BlocksSeen) (block : BlockSeen) → Has id old block → HearsAnswer page old other new
     → WritesOn id block.device.front.queue new.blocks [] []
 hears_answer None id other old new block has same = stay_on id old new block has same
 hears_answer (Some page) id other old new block has changes =
-    changes_on (model.HearsRefusal page) id other old new block has (λ same after how. (hears_refusal page block.device after how).queue) changes
+    changes_on (HearsRefusal page) id other old new block has (λ same after how. (hears_refusal page block.device after how).queue) changes
 
-brings : (on : Option OnLink) (id : ℕ) (old new : Seen) (block : BlockSeen) → Has id old block → BringsRefusal on old new
+brings : (on : Option OnLink) (id : ℕ) (old new : BlocksSeen) (block : BlockSeen) → Has id old block → BringsRefusal on old new
     → WritesOn id block.device.front.queue new.blocks [] []
 brings None id old new block has same = stay_on id old new block has same
 brings (Some on) id old new block has heard = hears_answer (refused_page on.message) id on.device old new block has heard
 
-delivers : (place id : ℕ) (old new : Seen) (told : Outcome) (block : BlockSeen) → Has id old block → model.DeliversTo old place told new
+delivers : (on : Option OnLink) (id : ℕ) (old new : BlocksSeen) (told : Outcome) (block : BlockSeen) → Has id old block → DeliversTo on old told new
     → WritesOn id block.device.front.queue new.blocks [] []
-delivers place id old new outcome.AnswerRefused block has brought = brings (slice_get (parts_of old.world).fabric place) id old new block has brought
-delivers place id old new told block has same = stay_on id old new block has same
+delivers on id old new outcome.AnswerRefused block has brought = brings on id old new block has brought
+delivers on id old new told block has same = stay_on id old new block has same
 
 -- any event
-event_on : (id : ℕ) (old new : Seen) (event : Event) (told : Outcome) (block : BlockSeen) → Has id old block → ends_life id event told ≡ false
-    → DoesToBlocks old event told new → WritesOn id block.device.front.queue new.blocks (bytes_by id old event told) (done_by_device id event told)
-event_on id old new (events.Plug other what) told block has lives does = plugs_any (disk_of what) id other old new told block has does
-event_on id old new (events.Medium other number) told block has lives does = inserts number id other old new told block has does
-event_on id old new (events.Detach other) told block has lives does = leaves id other old new told block has lives does
-event_on id old new (events.Revive other) told block has lives does = resets id other old new told block has lives does
-event_on id old new (events.Reset other) told block has lives does = resets id other old new told block has lives does
+event_on : (id : ℕ) (old new : Seen) (event : Event) (told : Outcome) (block : BlockSeen) → Has id old.inside block → ends_life id event told ≡ false
+    → DoesToBlocks old event told new → WritesOn id block.device.front.queue new.inside.blocks (bytes_by id old event told) (done_by_device id event told)
+event_on id old new (events.Plug other what) told block has lives does = plugs (disk_of what) id other old.inside new.inside told block has does
+event_on id old new (events.Medium other number) told block has lives does = inserts number id other old.inside new.inside told block has does
+event_on id old new (events.Detach other) told block has lives does = leaves id other old.inside new.inside told block has lives does
+event_on id old new (events.Revive other) told block has lives does = resets id other old.inside new.inside told block has lives does
+event_on id old new (events.Reset other) told block has lives does = resets id other old.inside new.inside told block has lives does
 event_on id old new (events.Queue other size descriptors available used) told block has lives does =
-    queues (layout_of size descriptors available used) id other old new told block has lives does
-event_on id old new (events.Commit other) told block has lives does = commits id other old new told block has does
-event_on id old new (events.Deliver place) told block has lives does = delivers place id old new told block has does
+    queues (layout_of size descriptors available used) id other old.inside new.inside told block has lives does
+event_on id old new (events.Commit other) told block has lives does = commits (oldest_number (row_of (flights_of old.parts.iommu).rows other)) id other old.inside new.inside told block has does
+event_on id old new (events.Deliver place) told block has lives does = delivers (slice_get old.parts.fabric place) id old.inside new.inside told block has does
 event_on id old new (events.Step other) told block has lives does = steps_on id other old new told block has does.1
-event_on id old new (events.Status other) told block has lives does = stay_on id old new block has does.2
-event_on id old new event told block has lives does = stay_on id old new block has does
+event_on id old new (events.Status other) told block has lives does = stay_on id old.inside new.inside block has does.2
+event_on id old new event told block has lives does = stay_on id old.inside new.inside block has does
 
 -- all events, one after another
 runs_on : (events : List Event) (outcomes : List Outcome) (traces : List (Option Trace)) (state last : State) (run : Run state events outcomes last) (old new : Seen)
-    (id : ℕ) (block : BlockSeen) (through : GoesThrough state old events outcomes traces last run new) → Has id old block → LivesThrough id events outcomes
-    → WritesOn id block.device.front.queue new.blocks (bytes_in id state old events outcomes traces last run new through) (requests_in id events outcomes)
+    (id : ℕ) (block : BlockSeen) (through : GoesThrough state old events outcomes traces last run new) → Has id old.inside block → LivesThrough id events outcomes
+    → WritesOn id block.device.front.queue new.inside.blocks (bytes_in id state old events outcomes traces last run new through) (requests_in id events outcomes)
 runs_on [] [] [] state last run old new id block through has lives =
-    same_on id old new.blocks block has (ap (λ seen. block_with seen.blocks id) through.1 ∙ has.there)
+    same_on id old.inside new.inside.blocks block has (ap (λ seen. block_with seen.inside.blocks id) through.1 ∙ has.there)
 runs_on [] [] (trace ∷ traces) state last run old new id block through has lives = absurd through
 runs_on [] (told ∷ outcomes) traces state last run old new id block through has lives = absurd through
 runs_on (event ∷ events) [] traces state last run old new id block through has lives = absurd through
 runs_on (event ∷ events) (told ∷ outcomes) [] state last run old new id block through has lives = absurd through
 runs_on (event ∷ events) (told ∷ outcomes) (trace ∷ traces) state last (next, step, rest) old new id block (shows, mid, happens, counts, later) has (lives, others) =
-    let one = event_on id old mid event told block has lives happens.1 in
+    let one = event_on id old mid event told block has lives happens.blocks in
     let more = runs_on events outcomes traces next last rest mid new id one.block later (record { there = one.there; within = one.writes.within }) others in
     record {
       block = more.block;
@@ -300,8 +299,8 @@ runs_on (event ∷ events) (told ∷ outcomes) (trace ∷ traces) state last (ne
 
 pub runs_write : (state last : State) (old new : Seen) (events : List Event) (outcomes : List Outcome) (traces : List (Option Trace)) (run : Run state events outcomes last)
     (id : ℕ) (layout : Layout) (block : BlockSeen) (through : GoesThrough state old events outcomes traces last run new)
-    → block_with old.blocks id ≡ Some block → HasFreshQueue layout block.device → LivesThrough id events outcomes
-    → (after : BlockSeen) × (block_with new.blocks id ≡ Some after)
+    → block_with old.inside.blocks id ≡ Some block → HasFreshQueue layout block.device → LivesThrough id events outcomes
+    → (after : BlockSeen) × (block_with new.inside.blocks id ≡ Some after)
     × (bytes_in id state old events outcomes traces last run new through ≡ elements_from layout 0 (requests_in id events outcomes) ++ begun after.device.front.queue)
 runs_write state last old new events outcomes traces run id layout block through there fresh lives =
     let within : IsWithin block.device.front.queue = subst (λ (q : QueueState). IsWithin q) (sym fresh.queue) tt in

@@ -10,10 +10,11 @@ use Rattle.iom_machine.specs.declared.state.State.{State}
 use Rattle.iom_machine.specs.Machine.{Run}
 use Rattle.iom_virtqueue.specs.declared.layout.Layout.{Layout}
 use Rattle.iom_virtqueue.specs.Layouts.{layout_of}
-use Rattle.iom_platform.specs.Blocks.{block_with}
-use Rattle.iom_platform.specs.Happens.{HappensHere}
-use Rattle.iom_platform.specs.Runs.{GoesThrough}
-use Rattle.iom_platform.specs.Seen.{BlockSeen, Seen}
+use Rattle.iom_block_devices.specs.Changes.{block_with}
+use Rattle.iom_block_devices.specs.Seen.{BlockSeen}
+use Rattle.iom_world.specs.Happens.{Happens}
+use Rattle.iom_world.specs.Runs.{GoesThrough}
+use Rattle.iom_world.specs.Seen.{Seen}
 use Rattle.iom_block_life.specs.Lives.{Taken, entry_in, HasFreshQueue, UsesEachOnce}
 
 -- whether the event, told so, ends the life of the device with this id: it is detached, revived or reset, or its queue is set anew, and that isn't refused
@@ -65,10 +66,10 @@ entry_by false block = []
 
 -- the same of a step of this device
 abbrev pub taken_in : ℕ → Seen → Event → Outcome → List Taken
-taken_in id old (events.Step other) told = if id == other then entry_by (went_on told) (block_with old.blocks id) else []
+taken_in id old (events.Step other) told = if id == other then entry_by (went_on told) (block_with old.inside.blocks id) else []
 taken_in id old event told = []
 
--- the entries that the steps of this device took, in their order, in the states that the platform goes through
+-- the entries that the steps of this device took, in their order, in the states that the world goes through
 abbrev pub entries_taken : (id : ℕ) (state : State) (old : Seen) (events : List Event) (outcomes : List Outcome) (traces : List (Option Trace)) (last : State)
     (run : Run state events outcomes last) (new : Seen) → GoesThrough state old events outcomes traces last run new → List Taken
 entries_taken id state old [] outcomes traces last run new through = []
@@ -81,14 +82,14 @@ entries_taken id state old (event ∷ events) (told ∷ outcomes) (trace ∷ tra
 abbrev pub QueuesBeginLives : Type 0
 QueuesBeginLives =
     (old new : Seen) (id size descriptors available used : ℕ) (block : BlockSeen)
-    → HappensHere old (events.Queue id size descriptors available used) outcome.Done new → block_with old.blocks id ≡ Some block
-    → (after : BlockSeen) × (block_with new.blocks id ≡ Some after) × HasFreshQueue (layout_of size descriptors available used) after.device
+    → Happens old (events.Queue id size descriptors available used) outcome.Done new → block_with old.inside.blocks id ≡ Some block
+    → (after : BlockSeen) × (block_with new.inside.blocks id ≡ Some after) × HasFreshQueue (layout_of size descriptors available used) after.device
 
 -- THE LAW of the model: from a block device whose queue was just set, over any events of which none ends its life
 abbrev pub RunsUseEachOnce : Type 0
 RunsUseEachOnce =
     (state last : State) (old new : Seen) (events : List Event) (outcomes : List Outcome) (traces : List (Option Trace)) (run : Run state events outcomes last)
     (id : ℕ) (layout : Layout) (block : BlockSeen) (through : GoesThrough state old events outcomes traces last run new)
-    → block_with old.blocks id ≡ Some block → HasFreshQueue layout block.device → LivesThrough id events outcomes
-    → (after : BlockSeen) × (block_with new.blocks id ≡ Some after)
+    → block_with old.inside.blocks id ≡ Some block → HasFreshQueue layout block.device → LivesThrough id events outcomes
+    → (after : BlockSeen) × (block_with new.inside.blocks id ≡ Some after)
     × UsesEachOnce layout (entries_taken id state old events outcomes traces last run new through) (heads_in id events outcomes) after.device

@@ -13,11 +13,12 @@ use Rattle.iom_virtio_blk.specs.Disks.{name_in}
 use Rattle.iom_virtio_blk.specs.DiskStates.{DiskState}
 use Rattle.iom_virtio_blk.specs.Histories.{Entry, inserted, TellsDisk, history_after}
 use Rattle.iom_virtio_blk.specs.Steps.{Device}
-use Rattle.iom_platform.specs.Blocks.{block_with, IsDiskTaken}
-use Rattle.iom_platform.specs.Happens.{HappensHere}
-use Rattle.iom_platform.specs.Runs.{GoesThrough}
-use Rattle.iom_platform.specs.Seen.{BlockSeen, Seen}
-use Rattle.iom_platform.specs.Numbered.{DiskSeen}
+use Rattle.iom_block_devices.specs.Changes.{block_with, IsDiskTaken}
+use Rattle.iom_block_devices.specs.Numbered.{DiskSeen}
+use Rattle.iom_block_devices.specs.Seen.{BlockSeen}
+use Rattle.iom_world.specs.Happens.{Happens}
+use Rattle.iom_world.specs.Runs.{GoesThrough}
+use Rattle.iom_world.specs.Seen.{Seen}
 
 -- the story of a device's disk: which disk it is, if there is one, and what happened to it since it was put in, the newest first
 pub record Story : Type 0 where
@@ -54,12 +55,12 @@ goes_on (Some old) (Some new) story =
 -- story change, and by none of another device
 abbrev pub story_after : ℕ → Seen → Event → Outcome → Seen → Story → Story
 story_after id old (events.Medium other number) outcome.Done new story =
-    if id == other then put_in (find (λ (one : DiskSeen). one.number == number) old.at_hand) story else story
+    if id == other then put_in (find (λ (one : DiskSeen). one.number == number) old.inside.at_hand) story else story
 story_after id old (events.Detach other) (outcome.Ticket ticket) new story = if id == other then ended else story
-story_after id old (events.Step other) told new story = if id == other then goes_on (block_with old.blocks id) (block_with new.blocks id) story else story
+story_after id old (events.Step other) told new story = if id == other then goes_on (block_with old.inside.blocks id) (block_with new.inside.blocks id) story else story
 story_after id old event told new story = story
 
--- the same after all events, in the states that the platform goes through
+-- the same after all events, in the states that the world goes through
 abbrev pub story_in : (id : ℕ) (state : State) (old : Seen) (events : List Event) (outcomes : List Outcome) (traces : List (Option Trace)) (last : State)
     (run : Run state events outcomes last) (new : Seen) → GoesThrough state old events outcomes traces last run new → Story → Story
 story_in id state old [] outcomes traces last run new through story = story
@@ -72,15 +73,15 @@ story_in id state old (event ∷ events) (told ∷ outcomes) (trace ∷ traces) 
 abbrev pub PlugsBeginStories : Type 0
 PlugsBeginStories =
     (old new : Seen) (id number : ℕ) (what : NewDevice)
-    → HappensHere old (events.Plug id what) outcome.Done new → disk_of what ≡ Some number → block_with old.blocks id ≡ None
-    → (disk : DiskState) × IsDiskTaken number old.at_hand disk new.at_hand
-    × (after : BlockSeen) × (block_with new.blocks id ≡ Some after) × Tells (begins disk) after.device
+    → Happens old (events.Plug id what) outcome.Done new → disk_of what ≡ Some number → block_with old.inside.blocks id ≡ None
+    → (disk : DiskState) × IsDiskTaken number old.inside.at_hand disk new.inside.at_hand
+    × (after : BlockSeen) × (block_with new.inside.blocks id ≡ Some after) × Tells (begins disk) after.device
 
 -- THE LAW: over any events, whatever the driver writes into its rings, and through resets, revivals, detaches and disks that are put in
 abbrev pub RunsTellDisks : Type 0
 RunsTellDisks =
     (state last : State) (old new : Seen) (events : List Event) (outcomes : List Outcome) (traces : List (Option Trace)) (run : Run state events outcomes last)
     (id : ℕ) (story : Story) (block : BlockSeen) (through : GoesThrough state old events outcomes traces last run new)
-    → block_with old.blocks id ≡ Some block → Tells story block.device
-    → (after : BlockSeen) × (block_with new.blocks id ≡ Some after)
+    → block_with old.inside.blocks id ≡ Some block → Tells story block.device
+    → (after : BlockSeen) × (block_with new.inside.blocks id ≡ Some after)
     × Tells (story_in id state old events outcomes traces last run new through story) after.device

@@ -10,9 +10,10 @@ use Rattle.iom_machine.specs.declared.state.State.{State}
 use Rattle.iom_machine.specs.Machine.{Run}
 use Rattle.iom_virtqueue.specs.declared.layout.Layout.{Layout}
 use Rattle.iom_virtio_blk.specs.Elements.{Byte, Done, begun, elements_from, wrote_by}
-use Rattle.iom_platform.specs.Blocks.{block_with}
-use Rattle.iom_platform.specs.Runs.{GoesThrough}
-use Rattle.iom_platform.specs.Seen.{BlockSeen, Seen}
+use Rattle.iom_block_devices.specs.Changes.{block_with}
+use Rattle.iom_block_devices.specs.Seen.{BlockSeen}
+use Rattle.iom_world.specs.Runs.{GoesThrough}
+use Rattle.iom_world.specs.Seen.{Seen}
 use Rattle.iom_block_life.specs.Lives.{HasFreshQueue}
 use Rattle.iom_block_life.specs.Runs.{LivesThrough, went_on}
 
@@ -40,10 +41,10 @@ wrote_when false block = []
 
 -- the same of a step of this device
 abbrev pub bytes_by : ℕ → Seen → Event → Outcome → List Byte
-bytes_by id old (events.Step other) told = if id == other then wrote_when (went_on told) (block_with old.blocks id) else []
+bytes_by id old (events.Step other) told = if id == other then wrote_when (went_on told) (block_with old.inside.blocks id) else []
 bytes_by id old event told = []
 
--- the bytes of its used ring that this device wrote, in their order, in the states that the platform goes through
+-- the bytes of its used ring that this device wrote, in their order, in the states that the world goes through
 abbrev pub bytes_in : (id : ℕ) (state : State) (old : Seen) (events : List Event) (outcomes : List Outcome) (traces : List (Option Trace)) (last : State)
     (run : Run state events outcomes last) (new : Seen) → GoesThrough state old events outcomes traces last run new → List Byte
 bytes_in id state old [] outcomes traces last run new through = []
@@ -59,6 +60,6 @@ abbrev pub RunsWriteElements : Type 0
 RunsWriteElements =
     (state last : State) (old new : Seen) (events : List Event) (outcomes : List Outcome) (traces : List (Option Trace)) (run : Run state events outcomes last)
     (id : ℕ) (layout : Layout) (block : BlockSeen) (through : GoesThrough state old events outcomes traces last run new)
-    → block_with old.blocks id ≡ Some block → HasFreshQueue layout block.device → LivesThrough id events outcomes
-    → (after : BlockSeen) × (block_with new.blocks id ≡ Some after)
+    → block_with old.inside.blocks id ≡ Some block → HasFreshQueue layout block.device → LivesThrough id events outcomes
+    → (after : BlockSeen) × (block_with new.inside.blocks id ≡ Some after)
     × (bytes_in id state old events outcomes traces last run new through ≡ elements_from layout 0 (requests_in id events outcomes) ++ begun after.device.front.queue)

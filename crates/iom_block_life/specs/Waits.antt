@@ -7,19 +7,20 @@ use Rattle.iom_machine.specs.declared.outcome.Trace.{Trace}
 use Rattle.iom_machine.specs.declared.state.State.{State}
 use Rattle.iom_machine.specs.Machine.{Run}
 use Rattle.iom_virtio_blk.specs.DiskStates.{DiskState}
-use Rattle.iom_platform.specs.Blocks.{block_with}
-use Rattle.iom_platform.specs.EachWaits.{EachWaitsInFlight}
-use Rattle.iom_platform.specs.Happens.{HappensHere}
-use Rattle.iom_platform.specs.PowerOn.{BeginsFrom}
-use Rattle.iom_platform.specs.Runs.{GoesThrough, WaitsThroughout}
-use Rattle.iom_platform.specs.Seen.{BlockSeen, Seen}
+use Rattle.iom_block_devices.specs.Changes.{block_with}
+use Rattle.iom_block_devices.specs.Seen.{BlockSeen}
+use Rattle.iom_world.specs.EachWaits.{EachWaitsInFlight}
+use Rattle.iom_world.specs.Happens.{Happens}
+use Rattle.iom_world.specs.PowerOn.{BeginsFrom}
+use Rattle.iom_world.specs.Runs.{GoesThrough, WaitsThroughout}
+use Rattle.iom_world.specs.Seen.{Seen}
 
 -- at power-on no block device waits for anything else than its own access in flight: there is none
 abbrev pub PowerOnWaitsInFlight : Type 0
 PowerOnWaitsInFlight = (first_fence frames levels : ℕ) (disks : List DiskState) (new : Seen) → BeginsFrom first_fence frames levels disks new → EachWaitsInFlight new
 
 -- THE LAW: over any events, whatever the driver writes into its rings, and through resets, quarantines and detaches, each block device waits only while its
--- own access is in flight, in each state that the platform goes through
+-- own access is in flight, in each state that the world goes through
 abbrev pub RunsWaitInFlight : Type 0
 RunsWaitInFlight =
     (state last : State) (old new : Seen) (events : List Event) (outcomes : List Outcome) (traces : List (Option Trace)) (run : Run state events outcomes last)
@@ -33,5 +34,5 @@ IsInStageOf block new = (after : BlockSeen) × (new ≡ Some after) × (after.de
 -- none is to be reset for want of them
 abbrev pub CommitsLeaveStages : Type 0
 CommitsLeaveStages =
-    (old new : Seen) (id other : ℕ) (told : Outcome) (block : BlockSeen) → EachWaitsInFlight old → HappensHere old (events.Commit other) told new
-    → block_with old.blocks id ≡ Some block → IsInStageOf block (block_with new.blocks id)
+    (old new : Seen) (id other : ℕ) (told : Outcome) (block : BlockSeen) → EachWaitsInFlight old → Happens old (events.Commit other) told new
+    → block_with old.inside.blocks id ≡ Some block → IsInStageOf block (block_with new.inside.blocks id)

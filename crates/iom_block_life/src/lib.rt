@@ -3,7 +3,7 @@
 //!
 //! OASIS Virtual I/O Device (VIRTIO) Version 1.2, section 2.7.6 ("The Virtqueue Available Ring"), section 2.7.8 ("The
 //! Virtqueue Used Ring") and section 5.2.6 ("Device Operation"). `iom_virtio_blk` says of each call of a device what it
-//! does, and `iom_platform` which calls an event makes. This crate has no code: `specs/Lives.antt` says what a life is,
+//! does, and `iom_world` which calls an event makes. This crate has no code: `specs/Lives.antt` says what a life is,
 //! calls one after another, each with the device before and after it, and [`uses_each_entry_once`] what follows from all of
 //! them together; `specs/Runs.antt` and [`runs_use_each_entry_once`] say the same of the events of a run and their
 //! outcomes. `specs/Stories.antt` and [`runs_tell_disks`] say of a run which disk the device has, and what it holds. All
@@ -24,7 +24,7 @@ pub fn uses_each_entry_once()
 {}
 
 /// The same of a block device in a run of the model, from the event that set its queue to the next one that ends its
-/// life: the entries that its steps take, in the states that the platform goes through, are those of its ring in their
+/// life: the entries that its steps take, in the states that the world goes through, are those of its ring in their
 /// order, and the heads of its lines `finished` are theirs, each once, but for the last one.
 pub fn runs_use_each_entry_once()
     ensures begin { QueuesBeginLives }

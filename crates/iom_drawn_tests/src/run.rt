@@ -10,8 +10,8 @@ use crate::messages::{Messages, Question, Said};
 use crate::settled::settles;
 use iom_base::{DeviceId, GrantRights, Mode, NewDevice, Size};
 use iom_machine::{Event, Outcome};
-use iom_platform::Platform;
 use iom_virtio_blk::MemoryDisk;
+use iom_world::World;
 use std::alloc::Global;
 use std::test::Fail;
 
@@ -86,7 +86,7 @@ fn last_word(bytes: &[u8]) -> u64 {
 #[derive(Drop)]
 pub(crate) struct Run {
     alloc: Global,
-    world: Box<Platform<MemoryDisk>>,
+    world: Box<World<MemoryDisk>>,
     pub(crate) messages: Messages,
     plan: Plan,
     pub(crate) ids: Ids,
@@ -179,7 +179,7 @@ impl Run {
     /// A world of 64 frames, to which nothing has happened. Where it is wide its directory has three levels, else one.
     fn new(alloc: Global, plan: Plan, is_wide: bool, guest: Size) -> Result<Box<Run>, Fail> {
         let (ids, levels) = if is_wide { (WIDE, 3) } else { (NARROW, 1) };
-        let world = Platform::new(alloc, 64, levels, Vec::new(alloc))?;
+        let world = World::new(alloc, 64, levels, Vec::new(alloc))?;
         let run = Run {
             alloc,
             world: Box::new(alloc, world)?,

@@ -4,8 +4,8 @@ use crate::draw::{FIRST_FRAME, FRAMES};
 use crate::run::Step;
 use iom_base::DeviceId;
 use iom_machine::{Event, Outcome};
-use iom_platform::Platform;
 use iom_virtio_blk::MemoryDisk;
+use iom_world::World;
 use std::alloc::{AllocError, Global};
 
 /// A page that was granted to a device.
@@ -80,7 +80,7 @@ fn held_after(alloc: Global, steps: &[Step]) -> Result<Pages, AllocError> {
 }
 
 /// Whether the driver says that the frame is free.
-fn is_free(world: &mut Platform<MemoryDisk>, frame: u64) -> bool {
+fn is_free(world: &mut World<MemoryDisk>, frame: u64) -> bool {
     world.events() < 1000000 && matches!(world.step(&Event::Free { frame }), Outcome::Free(true))
 }
 
@@ -88,7 +88,7 @@ fn is_free(world: &mut Platform<MemoryDisk>, frame: u64) -> bool {
 /// exactly where nobody holds it.
 pub(crate) fn settles(
     alloc: Global,
-    world: &mut Platform<MemoryDisk>,
+    world: &mut World<MemoryDisk>,
     steps: &[Step],
 ) -> Result<bool, AllocError> {
     let held = held_after(alloc, steps)?;

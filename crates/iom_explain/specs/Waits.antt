@@ -9,7 +9,7 @@ use Rattle.iom_command_queue.specs.declared.entry.QueueEntry.TheVariants as stan
 use Rattle.iom_board.specs.declared.board.Board.{Board}
 use Rattle.iom_inflight.specs.declared.made.MadeAt.{MadeAt}
 use Rattle.iom_inflight.specs.Flights.{row_of, oldest_in, oldest_number_in, accepted_in, count_in}
-use Rattle.iom_iommu.specs.Fetches.{head_entry, has_open, are_full, counted_in}
+use Rattle.iom_iommu.specs.Fetches.{head_entry, are_full, counted_in}
 use Rattle.iom_iommu.specs.Parts.{registers_of, slots_of, flights_of}
 use Rattle.iom_machine.specs.declared.outcome.CommandName.{CommandName}
 use Rattle.iom_machine.specs.declared.outcome.CommandName.TheVariants as named

@@ -6,19 +6,20 @@ use crate::notes::{Note, Notes};
 use crate::pages::note_ticket;
 use crate::refusals::note_refusal;
 use iom_machine::{Event, Fetched, Outcome};
+use iom_virtio_blk::Disk;
 use iom_world::World;
 use std::fmt::Write;
 
 /// Notes what the command at the head waits for.
-fn note_head(notes: &mut Notes, world: &World) {
-    let head = head_wait(world.hardware());
+fn note_head<D: Disk>(notes: &mut Notes, world: &World<D>) {
+    let head = head_wait(&world.hardware().board);
     let mut note = Note::new();
     let _ = write!(note, "{head}");
     notes.push(note);
 }
 
 /// Notes what the oldest ticket waits for, where one isn't confirmed.
-fn note_oldest(notes: &mut Notes, world: &World) {
+fn note_oldest<D: Disk>(notes: &mut Notes, world: &World<D>) {
     match world.driver().oldest_pending() {
         Some(ticket) => note_ticket(notes, world, ticket),
         None => {
@@ -30,7 +31,7 @@ fn note_oldest(notes: &mut Notes, world: &World) {
 }
 
 /// What is to be said behind the answer that the event had of the world, as it is now. Nothing, where nobody would ask.
-pub fn explain(world: &World, event: &Event, outcome: &Outcome) -> Notes {
+pub fn explain<D: Disk>(world: &World<D>, event: &Event, outcome: &Outcome) -> Notes {
     let mut notes = Notes::new();
     match outcome {
         Outcome::Free(false) => {

@@ -5,6 +5,7 @@ use iom_base::{AccessKind, Cause, DeviceId};
 use iom_fault_reasons::{WhyFault, WhyTranslated, why_fault, why_translated};
 use iom_machine::Event;
 use iom_stepped_walk::{EntryLoad, Flaw, Table};
+use iom_virtio_blk::Disk;
 use iom_world::World;
 use std::fmt;
 use std::fmt::Write;
@@ -126,14 +127,14 @@ impl fmt::Display for Translated {
 }
 
 /// Notes why an untranslated request stops.
-fn note_untranslated(
+fn note_untranslated<D: Disk>(
     notes: &mut Notes,
-    world: &World,
+    world: &World<D>,
     device: DeviceId,
     address: u64,
     kind: AccessKind,
 ) {
-    let why = Untranslated(why_fault(world.hardware(), device, address, kind));
+    let why = Untranslated(why_fault(&world.hardware().board, device, address, kind));
     let mut note = Note::new();
     let _ = write!(note, "{why}");
     notes.push(note);
@@ -141,8 +142,8 @@ fn note_untranslated(
 }
 
 /// Notes why a request stops that says that it is translated.
-fn note_translated(notes: &mut Notes, world: &World, device: DeviceId, address: u64) {
-    let why = Translated(why_translated(world.hardware(), device, address));
+fn note_translated<D: Disk>(notes: &mut Notes, world: &World<D>, device: DeviceId, address: u64) {
+    let why = Translated(why_translated(&world.hardware().board, device, address));
     let mut note = Note::new();
     let _ = write!(note, "{why}");
     notes.push(note);
@@ -151,15 +152,15 @@ fn note_translated(notes: &mut Notes, world: &World, device: DeviceId, address: 
 
 /// Notes why an access through the device's own cache stops at the IOMMU: it goes there as a request that says that it is translated, and
 /// what stops it is no matter of its address.
-fn note_through_cache(notes: &mut Notes, world: &World, device: DeviceId) {
-    match why_translated(world.hardware(), device, 0) {
+fn note_through_cache<D: Disk>(notes: &mut Notes, world: &World<D>, device: DeviceId) {
+    match why_translated(&world.hardware().board, device, 0) {
         WhyTranslated::OutsideMemory | WhyTranslated::Passes { .. } => {}
         _ => note_translated(notes, world, device, 0),
     }
 }
 
 /// Notes where the way of the request stops; and that its device was cut off or is leaving, where that is so.
-pub(crate) fn note_fault(notes: &mut Notes, world: &World, event: &Event) {
+pub(crate) fn note_fault<D: Disk>(notes: &mut Notes, world: &World<D>, event: &Event) {
     match event {
         Event::Read {
             device,

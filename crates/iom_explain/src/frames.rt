@@ -2,11 +2,12 @@
 use crate::notes::{Note, Notes};
 use crate::pages::note_reach;
 use iom_base::{DeviceId, Owner};
+use iom_virtio_blk::Disk;
 use iom_world::World;
 use std::fmt::Write;
 
 /// Notes whom the frame is reserved for, where it is.
-pub(crate) fn note_owner(notes: &mut Notes, world: &World, frame: u32) {
+pub(crate) fn note_owner<D: Disk>(notes: &mut Notes, world: &World<D>, frame: u32) {
     let Some(owner) = world.driver().owner_of(frame) else {
         return;
     };
@@ -22,7 +23,7 @@ pub(crate) fn note_owner(notes: &mut Notes, world: &World, frame: u32) {
 }
 
 /// Notes each page at which the device holds the frame, or at which the frame lingers, as long as there is room.
-fn note_device(notes: &mut Notes, world: &World, device: DeviceId, frame: u32) {
+fn note_device<D: Disk>(notes: &mut Notes, world: &World<D>, device: DeviceId, frame: u32) {
     let ledger = world.driver().ledger();
     let mut from = 0;
     for _ in 0..ledger.page_count(device) {
@@ -36,12 +37,12 @@ fn note_device(notes: &mut Notes, world: &World, device: DeviceId, frame: u32) {
 
 /// Notes why a frame of memory isn't free: who holds it, and for whom it lingers, at which page, under which ticket, and what that waits
 /// for; or whom it is reserved for.
-pub(crate) fn note_frame(notes: &mut Notes, world: &World, frame: u64) {
+pub(crate) fn note_frame<D: Disk>(notes: &mut Notes, world: &World<D>, frame: u64) {
     let Ok(frame) = u32::try_from(frame) else {
         return;
     };
     note_owner(notes, world, frame);
-    for device in &world.hardware().devices {
+    for device in &world.hardware().board.devices {
         note_device(notes, world, device.id, frame);
     }
 }

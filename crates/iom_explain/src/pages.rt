@@ -3,13 +3,14 @@ use crate::notes::{Note, Notes};
 use crate::tickets::ticket_wait;
 use iom_base::DeviceId;
 use iom_ledger::{Ledger, Reach};
+use iom_virtio_blk::Disk;
 use iom_world::World;
 use std::fmt::Write;
 
 /// Notes that the device holds the frame at the page; or that the frame lingers there, and what its ticket waits for.
-pub(crate) fn note_reach(
+pub(crate) fn note_reach<D: Disk>(
     notes: &mut Notes,
-    world: &World,
+    world: &World<D>,
     device: DeviceId,
     frame: u32,
     reach: Reach,
@@ -46,7 +47,7 @@ fn reach_at(ledger: &Ledger, device: DeviceId, frame: u32, page: u64) -> Option<
 }
 
 /// Notes what the device holds at the page, or what lingers there, if anything is or does.
-pub(crate) fn note_page(notes: &mut Notes, world: &World, device: DeviceId, page: u64) {
+pub(crate) fn note_page<D: Disk>(notes: &mut Notes, world: &World<D>, device: DeviceId, page: u64) {
     let ledger = world.driver().ledger();
     let Some((frame, _)) = ledger
         .holds(device, page)
@@ -60,7 +61,7 @@ pub(crate) fn note_page(notes: &mut Notes, world: &World, device: DeviceId, page
 }
 
 /// Notes what a ticket waits for that isn't confirmed.
-pub(crate) fn note_ticket(notes: &mut Notes, world: &World, ticket: u32) {
+pub(crate) fn note_ticket<D: Disk>(notes: &mut Notes, world: &World<D>, ticket: u32) {
     if let Some(wait) = ticket_wait(world, ticket) {
         let mut note = Note::new();
         let _ = write!(note, "ticket {ticket}: {wait}");
@@ -69,7 +70,7 @@ pub(crate) fn note_ticket(notes: &mut Notes, world: &World, ticket: u32) {
 }
 
 /// Notes the ticket under which the device was cut off or leaves, and what it waits for.
-pub(crate) fn note_parting(notes: &mut Notes, world: &World, device: DeviceId) {
+pub(crate) fn note_parting<D: Disk>(notes: &mut Notes, world: &World<D>, device: DeviceId) {
     let Some(ticket) = world.driver().parting_ticket(device) else {
         return;
     };

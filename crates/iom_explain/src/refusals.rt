@@ -5,6 +5,7 @@ use crate::notes::{Note, Notes};
 use crate::pages::{note_page, note_parting, note_ticket};
 use iom_base::{DeviceId, Refusal};
 use iom_machine::Event;
+use iom_virtio_blk::Disk;
 use iom_world::World;
 use std::fmt::Write;
 
@@ -68,16 +69,16 @@ fn page_of(event: &Event) -> Option<u64> {
 }
 
 /// Notes the first page at which the device still holds something, or something lingers.
-fn note_first_page(notes: &mut Notes, world: &World, device: DeviceId) {
+fn note_first_page<D: Disk>(notes: &mut Notes, world: &World<D>, device: DeviceId) {
     if let Some(page) = world.driver().ledger().page_at(device, 0) {
         note_page(notes, world, device, page);
     }
 }
 
 /// Notes what the state says of a refusal that is about a device.
-fn note_device(
+fn note_device<D: Disk>(
     notes: &mut Notes,
-    world: &World,
+    world: &World<D>,
     event: &Event,
     device: DeviceId,
     refusal: Refusal,
@@ -100,7 +101,7 @@ fn note_device(
 }
 
 /// Notes what the state says of a refusal that is about all devices.
-fn note_whole(notes: &mut Notes, world: &World, event: &Event, refusal: Refusal) {
+fn note_whole<D: Disk>(notes: &mut Notes, world: &World<D>, event: &Event, refusal: Refusal) {
     match refusal {
         Refusal::FrameReserved => {
             if let Event::Grant { frame, .. } = event {
@@ -110,7 +111,7 @@ fn note_whole(notes: &mut Notes, world: &World, event: &Event, refusal: Refusal)
             }
         }
         Refusal::QueueFull => {
-            let head = head_wait(world.hardware());
+            let head = head_wait(&world.hardware().board);
             let mut note = Note::new();
             let _ = write!(note, "{head}");
             notes.push(note);
@@ -125,7 +126,12 @@ fn note_whole(notes: &mut Notes, world: &World, event: &Event, refusal: Refusal)
 }
 
 /// Notes what would have to be done before the call, and what stands in its way.
-pub(crate) fn note_refusal(notes: &mut Notes, world: &World, event: &Event, refusal: Refusal) {
+pub(crate) fn note_refusal<D: Disk>(
+    notes: &mut Notes,
+    world: &World<D>,
+    event: &Event,
+    refusal: Refusal,
+) {
     let mut note = Note::new();
     let first = remedy(refusal);
     let _ = write!(note, "{first}");

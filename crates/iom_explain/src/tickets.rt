@@ -5,6 +5,7 @@ ghost use Rattle.iom_explain.specs.Tickets.{IsDone, IsTicketWait, StandsAt};
 use crate::head::{HeadWait, head_wait};
 use iom_board::Board;
 use iom_command_queue::{Command, CommandRing, QueueEntry};
+use iom_virtio_blk::Disk;
 use iom_world::World;
 use std::fmt;
 
@@ -20,20 +21,23 @@ pub enum TicketWait {
 }
 
 /// Whether the fence with this number is done, by the completion word.
-fn is_done(world: &World, fence: u32) -> bool
+fn is_done<D: Disk>(world: &World<D>, fence: u32) -> bool
     ensures { IsTrue result → IsDone world.now fence }
 {
-    match world.driver().completion_word(&world.hardware().memory) {
+    match world
+        .driver()
+        .completion_word(&world.hardware().board.memory)
+    {
         Some(word) => fence <= word,
         None => false,
     }
 }
 
 /// Whether a fence that stores this number stands at this place of the commands that wait.
-fn stores_at(world: &World, fence: u32, place: u32) -> bool
+fn stores_at<D: Disk>(world: &World<D>, fence: u32, place: u32) -> bool
     ensures { IsTrue result → StandsAt world.now fence place }
 {
-    let hardware = world.hardware();
+    let hardware = &world.hardware().board;
     match CommandRing::at(&hardware.memory, hardware.iommu.registers(), place) {
         Some(
             QueueEntry::Command(
@@ -48,10 +52,10 @@ fn stores_at(world: &World, fence: u32, place: u32) -> bool
 }
 
 /// The place, among the commands that wait, of the first fence that stores this number.
-fn place_of(world: &World, fence: u32) -> Option<u32>
+fn place_of<D: Disk>(world: &World<D>, fence: u32) -> Option<u32>
     ensures { IfSome result (StandsAt world.now fence) }
 {
-    for place in 0..CommandRing::count(world.hardware().iommu.registers()) {
+    for place in 0..CommandRing::count(world.hardware().board.iommu.registers()) {
         if stores_at(world, fence, place) {
             return Some(place);
         }
@@ -61,20 +65,26 @@ fn place_of(world: &World, fence: u32) -> Option<u32>
 
 /// What a ticket waits for. None where it wasn't given, or is confirmed; or where its fence is neither done nor in the queue, which
 /// no call of the driver leaves so. It changes nothing.
-pub fn ticket_wait(world: &World, ticket: u32) -> Option<TicketWait>
+pub fn ticket_wait<D: Disk>(world: &World<D>, ticket: u32) -> Option<TicketWait>
     ensures { IfSome result (IsTicketWait world.now ticket) }
 {
     let fence = world.driver().awaited_fence(ticket)?;
     if is_done(world, fence) {
         return Some(TicketWait::NextPoll);
     }
-    if !world.hardware().iommu.registers().is_processing_commands() {
+    if !world
+        .hardware()
+        .board
+        .iommu
+        .registers()
+        .is_processing_commands()
+    {
         return Some(TicketWait::Restart);
     }
     let before = place_of(world, fence)?;
     Some(TicketWait::Queued {
         before,
-        head: head_wait(world.hardware()),
+        head: head_wait(&world.hardware().board),
     })
 }
 

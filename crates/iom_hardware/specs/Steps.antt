@@ -1,8 +1,8 @@
 -- A block device takes a step, up to the access that it wants, which begins in the same call (virtio 1.2, sections 2.7 and 5.2).
-use Rattle.std.specs.Prelude.{◌≡◌, ℕ, Bool, true, false, Option, None, Some, Result, Ok, Err}
+use Rattle.std.specs.Prelude.{◌≡◌, ◌<◌, ◌^◌, ℕ, Bool, true, false, Option, None, Some, Result, Ok, Err}
 use Rattle.std.specs.Option.{option_map_or}
 use Rattle.iom_base.specs.declared.access.Access.{Access}
-use Rattle.iom_base.specs.Accesses.{page_of}
+use Rattle.iom_base.specs.Accesses.{MayWant, page_of}
 use Rattle.iom_base.specs.DeviceKinds.{has_cache, is_block_device}
 use Rattle.iom_base.specs.declared.refusal.Refusal.{Refusal}
 use Rattle.iom_block_devices.specs.Changes.{Changes}
@@ -71,16 +71,20 @@ reply_to access (Ok (Began iommu.Busy)) = reply.Busy
 reply_to access (Ok Asked) = reply.Asked (page_of access)
 reply_to access answer = reply.Fault
 
--- it begins the access that is wanted
+-- it begins the access that is wanted, which lies within one page of the 64-bit address space
 pub record BeginsAny (wanted : Wanted) (old : BoardParts) (id : ℕ) (answer : Result Stepped Refusal) (new : BoardParts) : Type 0 where
   pub access : Access
   pub named : wanted_access wanted ≡ Some access
+  pub fits : access.address < 2 ^ 64
+  pub wants : MayWant access
   pub begun : Begins old id access answer new
 
--- it begins the access that it wants, and is told
+-- it begins the access that it wants, which lies within one page of the 64-bit address space, and is told
 pub record BeginsWanted (old : BoardParts) (id : ℕ) (between : Device) (answer : Result Stepped Refusal) (new : BoardParts) (after : Device) : Type 0 where
   pub access : Access
   pub named : wanted_access (wanted_by between.front) ≡ Some access
+  pub fits : access.address < 2 ^ 64
+  pub wants : MayWant access
   pub begun : Begins old id access answer new
   pub hears : after ≡ device (replied (reply_to access answer) between.front) between.disk
 

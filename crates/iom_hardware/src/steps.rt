@@ -124,6 +124,7 @@ fn access(
     requires count { board.old.events + 1 < 2 ^ 64 }
     requires wants { MayWant (access_of address len kind bytes.now) }
     ensures begins { Begins (board_parts board.old) id (access_of address len kind bytes.now) result (board_parts board.new) }
+    ensures fits { address < 2 ^ 64 }
     ensures sound { IsSoundBoard (board_parts board.new) board.new.events }
     ensures counted { IsCounted board.old board.new }
 {

@@ -5,6 +5,8 @@ use iom_litmus::{Explored, Row, Search, SearchFault, System, Watch};
 use iom_litmus_reader::read;
 use iom_litmus_report::{answers_of, dot, report, script_of, telling_row, undecided, verdict_on};
 use iom_litmus_test::Test;
+use iom_litmus_world::UnderTest;
+use iom_virtio_blk::MemoryDisk;
 use std::alloc::{AllocError, Global};
 
 /// How a question was answered.
@@ -180,7 +182,7 @@ fn on_world<W: Watch>(
     watch: &mut W,
 ) -> Result<Answer, TestFault> {
     world::check_cells(alloc, test)?;
-    let search: Search<'_, iom_litmus_world::UnderTest> = Search {
+    let search: Search<'_, UnderTest<MemoryDisk>> = Search {
         alloc,
         test,
         opening,

@@ -8,6 +8,7 @@ use Rattle.iom_ledger.specs.declared.page_row.PageRow.{PageRow}
 use Rattle.iom_ledger.specs.declared.pending.Pending.{Pending}
 use Rattle.iom_ledger.specs.declared.row.Row.{Row}
 use Rattle.iom_base.specs.declared.owner.Owner.{Owner}
+use Rattle.iom_virtio_blk.specs.declared.disk.Disk.{Ghosts}
 use Rattle.iom_world.specs.declared.world.World.{World}
 use Rattle.iom_litmus_looks.specs.Places.{HardwarePlace, hardware_place, ids_of}
 
@@ -51,8 +52,8 @@ pub record WorldPlace : Type 0 where
   pub hardware : HardwarePlace
   pub driver : DriverPlace
 
-abbrev pub place_of : World → WorldPlace
-place_of world = record { hardware = hardware_place world.hardware; driver = driver_place world.driver }
+abbrev pub place_of : {D : Type 0} {d : Ghosts D} → World D d → WorldPlace
+place_of world = record { hardware = hardware_place world.hardware.board; driver = driver_place world.driver }
 
 -- the same, with the ids of the devices
 pub record Tested : Type 0 where

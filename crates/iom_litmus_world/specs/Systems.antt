@@ -9,18 +9,20 @@ use Rattle.iom_litmus.specs.Replies.{no_reply}
 use Rattle.iom_litmus.specs.Rules.{Rules}
 use Rattle.iom_litmus_looks.specs.Acts.{event_of}
 use Rattle.iom_litmus_looks.specs.Looks.{is_in_flight, AreEqualMessages, memory_text}
+use Rattle.iom_virtio_blk.specs.declared.disk.Disk.{Ghosts}
 use Rattle.iom_litmus_world.specs.Lines.{LeadsBy, RunsText}
 use Rattle.iom_litmus_world.specs.Places.{WorldPlace, Tested, AreListed}
 
 -- what hardware does by itself is that event; where it is none nothing comes of it
-abbrev pub LeadsByEvent : Option Event → WorldPlace → Reply → WorldPlace → Type 0
-LeadsByEvent (Some event) old reply new = LeadsBy event old reply new
-LeadsByEvent None old reply new = (reply ≡ no_reply) × (new ≡ old)
+abbrev pub LeadsByEvent : {D : Type 0} → Ghosts D → Option Event → WorldPlace → Reply → WorldPlace → Type 0
+LeadsByEvent d (Some event) old reply new = LeadsBy d event old reply new
+LeadsByEvent d None old reply new = (reply ≡ no_reply) × (new ≡ old)
 
-abbrev pub rules : Rules Tested
-rules = record {
-  runs = λ old text reply new. RunsText old.place text reply new.place × AreListed new;
-  acts = λ old step reply new. LeadsByEvent (event_of step) old.place reply new.place × AreListed new;
+-- `d` is what is known of the disks, of which there is none here
+abbrev pub rules : {D : Type 0} → Ghosts D → Rules Tested
+rules d = record {
+  runs = λ old text reply new. RunsText d old.place text reply new.place × AreListed new;
+  acts = λ old step reply new. LeadsByEvent d (event_of step) old.place reply new.place × AreListed new;
 }
 
 abbrev pub readings : Readings Tested

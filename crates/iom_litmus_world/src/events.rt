@@ -9,6 +9,7 @@ use iom_litmus::Reply;
 use iom_litmus_looks::{front_of, touches_of};
 use iom_machine::{Event, Outcome};
 use iom_script::{LineBuffer, event_of};
+use iom_virtio_blk::Disk;
 use iom_world::{KeptOutcomes, World};
 use std::alloc::{AllocError, Global};
 
@@ -33,7 +34,7 @@ pub fn event_for_tests(alloc: Global, line: &[u8]) -> Result<Option<Event>, Allo
 }
 
 /// The access that the event makes.
-fn made_by(world: &World, event: &Event) -> Option<MadeAt>
+fn made_by<D: Disk>(world: &World<D>, event: &Event) -> Option<MadeAt>
     ensures { result ≡ made_by event.now world.now }
 {
     match event {
@@ -50,15 +51,15 @@ fn put(buffer: &mut LineBuffer, outcome: &Outcome) {
 }
 
 /// The event happens. Its reply, whose text is written by way of the buffer.
-pub(crate) fn take(
+pub(crate) fn take<D: Disk>(
     alloc: Global,
-    world: &mut World,
+    world: &mut World<D>,
     event: &Event,
     kept: &mut KeptOutcomes,
     buffer: &mut LineBuffer,
 ) -> Result<Reply, AllocError>
     requires event { is_of_block event.now ≡ false }
-    requires count { world.old.hardware.events + 1 < 2 ^ 64 }
+    requires count { world.old.hardware.board.events + 1 < 2 ^ 64 }
     ensures { IfOk result (λ reply. TakesEvent event.now world.old reply world.new) }
 {
     let touches = touches_of(alloc, made_by(world, event))?;

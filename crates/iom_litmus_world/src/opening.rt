@@ -5,6 +5,7 @@ ghost use Rattle.iom_litmus_world.specs.Openings.{GoesThrough, HasOpened};
 use crate::events::is_of_block;
 use iom_base::Sequence;
 use iom_machine::Event;
+use iom_virtio_blk::Disk;
 use iom_world::{KeptOutcomes, World};
 use std::alloc::{AllocError, Global};
 
@@ -20,8 +21,8 @@ pub struct Opening {
 pub(crate) const MOST_EVENTS: u64 = u64::MAX - 1;
 
 /// The events happen, one after another.
-fn go_through(
-    world: &mut World,
+fn go_through<D: Disk>(
+    world: &mut World<D>,
     events: &[Event],
     kept: &mut KeptOutcomes,
 ) -> Result<(), AllocError>
@@ -38,10 +39,14 @@ fn go_through(
 
 impl Opening {
     /// A world that has gone through the events.
-    pub(crate) fn world(&self, alloc: Global, kept: &mut KeptOutcomes) -> Result<World, AllocError>
+    pub(crate) fn world<D: Disk>(
+        &self,
+        alloc: Global,
+        kept: &mut KeptOutcomes,
+    ) -> Result<World<D>, AllocError>
         ensures { IfOk result (HasOpened self.now) }
     {
-        let Ok(mut world) = World::new(alloc, self.frames, self.levels, &[]) else {
+        let Ok(mut world) = World::new(alloc, self.frames, self.levels, Vec::new(alloc)) else {
             return Err(AllocError);
         };
         go_through(&mut world, self.events.as_slice(), kept)?;

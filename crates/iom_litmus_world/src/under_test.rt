@@ -13,6 +13,7 @@ use iom_litmus::{HardwareStep, Reply, System};
 use iom_litmus_looks::{event_of, fingerprint_of, ids_of, memory_text};
 use iom_machine::Event;
 use iom_script::LineBuffer;
+use iom_virtio_blk::Disk;
 use iom_world::{KeptOutcomes, World};
 use std::alloc::{AllocError, Global};
 use std::marker::Model;
@@ -24,17 +25,17 @@ struct Bench {
     buffer: LineBuffer,
 }
 
-/// A world, hardware with the driver.
+/// A world, hardware with the driver, without a disk.
 #[derive(Drop)]
-pub struct UnderTest {
-    world: World,
+pub struct UnderTest<D: Disk> {
+    world: World<D>,
     /// The ids of the devices, in the order of plugging.
     ids: Sequence<DeviceId>,
     /// Where answers are put together, once one was.
     bench: Option<Box<Bench>>,
 }
 
-impl Model for UnderTest {
+impl<D: Disk> Model for UnderTest<D> {
     ghost use Rattle.std.specs.Coded.{codes};
     ghost use Rattle.iom_litmus_looks.specs.Codes.{rows_coded, translations_coded};
     ghost use Rattle.iom_litmus_world.specs.Places.{Tested, place_of};
@@ -55,13 +56,13 @@ fn new_bench(alloc: Global) -> Result<Box<Bench>, AllocError> {
     }
 }
 
-impl UnderTest {
+impl<D: Disk> UnderTest<D> {
     /// The ids are those of the devices that are there now.
     fn list(&mut self, alloc: Global) -> Result<(), AllocError>
         ensures listed { OnOk result (AreListed self.new) }
         ensures place { self.new.place ≡ self.old.place }
     {
-        self.ids = ids_of(alloc, &self.world.hardware().devices)?;
+        self.ids = ids_of(alloc, &self.world.hardware().board.devices)?;
         Ok(())
     }
 
@@ -79,7 +80,7 @@ impl UnderTest {
     fn take(&mut self, alloc: Global, event: &Event) -> Result<Reply, AllocError>
         requires event { is_of_block event.now ≡ false }
         ensures listed { OnOk result (AreListed self.new) }
-        ensures leads { IfOk result (λ reply. LeadsBy event.now self.old.place reply self.new.place) }
+        ensures leads { IfOk result (λ reply. LeadsBy D.Disk event.now self.old.place reply self.new.place) }
     {
         if self.world.events() >= MOST_EVENTS {
             return Err(AllocError);
@@ -96,19 +97,19 @@ impl UnderTest {
     }
 }
 
-impl System for UnderTest {
+impl<D: Disk> System for UnderTest<D> {
     type Opening = Opening;
 
-    ghost opens = { Opens };
+    ghost opens = { Opens D.Disk };
 
-    ghost rules = { rules };
+    ghost rules = { rules D.Disk };
 
     ghost readings = { readings };
 
-    fn new(alloc: Global, opening: &Opening) -> Result<UnderTest, AllocError> {
+    fn new(alloc: Global, opening: &Opening) -> Result<UnderTest<D>, AllocError> {
         let mut bench = new_bench(alloc)?;
         let world = opening.world(alloc, &mut bench.kept)?;
-        let ids = ids_of(alloc, &world.hardware().devices)?;
+        let ids = ids_of(alloc, &world.hardware().board.devices)?;
         Ok(UnderTest {
             world,
             ids,
@@ -131,7 +132,7 @@ impl System for UnderTest {
     }
 
     fn fetches(&self) -> bool {
-        let hardware = self.world.hardware();
+        let hardware = &self.world.hardware().board;
         hardware.iommu.fetch_has_effect(&hardware.memory)
     }
 
@@ -148,18 +149,19 @@ impl System for UnderTest {
     }
 
     fn messages(&self) -> usize {
-        self.world.hardware().messages().len()
+        self.world.hardware().board.messages().len()
     }
 
     fn is_same_message(&self, place: usize, other: usize) -> bool {
         self.world
             .hardware()
+            .board
             .messages()
             .is_same_message(place, other)
     }
 
     fn times_out(&self) -> bool {
-        self.world.hardware().iommu.can_time_out()
+        self.world.hardware().board.iommu.can_time_out()
     }
 
     fn memory(
@@ -168,10 +170,10 @@ impl System for UnderTest {
         address: u64,
         length: usize,
     ) -> Result<Sequence<u8>, AllocError> {
-        memory_text(alloc, &self.world.hardware().memory, address, length)
+        memory_text(alloc, &self.world.hardware().board.memory, address, length)
     }
 
-    fn is_same(&self, other: &UnderTest) -> bool {
+    fn is_same(&self, other: &UnderTest<D>) -> bool {
         self.world.is_same(&other.world) && self.ids.as_slice() == other.ids.as_slice()
     }
 
@@ -180,6 +182,6 @@ impl System for UnderTest {
     }
 
     fn fingerprint(&self) -> u64 {
-        fingerprint_of(self.world.hardware())
+        fingerprint_of(&self.world.hardware().board)
     }
 }

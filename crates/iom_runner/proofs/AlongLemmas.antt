@@ -1,4 +1,4 @@
--- What a platform does along the lines of a script, and what the sink of lines takes of it.
+-- What a world does along the lines of a script, and what the sink of lines takes of it.
 use Rattle.std.proofs.Common.{◌≡◌, ◌+◌, ◌<◌, ◌++◌, ◌∙◌, ℕ, Bool, inl, inr, List, [], ◌∷◌, length, take, get_or, Option, None, Some, IfSome, is_some, Result, Ok, Err, refl, sym, ap, subst, subst₂, append-nil}
 use Rattle.std.proofs.lemmas.List.{take_more}
 use Rattle.std.proofs.lemmas.List.Elements.{All-nil, All-push}
@@ -9,31 +9,29 @@ use Rattle.iom_machine.specs.declared.outcome.Outcome.{Outcome}
 use Rattle.iom_machine.specs.declared.outcome.Trace.{Trace}
 use Rattle.iom_machine.specs.declared.state.State.{State}
 use Rattle.iom_machine.specs.Traces.{IsTrace}
-use Rattle.iom_platform.specs.Happens.{HappensHere}
-use Rattle.iom_platform.specs.Runs.{AreCounts}
-use Rattle.iom_platform.specs.Seen.{Seen}
+use Rattle.iom_world.specs.Happens.{Happens}
+use Rattle.iom_world.specs.Runs.{AreCounts}
+use Rattle.iom_world.specs.Seen.{Seen}
 use Rattle.iom_script.specs.declared.script.ScriptLine.{ScriptLine}
 use Rattle.iom_script.specs.declared.script.ScriptLine.TheVariants as says
 use Rattle.iom_settling.specs.Stages.{Settled}
-use Rattle.iom_settling_runs.proofs.RunLemmas.{settles}
-use Rattle.iom_world.specs.declared.world.World.{World}
-use Rattle.iom_world.specs.Seen.{parts_of}
+use Rattle.iom_settling_runs.proofs.RunLemmas.{HaveOwnRows, settles}
 use Rattle.iom_world.specs.Shows.{Shows}
 use Rattle.iom_line_writer.specs.declared.writing.LineWriter.{LineWriter}
 use Rattle.iom_line_writer.specs.Writing.{TakesText, FailsAt}
 use Rattle.iom_line_writer.proofs.WritingLemmas.{takes-more, fails-later}
 use Rattle.iom_runner.specs.Going.{LineHappens, WentAlong, RunsAlong, FailsAlong}
 use Rattle.iom_runner.specs.LineRuns.{Answer, LineLeads, LineRun}
-use Rattle.iom_runner.specs.PlatformText.{IsRefusedRightly, GoesAlong, GoesBy}
+use Rattle.iom_runner.specs.WorldText.{IsRefusedRightly, GoesAlong, GoesBy}
 use Rattle.iom_runner.specs.Text.{AreTraces, told_answer, told_answers}
 use Rattle.iom_runner.proofs.ToldLemmas.{traces_as_many, answers_more}
 
 -- counts that are also those of the messages are those of the state
-pub state_counts : (state : State) (world : World) (trace : Option Trace) → AreCounts state world trace → IfSome trace (IsTrace state)
+pub state_counts : (state : State) (world : Seen) (trace : Option Trace) → AreCounts state world trace → IfSome trace (IsTrace state)
 state_counts state world None counts = tt
 state_counts state world (Some trace) counts = counts.0
 
--- the counts of a run that a platform goes along are those of its states
+-- the counts of a run that a world goes along are those of its states
 pub along_traces : (state last : State) (old new : Seen) (lines : List ScriptLine) (answers : List Answer) (traces : List (Option Trace)) (run : LineRun state lines answers last)
     → GoesAlong state old lines answers traces last run new → AreTraces state lines answers traces last run
 along_traces state last old new [] [] [] run along = tt
@@ -42,11 +40,11 @@ along_traces state last old new [] (answer ∷ answers) traces run along = absur
 along_traces state last old new (line ∷ lines) [] traces run along = absurd run
 along_traces state last old new (line ∷ lines) (answer ∷ answers) [] run along = absurd along
 along_traces state last old new (line ∷ lines) (answer ∷ answers) (trace ∷ traces) (mid, step, run) along =
-    (state_counts mid along.0.world trace along.2, along_traces mid last along.0 new lines answers traces run along.3)
+    (state_counts mid along.0 trace along.2, along_traces mid last along.0 new lines answers traces run along.3)
 
--- a platform that went along lines shows the last state
+-- a world that went along lines shows the last state
 along_shows : (state last : State) (old new : Seen) (lines : List ScriptLine) (answers : List Answer) (traces : List (Option Trace)) (run : LineRun state lines answers last)
-    → GoesAlong state old lines answers traces last run new → Shows new.world last
+    → GoesAlong state old lines answers traces last run new → Shows new last
 along_shows state last old new [] [] [] run along = along.0
 along_shows state last old new [] [] (trace ∷ traces) run along = absurd along
 along_shows state last old new [] (answer ∷ answers) traces run along = absurd run
@@ -55,36 +53,36 @@ along_shows state last old new (line ∷ lines) (answer ∷ answers) [] run alon
 along_shows state last old new (line ∷ lines) (answer ∷ answers) (trace ∷ traces) run along = along_shows run.0 last along.0 new lines answers traces run.2 along.3
 
 -- AN EVENT HAPPENS
-pub event_happens : (old new : Seen) (event : Event) (outcome : Outcome) (trace : Option Trace) → HappensHere old event outcome new
-    → ((state : State) → Shows new.world state → AreCounts state new.world trace) → LineHappens old (says.Event event) (inl outcome) trace new
+pub event_happens : (old new : Seen) (event : Event) (outcome : Outcome) (trace : Option Trace) → Happens old event outcome new
+    → ((state : State) → Shows new state → AreCounts state new trace) → LineHappens old (says.Event event) (inl outcome) trace new
 event_happens old new event outcome trace happens counts = λ state shows.
-    let next = happens.0.step state shows in (next.0, next.1, ((shows, new, happens, tt, (next.2, refl)), tt), counts next.0 next.2, next.2)
+    let next = happens.step state shows in (next.0, next.1, ((shows, new, happens, tt, (next.2, refl)), tt), counts next.0 next.2, next.2)
 
 -- settling is refused where the numbers of fences are used up
 refused_rightly : {S : Type 0} (seen_of : S → Seen) (old new : S) (answer : Result ℕ Refusal)
-    → Settled (λ (s : S). parts_of (seen_of s).world) (λ (before : S) (event : Event) (told : Outcome) (after : S). HappensHere (seen_of before) event told (seen_of after)) old answer new
+    → Settled (λ (s : S). (seen_of s).parts) (λ (before : S) (event : Event) (told : Outcome) (after : S). Happens (seen_of before) event told (seen_of after)) old answer new
     → IsRefusedRightly (inr answer) (seen_of new)
 refused_rightly seen_of old new (Ok count) settled = tt
 refused_rightly seen_of old new (Err why) settled = settled.4
 
--- THE PLATFORM SETTLES
-pub settling_happens : {S : Type 0} (seen_of : S → Seen) (old new : S) (answer : Result ℕ Refusal) (trace : Option Trace)
-    → Settled (λ (s : S). parts_of (seen_of s).world) (λ (before : S) (event : Event) (told : Outcome) (after : S). HappensHere (seen_of before) event told (seen_of after)) old answer new
-    → ((state : State) → Shows (seen_of new).world state → AreCounts state (seen_of new).world trace) → LineHappens (seen_of old) says.Settle (inr answer) trace (seen_of new)
-settling_happens seen_of old new answer trace settled counts = λ state shows.
-    let next = settles seen_of old new answer state shows settled in (next.0, next.1, (next.3, refused_rightly seen_of old new answer settled), counts next.0 next.2, next.2)
+-- THE WORLD SETTLES
+pub settling_happens : {S : Type 0} (seen_of : S → Seen) (own : (s : S) → HaveOwnRows (seen_of s)) (old new : S) (answer : Result ℕ Refusal) (trace : Option Trace)
+    → Settled (λ (s : S). (seen_of s).parts) (λ (before : S) (event : Event) (told : Outcome) (after : S). Happens (seen_of before) event told (seen_of after)) old answer new
+    → ((state : State) → Shows (seen_of new) state → AreCounts state (seen_of new) trace) → LineHappens (seen_of old) says.Settle (inr answer) trace (seen_of new)
+settling_happens seen_of own old new answer trace settled counts = λ state shows.
+    let next = settles seen_of own old new answer state shows settled in (next.0, next.1, (next.3, refused_rightly seen_of old new answer settled), counts next.0 next.2, next.2)
 
 -- ONE LINE MORE
--- a step by a line, which the platform goes through
+-- a step by a line, which the world goes through
 abbrev Goes : State → Seen → ScriptLine → Answer → State → Seen → Type 0
 Goes state old line answer last new = (step : LineLeads state line answer last) × GoesBy state old line answer last step new
 
--- a run that a platform goes along
+-- a run that a world goes along
 abbrev RanAlong : State → Seen → List ScriptLine → List Answer → List (Option Trace) → State → Seen → Type 0
 RanAlong state old lines answers traces last new = (run : LineRun state lines answers last) × GoesAlong state old lines answers traces last run new
 
 along_more : (state next last : State) (old mid new : Seen) (lines : List ScriptLine) (answers : List Answer) (traces : List (Option Trace)) (line : ScriptLine) (answer : Answer) (trace : Option Trace)
-    → RanAlong state old lines answers traces next mid → Goes next mid line answer last new → AreCounts last new.world trace → Shows new.world last
+    → RanAlong state old lines answers traces next mid → Goes next mid line answer last new → AreCounts last new trace → Shows new last
     → RanAlong state old (lines ++ line ∷ []) (answers ++ answer ∷ []) (traces ++ trace ∷ []) last new
 along_more state next last old mid new [] [] [] line answer trace so_far goes counts shows =
     let here = subst₂ (λ (s : State) (seen : Seen). Goes s seen line answer last new) so_far.0 so_far.1.1 goes in
@@ -121,7 +119,7 @@ first_lines : (lines : List ScriptLine) (i : ℕ) (line : ScriptLine) → line �
 first_lines lines i line is lt = ap (λ (l : ScriptLine). take i lines ++ l ∷ []) is ∙ sym (take_more lines i line lt)
 
 -- no line yet
-abbrev pub went_none : (state : State) (old : Seen) (counts : Bool) → Shows old.world state → WentAlong state old [] counts old
+abbrev pub went_none : (state : State) (old : Seen) (counts : Bool) → Shows old state → WentAlong state old [] counts old
 went_none state old counts shows = record {
   answers = [];
   traces = [];
@@ -131,7 +129,7 @@ went_none state old counts shows = record {
   there = All-nil (λ (t : Option Trace). is_some t ≡ counts);
 }
 
-pub along_none : {W : Type 0} (contents : W → Option (List ℕ)) (state : State) (old : Seen) (before : LineWriter W) → Shows old.world state → RunsAlong contents state old [] before before old
+pub along_none : {W : Type 0} (contents : W → Option (List ℕ)) (state : State) (old : Seen) (before : LineWriter W) → Shows old state → RunsAlong contents state old [] before before old
 along_none contents state old before shows = (went_none state old before.counts shows, ((refl, refl), [], Appends-nil (contents before.writer.now), append-nil before.buffer))
 
 -- the sink takes one more

@@ -10,10 +10,10 @@ use Rattle.iom_machine.specs.Laws.{IsReached}
 use Rattle.iom_machine.specs.PowerOn.{model_limits}
 use Rattle.iom_machine.specs.Traces.{IsTrace}
 use Rattle.iom_machine.proofs.ReclaimLemmas.{reclaims}
-use Rattle.iom_platform.specs.PowerOn.{BeginsAt}
-use Rattle.iom_platform.specs.Numbered.{numbered, disk_number_of}
-use Rattle.iom_platform.specs.Runs.{AreCounts}
-use Rattle.iom_platform.specs.Seen.{Seen}
+use Rattle.iom_world.specs.PowerOn.{BeginsAt}
+use Rattle.iom_block_devices.specs.Numbered.{numbered, disk_number_of}
+use Rattle.iom_world.specs.Runs.{AreCounts}
+use Rattle.iom_world.specs.Seen.{Seen}
 use Rattle.iom_script.specs.declared.script.ScriptLine.{ScriptLine}
 use Rattle.iom_script.specs.declared.script.WorldSize.{WorldSize}
 use Rattle.iom_line_writer.specs.declared.writing.LineWriter.{LineWriter}
@@ -22,7 +22,7 @@ use Rattle.iom_line_writer.specs.Writing.{AppendsFront, AppendsPart, KeepsWriter
 use Rattle.iom_line_writer.proofs.WritingLemmas.{front-longer, part-front, part-longer, takes-more, fails-later, all_written, part_written, part_failed}
 use Rattle.iom_runner.specs.Going.{WentAlong, RunsAlong, FailsAlong}
 use Rattle.iom_runner.specs.LineRuns.{Answer, LineRun, unrolled, ReclaimsIn}
-use Rattle.iom_runner.specs.PlatformText.{TellsPlatform, WritesRun, BeginsRun, BeginsRunSoFar}
+use Rattle.iom_runner.specs.WorldText.{TellsWorld, WritesRun, BeginsRun, BeginsRunSoFar}
 use Rattle.iom_runner.specs.Text.{Setting, power_on, run_text, told_answers, AreThere, TellsRun}
 use Rattle.iom_runner.proofs.AlongLemmas.{state_counts, along_traces, went_none}
 use Rattle.iom_runner.proofs.AnswerLemmas.{CountedRun, goes_on}
@@ -38,8 +38,8 @@ run_reclaims : (setting : Setting) (size : WorldSize) (lines : List ScriptLine) 
 run_reclaims setting size lines answers last run =
     let all = unrolled (power_on setting size) lines answers last run in reclaims (power_on setting size) all.events all.outcomes last (power_on_is_reached setting size) all.run
 
--- a run that a platform goes along, as it is told, is one of the machine
-pub machine_run : (setting : Setting) (size : WorldSize) (lines : List ScriptLine) (text : List ℕ) → TellsPlatform setting size lines text → TellsRun setting size lines text
+-- a run that a world goes along, as it is told, is one of the machine
+pub machine_run : (setting : Setting) (size : WorldSize) (lines : List ScriptLine) (text : List ℕ) → TellsWorld setting size lines text → TellsRun setting size lines text
 machine_run setting size lines text (seen, end, answers, last, first, traces, begins, run, along, reclaim, there, counts, is) = (
   answers,
   last,
@@ -48,7 +48,7 @@ machine_run setting size lines text (seen, end, answers, last, first, traces, be
   run,
   reclaim,
   there,
-  state_counts (power_on setting size) seen.world first counts,
+  state_counts (power_on setting size) seen first counts,
   along_traces (power_on setting size) last seen end lines answers traces run along,
   is,
 )
@@ -87,20 +87,20 @@ begins_whole setting size lines old new (text, (count, (seen, end, answers, last
     tells_more setting size lines count answers first traces last old new
     (run, along_traces (power_on setting size) last seen end (take count lines) answers traces run along)
     (All-head (λ (t : Option Trace). is_some t ≡ setting.counts) first traces there) (All-tail (λ (t : Option Trace). is_some t ≡ setting.counts) first traces there)
-    (state_counts (power_on setting size) seen.world first counts) (subst (AppendsFront old new) is (part-front old new text part))
+    (state_counts (power_on setting size) seen first counts) (subst (AppendsFront old new) is (part-front old new text part))
 
--- what the platform and the sink have in common at the first line: the sink wants counts or not, and there they are
+-- what the world and the sink have in common at the first line: the sink wants counts or not, and there they are
 pub record IsFirst {W : Type 0} (setting : Setting) (size : WorldSize) (seen : Seen) (lines : LineWriter W) (first : Option Trace) : Type 0 where
   pub begins : BeginsAt size.frames size.levels setting.disks seen
   pub counts : lines.counts ≡ setting.counts
   pub wanted : is_some first ≡ lines.counts
-  pub counted : AreCounts (power_on setting size) seen.world first
+  pub counted : AreCounts (power_on setting size) seen first
 
--- a run, which a platform goes along, is told by its lines
-tells_platform : {W : Type 0} (setting : Setting) (size : WorldSize) (lines : List ScriptLine) (counts : Bool) (seen end : Seen) (writer : LineWriter W) (first : Option Trace)
+-- a run, which a world goes along, is told by its lines
+tells_world : {W : Type 0} (setting : Setting) (size : WorldSize) (lines : List ScriptLine) (counts : Bool) (seen end : Seen) (writer : LineWriter W) (first : Option Trace)
     → IsFirst setting size seen writer first → counts ≡ setting.counts → (went : WentAlong (power_on setting size) seen lines counts end)
-    → TellsPlatform setting size lines (run_text first went.answers went.traces)
-tells_platform setting size lines counts seen end writer first is same went = (
+    → TellsWorld setting size lines (run_text first went.answers went.traces)
+tells_world setting size lines counts seen end writer first is same went = (
   seen,
   end,
   went.answers,
@@ -130,7 +130,7 @@ pub told_whole : {W : Type 0} (contents : W → Option (List ℕ)) (setting : Se
     → WritesRun setting size lines (contents old.writer.now) (contents new.writer.now)
 told_whole contents setting size lines old opened mid new first seen end empty is put ran wrote = (
   run_text first ran.0.answers ran.0.traces,
-  tells_platform setting size lines opened.counts seen end old first is (put.0.1 ∙ is.counts) ran.0,
+  tells_world setting size lines opened.counts seen end old first is (put.0.1 ∙ is.counts) ran.0,
   all_written contents old mid (contents new.writer.now) (run_text first ran.0.answers ran.0.traces) empty (takes_run contents old opened mid first (power_on setting size) lines seen end put ran) wrote,
 )
 
@@ -140,7 +140,7 @@ pub so_far_none : {W : Type 0} (contents : W → Option (List ℕ)) (setting : S
     → BeginsRunSoFar setting size lines (contents old.writer.now) (contents new.writer.now)
 so_far_none contents setting size lines old new first seen empty is failed = (
   run_text first [] [],
-  (0, tells_platform setting size [] old.counts seen seen old first is is.counts (went_none (power_on setting size) seen old.counts is.begins.world.shows)),
+  (0, tells_world setting size [] old.counts seen seen old first is is.counts (went_none (power_on setting size) seen old.counts is.begins.shows)),
   part-longer _ _ (told_line Done first) [] (part_failed contents old new (told_line Done first) empty failed),
 )
 
@@ -156,7 +156,7 @@ told_in_part contents setting size lines old opened mid new first seen end empty
       text,
       (
         length lines,
-        subst (λ (ls : List ScriptLine). TellsPlatform setting size ls text) (sym all) (tells_platform setting size lines opened.counts seen end old first is (put.0.1 ∙ is.counts) ran.0),
+        subst (λ (ls : List ScriptLine). TellsWorld setting size ls text) (sym all) (tells_world setting size lines opened.counts seen end old first is (put.0.1 ∙ is.counts) ran.0),
       ),
       part_written contents old mid (contents new.writer.now) text empty (takes_run contents old opened mid first (power_on setting size) lines seen end put ran) wrote,
     )
@@ -168,7 +168,7 @@ pub told_until_failure : {W : Type 0} (contents : W → Option (List ℕ)) (sett
     → BeginsRunSoFar setting size lines (contents old.writer.now) (contents new.writer.now)
 told_until_failure contents setting size lines old opened new first seen end empty is put (count, went, failed) = (
   run_text first went.answers went.traces,
-  (count, tells_platform setting size (take count lines) opened.counts seen end old first is (put.0.1 ∙ is.counts) went),
+  (count, tells_world setting size (take count lines) opened.counts seen end old first is (put.0.1 ∙ is.counts) went),
   part_failed contents old new (run_text first went.answers went.traces) empty (fails-later contents old opened new (told_line Done first) (told_answers went.answers went.traces) put failed),
 )
 

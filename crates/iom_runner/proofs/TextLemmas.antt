@@ -20,7 +20,7 @@ use Rattle.iom_runner.specs.Disks.{program_setting}
 use Rattle.iom_runner.specs.Reading.{IsReadFault}
 use Rattle.iom_runner.specs.Runs.{TellsScript, RunsBytes, RunsProgram, AreLeft}
 use Rattle.iom_runner.specs.Text.{Setting, TellsRun, IsTextOf, WritesLines}
-use Rattle.iom_runner.specs.PlatformText.{TellsPlatform, TellsSoFar, WritesText, WritesRun, BeginsRun, BeginsRunSoFar}
+use Rattle.iom_runner.specs.WorldText.{TellsWorld, TellsSoFar, WritesText, WritesRun, BeginsRun, BeginsRunSoFar}
 use Rattle.iom_line_writer.specs.Writing.{AppendsFront, AppendsPart}
 use Rattle.iom_runner.proofs.RunLemmas.{machine_run}
 
@@ -104,9 +104,9 @@ pub unparsed : (setting : Setting) (known : Option (List ℕ)) (bytes : List ℕ
 unparsed setting known bytes limit written result fault big read explains is =
     subst (λ r. RunsBytes setting (input_of known bytes) r written written) (sym is) (explained setting known bytes limit written fault big read explains)
 
--- a text that tells a run which a platform goes along tells a run of the machine
+-- a text that tells a run which a world goes along tells a run of the machine
 told_of_machine : (setting : Setting) (lines : List ScriptLine) (text : List ℕ) (world : Option WorldSize)
-    → MatchOption world (text ≡ []) (λ size. TellsPlatform setting size lines text) → MatchOption world (text ≡ []) (λ size. TellsRun setting size lines text)
+    → MatchOption world (text ≡ []) (λ size. TellsWorld setting size lines text) → MatchOption world (text ≡ []) (λ size. TellsRun setting size lines text)
 told_of_machine setting lines text None none = none
 told_of_machine setting lines text (Some size) tells = machine_run setting size lines text tells
 
@@ -155,7 +155,7 @@ untold setting script size written result fault there is memory =
 pub told_script : (setting : Setting) (script : Script) (size : WorldSize) (lines : List ScriptLine) (result : Result (Unit {0}) RunFault) (old new : Option (List ℕ))
     → script.world ≡ Some size → lines ≡ script.lines → OnOk result (WritesRun setting size lines old new) → OnErr result (BeginsRun setting size lines old new)
     → OnErr result (BeginsRunSoFar setting size lines old new) → IfErr result (λ fault. fault ≡ faults.Writing) → TellsScript setting script result old new
-told_script setting script size lines (Ok done) old new is same told front so_far writing = of_script (TellsPlatform setting) (Appends old new) script size lines is same told
+told_script setting script size lines (Ok done) old new is same told front so_far writing = of_script (TellsWorld setting) (Appends old new) script size lines is same told
 told_script setting script size lines (Err fault) old new is same told front so_far writing =
     subst (λ f. TellsScript setting script (Err f) old new) (sym writing) (of_script (TellsRun setting) (AppendsFront old new) script size lines is same front, of_script (TellsSoFar setting) (AppendsPart old new) script size lines is same so_far)
 

@@ -1,6 +1,6 @@
 -- The disks that a script is run with.
-use Rattle.std.specs.Prelude.{ℕ, Bool, List, [], ◌∷◌, None, Some}
-use Rattle.iom_platform.specs.Seen.{states_of}
+use Rattle.std.specs.Prelude.{Bool, List, [], ◌∷◌, None, Some}
+use Rattle.iom_block_devices.specs.Seen.{states_of}
 use Rattle.iom_virtio_blk.specs.DiskStates.{DiskState}
 use Rattle.iom_virtio_blk.specs.MemoryDisks.{failing_at, zero_disk}
 use Rattle.iom_runner.specs.Text.{Setting}

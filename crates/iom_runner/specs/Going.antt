@@ -1,26 +1,26 @@
--- What a line does to a platform, and how far along the lines it is.
+-- What a line does to a world, and how far along the lines it is.
 -- For the calls inside this crate alone; no public contract cites these.
 use Rattle.std.specs.Prelude.{ℕ, Bool, List, take, Option}
 use Rattle.iom_machine.specs.declared.outcome.Trace.{Trace}
 use Rattle.iom_machine.specs.declared.state.State.{State}
-use Rattle.iom_platform.specs.Runs.{AreCounts}
-use Rattle.iom_platform.specs.Seen.{Seen}
+use Rattle.iom_world.specs.Runs.{AreCounts}
+use Rattle.iom_world.specs.Seen.{Seen}
 use Rattle.iom_script.specs.declared.script.ScriptLine.{ScriptLine}
 use Rattle.iom_world.specs.Shows.{Shows}
 use Rattle.iom_line_writer.specs.declared.writing.LineWriter.{LineWriter}
 use Rattle.iom_line_writer.specs.Writing.{TakesText, FailsAt}
 use Rattle.iom_runner.specs.LineRuns.{Answer, LineLeads, LineRun}
-use Rattle.iom_runner.specs.PlatformText.{GoesAlong, GoesBy}
+use Rattle.iom_runner.specs.WorldText.{GoesAlong, GoesBy}
 use Rattle.iom_runner.specs.Text.{told_answers, AreThere}
 
--- A line is answered so, with these counts: from every state that the platform shows, the machine comes to one that it shows then, through events that
--- the platform goes through.
+-- A line is answered so, with these counts: from every state that the world shows, the machine comes to one that it shows then, through events that
+-- the world goes through.
 abbrev pub LineHappens : Seen → ScriptLine → Answer → Option Trace → Seen → Type 0
-LineHappens old line answer trace new = (state : State) → Shows old.world state
+LineHappens old line answer trace new = (state : State) → Shows old state
     → (last : State) × (step : LineLeads state line answer last) × GoesBy state old line answer last step new
-    × AreCounts last new.world trace × Shows new.world last
+    × AreCounts last new trace × Shows new last
 
--- the platform went along these lines, with counts or without
+-- the world went along these lines, with counts or without
 pub record WentAlong (state : State) (old : Seen) (lines : List ScriptLine) (counts : Bool) (new : Seen) : Type 0 where
   pub answers : List Answer
   pub traces : List (Option Trace)

@@ -2,7 +2,7 @@ pub mod Reading
 pub mod Statuses
 pub mod LineRuns
 pub mod Text
-pub mod PlatformText
+pub mod WorldText
 pub mod Going
 pub mod Bytes
 pub mod Runs

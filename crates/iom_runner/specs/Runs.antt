@@ -10,9 +10,9 @@ use Rattle.iom_runner.specs.declared.faults.RunFault.TheVariants.{Reading, Writi
 use Rattle.iom_runner.specs.declared.faults.ProgramFault.{ProgramFault}
 use Rattle.iom_runner.specs.declared.faults.ProgramFault.TheVariants.{Args, Run}
 use Rattle.iom_runner.specs.Text.{Setting, WritesLines}
-use Rattle.iom_runner.specs.PlatformText.{WritesText, BeginsText, BeginsTextSoFar}
+use Rattle.iom_runner.specs.WorldText.{WritesText, BeginsText, BeginsTextSoFar}
 
--- Telling a script ends so. Where it ends well, its text is written, told of a run that a platform goes along. Where writing fails, what was written is a
+-- Telling a script ends so. Where it ends well, its text is written, told of a run that a world goes along. Where writing fails, what was written is a
 -- beginning of that, and one, but not all, of the text of its first lines. Where memory fails, nothing is written, and the script says something.
 abbrev pub TellsScript : Setting → Script → Result (Unit {0}) RunFault → Option (List ℕ) → Option (List ℕ) → Type 0
 TellsScript setting script (Ok done) old new = WritesText setting script old new
@@ -21,7 +21,7 @@ TellsScript setting script (Err Memory) old new = (script.world ≢ None) × Kee
 TellsScript setting script (Err Reading) old new = ⊥
 TellsScript setting script (Err (BadLine number)) old new = ⊥
 
--- Running bytes ends so. Bytes that are a script are told as one: what is written is the text of a run of the ledger machine, and of one that a platform
+-- Running bytes ends so. Bytes that are a script are told as one: what is written is the text of a run of the ledger machine, and of one that a world
 -- goes along. Of others nothing is written, and their first bad line is named. Where reading fails, or
 -- memory, nothing is written.
 abbrev pub RunsBytes : Setting → List ℕ → Result (Unit {0}) RunFault → Option (List ℕ) → Option (List ℕ) → Type 0

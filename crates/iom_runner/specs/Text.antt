@@ -7,7 +7,7 @@ use Rattle.iom_machine.specs.declared.outcome.Trace.{Trace}
 use Rattle.iom_machine.specs.declared.state.State.{State}
 use Rattle.iom_machine.specs.PowerOn.{model_limits, opening}
 use Rattle.iom_machine.specs.Traces.{IsTrace}
-use Rattle.iom_platform.specs.Numbered.{numbered, disk_number_of}
+use Rattle.iom_block_devices.specs.Numbered.{numbered, disk_number_of}
 use Rattle.iom_script.specs.declared.script.Script.{Script}
 use Rattle.iom_script.specs.declared.script.ScriptLine.{ScriptLine}
 use Rattle.iom_script.specs.declared.script.WorldSize.{WorldSize}
@@ -64,6 +64,6 @@ TellsRun setting size lines text =
 abbrev pub IsTextOf : (WorldSize → List ScriptLine → List ℕ → Type 0) → Script → List ℕ → Type 0
 IsTextOf Tells script text = MatchOption script.world (text ≡ []) (λ size. Tells size script.lines text)
 
--- known contents grow by a text of the script, told of a run of the ledger machine: what this says needs no platform
+-- known contents grow by a text of the script, told of a run of the ledger machine: what this says needs no world
 abbrev pub WritesLines : Setting → Script → Option (List ℕ) → Option (List ℕ) → Type 0
 WritesLines setting script old new = (text : List ℕ) × IsTextOf (TellsRun setting) script text × Appends old new text

@@ -1,6 +1,6 @@
 // A script that is run with the program's own disks.
 ghost use Rattle.std.specs.Prelude.{◌≡◌, ◌≤◌, List, ℕ, length, IfOk, IfSome};
-ghost use Rattle.iom_platform.specs.Seen.{states_of};
+ghost use Rattle.iom_block_devices.specs.Seen.{states_of};
 ghost use Rattle.iom_script.specs.Grammar.{IsWorldSize};
 ghost use Rattle.iom_virtio_blk.specs.MemoryDisks.{disk_state};
 ghost use Rattle.iom_runner.specs.Disks.{program_disks, program_setting};

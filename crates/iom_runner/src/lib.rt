@@ -1,7 +1,7 @@
 //! Scripts run: from the bytes of a script to the bytes of its lines, over any reader and writer; and
 //! the program `iommu-run`, from its command line to its exit status.
 //!
-//! A script is in the language of [`iom_script`]; its events happen in a [`iom_platform::Platform`], which is
+//! A script is in the language of [`iom_script`]; its events happen in a [`iom_world::World`], which is
 //! a model of an IOMMU with its driver (RISC-V IOMMU Architecture Specification 1.0) and of virtio block
 //! devices. `specs/Text.antt` says which text is right for a script, with the counts behind each line and
 //! without, and `specs/Reclaim.antt` of [`iom_machine`] what holds of the run that it tells.

@@ -2,8 +2,9 @@
 ghost use Rattle.std.specs.Prelude.{◌≡◌, ◌+◌, ◌*◌, ◌<◌, ◌≤◌, ◌^◌, List, [], ℕ, length, Option, OnOk, OnErr, IfOk, IfErr, IfSome, is_some};
 ghost use Rattle.iom_machine.specs.declared.outcome.Trace.{Trace};
 ghost use Rattle.iom_machine.specs.declared.state.State.{State};
-ghost use Rattle.iom_platform.specs.PowerOn.{BeginsAt};
-ghost use Rattle.iom_platform.specs.Seen.{platform_seen, states_of};
+ghost use Rattle.iom_world.specs.PowerOn.{BeginsAt};
+ghost use Rattle.iom_block_devices.specs.Seen.{states_of};
+ghost use Rattle.iom_world.specs.Seen.{seen_of};
 ghost use Rattle.iom_script.specs.declared.script.ScriptLine.TheVariants as says;
 ghost use Rattle.iom_script.specs.declared.script.WorldSize.{WorldSize};
 ghost use Rattle.iom_script.specs.Grammar.{IsScript, IsWorldSize};
@@ -15,7 +16,7 @@ ghost use Rattle.iom_script_reading.specs.Reading.{ConsumesAtMost};
 ghost use Rattle.iom_runner.specs.Reading.{FailsWithin};
 ghost use Rattle.iom_runner.specs.Runs.{TellsScript, RunsBytes, AreLeft};
 ghost use Rattle.iom_runner.specs.Text.{Setting, told_answer};
-ghost use Rattle.iom_runner.specs.PlatformText.{WritesRun, BeginsRun, BeginsRunSoFar};
+ghost use Rattle.iom_runner.specs.WorldText.{WritesRun, BeginsRun, BeginsRunSoFar};
 ghost use Rattle.iom_line_writer.specs.Writing.{KeepsWriter, TakesText, FailsAt};
 ghost use Rattle.iom_world.specs.Shows.{Shows};
 
@@ -23,10 +24,9 @@ use crate::faults::RunFault;
 use crate::reading::read_bytes;
 use iom_line_writer::{LineWriter, WriteFault};
 use iom_machine::{Outcome, Sink};
-use iom_platform::Platform;
 use iom_script::{LineBuffer, Script, ScriptLine, WorldSize, parse};
 use iom_virtio_blk::Disk;
-use iom_world::KeptOutcomes;
+use iom_world::{KeptOutcomes, World};
 use std::alloc::Global;
 use std::io::{Read, Write};
 
@@ -40,124 +40,120 @@ pub(crate) fn script_of(alloc: Global, bytes: &[u8]) -> Result<Script, RunFault>
     Ok(parse(alloc, bytes)?)
 }
 
-/// The platform at power-on, of that size, with these disks.
-fn platform_of<D: Disk>(
-    alloc: Global,
-    size: WorldSize,
-    disks: Vec<D>,
-) -> Result<Platform<D>, RunFault>
+/// The world at power-on, of that size, with these disks.
+fn world_of<D: Disk>(alloc: Global, size: WorldSize, disks: Vec<D>) -> Result<World<D>, RunFault>
     requires { IsWorldSize size }
-    ensures begins { IfOk result (λ platform. BeginsAt size.frames size.levels (states_of D.seen disks.items) (platform_seen D.seen platform)) }
+    ensures begins { IfOk result (λ world. BeginsAt size.frames size.levels (states_of D.seen disks.items) (seen_of D.seen world)) }
     ensures fault { IfErr result (λ fault. fault ≡ RunFault.Memory) }
 {
-    Platform::new(alloc, size.frames as u32, size.levels as u8, disks).map_err(|_| RunFault::Memory)
+    World::new(alloc, size.frames as u32, size.levels as u8, disks).map_err(|_| RunFault::Memory)
 }
 
-/// The platform settles, and what it answers goes to the lines, with the counts behind it where these are wanted.
+/// The world settles, and what it answers goes to the lines, with the counts behind it where these are wanted.
 // Apart from the loop of a run, which seldom settles.
 #[inline(never)]
 fn tell_settling<W: Write, D: Disk>(
-    platform: &mut Platform<D>,
+    world: &mut World<D>,
     lines: &mut LineWriter<'_, W>,
 ) -> Result<(), WriteFault>
-    requires count { platform.old.world.hardware.events + 400 < 2 ^ 64 }
+    requires count { world.old.hardware.board.events + 400 < 2 ^ 64 }
     ensures told { (answer : Answer) × (trace : Option Trace)
-        × LineHappens (platform_seen D.seen platform.old) says.Settle answer trace (platform_seen D.seen platform.new)
+        × LineHappens (seen_of D.seen world.old) says.Settle answer trace (seen_of D.seen world.new)
         × (is_some trace ≡ lines.old.counts) × OnOk result (TakesText W.contents lines.old (told_answer answer trace) lines.new)
         × OnErr result (FailsAt W.contents lines.old (told_answer answer trace) lines.new) }
-    ensures counted { platform.new.world.hardware.events ≤ platform.old.world.hardware.events + 400 }
+    ensures counted { world.new.hardware.board.events ≤ world.old.hardware.board.events + 400 }
 {
-    let answer = platform.settle();
-    let trace = platform.trace_for(lines);
+    let answer = world.settle();
+    let trace = world.trace_for(lines);
     lines.put_settled(answer, trace)
 }
 
 /// What the line says happens, and its answer goes to the lines, with the counts behind it where these are wanted.
 #[inline(always)]
 fn tell_line<W: Write, D: Disk>(
-    platform: &mut Platform<D>,
+    world: &mut World<D>,
     line: &ScriptLine,
     kept: &mut KeptOutcomes,
     lines: &mut LineWriter<'_, W>,
 ) -> Result<(), WriteFault>
-    requires count { platform.old.world.hardware.events + 400 < 2 ^ 64 }
+    requires count { world.old.hardware.board.events + 400 < 2 ^ 64 }
     ensures told { (answer : Answer) × (trace : Option Trace)
-        × LineHappens (platform_seen D.seen platform.old) line.now answer trace (platform_seen D.seen platform.new)
+        × LineHappens (seen_of D.seen world.old) line.now answer trace (seen_of D.seen world.new)
         × (is_some trace ≡ lines.old.counts) × OnOk result (TakesText W.contents lines.old (told_answer answer trace) lines.new)
         × OnErr result (FailsAt W.contents lines.old (told_answer answer trace) lines.new) }
-    ensures counted { platform.new.world.hardware.events ≤ platform.old.world.hardware.events + 400 }
+    ensures counted { world.new.hardware.board.events ≤ world.old.hardware.board.events + 400 }
 {
     match line {
-        ScriptLine::Event(event) => platform.run_one(event, kept, lines),
-        ScriptLine::Settle => tell_settling(platform, lines),
+        ScriptLine::Event(event) => world.run_one(event, kept, lines),
+        ScriptLine::Settle => tell_settling(world, lines),
     }
 }
 
 /// The same of each line of a script, up to the first at which writing fails.
 fn tell_lines<W: Write, D: Disk>(
-    platform: &mut Platform<D>,
+    world: &mut World<D>,
     script: &[ScriptLine],
     lines: &mut LineWriter<'_, W>,
 ) -> Result<(), WriteFault>
-    requires count { platform.old.world.hardware.events + 400 * length script.now < 2 ^ 64 }
-    ensures ran { (state : State) → Shows platform.old.world state
-        → OnOk result (RunsAlong W.contents state (platform_seen D.seen platform.old) script.now lines.old lines.new (platform_seen D.seen platform.new)) }
-    ensures failed { (state : State) → Shows platform.old.world state
-        → OnErr result (FailsAlong W.contents state (platform_seen D.seen platform.old) script.now lines.old lines.new (platform_seen D.seen platform.new)) }
+    requires count { world.old.hardware.board.events + 400 * length script.now < 2 ^ 64 }
+    ensures ran { (state : State) → Shows (seen_of D.seen world.old) state
+        → OnOk result (RunsAlong W.contents state (seen_of D.seen world.old) script.now lines.old lines.new (seen_of D.seen world.new)) }
+    ensures failed { (state : State) → Shows (seen_of D.seen world.old) state
+        → OnErr result (FailsAlong W.contents state (seen_of D.seen world.old) script.now lines.old lines.new (seen_of D.seen world.new)) }
 {
     let mut kept = KeptOutcomes::new();
     for line in script {
-        tell_line(platform, line, &mut kept, lines)?;
+        tell_line(world, line, &mut kept, lines)?;
     }
     Ok(())
 }
 
 /// Writes the line of the world, and those of the script, which happens in it.
 fn tell_all<W: Write, D: Disk>(
-    platform: &mut Platform<D>,
+    world: &mut World<D>,
     script: &[ScriptLine],
     lines: &mut LineWriter<'_, W>,
 ) -> Result<(), WriteFault>
-    requires count { platform.old.world.hardware.events + 400 * length script.now < 2 ^ 64 }
+    requires count { world.old.hardware.board.events + 400 * length script.now < 2 ^ 64 }
     requires empty { lines.old.buffer ≡ [] }
-    ensures same_writer { (setting : Setting) (size : WorldSize) → BeginsAt size.frames size.levels setting.disks (platform_seen D.seen platform.old)
+    ensures same_writer { (setting : Setting) (size : WorldSize) → BeginsAt size.frames size.levels setting.disks (seen_of D.seen world.old)
         → KeepsWriter lines.old lines.new }
-    ensures told { (setting : Setting) (size : WorldSize) → BeginsAt size.frames size.levels setting.disks (platform_seen D.seen platform.old)
+    ensures told { (setting : Setting) (size : WorldSize) → BeginsAt size.frames size.levels setting.disks (seen_of D.seen world.old)
         → lines.old.counts ≡ setting.counts
         → OnOk result (WritesRun setting size script.now (W.contents lines.old.writer.now) (W.contents lines.new.writer.now)) }
-    ensures front { (setting : Setting) (size : WorldSize) → BeginsAt size.frames size.levels setting.disks (platform_seen D.seen platform.old)
+    ensures front { (setting : Setting) (size : WorldSize) → BeginsAt size.frames size.levels setting.disks (seen_of D.seen world.old)
         → lines.old.counts ≡ setting.counts
         → OnErr result (BeginsRun setting size script.now (W.contents lines.old.writer.now) (W.contents lines.new.writer.now)) }
-    ensures so_far { (setting : Setting) (size : WorldSize) → BeginsAt size.frames size.levels setting.disks (platform_seen D.seen platform.old)
+    ensures so_far { (setting : Setting) (size : WorldSize) → BeginsAt size.frames size.levels setting.disks (seen_of D.seen world.old)
         → lines.old.counts ≡ setting.counts
         → OnErr result (BeginsRunSoFar setting size script.now (W.contents lines.old.writer.now) (W.contents lines.new.writer.now)) }
 {
-    let trace = platform.trace_for(lines);
+    let trace = world.trace_for(lines);
     lines.put(&Outcome::Done, trace)?;
-    tell_lines(platform, script, lines)?;
+    tell_lines(world, script, lines)?;
     lines.write_out()
 }
 
 /// The same, to the writer, by way of the buffer; with the counts or without.
 fn tell_run<W: Write, D: Disk>(
-    platform: &mut Platform<D>,
+    world: &mut World<D>,
     script: &[ScriptLine],
     counts: bool,
     buffer: LineBuffer,
     writer: &mut W,
 ) -> Result<(), RunFault>
-    requires count { platform.old.world.hardware.events + 400 * length script.now < 2 ^ 64 }
+    requires count { world.old.hardware.board.events + 400 * length script.now < 2 ^ 64 }
     requires empty { buffer ≡ [] }
-    ensures told { (setting : Setting) (size : WorldSize) → BeginsAt size.frames size.levels setting.disks (platform_seen D.seen platform.old)
+    ensures told { (setting : Setting) (size : WorldSize) → BeginsAt size.frames size.levels setting.disks (seen_of D.seen world.old)
         → counts ≡ setting.counts → OnOk result (WritesRun setting size script.now (W.contents writer.old) (W.contents writer.new)) }
-    ensures front { (setting : Setting) (size : WorldSize) → BeginsAt size.frames size.levels setting.disks (platform_seen D.seen platform.old)
+    ensures front { (setting : Setting) (size : WorldSize) → BeginsAt size.frames size.levels setting.disks (seen_of D.seen world.old)
         → counts ≡ setting.counts → OnErr result (BeginsRun setting size script.now (W.contents writer.old) (W.contents writer.new)) }
-    ensures so_far { (setting : Setting) (size : WorldSize) → BeginsAt size.frames size.levels setting.disks (platform_seen D.seen platform.old)
+    ensures so_far { (setting : Setting) (size : WorldSize) → BeginsAt size.frames size.levels setting.disks (seen_of D.seen world.old)
         → counts ≡ setting.counts → OnErr result (BeginsRunSoFar setting size script.now (W.contents writer.old) (W.contents writer.new)) }
     ensures fault { IfErr result (λ fault. fault ≡ RunFault.Writing) }
 {
     let mut lines = LineWriter::new(buffer, writer, counts);
-    let told = tell_all(platform, script, &mut lines);
+    let told = tell_all(world, script, &mut lines);
     let LineWriter {
         buffer: _,
         writer,
@@ -195,14 +191,8 @@ pub(crate) fn tell<W: Write, D: Disk>(
         return Ok(());
     };
     let buffer = empty_buffer(alloc)?;
-    let mut platform = platform_of(alloc, size, disks)?;
-    tell_run(
-        &mut platform,
-        script.lines.as_slice(),
-        counts,
-        buffer,
-        writer,
-    )
+    let mut world = world_of(alloc, size, disks)?;
+    tell_run(&mut world, script.lines.as_slice(), counts, buffer, writer)
 }
 
 /// Reads a script, runs its lines in a world at power-on, with these disks, and writes a line for the world

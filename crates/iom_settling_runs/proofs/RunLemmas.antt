@@ -14,16 +14,16 @@ use Rattle.iom_machine.specs.Machine.{Run}
 use Rattle.iom_machine.specs.Tickets.{pending_tickets}
 use Rattle.iom_machine.specs.Traces.{count_in_flight}
 use Rattle.iom_settling.specs.Idle.{AreIdle}
-use Rattle.iom_platform.specs.Happens.{HappensHere}
-use Rattle.iom_platform.specs.Runs.{GoesThrough, uncounted}
-use Rattle.iom_platform.specs.Seen.{Seen}
 use Rattle.iom_settling.specs.Settles.{in_flight_by, AreInSettlingOrder, Settles, ran_in}
 use Rattle.iom_settling.specs.Went.{Takes}
 use Rattle.iom_settling.specs.Stages.{flights_by, Settled}
 use Rattle.iom_settling.proofs.HoldLemmas.{run_holds}
 use Rattle.iom_settling.proofs.OrderLemmas.{all_settling}
-use Rattle.iom_world.specs.declared.world.World.{World}
-use Rattle.iom_world.specs.Seen.{parts_of}
+use Rattle.iom_iommu.specs.Parts.{flights_of}
+use Rattle.iom_world_effects.specs.Sound.{HaveDistinctIds, plugged_ids, row_ids}
+use Rattle.iom_world.specs.Happens.{Happens}
+use Rattle.iom_world.specs.Runs.{GoesThrough, uncounted}
+use Rattle.iom_world.specs.Seen.{Seen}
 use Rattle.iom_world.specs.Shows.{Shows}
 use Rattle.iom_settling_runs.specs.Laws.{GoesThroughAll}
 use Rattle.iom_settling_runs.proofs.TurnLemmas.{same_turns}
@@ -59,41 +59,43 @@ some_pending confirmed given = by (nat_lt confirmed given) refl
         let none : given - confirmed ≡ 0 = omega (arith, few) in
         ap (λ n. nat_lt 0 n) (sym none)
 
-still_pending : (world : World) (state : State) → Shows world state
-    → nat_lt (parts_of world).driver.confirmed (parts_of world).driver.given ≡ nat_lt 0 (pending_tickets state)
-still_pending world state shows =
-    some_pending (parts_of world).driver.confirmed (parts_of world).driver.given
-    ∙ ap (λ n. nat_lt 0 (n - (parts_of world).driver.confirmed)) (sym shows.0.given)
+still_pending : (seen : Seen) (state : State) → Shows seen state → nat_lt seen.parts.driver.confirmed seen.parts.driver.given ≡ nat_lt 0 (pending_tickets state)
+still_pending seen state shows =
+    some_pending seen.parts.driver.confirmed seen.parts.driver.given
+    ∙ ap (λ n. nat_lt 0 (n - seen.parts.driver.confirmed)) (sym shows.0.given)
     ∙ ap (λ n. nat_lt 0 (state.last_ticket - n)) (sym shows.0.confirmed)
 
--- the same accesses are in flight, in the same order: so these events are in the order of settling for either
-same_order : (world : World) (state : State) → Shows world state → (pending : Bool) (events : List Event) (outcomes : List Outcome)
-    → AreInSettlingOrder pending (flights_by (parts_of world)) events outcomes → AreInSettlingOrder pending (in_flight_by state.devices) events outcomes
-same_order world state shows pending events outcomes order =
-    let turns = same_turns _ _ (parts_of world).devices world.sound.known.own_ids world.sound.known.iommu in
+-- no two devices have one id, and each has its row, in their order; so the same accesses are in flight, in the same order: so these events are in the order of settling for either
+abbrev pub HaveOwnRows : Seen → Type 0
+HaveOwnRows seen = HaveDistinctIds seen.parts.devices × (row_ids (flights_of seen.parts.iommu).rows ≡ plugged_ids seen.parts.devices)
+
+same_order : (seen : Seen) (state : State) → HaveOwnRows seen → Shows seen state → (pending : Bool) (events : List Event) (outcomes : List Outcome)
+    → AreInSettlingOrder pending (flights_by seen.parts) events outcomes → AreInSettlingOrder pending (in_flight_by state.devices) events outcomes
+same_order seen state own shows pending events outcomes order =
+    let turns = same_turns _ _ seen.parts.devices own.0 own.1 in
     subst (λ (ids : List ℕ). AreInSettlingOrder pending ids events outcomes) (sym (ap in_flight_by shows.0.devices ∙ turns)) order
 
-module _ {S : Type 0} (seen_of : S → Seen) where
-  -- the event does so to what is seen as a platform
+module _ {S : Type 0} (seen_of : S → Seen) (own : (s : S) → HaveOwnRows (seen_of s)) where
+  -- the event does so to what is seen as a world
   abbrev Does : S → Event → Outcome → S → Type 0
-  Does old event told new = HappensHere (seen_of old) event told (seen_of new)
+  Does old event told new = Happens (seen_of old) event told (seen_of new)
 
   -- events that it took one after another are a run of the machine, which it goes through
-  ran : (old new : S) (events : List Event) (outcomes : List Outcome) (state : State) → Shows (seen_of old).world state → Takes Does old events outcomes new
-      → (last : State) × (run : Run state events outcomes last) × Shows (seen_of new).world last
+  ran : (old new : S) (events : List Event) (outcomes : List Outcome) (state : State) → Shows (seen_of old) state → Takes Does old events outcomes new
+      → (last : State) × (run : Run state events outcomes last) × Shows (seen_of new) last
       × GoesThrough state (seen_of old) events outcomes (uncounted events) last run (seen_of new)
   ran old new [] [] state shows takes =
-      let still = subst (λ (s : S). Shows (seen_of s).world state) (sym takes) shows in (state, refl, still, (still, ap seen_of takes))
+      let still = subst (λ (s : S). Shows (seen_of s) state) (sym takes) shows in (state, refl, still, (still, ap seen_of takes))
   ran old new [] (told ∷ outcomes) state shows takes = absurd takes
   ran old new (event ∷ events) [] state shows takes = absurd takes
   ran old new (event ∷ events) (told ∷ outcomes) state shows takes =
-      let next = takes.1.0.step state shows in
+      let next = takes.1.step state shows in
       let rest = ran takes.0 new events outcomes next.0 next.2 takes.2 in
       (rest.0, (next.0, next.1, rest.1), rest.2, (shows, seen_of takes.0, takes.1, tt, rest.3))
 
-  pub settles : (old new : S) (answer : Result ℕ Refusal) (state : State) → Shows (seen_of old).world state
-      → Settled (λ (s : S). parts_of (seen_of s).world) (λ (before : S) (event : Event) (told : Outcome) (after : S). HappensHere (seen_of before) event told (seen_of after)) old answer new
-      → (last : State) × (by_it : Settles state answer last) × Shows (seen_of new).world last
+  pub settles : (old new : S) (answer : Result ℕ Refusal) (state : State) → Shows (seen_of old) state
+      → Settled (λ (s : S). (seen_of s).parts) (λ (before : S) (event : Event) (told : Outcome) (after : S). Happens (seen_of before) event told (seen_of after)) old answer new
+      → (last : State) × (by_it : Settles state answer last) × Shows (seen_of new) last
       × GoesThroughAll state (seen_of old) last (ran_in state answer last by_it) (seen_of new)
   settles old new (Ok count) state shows (went, few, idle, confirmed) =
       let run = ran old new went.events went.outcomes state shows went.takes in
@@ -104,11 +106,11 @@ module _ {S : Type 0} (seen_of : S → Seen) where
           events = went.events;
           outcomes = went.outcomes;
           run = run.1;
-          order = subst (λ (b : Bool). AreInSettlingOrder b (in_flight_by state.devices) went.events went.outcomes) (still_pending (seen_of old).world state shows)
-              (same_order (seen_of old).world state shows _ went.events went.outcomes went.order);
+          order = subst (λ (b : Bool). AreInSettlingOrder b (in_flight_by state.devices) went.events went.outcomes) (still_pending (seen_of old) state shows)
+              (same_order (seen_of old) state (own old) shows _ went.events went.outcomes went.order);
           counted = went.counted;
           few = omega (arith, few);
-          idle = ap count_in_flight run.2.0.devices ∙ idle_all _ _ (parts_of (seen_of new).world).devices idle;
+          idle = ap count_in_flight run.2.0.devices ∙ idle_all _ _ (seen_of new).parts.devices idle;
           confirmed = omega (arith, given, last, confirmed);
           held = run_holds state run.0 went.events went.outcomes run.1 (all_settling _ _ went.events went.outcomes went.order);
         },
@@ -124,8 +126,8 @@ module _ {S : Type 0} (seen_of : S → Seen) where
           events = went.1.events;
           outcomes = went.1.outcomes;
           run = run.1;
-          order = same_order (seen_of old).world state shows false went.1.events went.1.outcomes went.1.order;
-          idle = ap count_in_flight run.2.0.devices ∙ idle_all _ _ (parts_of (seen_of new).world).devices idle;
+          order = same_order (seen_of old) state (own old) shows false went.1.events went.1.outcomes went.1.order;
+          idle = ap count_in_flight run.2.0.devices ∙ idle_all _ _ (seen_of new).parts.devices idle;
           used_up = used_up;
           unconfirmed = omega (arith, given, last, unconfirmed);
         },

@@ -3,7 +3,7 @@ ghost use Rattle.iom_settling_runs.specs.Laws.{SettlingsAreRuns};
 
 use iom_virtio_blk::Disk;
 
-/// What settles a platform is a run of the ledger machine.
+/// What settles a world is a run of the ledger machine.
 pub fn settling_is_a_run<D: Disk>()
     ensures { SettlingsAreRuns D.Disk }
 {}

@@ -2,15 +2,15 @@
 use Rattle.std.specs.Bool.{⊤}
 use Rattle.std.proofs.Common.{◌≡◌, ℕ, Bool, true, false, not, ◌&&◌, List, [], ◌∷◌, ◌++◌, codes, Option, None, Some, refl, ap, subst, if◌then◌else◌}
 use Rattle.iom_base.specs.declared.access.Access.{Access}
+use Rattle.iom_block_devices.specs.Changes.{block_with}
+use Rattle.iom_block_devices.specs.Wanted.{wanted_of}
 use Rattle.iom_event_text.specs.Texts.{event_text}
-use Rattle.iom_platform.specs.Blocks.{block_with}
-use Rattle.iom_platform.specs.Looks.{wanted_of}
 use Rattle.iom_machine.specs.declared.event.Event.{Event}
 use Rattle.iom_machine.specs.declared.event.Event.TheVariants as events
 use Rattle.iom_machine.specs.declared.outcome.Outcome.{Outcome}
-use Rattle.iom_platform.specs.Seen.{Seen}
 use Rattle.iom_script.specs.Lines.{outcome_text}
 use Rattle.iom_trace_lines.specs.TraceLines.{is_accepted, takes_frames}
+use Rattle.iom_world.specs.Seen.{Seen}
 use Rattle.iom_tell.specs.declared.behind.Behind.{Behind}
 use Rattle.iom_tell.specs.declared.behind.Behind.TheVariants.{Nothing, Tables, On, Began}
 use Rattle.iom_tell.specs.Told.{AreMarksOf, behind_of, behind_accepted, behind_asked, began_by, behind_text, is_reserved_in, may_take, newest_frame, shown_tables, is_taken_since, taken_below, taken_by, told_line}
@@ -69,7 +69,7 @@ accepted_shows_none now (events.Drop place) = tt
 accepted_shows_none now (events.Repeat place) = tt
 accepted_shows_none now (events.Reset device) = tt
 accepted_shows_none now (events.Queue device size descriptors available used) = tt
-accepted_shows_none now (events.Step device) = began_shows_none device (newest_frame now device) (wanted_of (block_with now.blocks device))
+accepted_shows_none now (events.Step device) = began_shows_none device (newest_frame now device) (wanted_of (block_with now.inside.blocks device))
 accepted_shows_none now (events.Status device) = tt
 accepted_shows_none now (events.Commit device) = tt
 accepted_shows_none now (events.Poke address bytes) = tt

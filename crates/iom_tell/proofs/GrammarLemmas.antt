@@ -5,16 +5,16 @@ use Rattle.std.proofs.lemmas.Bool.{false≢true}
 use Rattle.iom_base.specs.declared.access.Access.{Access}
 use Rattle.iom_base.specs.declared.access.AccessKind.{AccessKind}
 use Rattle.iom_base.specs.declared.access.AccessKind.TheVariants as kinds
+use Rattle.iom_block_devices.specs.Changes.{block_with}
+use Rattle.iom_block_devices.specs.Wanted.{wanted_of}
 use Rattle.iom_event_text.specs.Texts.{event_text}
 use Rattle.iom_machine.specs.declared.event.Event.{Event}
 use Rattle.iom_machine.specs.declared.event.Event.TheVariants as events
 use Rattle.iom_machine.specs.declared.outcome.Outcome.{Outcome}
-use Rattle.iom_platform.specs.Blocks.{block_with}
-use Rattle.iom_platform.specs.Looks.{wanted_of}
-use Rattle.iom_platform.specs.Seen.{Seen}
 use Rattle.iom_script.specs.Grammar.{IsEventLine}
 use Rattle.iom_script.specs.Lines.{outcome_text}
 use Rattle.iom_trace_lines.specs.TraceLines.{is_accepted, takes_frames, tables_text, IsStepLine, SaysLine}
+use Rattle.iom_world.specs.Seen.{Seen}
 use Rattle.iom_tell.specs.declared.behind.Behind.{Behind}
 use Rattle.iom_tell.specs.declared.behind.Behind.TheVariants.{Nothing, Tables, On, Began}
 use Rattle.iom_tell.specs.Told.{asking, asking_so, behind_of, behind_accepted, behind_asked, began_by, behind_text, newest_frame, said_behind, told_line, told_said, taken_by, SaysBehind}
@@ -62,7 +62,7 @@ accepted_may now (events.Drop place) outcome accepted = tt
 accepted_may now (events.Repeat place) outcome accepted = tt
 accepted_may now (events.Reset device) outcome accepted = tt
 accepted_may now (events.Queue device size descriptors available used) outcome accepted = tt
-accepted_may now (events.Step device) outcome accepted = began_may outcome device (newest_frame now device) (wanted_of (block_with now.blocks device)) accepted
+accepted_may now (events.Step device) outcome accepted = began_may outcome device (newest_frame now device) (wanted_of (block_with now.inside.blocks device)) accepted
 accepted_may now (events.Status device) outcome accepted = tt
 accepted_may now (events.Commit device) outcome accepted = tt
 accepted_may now (events.Poke address bytes) outcome accepted = tt
@@ -75,7 +75,7 @@ may_by now event outcome true accepts takes_is accepts_is = takes_is
 may_by now event outcome false true takes_is accepts_is = accepted_may now event outcome accepts_is
 may_by now event outcome false false takes_is accepts_is = tt
 
--- what a platform shows may be shown there
+-- what a world shows may be shown there
 may_be_shown : (now : Seen) (event : Event) (outcome : Outcome) → MayBeShown event outcome (behind_of now event outcome)
 may_be_shown now event outcome = may_by now event outcome (takes_frames event outcome) (is_accepted outcome) refl refl
 

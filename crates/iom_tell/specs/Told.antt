@@ -4,7 +4,8 @@ use Rattle.iom_base.specs.declared.access.Access.{Access}
 use Rattle.iom_base.specs.declared.access.AccessKind.{AccessKind}
 use Rattle.iom_base.specs.declared.access.AccessKind.TheVariants as kinds
 use Rattle.iom_base.specs.Accesses.{read_of, write_of}
-use Rattle.iom_driver.specs.Seen.{state_of}
+use Rattle.iom_block_devices.specs.Changes.{block_with}
+use Rattle.iom_block_devices.specs.Wanted.{wanted_of}
 use Rattle.iom_event_text.specs.Texts.{event_text, IsSayable}
 use Rattle.iom_inflight.specs.declared.made.MadeAt.{MadeAt}
 use Rattle.iom_inflight.specs.Flights.{count_in, row_of, waiting_at}
@@ -12,26 +13,24 @@ use Rattle.iom_iommu.specs.Parts.{flights_of}
 use Rattle.iom_machine.specs.declared.event.Event.{Event}
 use Rattle.iom_machine.specs.declared.event.Event.TheVariants as events
 use Rattle.iom_machine.specs.declared.outcome.Outcome.{Outcome}
-use Rattle.iom_platform.specs.Blocks.{block_with}
-use Rattle.iom_platform.specs.Looks.{wanted_of}
-use Rattle.iom_platform.specs.Seen.{Seen}
 use Rattle.iom_script.specs.Grammar.{IsEventLine}
 use Rattle.iom_script.specs.Lines.{outcome_text}
 use Rattle.iom_table_frames.specs.Marks.{is_marked}
 use Rattle.iom_trace_lines.specs.TraceLines.{Said, Step, access_text, is_accepted, on_text, tables_text, takes_frames}
+use Rattle.iom_world.specs.Seen.{Seen}
 use Rattle.iom_tell.specs.declared.behind.Behind.{Behind}
 use Rattle.iom_tell.specs.declared.behind.Behind.TheVariants.{Nothing, Tables, On, Began}
 
--- WHAT IS SHOWN of a platform as it is after the event
+-- WHAT IS SHOWN of a world as it is after the event
 
 -- whether the frame is reserved, for tables or for the system
 abbrev pub is_reserved_in : Seen → ℕ → Bool
-is_reserved_in now frame = is_marked (state_of now.world.driver).marks frame
+is_reserved_in now frame = is_marked now.parts.driver.marks frame
 
 -- the frame of the device's access that was accepted last, of those in flight
 abbrev pub newest_frame : Seen → ℕ → Option ℕ
 newest_frame now id =
-    option_map (λ (made : MadeAt). made.frame) (waiting_at (row_of (flights_of now.world.hardware.iommu).rows id) (count_in (row_of (flights_of now.world.hardware.iommu).rows id) - 1))
+    option_map (λ (made : MadeAt). made.frame) (waiting_at (row_of (flights_of now.parts.iommu).rows id) (count_in (row_of (flights_of now.parts.iommu).rows id) - 1))
 
 abbrev pub behind_asked : Option ℕ → Behind
 behind_asked None = Nothing
@@ -52,7 +51,7 @@ began_by device frame (Some access) = Began (asking device access) frame
 
 -- where an access was accepted: of a step the access and its frame; of a request its frame
 abbrev pub behind_accepted : Seen → Event → Behind
-behind_accepted now (events.Step device) = began_by device (newest_frame now device) (wanted_of (block_with now.blocks device))
+behind_accepted now (events.Step device) = began_by device (newest_frame now device) (wanted_of (block_with now.inside.blocks device))
 behind_accepted now (events.Read device address len) = behind_asked (newest_frame now device)
 behind_accepted now (events.Write device address bytes) = behind_asked (newest_frame now device)
 behind_accepted now (events.ReadTranslated device address len) = behind_asked (newest_frame now device)

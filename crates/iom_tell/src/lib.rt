@@ -1,9 +1,9 @@
-//! What one event tells: it happens to a platform, and its line is appended to a buffer, with what came of it and what that answer
+//! What one event tells: it happens to a world, and its line is appended to a buffer, with what came of it and what that answer
 //! doesn't show, as a trace has it.
 //!
 //! `iommu-judge` guesses what a trace doesn't show: on which frame an access was accepted, which access a block device began, which
-//! frames became tables. A platform knows. The layer above may rely on [`tell_event`]: the event happens as
-//! [`iom_platform::Platform::step`] says, and exactly `told_line` (`specs/Told.antt`) is appended, which is a line of the grammar of
+//! frames became tables. A world knows. The layer above may rely on [`tell_event`]: the event happens as
+//! [`iom_world::World::step`] says, and exactly `told_line` (`specs/Told.antt`) is appended, which is a line of the grammar of
 //! traces that says this event, this outcome and what is shown; or nothing is appended, and the reason is told.
 #![tactic(auto)]
 

@@ -1,11 +1,11 @@
 // Which frames are reserved at some time.
 ghost use Rattle.std.specs.Prelude.{◌≡◌, length};
-ghost use Rattle.iom_platform.specs.Seen.{platform_seen};
+ghost use Rattle.iom_world.specs.Seen.{seen_of};
 ghost use Rattle.iom_tell.specs.Told.{AreMarksOf};
 
 use iom_phys_mem::MAX_FRAMES;
-use iom_platform::Platform;
 use iom_virtio_blk::Disk;
+use iom_world::World;
 use std::alloc::{AllocError, Global};
 use std::marker::Model;
 
@@ -25,14 +25,14 @@ impl Model for FrameMarks {
     ghost invariant = { λ noted. length noted.marks.items ≡ 4096 };
 }
 
-/// Notes which frames of the platform are reserved.
-fn note_each<D: Disk>(marks: &mut [bool], platform: &Platform<D>)
+/// Notes which frames of the world are reserved.
+fn note_each<D: Disk>(marks: &mut [bool], world: &World<D>)
     requires { length marks.old ≡ 4096 }
-    ensures noted { AreMarksOf marks.new (platform_seen D.seen platform.now) }
+    ensures noted { AreMarksOf marks.new (seen_of D.seen world.now) }
     ensures len { length marks.new ≡ 4096 }
 {
     for frame in 0..MAX_FRAMES {
-        marks[frame as usize] = platform.is_reserved(frame);
+        marks[frame as usize] = world.is_reserved(frame);
     }
 }
 
@@ -45,11 +45,11 @@ impl FrameMarks {
         Ok(FrameMarks { marks })
     }
 
-    /// Notes which frames of the platform are reserved.
-    pub(crate) fn note<D: Disk>(&mut self, platform: &Platform<D>)
-        ensures { AreMarksOf self.new (platform_seen D.seen platform.now) }
+    /// Notes which frames of the world are reserved.
+    pub(crate) fn note<D: Disk>(&mut self, world: &World<D>)
+        ensures { AreMarksOf self.new (seen_of D.seen world.now) }
     {
-        note_each(&mut self.marks, platform);
+        note_each(&mut self.marks, world);
     }
 
     /// Whether the frame was noted as reserved.

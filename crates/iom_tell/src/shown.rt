@@ -1,17 +1,17 @@
 // What is shown behind an answer.
 ghost use Rattle.std.specs.Prelude.{◌≡◌, IfOk};
+ghost use Rattle.iom_block_devices.specs.Changes.{block_with};
+ghost use Rattle.iom_block_devices.specs.Wanted.{wanted_of};
 ghost use Rattle.iom_machine.specs.declared.event.Event.{Event};
-ghost use Rattle.iom_platform.specs.Blocks.{block_with};
-ghost use Rattle.iom_platform.specs.Looks.{wanted_of};
-ghost use Rattle.iom_platform.specs.Seen.{platform_seen};
 ghost use Rattle.iom_trace_lines.specs.TraceLines.{is_accepted, takes_frames};
+ghost use Rattle.iom_world.specs.Seen.{seen_of};
 ghost use Rattle.iom_tell.specs.Told.{asking, began_by, behind_of, behind_accepted, behind_asked, newest_frame};
 
 use crate::behind::Behind;
 use iom_base::{Access, AccessKind, DeviceId};
 use iom_machine::{Event, Outcome};
-use iom_platform::Platform;
 use iom_virtio_blk::Disk;
+use iom_world::World;
 use std::alloc::{AllocError, Global};
 
 /// Whether the event takes frames for tables, where it is done.
@@ -47,10 +47,10 @@ fn asking(device: DeviceId, access: Access) -> Event
 }
 
 /// The frame of the device's newest access.
-fn newest_frame<D: Disk>(platform: &Platform<D>, device: DeviceId) -> Option<u32>
-    ensures { result ≡ newest_frame (platform_seen D.seen platform.now) device }
+fn newest_frame<D: Disk>(world: &World<D>, device: DeviceId) -> Option<u32>
+    ensures { result ≡ newest_frame (seen_of D.seen world.now) device }
 {
-    match platform.newest(device) {
+    match world.newest(device) {
         None => None,
         Some(made) => Some(made.frame),
     }
@@ -59,24 +59,24 @@ fn newest_frame<D: Disk>(platform: &Platform<D>, device: DeviceId) -> Option<u32
 /// What is shown of the access that the device's step began: it, and its frame.
 fn began_by<D: Disk>(
     alloc: Global,
-    platform: &Platform<D>,
+    world: &World<D>,
     device: DeviceId,
 ) -> Result<Behind, AllocError>
-    ensures { IfOk result (λ behind. behind ≡ began_by device (newest_frame (platform_seen D.seen platform.now) device)
-        (wanted_of (block_with (platform_seen D.seen platform.now).blocks device))) }
+    ensures { IfOk result (λ behind. behind ≡ began_by device (newest_frame (seen_of D.seen world.now) device)
+        (wanted_of (block_with (seen_of D.seen world.now).inside.blocks device))) }
 {
-    let on = newest_frame(platform, device);
-    match platform.wanted(alloc, device)? {
+    let on = newest_frame(world, device);
+    match world.wanted(alloc, device)? {
         None => Ok(Behind::Nothing),
         Some(access) => Ok(Behind::Began(asking(device, access), on)),
     }
 }
 
 /// What is shown of the device's newest access: its frame.
-fn frame_of<D: Disk>(platform: &Platform<D>, device: DeviceId) -> Behind
-    ensures { result ≡ behind_asked (newest_frame (platform_seen D.seen platform.now) device) }
+fn frame_of<D: Disk>(world: &World<D>, device: DeviceId) -> Behind
+    ensures { result ≡ behind_asked (newest_frame (seen_of D.seen world.now) device) }
 {
-    match newest_frame(platform, device) {
+    match newest_frame(world, device) {
         None => Behind::Nothing,
         Some(frame) => Behind::On(frame),
     }
@@ -85,36 +85,36 @@ fn frame_of<D: Disk>(platform: &Platform<D>, device: DeviceId) -> Behind
 /// What is shown behind the answer to an event by which an access was accepted.
 fn behind_accepted<D: Disk>(
     alloc: Global,
-    platform: &Platform<D>,
+    world: &World<D>,
     event: &Event,
 ) -> Result<Behind, AllocError>
-    ensures { IfOk result (λ behind. behind ≡ behind_accepted (platform_seen D.seen platform.now) event.now) }
+    ensures { IfOk result (λ behind. behind ≡ behind_accepted (seen_of D.seen world.now) event.now) }
 {
     match event {
-        Event::Step { device } => began_by(alloc, platform, *device),
+        Event::Step { device } => began_by(alloc, world, *device),
         Event::Read { device, .. }
         | Event::Write { device, .. }
         | Event::ReadTranslated { device, .. }
         | Event::WriteTranslated { device, .. }
         | Event::ReadThroughCache { device, .. }
-        | Event::WriteThroughCache { device, .. } => Ok(frame_of(platform, *device)),
+        | Event::WriteThroughCache { device, .. } => Ok(frame_of(world, *device)),
         _ => Ok(Behind::Nothing),
     }
 }
 
-/// What is shown behind the outcome, which the event had of the platform as it now is.
+/// What is shown behind the outcome, which the event had of the world as it now is.
 pub(crate) fn behind_of<D: Disk>(
     alloc: Global,
-    platform: &Platform<D>,
+    world: &World<D>,
     event: &Event,
     outcome: &Outcome,
 ) -> Result<Behind, AllocError>
-    ensures { IfOk result (λ behind. behind ≡ behind_of (platform_seen D.seen platform.now) event.now outcome.now) }
+    ensures { IfOk result (λ behind. behind ≡ behind_of (seen_of D.seen world.now) event.now outcome.now) }
 {
     if takes_frames(event, outcome) {
         Ok(Behind::Tables)
     } else if is_accepted(outcome) {
-        behind_accepted(alloc, platform, event)
+        behind_accepted(alloc, world, event)
     } else {
         Ok(Behind::Nothing)
     }

@@ -1,31 +1,31 @@
 // The frames that were taken for tables: those that weren't reserved when that was noted, and are now.
 ghost use Rattle.std.specs.Prelude.{◌≡◌, ◌+◌, ◌*◌, ◌<◌, ◌≤◌, ◌++◌, codes, length};
 ghost use Rattle.std.specs.Fmt.{decimal};
-ghost use Rattle.iom_platform.specs.Seen.{platform_seen};
 ghost use Rattle.iom_trace_lines.specs.TraceLines.{frames_text};
+ghost use Rattle.iom_world.specs.Seen.{seen_of};
 ghost use Rattle.iom_tell.specs.Told.{is_taken_since, taken_below, shown_tables};
 
 use crate::marks::FrameMarks;
 use iom_phys_mem::MAX_FRAMES;
-use iom_platform::Platform;
 use iom_script::{BUFFER_SIZE, LineBuffer};
 use iom_virtio_blk::Disk;
+use iom_world::World;
 
 /// Whether the frame was taken since that was noted.
-fn is_taken<D: Disk>(platform: &Platform<D>, before: &FrameMarks, frame: u32) -> bool
+fn is_taken<D: Disk>(world: &World<D>, before: &FrameMarks, frame: u32) -> bool
     requires { frame < 4096 }
-    ensures { result ≡ is_taken_since before.now (platform_seen D.seen platform.now) frame }
+    ensures { result ≡ is_taken_since before.now (seen_of D.seen world.now) frame }
 {
-    platform.is_reserved(frame) && !before.was_reserved(frame)
+    world.is_reserved(frame) && !before.was_reserved(frame)
 }
 
 /// How many frames were taken.
-fn count_taken<D: Disk>(platform: &Platform<D>, before: &FrameMarks) -> u32
-    ensures { result ≡ length (taken_below (is_taken_since before.now (platform_seen D.seen platform.now)) 4096) }
+fn count_taken<D: Disk>(world: &World<D>, before: &FrameMarks) -> u32
+    ensures { result ≡ length (taken_below (is_taken_since before.now (seen_of D.seen world.now)) 4096) }
 {
     let mut count = 0;
     for frame in 0..MAX_FRAMES {
-        if is_taken(platform, before, frame) {
+        if is_taken(world, before, frame) {
             count += 1;
         }
     }
@@ -44,30 +44,26 @@ fn append_frame(out: &mut LineBuffer, frame: u64)
 }
 
 /// Appends each frame that was taken, with a space before it.
-fn append_frames<D: Disk>(out: &mut LineBuffer, platform: &Platform<D>, before: &FrameMarks)
+fn append_frames<D: Disk>(out: &mut LineBuffer, world: &World<D>, before: &FrameMarks)
     requires room { length out.old + 20501 ≤ BUFFER_SIZE }
-    ensures text { out.new ≡ out.old ++ frames_text (taken_below (is_taken_since before.now (platform_seen D.seen platform.now)) 4096) }
+    ensures text { out.new ≡ out.old ++ frames_text (taken_below (is_taken_since before.now (seen_of D.seen world.now)) 4096) }
     ensures short { length out.new ≤ length out.old + 20480 }
 {
     for frame in 0..MAX_FRAMES {
-        if is_taken(platform, before, frame) {
+        if is_taken(world, before, frame) {
             append_frame(out, u64::from(frame));
         }
     }
 }
 
 /// Appends the frames that were taken, if there are any.
-pub(crate) fn append_tables<D: Disk>(
-    out: &mut LineBuffer,
-    platform: &Platform<D>,
-    before: &FrameMarks,
-)
+pub(crate) fn append_tables<D: Disk>(out: &mut LineBuffer, world: &World<D>, before: &FrameMarks)
     requires room { length out.old + 20600 ≤ BUFFER_SIZE }
-    ensures text { out.new ≡ out.old ++ shown_tables (taken_below (is_taken_since before.now (platform_seen D.seen platform.now)) 4096) }
+    ensures text { out.new ≡ out.old ++ shown_tables (taken_below (is_taken_since before.now (seen_of D.seen world.now)) 4096) }
     ensures short { length out.new ≤ length out.old + 20488 }
 {
-    if count_taken(platform, before) > 0 {
+    if count_taken(world, before) > 0 {
         out.append(b"; tables");
-        append_frames(out, platform, before);
+        append_frames(out, world, before);
     }
 }

@@ -1,11 +1,11 @@
 // An event, and its line.
 ghost use Rattle.std.specs.Prelude.{◌≡◌, ◌+◌, ◌<◌, ◌≤◌, ◌^◌, ◌++◌, ◌∷◌, [], true, codes, ◌↔◌, length, Some, IsTrue, OnOk, OnErr, IfErr};
-ghost use Rattle.iom_platform.specs.Happens.{HappensHere};
-ghost use Rattle.iom_platform.specs.Seen.{platform_seen};
+ghost use Rattle.iom_event_text.specs.Texts.{event_text, IsSayable};
 ghost use Rattle.iom_script.specs.Grammar.{IsEventLine};
 ghost use Rattle.iom_script.specs.Lines.{outcome_text};
-ghost use Rattle.iom_event_text.specs.Texts.{event_text, IsSayable};
 ghost use Rattle.iom_trace_lines.specs.TraceLines.{access_text, on_text, SaysLine};
+ghost use Rattle.iom_world.specs.Happens.{Happens};
+ghost use Rattle.iom_world.specs.Seen.{seen_of};
 ghost use Rattle.iom_tell.specs.Told.{AreMarksOf, IsSayableBehind, behind_of, behind_text, is_taken_since, may_take, SaysBehind, taken_below, taken_by, told_line, told_said};
 
 use crate::behind::Behind;
@@ -15,9 +15,9 @@ use crate::tables::append_tables;
 use crate::tell_fault::TellFault;
 use iom_event_text::{append_event_line, is_sayable};
 use iom_machine::{Event, Outcome};
-use iom_platform::Platform;
 use iom_script::{BUFFER_SIZE, LineBuffer};
 use iom_virtio_blk::Disk;
+use iom_world::World;
 use std::alloc::Global;
 
 /// The bytes of the longest line that tells an event, and some more.
@@ -31,13 +31,13 @@ fn may_take(event: &Event) -> bool
 }
 
 /// Notes which frames are reserved, where the event may take frames for tables.
-fn note_before<D: Disk>(platform: &Platform<D>, before: &mut FrameMarks, event: &Event)
-    ensures { may_take event.now ≡ true → AreMarksOf before.new (platform_seen D.seen platform.now) }
+fn note_before<D: Disk>(world: &World<D>, before: &mut FrameMarks, event: &Event)
+    ensures { may_take event.now ≡ true → AreMarksOf before.new (seen_of D.seen world.now) }
 {
     if !may_take(event) {
         return;
     }
-    before.note(platform);
+    before.note(world);
 }
 
 /// Whether a line can say what is shown.
@@ -93,19 +93,19 @@ fn append_began(out: &mut LineBuffer, asks: &Event, on: Option<u32>)
 /// Appends what is shown behind an answer.
 fn append_behind<D: Disk>(
     out: &mut LineBuffer,
-    platform: &Platform<D>,
+    world: &World<D>,
     before: &FrameMarks,
     behind: &Behind,
 )
     requires sayable { IsSayableBehind behind.now }
     requires room { length out.old + 20600 ≤ BUFFER_SIZE }
-    ensures text { out.new ≡ out.old ++ behind_text (taken_below (is_taken_since before.now (platform_seen D.seen platform.now)) 4096) behind.now }
+    ensures text { out.new ≡ out.old ++ behind_text (taken_below (is_taken_since before.now (seen_of D.seen world.now)) 4096) behind.now }
     ensures says { SaysBehind behind.now }
     ensures short { length out.new ≤ length out.old + 20488 }
 {
     match behind {
         Behind::Nothing => {}
-        Behind::Tables => append_tables(out, platform, before),
+        Behind::Tables => append_tables(out, world, before),
         Behind::On(frame) => append_on(out, *frame),
         Behind::Began(asks, on) => append_began(out, asks, *on),
     }
@@ -114,7 +114,7 @@ fn append_behind<D: Disk>(
 /// Appends the whole line, with its line feed.
 fn append_told<D: Disk>(
     out: &mut LineBuffer,
-    platform: &Platform<D>,
+    world: &World<D>,
     before: &FrameMarks,
     event: &Event,
     outcome: &Outcome,
@@ -124,66 +124,66 @@ fn append_told<D: Disk>(
     requires sayable_behind { IsSayableBehind behind.now }
     requires room { length out.old + TELL_ROOM ≤ BUFFER_SIZE }
     ensures text { out.new ≡ out.old ++ (event_text event.now ++ codes " => " ++ outcome_text outcome.now
-        ++ behind_text (taken_below (is_taken_since before.now (platform_seen D.seen platform.now)) 4096) behind.now) ++ 10 ∷ [] }
+        ++ behind_text (taken_below (is_taken_since before.now (seen_of D.seen world.now)) 4096) behind.now) ++ 10 ∷ [] }
     ensures says { IsEventLine (event_text event.now) event.now × SaysBehind behind.now }
     ensures short { length out.new ≤ length out.old + TELL_ROOM }
 {
     append_answered(out, event, outcome);
-    append_behind(out, platform, before, behind);
+    append_behind(out, world, before, behind);
     out.append(b"\n");
 }
 
-/// Appends the line that tells the outcome which the event had, of the platform as it now is; or nothing.
+/// Appends the line that tells the outcome which the event had, of the world as it now is; or nothing.
 fn append_outcome<D: Disk>(
     alloc: Global,
     out: &mut LineBuffer,
-    platform: &Platform<D>,
+    world: &World<D>,
     before: &FrameMarks,
     event: &Event,
     outcome: &Outcome,
 ) -> Result<(), TellFault>
     requires room { length out.old + TELL_ROOM ≤ BUFFER_SIZE }
     ensures told { OnOk result (out.new ≡ out.old ++ (event_text event.now ++ codes " => " ++ outcome_text outcome.now
-        ++ behind_text (taken_below (is_taken_since before.now (platform_seen D.seen platform.now)) 4096) (behind_of (platform_seen D.seen platform.now) event.now outcome.now)) ++ 10 ∷ []) }
-    ensures says { OnOk result (IsEventLine (event_text event.now) event.now × SaysBehind (behind_of (platform_seen D.seen platform.now) event.now outcome.now)) }
+        ++ behind_text (taken_below (is_taken_since before.now (seen_of D.seen world.now)) 4096) (behind_of (seen_of D.seen world.now) event.now outcome.now)) ++ 10 ∷ []) }
+    ensures says { OnOk result (IsEventLine (event_text event.now) event.now × SaysBehind (behind_of (seen_of D.seen world.now) event.now outcome.now)) }
     ensures kept { OnErr result (out.new ≡ out.old) }
     ensures short { length out.new ≤ length out.old + TELL_ROOM }
-    ensures fault { IfErr result (λ fault. fault ≡ TellFault.Unsayable → ¬ (IsSayable event.now × IsSayableBehind (behind_of (platform_seen D.seen platform.now) event.now outcome.now))) }
+    ensures fault { IfErr result (λ fault. fault ≡ TellFault.Unsayable → ¬ (IsSayable event.now × IsSayableBehind (behind_of (seen_of D.seen world.now) event.now outcome.now))) }
 {
-    let Ok(behind) = behind_of(alloc, platform, event, outcome) else {
+    let Ok(behind) = behind_of(alloc, world, event, outcome) else {
         return Err(TellFault::Memory);
     };
     if !is_sayable(event) || !is_sayable_behind(&behind) {
         return Err(TellFault::Unsayable);
     }
-    append_told(out, platform, before, event, outcome, &behind);
+    append_told(out, world, before, event, outcome, &behind);
     Ok(())
 }
 
-/// One event happens to the platform, and its line is appended, with its line feed: at most [`TELL_ROOM`] bytes, which have to be
-/// free. With the outcome, why nothing was appended, where that is so. What the line shows behind the answer is what the platform
+/// One event happens to the world, and its line is appended, with its line feed: at most [`TELL_ROOM`] bytes, which have to be
+/// free. With the outcome, why nothing was appended, where that is so. What the line shows behind the answer is what the world
 /// knows then: the frames that became reserved by an attach or a grant, if any did; the frame of the access that was accepted last;
 /// or the access that the block device wants, with that frame. `before` is a place for what was reserved before.
 pub fn tell_event<D: Disk>(
     alloc: Global,
-    platform: &mut Platform<D>,
+    world: &mut World<D>,
     before: &mut FrameMarks,
     event: &Event,
     out: &mut LineBuffer,
 ) -> (Outcome, Result<(), TellFault>)
-    requires count { platform.old.world.hardware.events + 1 < 2 ^ 64 }
+    requires count { world.old.hardware.board.events + 1 < 2 ^ 64 }
     requires room { length out.old + TELL_ROOM ≤ BUFFER_SIZE }
-    ensures happens { HappensHere (platform_seen D.seen platform.old) event.now result.0 (platform_seen D.seen platform.new) }
-    ensures told { OnOk result.1 (out.new ≡ out.old ++ told_line (platform_seen D.seen platform.old) event.now result.0 (platform_seen D.seen platform.new) ++ 10 ∷ []) }
-    ensures says { OnOk result.1 (SaysLine (told_line (platform_seen D.seen platform.old) event.now result.0 (platform_seen D.seen platform.new))
-        (told_said (platform_seen D.seen platform.old) event.now result.0 (platform_seen D.seen platform.new)) (taken_by (platform_seen D.seen platform.old) (platform_seen D.seen platform.new))) }
+    ensures happens { Happens (seen_of D.seen world.old) event.now result.0 (seen_of D.seen world.new) }
+    ensures told { OnOk result.1 (out.new ≡ out.old ++ told_line (seen_of D.seen world.old) event.now result.0 (seen_of D.seen world.new) ++ 10 ∷ []) }
+    ensures says { OnOk result.1 (SaysLine (told_line (seen_of D.seen world.old) event.now result.0 (seen_of D.seen world.new))
+        (told_said (seen_of D.seen world.old) event.now result.0 (seen_of D.seen world.new)) (taken_by (seen_of D.seen world.old) (seen_of D.seen world.new))) }
     ensures kept { OnErr result.1 (out.new ≡ out.old) }
     ensures short { length out.new ≤ length out.old + TELL_ROOM }
     ensures fault { IfErr result.1 (λ fault. fault ≡ TellFault.Unsayable
-        → ¬ (IsSayable event.now × IsSayableBehind (behind_of (platform_seen D.seen platform.new) event.now result.0))) }
+        → ¬ (IsSayable event.now × IsSayableBehind (behind_of (seen_of D.seen world.new) event.now result.0))) }
 {
-    note_before(platform, before, event);
-    let outcome = platform.step(event);
-    let told = append_outcome(alloc, out, platform, before, event, &outcome);
+    note_before(world, before, event);
+    let outcome = world.step(event);
+    let told = append_outcome(alloc, out, world, before, event, &outcome);
     (outcome, told)
 }

@@ -3,19 +3,18 @@ use Rattle.std.proofs.Common.{◌≡◌, ◌+◌, ◌<◌, ◌++◌, ◌∙◌, 
 use Rattle.std.proofs.lemmas.List.{take_more}
 use Rattle.std.specs.Io.KnownBytes.{Appends}
 use Rattle.std.proofs.KnownBytes.{Appends-nil}
+use Rattle.iom_base.specs.declared.refusal.Refusal.{Refusal}
 use Rattle.iom_line_writer.specs.declared.writing.LineWriter.{LineWriter}
 use Rattle.iom_line_writer.specs.Writing.{AppendsFront, AppendsPart, KeepsWriter, TakesText}
 use Rattle.iom_line_writer.proofs.WritingLemmas.{all_written, part-front, part_written}
-use Rattle.iom_platform.specs.Seen.{platform_seen}
-use Rattle.iom_base.specs.declared.refusal.Refusal.{Refusal}
 use Rattle.iom_machine.specs.declared.event.Event.{Event}
 use Rattle.iom_machine.specs.declared.outcome.Outcome.{Outcome}
 use Rattle.iom_script.specs.declared.script.ScriptLine.{ScriptLine}
 use Rattle.iom_script.specs.declared.script.ScriptLine.TheVariants as says
 use Rattle.iom_settling.specs.Stages.{Settled}
-use Rattle.iom_world.specs.Seen.{parts_of}
 use Rattle.iom_virtio_blk.specs.declared.disk.Disk.{Ghosts}
 use Rattle.iom_virtio_blk.specs.DiskStates.{DiskState}
+use Rattle.iom_world.specs.Seen.{parts_of, seen_of}
 use Rattle.iom_telling.specs.declared.fault.TellingFault.{TellingFault}
 use Rattle.iom_telling.specs.declared.teller.Teller.{Teller}
 use Rattle.iom_telling.specs.Scripts.{Telling, TellsLine, TellsLines}
@@ -33,7 +32,7 @@ event_told {W} contents seen old new event outcome takes = λ (first : LineWrite
 
 -- A SETTLING is told
 pub settling_told : {W D : Type 0} {d : Ghosts D} (contents : W → Option (List ℕ)) (seen : D → DiskState) (old new : Teller W D d) (answer : Result ℕ Refusal)
-    → Settled (λ (t : Teller W D d). parts_of t.platform.world) (TellerTakes contents seen) old answer new → GoesByLine contents seen old says.Settle new
+    → Settled (λ (t : Teller W D d). parts_of t.world) (TellerTakes contents seen) old answer new → GoesByLine contents seen old says.Settle new
 settling_told {W} contents seen old new answer settled = λ (first : LineWriter W) (text : List ℕ) told.
     let all = settled_told contents seen first old new answer text told settled in (all.0, (answer, all.1), all.2)
 
@@ -105,13 +104,13 @@ starts contents lines = ((refl, refl), [], Appends-nil (contents lines.writer.no
 
 -- the same without the teller; and the writer is the same
 pub run_writes : {W D : Type 0} {d : Ghosts D} (contents : W → Option (List ℕ)) (seen : D → DiskState) (old new : Teller W D d) (lines : List ScriptLine) → WritesAll contents seen old lines new
-    → KeepsWriter old.lines new.lines × WritesRun (platform_seen seen old.platform) old.explains old.lines.buffer lines (contents old.lines.writer.now) (contents new.lines.writer.now)
+    → KeepsWriter old.lines new.lines × WritesRun (seen_of seen old.world) old.explains old.lines.buffer lines (contents old.lines.writer.now) (contents new.lines.writer.now)
 run_writes contents seen old new lines all =
     let here = all (record old.lines { buffer = [] }) old.lines.buffer refl (starts contents old.lines) in
     (here.0, (telling_of seen new here.1, here.2, here.3))
 
 pub run_begins : {W D : Type 0} {d : Ghosts D} (contents : W → Option (List ℕ)) (seen : D → DiskState) (old new : Teller W D d) (lines : List ScriptLine) → BeginsAll contents seen old lines new
-    → KeepsWriter old.lines new.lines × BeginsRun (platform_seen seen old.platform) old.explains old.lines.buffer lines (contents old.lines.writer.now) (contents new.lines.writer.now)
+    → KeepsWriter old.lines new.lines × BeginsRun (seen_of seen old.world) old.explains old.lines.buffer lines (contents old.lines.writer.now) (contents new.lines.writer.now)
 run_begins contents seen old new lines all =
     let here = all (record old.lines { buffer = [] }) old.lines.buffer refl (starts contents old.lines) in
     (here.0, (here.1, telling_of seen new here.2, here.3, here.4))

@@ -2,12 +2,12 @@
 use Rattle.std.proofs.Common.{◌≡◌, ◌⊎◌, inl, inr, ℕ, Bool, List, Option, MatchOption, Some, Result, Ok, Err, OnOk, OnErr, refl, sym, ap, ◌∙◌, subst}
 use Rattle.std.specs.Io.KnownBytes.{Keeps}
 use Rattle.std.proofs.KnownBytes.{Keeps-refl}
-use Rattle.iom_platform.specs.PowerOn.{BeginsAt}
-use Rattle.iom_platform.specs.Seen.{Seen}
 use Rattle.iom_script.specs.declared.script.Script.{Script}
 use Rattle.iom_script.specs.declared.script.ScriptLine.{ScriptLine}
 use Rattle.iom_script.specs.declared.script.WorldSize.{WorldSize}
 use Rattle.iom_virtio_blk.specs.DiskStates.{DiskState}
+use Rattle.iom_world.specs.PowerOn.{BeginsAt}
+use Rattle.iom_world.specs.Seen.{Seen}
 use Rattle.iom_telling.specs.declared.fault.TellingFault.{TellingFault}
 use Rattle.iom_telling.specs.declared.fault.TellingFault.TheVariants.{Memory}
 use Rattle.iom_telling.specs.Scripts.{BeginsTold, TellsScript, WritesTold, world_text}

@@ -8,7 +8,6 @@ use Rattle.iom_line_writer.specs.Writing.{AppendsFront, FailsAt, TakesText}
 use Rattle.iom_line_writer.proofs.WritingLemmas.{front-longer, front-none, part-front, takes-more}
 use Rattle.iom_machine.specs.declared.event.Event.{Event}
 use Rattle.iom_machine.specs.declared.outcome.Outcome.{Outcome}
-use Rattle.iom_platform.specs.Seen.{platform_seen}
 use Rattle.iom_settling.specs.Stages.{Settled}
 use Rattle.iom_settling.specs.Went.{Takes}
 use Rattle.iom_tell.specs.declared.tell_fault.TellFault.{TellFault}
@@ -110,7 +109,7 @@ takes_told contents seen first old new (event ∷ events) (outcome ∷ outcomes)
 
 -- A SETTLING
 pub settled_told : {W D : Type 0} {d : Ghosts D} (contents : W → Option (List ℕ)) (seen : D → DiskState) (first : LineWriter W) (old new : Teller W D d) (answer : Result ℕ Refusal) (text : List ℕ)
-    → HasTold contents first text old.fault old.lines → Settled (λ (t : Teller W D d). parts_of t.platform.world) (TellerTakes contents seen) old answer new
+    → HasTold contents first text old.fault old.lines → Settled (λ (t : Teller W D d). parts_of t.world) (TellerTakes contents seen) old answer new
     → (more : List ℕ) × Settled parts_in TellsOne (telling_of seen old text) answer (telling_of seen new more) × HasTold contents first more new.fault new.lines
 settled_told contents seen first old new (Ok count) text told (went, few, idle, confirmed) =
     let all = takes_told contents seen first old new went.events went.outcomes text told went.takes in (

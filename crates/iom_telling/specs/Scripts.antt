@@ -1,4 +1,4 @@
--- THE TEXT OF A SCRIPT THAT IS TOLD: the line of the world, and behind it the line of each event of a run that a platform goes through from power-on, those of
+-- THE TEXT OF A SCRIPT THAT IS TOLD: the line of the world, and behind it the line of each event of a run that a world goes through from power-on, those of
 -- each settling in its place.
 use Rattle.std.specs.Prelude.{◌≡◌, ◌⊎◌, ℕ, Bool, true, false, List, [], ◌∷◌, ◌++◌, codes, take, Option, Result, Ok, Err, MatchOption}
 use Rattle.std.specs.Fmt.{decimal}
@@ -8,9 +8,6 @@ use Rattle.iom_explain.specs.Notes.{AreNotes}
 use Rattle.iom_line_writer.specs.Writing.{AppendsFront}
 use Rattle.iom_machine.specs.declared.event.Event.{Event}
 use Rattle.iom_machine.specs.declared.outcome.Outcome.{Outcome}
-use Rattle.iom_platform.specs.Happens.{HappensHere}
-use Rattle.iom_platform.specs.PowerOn.{BeginsAt}
-use Rattle.iom_platform.specs.Seen.{Seen}
 use Rattle.iom_script.specs.declared.script.Script.{Script}
 use Rattle.iom_script.specs.declared.script.ScriptLine.{ScriptLine}
 use Rattle.iom_script.specs.declared.script.ScriptLine.TheVariants as says
@@ -18,28 +15,30 @@ use Rattle.iom_script.specs.declared.script.WorldSize.{WorldSize}
 use Rattle.iom_settling.specs.Stages.{Settled}
 use Rattle.iom_tell.specs.Told.{told_line}
 use Rattle.iom_virtio_blk.specs.DiskStates.{DiskState}
-use Rattle.iom_world.specs.Seen.{parts_of}
+use Rattle.iom_world.specs.Happens.{Happens}
+use Rattle.iom_world.specs.PowerOn.{BeginsAt}
+use Rattle.iom_world.specs.Seen.{Seen}
 use Rattle.iom_world_effects.specs.Parts.{Parts}
 use Rattle.iom_telling.specs.declared.fault.TellingFault.{TellingFault}
 use Rattle.iom_telling.specs.declared.fault.TellingFault.TheVariants.{Memory}
 
--- a platform, the text that was told so far, and whether answers are explained
+-- a world, the text that was told so far, and whether answers are explained
 pub record Telling : Type 0 where
   pub now : Seen
   pub text : List ℕ
   pub explains : Bool
 
 abbrev pub parts_in : Telling → Parts
-parts_in telling = parts_of telling.now.world
+parts_in telling = telling.now.parts
 
 -- the text of a line with its line feed; where answers are explained, notes may stand behind it, each a line of its own that begins with `# `
 abbrev pub IsToldLine : Bool → List ℕ → List ℕ → Type 0
 IsToldLine false line text = text ≡ line ++ 10 ∷ []
 IsToldLine true line text = (notes : List ℕ) × AreNotes notes × (text ≡ (line ++ 10 ∷ []) ++ notes)
 
--- an event happens to the platform, and its line is told
+-- an event happens to the world, and its line is told
 pub record TellsOne (old : Telling) (event : Event) (outcome : Outcome) (new : Telling) : Type 0 where
-  pub happens : HappensHere old.now event outcome new.now
+  pub happens : Happens old.now event outcome new.now
   pub line : List ℕ
   pub told : IsToldLine old.explains (told_line old.now event outcome new.now) line
   pub text : new.text ≡ old.text ++ line

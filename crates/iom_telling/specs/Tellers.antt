@@ -1,17 +1,17 @@
--- What a teller does with an event: the platform takes it, and its line goes to the writer, up to the first that fails.
-use Rattle.std.specs.Prelude.{◌≡◌, ℕ, Bool, true, false, List, [], ◌∷◌, ◌++◌, take, Option, None, Some}
+-- What a teller does with an event: the world takes it, and its line goes to the writer, up to the first that fails.
+use Rattle.std.specs.Prelude.{◌≡◌, ℕ, Bool, true, false, List, [], ◌++◌, take, Option, None, Some}
 use Rattle.std.specs.Io.KnownBytes.{Appends}
 use Rattle.iom_explain.specs.Notes.{AddsNotes}
 use Rattle.iom_line_writer.specs.declared.writing.LineWriter.{LineWriter}
 use Rattle.iom_line_writer.specs.Writing.{AppendsFront, KeepsWriter, TakesText}
 use Rattle.iom_machine.specs.declared.event.Event.{Event}
 use Rattle.iom_machine.specs.declared.outcome.Outcome.{Outcome}
-use Rattle.iom_platform.specs.Happens.{HappensHere}
-use Rattle.iom_platform.specs.Seen.{Seen, platform_seen}
 use Rattle.iom_script.specs.declared.script.ScriptLine.{ScriptLine}
 use Rattle.iom_tell.specs.Told.{told_line}
 use Rattle.iom_virtio_blk.specs.declared.disk.Disk.{Ghosts}
 use Rattle.iom_virtio_blk.specs.DiskStates.{DiskState}
+use Rattle.iom_world.specs.Happens.{Happens}
+use Rattle.iom_world.specs.Seen.{Seen, seen_of}
 use Rattle.iom_telling.specs.declared.fault.TellingFault.{TellingFault}
 use Rattle.iom_telling.specs.declared.teller.Teller.{Teller}
 use Rattle.iom_telling.specs.Scripts.{Telling, IsToldLine, TellsLine, TellsLines}
@@ -43,16 +43,16 @@ AddsIf true old new = AddsNotes old new
 
 -- THE TELLER TAKES AN EVENT
 pub record TellerTakes {W D : Type 0} {d : Ghosts D} (contents : W → Option (List ℕ)) (seen : D → DiskState) (old : Teller W D d) (event : Event) (outcome : Outcome) (new : Teller W D d) : Type 0 where
-  pub happens : HappensHere (platform_seen seen old.platform) event outcome (platform_seen seen new.platform)
+  pub happens : Happens (seen_of seen old.world) event outcome (seen_of seen new.world)
   pub line : List ℕ
-  pub told : IsToldLine old.explains (told_line (platform_seen seen old.platform) event outcome (platform_seen seen new.platform)) line
+  pub told : IsToldLine old.explains (told_line (seen_of seen old.world) event outcome (seen_of seen new.world)) line
   pub goes : GoesOnTelling contents old.fault old.lines line new.fault new.lines
   pub explains : new.explains ≡ old.explains
 
 -- WHAT IS TOLD OF LINES, for the calls inside this crate
 
 abbrev pub telling_of : {W D : Type 0} {d : Ghosts D} → (D → DiskState) → Teller W D d → List ℕ → Telling
-telling_of seen teller text = record { now = platform_seen seen teller.platform; text = text; explains = teller.explains }
+telling_of seen teller text = record { now = seen_of seen teller.world; text = text; explains = teller.explains }
 
 -- Whatever was told before, the teller goes on so, and what it told is what goes on by this.
 abbrev pub GoesBy : {W D : Type 0} {d : Ghosts D} → (Telling → Telling → Type 0) → (W → Option (List ℕ)) → (D → DiskState) → Teller W D d → Teller W D d → Type 0
@@ -85,7 +85,7 @@ BeginsAll {W} contents seen old lines new =
     × (count : ℕ) × (more : List ℕ) × TellsLines (telling_of seen old text) (take count lines) (telling_of seen new more)
     × AppendsFront (contents first.writer.now) (contents new.lines.writer.now) more
 
--- the same without the teller, from this platform and this text on
+-- the same without the teller, from this world and this text on
 abbrev pub WritesRun : Seen → Bool → List ℕ → List ScriptLine → Option (List ℕ) → Option (List ℕ) → Type 0
 WritesRun now explains text lines old new = (last : Telling) × TellsLines (record { now = now; text = text; explains = explains }) lines last × Appends old new last.text
 

@@ -1,34 +1,35 @@
 // A script, told as a trace.
 ghost use Rattle.std.specs.Prelude.{◌≡◌, ◌+◌, ◌*◌, ◌<◌, ◌≤◌, ◌^◌, ◌++◌, ℕ, [], length, None, Some, OnOk, OnErr, IfOk, IfErr, IfSome};
+ghost use Rattle.iom_block_devices.specs.Seen.{states_of};
 ghost use Rattle.iom_line_writer.specs.Writing.{KeepsWriter};
-ghost use Rattle.iom_platform.specs.PowerOn.{BeginsAt};
-ghost use Rattle.iom_platform.specs.Seen.{platform_seen, states_of};
 ghost use Rattle.iom_script.specs.Grammar.{IsWorldSize};
+ghost use Rattle.iom_world.specs.PowerOn.{BeginsAt};
+ghost use Rattle.iom_world.specs.Seen.{seen_of};
 ghost use Rattle.iom_telling.specs.Scripts.{world_text, TellsScript};
 ghost use Rattle.iom_telling.specs.Tellers.{GoesByLine, GoesByLines, GoesByFirst, WritesAll, BeginsAll, WritesRun, BeginsRun};
 
 use crate::fault::TellingFault;
 use crate::teller::Teller;
 use iom_line_writer::LineWriter;
-use iom_platform::Platform;
 use iom_script::{BUFFER_SIZE, LineBuffer, Script, ScriptLine, WorldSize};
 use iom_settling::{TakesEvents, settle};
 use iom_tell::FrameMarks;
 use iom_virtio_blk::Disk;
+use iom_world::World;
 use std::alloc::Global;
 use std::io::Write;
 
-/// The platform at power-on, of that size, with these disks.
-fn platform_of<D: Disk>(
+/// The world at power-on, of that size, with these disks.
+fn world_of<D: Disk>(
     alloc: Global,
     size: WorldSize,
     disks: Vec<D>,
-) -> Result<Platform<D>, TellingFault>
+) -> Result<World<D>, TellingFault>
     requires { IsWorldSize size }
-    ensures begins { IfOk result (λ platform. BeginsAt size.frames size.levels (states_of D.seen disks.items) (platform_seen D.seen platform)) }
+    ensures begins { IfOk result (λ world. BeginsAt size.frames size.levels (states_of D.seen disks.items) (seen_of D.seen world)) }
     ensures fault { IfErr result (λ fault. fault ≡ TellingFault.Memory) }
 {
-    Platform::new(alloc, size.frames as u32, size.levels as u8, disks).map_err(
+    World::new(alloc, size.frames as u32, size.levels as u8, disks).map_err(
         |_| TellingFault::Memory,
     )
 }
@@ -66,9 +67,9 @@ fn marks_of(alloc: Global) -> Result<FrameMarks, TellingFault>
 
 /// What the line says happens, and is told.
 fn tell_line<W: Write, D: Disk>(teller: &mut Teller<'_, W, D>, line: &ScriptLine)
-    requires count { teller.old.platform.world.hardware.events + 400 < 2 ^ 64 }
+    requires count { teller.old.world.hardware.board.events + 400 < 2 ^ 64 }
     ensures told { GoesByLine W.contents D.seen teller.old line.now teller.new }
-    ensures counted { teller.new.platform.world.hardware.events ≤ teller.old.platform.world.hardware.events + 400 }
+    ensures counted { teller.new.world.hardware.board.events ≤ teller.old.world.hardware.board.events + 400 }
 {
     match line {
         ScriptLine::Event(event) => {
@@ -85,7 +86,7 @@ fn tell_lines<W: Write, D: Disk>(
     teller: &mut Teller<'_, W, D>,
     script: &[ScriptLine],
 ) -> Result<(), TellingFault>
-    requires count { teller.old.platform.world.hardware.events + 400 * length script.now < 2 ^ 64 }
+    requires count { teller.old.world.hardware.board.events + 400 * length script.now < 2 ^ 64 }
     requires fresh { teller.old.fault ≡ None }
     ensures ran { OnOk result (GoesByLines W.contents D.seen teller.old script.now teller.new) }
     ensures fresh { OnOk result (teller.new.fault ≡ None) }
@@ -106,7 +107,7 @@ fn tell_all<W: Write, D: Disk>(
     teller: &mut Teller<'_, W, D>,
     script: &[ScriptLine],
 ) -> Result<(), TellingFault>
-    requires count { teller.old.platform.world.hardware.events + 400 * length script.now < 2 ^ 64 }
+    requires count { teller.old.world.hardware.board.events + 400 * length script.now < 2 ^ 64 }
     requires fresh { teller.old.fault ≡ None }
     ensures told { OnOk result (WritesAll W.contents D.seen teller.old script.now teller.new) }
     ensures failed { OnErr result (BeginsAll W.contents D.seen teller.old script.now teller.new) }
@@ -124,7 +125,7 @@ fn lines_of<'a, W: Write, D: Disk>(teller: Teller<'a, W, D>) -> LineWriter<'a, W
     ensures contents { result.writer.now ≡ teller.entry.lines.writer.now }
 {
     let Teller {
-        platform: _,
+        world: _,
         before: _,
         lines,
         fault: _,
@@ -137,20 +138,20 @@ fn lines_of<'a, W: Write, D: Disk>(teller: Teller<'a, W, D>) -> LineWriter<'a, W
 /// The same to the writer, by way of the buffer.
 fn tell_run<W: Write, D: Disk>(
     alloc: Global,
-    platform: Platform<D>,
+    world: World<D>,
     before: FrameMarks,
     script: &[ScriptLine],
     explains: bool,
     buffer: LineBuffer,
     writer: &mut W,
 ) -> Result<(), TellingFault>
-    requires count { platform.world.hardware.events + 400 * length script.now < 2 ^ 64 }
-    ensures told { OnOk result (WritesRun (platform_seen D.seen platform) explains buffer script.now (W.contents writer.old) (W.contents writer.new)) }
-    ensures failed { OnErr result (BeginsRun (platform_seen D.seen platform) explains buffer script.now (W.contents writer.old) (W.contents writer.new)) }
+    requires count { world.hardware.board.events + 400 * length script.now < 2 ^ 64 }
+    ensures told { OnOk result (WritesRun (seen_of D.seen world) explains buffer script.now (W.contents writer.old) (W.contents writer.new)) }
+    ensures failed { OnErr result (BeginsRun (seen_of D.seen world) explains buffer script.now (W.contents writer.old) (W.contents writer.new)) }
 {
     let lines = LineWriter::new(buffer, writer, false);
     let mut teller = Teller {
-        platform,
+        world,
         before,
         lines,
         fault: None,
@@ -191,10 +192,10 @@ pub fn tell<W: Write, D: Disk>(
     };
     let buffer = buffer_of(alloc, size)?;
     let before = marks_of(alloc)?;
-    let platform = platform_of(alloc, size, disks)?;
+    let world = world_of(alloc, size, disks)?;
     tell_run(
         alloc,
-        platform,
+        world,
         before,
         script.lines.as_slice(),
         explains,

@@ -1,11 +1,10 @@
-// What tells events: a platform, and the lines on their way out.
+// What tells events: a world, and the lines on their way out.
 ghost use Rattle.std.specs.Prelude.{◌≡◌, ◌+◌, ◌<◌, ◌≤◌, ◌^◌, [], length, OnOk, OnErr};
 ghost use Rattle.iom_line_writer.specs.Writing.{TakesText, FailsAt};
-ghost use Rattle.iom_platform.specs.Happens.{HappensHere};
-ghost use Rattle.iom_platform.specs.Seen.{platform_seen};
 ghost use Rattle.iom_settling.specs.Stages.{brief};
 ghost use Rattle.iom_tell.specs.Told.{told_line};
-ghost use Rattle.iom_world.specs.Seen.{disks_of, parts_of};
+ghost use Rattle.iom_world.specs.Happens.{Happens};
+ghost use Rattle.iom_world.specs.Seen.{disks_of, parts_of, seen_of};
 ghost use Rattle.iom_world_effects.proofs.DriverLemmas.{sound_driver};
 ghost use Rattle.iom_telling.specs.Tellers.{AddsIf, HasToldLine, TellerTakes};
 
@@ -14,17 +13,17 @@ use iom_base::DeviceId;
 use iom_explain::{NOTES_ROOM, append_notes, explain};
 use iom_line_writer::{LineWriter, WriteFault};
 use iom_machine::{Event, Fetched, Outcome};
-use iom_platform::Platform;
 use iom_script::{BUFFER_SIZE, LineBuffer};
 use iom_settling::{TakesEvents, Told};
 use iom_tell::{FrameMarks, TELL_ROOM, tell_event};
 use iom_virtio_blk::Disk;
+use iom_world::World;
 use std::alloc::Global;
 use std::io::Write;
 
-/// A platform whose events are told, up to the first at which something fails. The later ones happen untold.
+/// A world whose events are told, up to the first at which something fails. The later ones happen untold.
 pub(crate) struct Teller<'a, W, D: Disk> {
-    pub(crate) platform: Platform<D>,
+    pub(crate) world: World<D>,
     /// A place for which frames were reserved before an event.
     pub(crate) before: FrameMarks,
     pub(crate) lines: LineWriter<'a, W>,
@@ -47,9 +46,9 @@ fn make_room<W: Write>(lines: &mut LineWriter<'_, W>) -> Result<(), WriteFault>
     Ok(())
 }
 
-/// Where answers are explained, notes behind the answer that the event had of the platform, as it is now.
+/// Where answers are explained, notes behind the answer that the event had of the world, as it is now.
 fn add_notes<D: Disk>(
-    platform: &Platform<D>,
+    world: &World<D>,
     event: &Event,
     outcome: &Outcome,
     explains: bool,
@@ -59,55 +58,55 @@ fn add_notes<D: Disk>(
     ensures { AddsIf explains out.old out.new }
 {
     if explains {
-        append_notes(out, &explain(platform.world(), event, outcome));
+        append_notes(out, &explain(world, event, outcome));
     }
 }
 
-/// One event happens to the platform, and its line goes into the buffer, which has room for it, and notes behind it, where answers are
+/// One event happens to the world, and its line goes into the buffer, which has room for it, and notes behind it, where answers are
 /// explained. What failed, if something did, is noted.
 fn tell_in_room<W: Write, D: Disk>(
     alloc: Global,
-    platform: &mut Platform<D>,
+    world: &mut World<D>,
     before: &mut FrameMarks,
     event: &Event,
     lines: &mut LineWriter<'_, W>,
     explains: bool,
     fault: &mut Option<TellingFault>,
 ) -> Outcome
-    requires count { platform.old.world.hardware.events + 1 < 2 ^ 64 }
+    requires count { world.old.hardware.board.events + 1 < 2 ^ 64 }
     requires room { length lines.old.buffer + TELL_ROOM + NOTES_ROOM ≤ BUFFER_SIZE }
-    ensures happens { HappensHere (platform_seen D.seen platform.old) event.now result (platform_seen D.seen platform.new) }
-    ensures told { HasToldLine W.contents lines.old explains (told_line (platform_seen D.seen platform.old) event.now result (platform_seen D.seen platform.new)) fault.new lines.new }
+    ensures happens { Happens (seen_of D.seen world.old) event.now result (seen_of D.seen world.new) }
+    ensures told { HasToldLine W.contents lines.old explains (told_line (seen_of D.seen world.old) event.now result (seen_of D.seen world.new)) fault.new lines.new }
 {
-    let told = tell_event(alloc, platform, before, event, &mut lines.buffer);
+    let told = tell_event(alloc, world, before, event, &mut lines.buffer);
     *fault = fault_of(told.1);
     match fault {
-        None => add_notes(platform, event, &told.0, explains, &mut lines.buffer),
+        None => add_notes(world, event, &told.0, explains, &mut lines.buffer),
         Some(_) => {}
     }
     told.0
 }
 
-/// One event happens to the platform, and its line goes to the lines. What failed, if something did, is noted.
+/// One event happens to the world, and its line goes to the lines. What failed, if something did, is noted.
 fn tell_one<W: Write, D: Disk>(
     alloc: Global,
-    platform: &mut Platform<D>,
+    world: &mut World<D>,
     before: &mut FrameMarks,
     event: &Event,
     lines: &mut LineWriter<'_, W>,
     explains: bool,
     fault: &mut Option<TellingFault>,
 ) -> Outcome
-    requires count { platform.old.world.hardware.events + 1 < 2 ^ 64 }
-    ensures happens { HappensHere (platform_seen D.seen platform.old) event.now result (platform_seen D.seen platform.new) }
-    ensures told { HasToldLine W.contents lines.old explains (told_line (platform_seen D.seen platform.old) event.now result (platform_seen D.seen platform.new)) fault.new lines.new }
+    requires count { world.old.hardware.board.events + 1 < 2 ^ 64 }
+    ensures happens { Happens (seen_of D.seen world.old) event.now result (seen_of D.seen world.new) }
+    ensures told { HasToldLine W.contents lines.old explains (told_line (seen_of D.seen world.old) event.now result (seen_of D.seen world.new)) fault.new lines.new }
 {
     match make_room(lines) {
         Err(WriteFault) => {
             *fault = Some(TellingFault::Writing);
-            platform.step(event)
+            world.step(event)
         }
-        Ok(()) => tell_in_room(alloc, platform, before, event, lines, explains, fault),
+        Ok(()) => tell_in_room(alloc, world, before, event, lines, explains, fault),
     }
 }
 
@@ -125,14 +124,14 @@ fn brief(outcome: &Outcome) -> Told
 impl<W: Write, D: Disk> Teller<'_, W, D> {
     /// One event, and its line, where nothing failed before.
     fn tell(&mut self, event: &Event) -> Outcome
-        requires count { self.old.platform.world.hardware.events + 1 < 2 ^ 64 }
+        requires count { self.old.world.hardware.board.events + 1 < 2 ^ 64 }
         ensures { TellerTakes W.contents D.seen self.old event.now result self.new }
     {
         match self.fault {
-            Some(_) => self.platform.step(event),
+            Some(_) => self.world.step(event),
             None => tell_one(
                 self.alloc,
-                &mut self.platform,
+                &mut self.world,
                 &mut self.before,
                 event,
                 &mut self.lines,
@@ -143,42 +142,42 @@ impl<W: Write, D: Disk> Teller<'_, W, D> {
     }
 }
 
-/// A teller takes events as its platform does, and tells them along: so settling, which is over whatever takes events, tells its own.
+/// A teller takes events as its world does, and tells them along: so settling, which is over whatever takes events, tells its own.
 impl<W: Write, D: Disk> TakesEvents for Teller<'_, W, D> {
-    ghost parts = { λ teller. parts_of teller.platform.world };
+    ghost parts = { λ teller. parts_of teller.world };
 
-    ghost counted = { λ teller. teller.platform.world.hardware.events };
+    ghost counted = { λ teller. teller.world.hardware.board.events };
 
     ghost happens = { TellerTakes W.contents D.seen };
 
-    ghost does = { λ old new event told happens. (disks_of old.platform.world, happens.happens.0.does) };
+    ghost does = { λ old new event told happens. (disks_of old.world, happens.happens.does) };
 
-    ghost commands = { λ old new event told happens. happens.happens.0.commands };
+    ghost commands = { λ old new event told happens. happens.happens.commands };
 
-    ghost counts = { λ old new event told happens. happens.happens.0.events };
+    ghost counts = { λ old new event told happens. happens.happens.events };
 
-    ghost sound = { λ teller. teller.platform.world.sound };
+    ghost sound = { λ teller. teller.world.sound };
 
-    ghost own = { λ teller. sound_driver teller.platform.world.driver };
+    ghost own = { λ teller. sound_driver teller.world.driver };
 
     fn facts(&self) {
-        self.platform.facts();
+        self.world.facts();
     }
 
     fn first_busy(&self) -> Option<DeviceId> {
-        self.platform.first_busy()
+        self.world.first_busy()
     }
 
     fn is_quiet(&self) -> bool {
-        self.platform.is_quiet()
+        self.world.is_quiet()
     }
 
     fn has_pending(&self) -> bool {
-        self.platform.has_pending()
+        self.world.has_pending()
     }
 
     fn has_used_up(&self) -> bool {
-        self.platform.has_used_up()
+        self.world.has_used_up()
     }
 
     fn take(&mut self, event: &Event) -> Told {

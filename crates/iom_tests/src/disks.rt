@@ -1,4 +1,4 @@
-// Disks that fail under a whole platform: scripts of requests (virtio 1.2, section 5.2.6), and how each request ends.
+// Disks that fail under a whole world: scripts of requests (virtio 1.2, section 5.2.6), and how each request ends.
 use crate::expect::expect;
 use iom_runner::run;
 use iom_virtio_blk::MemoryDisk;

@@ -1,10 +1,10 @@
-//! A platform that begins at the last number of a fence: one ticket is left.
+//! A world that begins at the last number of a fence: one ticket is left.
 use crate::expect::expect;
 use iom_machine::{Fetched, Outcome};
-use iom_platform::Platform;
 use iom_runner::program_disks;
 use iom_script::{ScriptLine, parse};
 use iom_virtio_blk::MemoryDisk;
+use iom_world::World;
 use std::alloc::Global;
 use std::process::Abort;
 
@@ -35,31 +35,23 @@ fn answer_of(outcome: &Outcome) -> Answer {
     }
 }
 
-/// A platform of 64 frames, with the program's disks, whose first fence has the last number.
-fn at_the_last(rt: &impl Abort, alloc: Global) -> Box<Platform<MemoryDisk>> {
+/// A world of 64 frames, with the program's disks, whose first fence has the last number.
+fn at_the_last(rt: &impl Abort, alloc: Global) -> Box<World<MemoryDisk>> {
     let disks = program_disks(alloc).expect(rt, "memory for the disks");
-    let platform = Platform::new_from(alloc, u32::MAX, 64, 1, disks).expect(
-        rt,
-        "memory for a platform",
-    );
-    Box::new(alloc, platform).expect(rt, "memory for a platform")
+    let world = World::new_from(alloc, u32::MAX, 64, 1, disks).expect(rt, "memory for a world");
+    Box::new(alloc, world).expect(rt, "memory for a world")
 }
 
-/// Whether the line is an event, and the platform answers it so.
-fn answers(platform: &mut Platform<MemoryDisk>, line: &ScriptLine, answer: Answer) -> bool {
+/// Whether the line is an event, and the world answers it so.
+fn answers(world: &mut World<MemoryDisk>, line: &ScriptLine, answer: Answer) -> bool {
     let ScriptLine::Event(event) = line else {
         return false;
     };
-    platform.events() < 1000000 && answer_of(&platform.step(event)) == answer
+    world.events() < 1000000 && answer_of(&world.step(event)) == answer
 }
 
-/// Whether the platform answers the events of the lines so, one after another.
-fn answers_all(
-    alloc: Global,
-    platform: &mut Platform<MemoryDisk>,
-    lines: &[u8],
-    all: &[Answer],
-) -> bool {
+/// Whether the world answers the events of the lines so, one after another.
+fn answers_all(alloc: Global, world: &mut World<MemoryDisk>, lines: &[u8], all: &[Answer]) -> bool {
     let Ok(script) = parse(alloc, lines) else {
         return false;
     };
@@ -68,7 +60,7 @@ fn answers_all(
         return false;
     }
     for k in 0..script.len() {
-        if !answers(platform, &script[k], all[k]) {
+        if !answers(world, &script[k], all[k]) {
             return false;
         }
     }
@@ -76,8 +68,8 @@ fn answers_all(
 }
 
 /// Whether settling is refused, with this refusal's number.
-fn refuses_to_settle(platform: &mut Platform<MemoryDisk>, number: u8) -> bool {
-    platform.events() < 1000000 && matches!(platform.settle(), Err(why) if why.number() == number)
+fn refuses_to_settle(world: &mut World<MemoryDisk>, number: u8) -> bool {
+    world.events() < 1000000 && matches!(world.settle(), Err(why) if why.number() == number)
 }
 
 /// The first release takes the last number of a fence, and nothing else gets one. What was accepted before is made by a
@@ -85,7 +77,7 @@ fn refuses_to_settle(platform: &mut Platform<MemoryDisk>, number: u8) -> bool {
 #[test]
 fn the_last_fence_is_given_once(rt: HostRuntime) {
     let alloc = rt.alloc();
-    let mut platform = at_the_last(&rt, alloc);
+    let mut world = at_the_last(&rt, alloc);
     let before =
         b"world 64 1\ndevice 000001 raw\nattach 000001 first\ngrant 000001 3 5 rw\ngrant 000001 4 6 rw\n\
         read 000001 0x4000 4\nrelease 000001 3\nrelease 000001 4\nrestart\n";
@@ -99,11 +91,8 @@ fn the_last_fence_is_given_once(rt: HostRuntime) {
         Answer::Refused(14),
         Answer::Refused(14),
     ];
-    expect(
-        &rt,
-        answers_all(alloc, &mut platform, before, &answers_before),
-    );
-    expect(&rt, refuses_to_settle(&mut platform, 14));
+    expect(&rt, answers_all(alloc, &mut world, before, &answers_before));
+    expect(&rt, refuses_to_settle(&mut world, 14));
     let after = b"world 64 1\ncommit 000001\nfetch\nfetch\npoll\n";
     let answers_after = [
         Answer::NothingInFlight,
@@ -111,8 +100,5 @@ fn the_last_fence_is_given_once(rt: HostRuntime) {
         Answer::Did,
         Answer::Confirmed(1, 1),
     ];
-    expect(
-        &rt,
-        answers_all(alloc, &mut platform, after, &answers_after),
-    );
+    expect(&rt, answers_all(alloc, &mut world, after, &answers_after));
 }

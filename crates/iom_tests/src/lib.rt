@@ -1,4 +1,4 @@
-//! Calls of the public functions of `iom_world`, `iom_platform` and `iom_runner`, on their happy paths and at their edges,
+//! Calls of the public functions of `iom_world` and `iom_runner`, on their happy paths and at their edges,
 //! one module for each. Worlds that are drawn are in `iom_drawn_tests`, and those of the crates below in crates of their own.
 //!
 //! The crate has tests alone, and nothing stands on it. It stands apart from the crates that it calls
@@ -13,8 +13,8 @@ mod expect;
 #[cfg(test)]
 mod fences;
 #[cfg(test)]
-mod platform;
-#[cfg(test)]
 mod runner;
+#[cfg(test)]
+mod runs;
 #[cfg(test)]
 mod world;

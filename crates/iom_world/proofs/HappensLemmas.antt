@@ -18,7 +18,10 @@ use Rattle.iom_world_effects.specs.Does.{Does, disks_after}
 use Rattle.iom_world.specs.Happens.{Happens}
 use Rattle.iom_world_effects.specs.Parts.{Parts}
 use Rattle.iom_world_effects.specs.Recovery.{RestartsQueue}
-use Rattle.iom_world.specs.Seen.{parts_of, disks_of}
+use Rattle.iom_virtio_blk.specs.declared.disk.Disk.{Ghosts}
+use Rattle.iom_virtio_blk.specs.DiskStates.{DiskState}
+use Rattle.iom_world.specs.Blocks.{DoesToBlocks}
+use Rattle.iom_world.specs.Seen.{parts_of, disks_of, seen_of}
 use Rattle.iom_world_effects.specs.Shows.{PartsShow}
 use Rattle.iom_world_effects.specs.Sound.{AreSound}
 use Rattle.iom_world_refinement.proofs.AttachStep.{attach_step}
@@ -126,23 +129,27 @@ module _ (laws : ServiceLaws) (disks : List ℕ) (old new : Parts) (counted befo
   steps (events.Status id) told fits does state shows at_hand = let step = status_step old new id does.0 told does.1 state shows in (state, (no_choice, step.0), step.1)
 
 -- WHAT HAPPENS
-pub happens : LawsBelow → (old new : World) (event : Event) (told : Outcome) → AddressFits event → Does (disks_of old) (parts_of old) event told (parts_of new)
-    → disks_of new ≡ disks_after event told (disks_of old) → new.hardware.events ≡ old.hardware.events + 1 → Happens old event told new
-happens laws old new event told fits does disks counted =
+pub happens : {D : Type 0} {d : Ghosts D} (seen : D → DiskState) → LawsBelow → (old new : World D d) (event : Event) (told : Outcome) → AddressFits event
+    → Does (disks_of old) (parts_of old) event told (parts_of new) → disks_of new ≡ disks_after event told (disks_of old) → DoesToBlocks (seen_of seen old) event told (seen_of seen new)
+    → new.hardware.board.events ≡ old.hardware.board.events + 1 → Happens (seen_of seen old) event told (seen_of seen new)
+happens seen laws old new event told fits does disks blocks counted =
     let service = service_laws laws in
     let reported = reported_of laws.reported old.driver in
+    let before = old.hardware.board.events in
+    let after = new.hardware.board.events in
     record {
       step = λ state shows.
-          let after = steps service (disks_of old) (parts_of old) (parts_of new) new.hardware.events old.hardware.events old.sound (sound_driver old.driver) reported new.sound event told fits does state shows.0 shows.1 in (
-            after.0,
-            after.1,
-            (after.2, step_disks state after.0 event told after.1 ∙ ap (disks_after event told) shows.1 ∙ sym disks),
+          let next = steps service (disks_of old) (parts_of old) (parts_of new) after before old.sound (sound_driver old.driver) reported new.sound event told fits does state shows.0 shows.1 in (
+            next.0,
+            next.1,
+            (next.2, step_disks state next.0 event told next.1 ∙ ap (disks_after event told) shows.1 ∙ sym disks),
           );
       does = does;
       disks = disks;
-      commands = commands_stay (disks_of old) (parts_of old) (parts_of new) old.hardware.events event told old.sound (sound_driver old.driver) reported does;
-      guest = λ state shows id access. reads_guest_tables service (parts_of old) old.hardware.events old.sound (sound_driver old.driver) state shows.0 id access;
-      stopped = λ stopped. stays_stopped (parts_of old) (parts_of new) old.hardware.events new.hardware.events old.sound (sound_driver old.driver) reported new.sound stopped (disks_of old) event told does;
+      blocks = blocks;
+      commands = commands_stay (disks_of old) (parts_of old) (parts_of new) before event told old.sound (sound_driver old.driver) reported does;
+      guest = λ state shows id access. reads_guest_tables service (parts_of old) before old.sound (sound_driver old.driver) state shows.0 id access;
+      stopped = λ stopped. stays_stopped (parts_of old) (parts_of new) before after old.sound (sound_driver old.driver) reported new.sound stopped (disks_of old) event told does;
       refused = refused_same (disks_of old) (parts_of old) (parts_of new) event told does;
       events = counted;
     }

@@ -51,13 +51,13 @@ use Rattle.iom_world_effects.proofs.PresentLemmas.{kind_absent, kind_present}
 use Rattle.iom_world.specs.OnHardware.{hardware_of, told_unless, cache_reply_told, sending_told, delivered_told}
 
 -- parts are their hardware and their driver
-same_parts : (old new : Parts) → hardware_of new ≡ hardware_of old → new.driver ≡ old.driver → new ≡ old
+pub same_parts : (old new : Parts) → hardware_of new ≡ hardware_of old → new.driver ≡ old.driver → new ≡ old
 same_parts old new hardware driver =
     ap (λ (h : BoardParts). record { memory = h.memory; iommu = h.iommu; driver = new.driver; devices = h.devices; fabric = h.fabric }) hardware
     ∙ ap (λ d. record { memory = old.memory; iommu = old.iommu; driver = d; devices = old.devices; fabric = old.fabric }) driver
 
 -- the hardware is this, and the driver stays
-parts_with : (old new : Parts) (parts : BoardParts) → hardware_of new ≡ parts → new.driver ≡ old.driver
+pub parts_with : (old new : Parts) (parts : BoardParts) → hardware_of new ≡ parts → new.driver ≡ old.driver
     → new ≡ record { memory = parts.memory; iommu = parts.iommu; driver = old.driver; devices = parts.devices; fabric = parts.fabric }
 parts_with old new parts hardware driver =
     same_parts (record { memory = parts.memory; iommu = parts.iommu; driver = old.driver; devices = parts.devices; fabric = parts.fabric }) new hardware driver

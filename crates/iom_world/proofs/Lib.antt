@@ -1,3 +1,12 @@
-pub mod HappensLemmas
 pub mod InParts
 pub mod OfHardware
+pub mod HappensLemmas
+pub mod NumberLemmas
+pub mod FlightEvents
+pub mod BegunLemmas
+pub mod NeverRefused
+pub mod WaitLemmas
+pub mod RunLemmas
+pub mod StepInParts
+pub mod InsideTold
+pub mod StepKeeps

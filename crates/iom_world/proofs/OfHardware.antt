@@ -2,7 +2,9 @@
 use Rattle.std.proofs.Common.{◌≡◌, ◌+◌, ◌<◌, ◌∙◌, inr, ℕ, Bool, List, length, remove, slice_get, Option, None, Some, Result, Ok, Err, refl, sym, ap, subst}
 use Rattle.iom_base.specs.declared.access.AccessKind.TheVariants.{Read}
 use Rattle.iom_base.specs.declared.refusal.Refusal.{Refusal}
-use Rattle.iom_device.specs.Caches.{epoch_in}
+use Rattle.iom_device.specs.declared.device.Device.{Device}
+use Rattle.iom_device.specs.Caches.{cache_of, epoch_in}
+use Rattle.iom_device.specs.Calls.{devices_revived, reset_of}
 use Rattle.iom_driver.specs.State.{DriverState}
 use Rattle.iom_fabric.specs.declared.fabric.OnLink.{OnLink}
 use Rattle.iom_fabric.specs.declared.message.Message.{Message}
@@ -10,9 +12,14 @@ use Rattle.iom_fabric.specs.declared.message.Message.TheVariants as sent
 use Rattle.iom_board.specs.declared.board.Board.{Board}
 use Rattle.iom_board.specs.Commits.{CommitsOldestAccess, StandWhereMade}
 use Rattle.iom_board.specs.Sound.{IsOfPlugged, IsSoundBoard}
+use Rattle.iom_hardware.specs.Agreement.{AgreesWith, known_blocks}
+use Rattle.iom_hardware.specs.Sound.{IsSoundHardware}
+use Rattle.iom_hardware.proofs.AgreementLemmas.{agrees_still}
+use Rattle.iom_hardware.proofs.KnownBlocks.{known_cache}
 use Rattle.iom_inflight.specs.declared.made.MadeAt.{MadeAt}
 use Rattle.iom_iommu.specs.Parts.{flights_of}
 use Rattle.iom_machine.specs.declared.outcome.Outcome.{Outcome}
+use Rattle.iom_virtio_blk.specs.declared.disk.Disk.{Ghosts}
 use Rattle.iom_world.specs.declared.world.World.{World}
 use Rattle.iom_world.specs.OnHardware.{hardware_of}
 use Rattle.iom_world.specs.Seen.{parts_of}
@@ -36,8 +43,8 @@ with_driver hardware driver =
     record { memory = hardware.memory; iommu = hardware.iommu; driver = driver; devices = hardware.devices.items; fabric = hardware.fabric }
 
 -- one event more is counted
-pub counted : (world : World) → AreSound (parts_of world) (world.hardware.events + 1)
-counted world = sound_counted (parts_of world) world.hardware.events world.sound
+pub counted : {D : Type 0} {d : Ghosts D} (world : World D d) → AreSound (parts_of world) (world.hardware.board.events + 1)
+counted world = sound_counted (parts_of world) world.hardware.board.events world.sound
 
 -- what is sound is so at the count that the hardware has
 pub at_count : (parts : Parts) (events count : ℕ) → count ≡ events → AreSound parts events → AreSound parts count
@@ -61,6 +68,22 @@ hardware_sound parts events sound = record {
   serials = sound.serials;
   epochs = sound.epochs;
 }
+
+-- and so is the hardware with its block devices
+pub sound_hardware : {D : Type 0} {d : Ghosts D} (world : World D d) → IsSoundHardware world.hardware
+sound_hardware world = record { board = hardware_sound (parts_of world) world.hardware.board.events world.sound; agrees = world.agrees; room = world.room }
+
+-- the block devices agree with their board after one of its calls
+pub agrees_now : {D : Type 0} {d : Ghosts D} (world : World D d) (board : Board) → known_blocks board.devices.items ≡ known_blocks world.hardware.board.devices.items
+    → board.disks.items ≡ world.hardware.board.disks.items → AgreesWith board.devices.items board.disks.items world.hardware.blocks.items world.hardware.at_hand.items
+agrees_now world board known kept =
+    agrees_still world.hardware.board.devices.items board.devices.items world.hardware.board.disks.items board.disks.items world.hardware.blocks.items world.hardware.blocks.items
+    world.hardware.at_hand.items known kept refl world.agrees
+
+-- the same block devices are known after a revival
+pub known_revived : (devices after : List Device) (id : ℕ) (answer : Result (Unit {0}) Refusal) → after ≡ devices_revived answer devices id → known_blocks after ≡ known_blocks devices
+known_revived devices after id (Ok done) same = ap known_blocks same ∙ known_cache devices id (reset_of (cache_of devices id))
+known_revived devices after id (Err why) same = ap known_blocks same
 
 -- a delivery keeps what is sound
 pub keeps_delivered : (laws : ServiceLaws) (old new : Parts) (events place : ℕ) (told : Outcome) → AreSound old events → IsSoundDriver old.driver → StaysReported old.driver → StaysReady old.driver

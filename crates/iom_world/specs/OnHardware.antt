@@ -1,6 +1,6 @@
 -- The hardware of a world, by its parts, and what its answers are told as.
 -- For the calls inside this crate alone; no public contract cites these.
-use Rattle.std.specs.Prelude.{Bool, Result, Ok, Err, if◌then◌else◌}
+use Rattle.std.specs.Prelude.{ℕ, Bool, Result, Ok, Err, if◌then◌else◌}
 use Rattle.iom_base.specs.declared.refusal.Refusal.{Refusal}
 use Rattle.iom_base.specs.declared.refusal.Refusal.TheVariants.{FrameOutOfRange}
 use Rattle.iom_board.specs.declared.answers.CacheReply.{CacheReply}
@@ -10,6 +10,9 @@ use Rattle.iom_board.specs.declared.answers.NoPlace.TheVariants.{BadSpan, Outsid
 use Rattle.iom_board.specs.declared.answers.Delivered.{Delivered}
 use Rattle.iom_board.specs.declared.answers.Delivered.TheVariants as delivered
 use Rattle.iom_board.specs.BoardParts.{BoardParts}
+use Rattle.iom_hardware.specs.declared.steps.Stepped.{Stepped}
+use Rattle.iom_hardware.specs.declared.steps.Stepped.TheVariants.{Began, Asked, Idle, Waiting, Down, Chain, Finished}
+use Rattle.iom_machine.specs.declared.outcome.BlockStep.TheVariants as rest
 use Rattle.iom_machine.specs.declared.outcome.Outcome.{Outcome}
 use Rattle.iom_machine.specs.declared.outcome.Outcome.TheVariants as outcome
 use Rattle.iom_world_effects.specs.Deliveries.{taken_told}
@@ -45,3 +48,16 @@ delivered_told delivered.Ignored = outcome.Ignored
 delivered_told (delivered.Invalidated serial) = outcome.Invalidated serial
 delivered_told (delivered.Closed serial) = outcome.Closed serial
 delivered_told (delivered.NotClosed serial) = outcome.NotClosed serial
+
+abbrev pub status_told : ℕ → Outcome
+status_told status = outcome.Status status
+
+-- what a step of a block device is told as
+abbrev pub step_told : Stepped → Outcome
+step_told (Began answer) = reply_told_of answer
+step_told Asked = outcome.Stepped rest.Asked
+step_told Idle = outcome.Stepped rest.Idle
+step_told Waiting = outcome.Stepped rest.Waiting
+step_told Down = outcome.Stepped rest.Down
+step_told (Chain fault) = outcome.Stepped (rest.Chain fault)
+step_told (Finished head len) = outcome.Stepped (rest.Finished head len)

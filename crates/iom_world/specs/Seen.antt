@@ -1,18 +1,42 @@
--- A world by its parts, the commands that wait in it, and the disks at hand.
+-- A world by its parts, the commands that wait in it, the disks at hand, and what is inside its block devices.
 use Rattle.std.specs.Prelude.{ℕ, List}
+use Rattle.iom_block_devices.specs.Seen.{BlocksSeen}
 use Rattle.iom_command_queue.specs.declared.entry.QueueEntry.{QueueEntry}
 use Rattle.iom_command_queue.specs.Waiting.{commands_in}
 use Rattle.iom_driver.specs.Seen.{state_of}
+use Rattle.iom_hardware.specs.Inside.{inside}
 use Rattle.iom_iommu.specs.Parts.{registers_of}
+use Rattle.iom_virtio_blk.specs.declared.disk.Disk.{Ghosts}
+use Rattle.iom_virtio_blk.specs.DiskStates.{DiskState}
 use Rattle.iom_world.specs.declared.world.World.{World}
 use Rattle.iom_world_effects.specs.Parts.{Parts}
 
-abbrev pub parts_of : World → Parts
-parts_of world = record { memory = world.hardware.memory; iommu = world.hardware.iommu; driver = state_of world.driver; devices = world.hardware.devices.items; fabric = world.hardware.fabric }
-
-abbrev pub commands_of : World → List QueueEntry
-commands_of world = commands_in world.hardware.memory (registers_of world.hardware.iommu)
+abbrev pub parts_of : {D : Type 0} {d : Ghosts D} → World D d → Parts
+parts_of world = record {
+  memory = world.hardware.board.memory;
+  iommu = world.hardware.board.iommu;
+  driver = state_of world.driver;
+  devices = world.hardware.board.devices.items;
+  fabric = world.hardware.board.fabric;
+}
 
 -- the numbers of the disks that were never put into a device
-abbrev pub disks_of : World → List ℕ
-disks_of world = world.hardware.disks.items
+abbrev pub disks_of : {D : Type 0} {d : Ghosts D} → World D d → List ℕ
+disks_of world = world.hardware.board.disks.items
+
+-- the block devices themselves, and the disks at hand; `seen` is that of the disk's trait
+abbrev pub inside_of : {D : Type 0} {d : Ghosts D} → (D → DiskState) → World D d → BlocksSeen
+inside_of seen world = inside seen world.hardware
+
+-- a world as it is seen: its parts, the numbers of the disks at hand, what is inside the block devices, and how many events there were
+pub record Seen : Type 0 where
+  pub parts : Parts
+  pub disks : List ℕ
+  pub inside : BlocksSeen
+  pub events : ℕ
+
+abbrev pub seen_of : {D : Type 0} {d : Ghosts D} → (D → DiskState) → World D d → Seen
+seen_of seen world = record { parts = parts_of world; disks = disks_of world; inside = inside_of seen world; events = world.hardware.board.events }
+
+abbrev pub commands_of : Seen → List QueueEntry
+commands_of seen = commands_in seen.parts.memory (registers_of seen.parts.iommu)

@@ -1,34 +1,25 @@
-// What a world does for block devices (virtio 1.2): which of them have a disk, what becomes of the access that a step
-// wants, and which of their events are refused. Their queues, their requests and the bytes of their disks are their own.
-ghost use Rattle.std.specs.Prelude.{◌≡◌, ◌↔◌, ◌+◌, ◌<◌, ◌^◌, ℕ, IsTrue, false};
+// The events of block devices (virtio 1.2), and what becomes of one that leaves.
+ghost use Rattle.std.specs.Prelude.{◌≡◌, ◌+◌, ◌<◌, ◌^◌, ℕ, false};
 ghost use Rattle.std.specs.Option.{option_map_or};
-ghost use Rattle.iom_coherence.specs.Attachments.{caches_translations};
-ghost use Rattle.iom_iommu.specs.Parts.{flights_of};
-ghost use Rattle.iom_iommu.specs.Requests.{access_of};
-ghost use Rattle.iom_machine.specs.declared.event.Event.TheVariants as events;
-ghost use Rattle.iom_machine.specs.declared.outcome.Outcome.TheVariants as outcome;
-ghost use Rattle.iom_base.specs.Accesses.{MayWant};
 ghost use Rattle.iom_base.specs.DeviceKinds.{is_block_device};
-ghost use Rattle.iom_virtqueue.specs.Layouts.{layout_of};
-ghost use Rattle.iom_world_effects.specs.BlockDevices.{MayTake, InsertsMedium, SetsBlockQueue, GoesThroughCache, BeginsAccess, Rests, TellsBlockStatus, devices_left};
-ghost use Rattle.iom_device.specs.Calls.{with_block_reset};
 ghost use Rattle.iom_device.specs.Caches.{epoch_in, kind_in, with_has_disk};
+ghost use Rattle.iom_device.specs.Calls.{with_block_reset};
+ghost use Rattle.iom_machine.specs.declared.event.Event.TheVariants as events;
+ghost use Rattle.iom_virtqueue.specs.Layouts.{layout_of};
+ghost use Rattle.iom_world_effects.specs.BlockDevices.{InsertsMedium, SetsBlockQueue, TakesBlockStep, TellsBlockStatus};
 ghost use Rattle.iom_world_effects.specs.Does.{disks_after};
-ghost use Rattle.iom_world_effects.specs.Requests.{AsksAccess};
-ghost use Rattle.iom_world.specs.Seen.{parts_of, disks_of};
+ghost use Rattle.iom_world.specs.Blocks.{InsertsIntoBlock, SetsQueueOf, TakesStepOf, TellsStatusOf};
+ghost use Rattle.iom_world.specs.OnHardware.{status_told, step_told, told_unless};
+ghost use Rattle.iom_world.specs.Seen.{parts_of, disks_of, inside_of};
 ghost use Rattle.iom_world.specs.Told.{outcome_of};
 
-use crate::disks::{is_among, take_out};
-use crate::kept_outcomes::KeptOutcomes;
 use crate::told::Told;
 use crate::world::World;
-use iom_base::{AccessKind, DeviceId, DeviceKind, PAGE_SIZE, Refusal};
-use iom_board::Sender;
+use iom_base::{DeviceId, DeviceKind, Refusal};
 use iom_device::{Device, place_of, reset};
-use iom_driver::Ticket;
-use iom_fabric::{Message, PageNumber};
-use iom_machine::{BlockStep, Outcome};
-use iom_virtqueue::Layout;
+use iom_hardware::Stepped;
+use iom_machine::BlockStep;
+use iom_virtio_blk::Disk;
 use iom_world_effects::laws_below;
 
 /// The device with this id has a disk from now on, or has none.
@@ -70,48 +61,61 @@ fn reset_block(devices: &mut Vec<Device>, id: DeviceId)
     }
 }
 
-/// A device that leaves has no disk any more, and a block device is reset; one whose detach is refused stays.
-pub(crate) fn let_go(devices: &mut Vec<Device>, id: DeviceId, answer: &Result<Ticket, Refusal>)
+/// A device that leaves has no disk any more, and a block device is reset.
+pub(crate) fn let_go(devices: &mut Vec<Device>, id: DeviceId)
     requires { epoch_in devices.old.items id + 1 < 2 ^ 64 }
-    ensures { devices.new.items ≡ devices_left answer.now devices.old.items id }
+    ensures { devices.new.items ≡ with_block_reset (with_has_disk devices.old.items id false) id }
 {
-    match answer {
-        Ok(_) => {
-            set_has_disk(devices, id, false);
-            reset_block(devices, id);
+    set_has_disk(devices, id, false);
+    reset_block(devices, id);
+}
+
+impl Told {
+    /// What a step of a block device is told as.
+    fn of_stepped(stepped: Stepped) -> Told
+        ensures { outcome_of result ≡ step_told stepped }
+    {
+        match stepped {
+            Stepped::Began(reply) => Told::of_reply(reply),
+            Stepped::Asked => Told::Stepped(BlockStep::Asked),
+            Stepped::Idle => Told::Stepped(BlockStep::Idle),
+            Stepped::Waiting => Told::Stepped(BlockStep::Waiting),
+            Stepped::Down => Told::Stepped(BlockStep::Down),
+            Stepped::Chain(fault) => Told::Stepped(BlockStep::Chain(fault)),
+            Stepped::Finished { head, len } => Told::Stepped(BlockStep::Finished { head, len }),
         }
-        Err(_) => {}
+    }
+
+    /// The same, or why there was none.
+    fn of_step(answer: Result<Stepped, Refusal>) -> Told
+        ensures { outcome_of result ≡ told_unless step_told answer }
+    {
+        match answer {
+            Ok(stepped) => Told::of_stepped(stepped),
+            Err(why) => Told::Refused(why),
+        }
+    }
+
+    /// What the status of a block device is told as.
+    fn of_status(answer: Result<u8, Refusal>) -> Told
+        ensures { outcome_of result ≡ told_unless status_told answer }
+    {
+        match answer {
+            Ok(status) => Told::Status(status),
+            Err(why) => Told::Refused(why),
+        }
     }
 }
 
-/// Whether a device is there, and of a kind that has a cache.
-fn caches(known: Option<DeviceKind>) -> bool
-    ensures { result ≡ caches_translations known }
-{
-    match known {
-        Some(kind) => kind.has_cache(),
-        None => false,
-    }
-}
-
-/// Whether it is told that a device's own cache has no frame for an access.
-fn is_miss(told: Told) -> bool
-    ensures { IsTrue result ↔ (outcome_of told ≡ outcome.Miss) }
-{
-    match told {
-        Told::Miss => true,
-        _ => false,
-    }
-}
-
-impl World {
+impl<D: Disk> World<D> {
     /// The disk is put into the block device: `BadMedium` where that has one, or the disk was in a device before,
     /// or there is none of this number. Nothing changes where it is refused.
     pub(crate) fn medium(&mut self, id: DeviceId, disk: u64) -> Told
-        requires count { self.old.hardware.events + 1 < 2 ^ 64 }
+        requires count { self.old.hardware.board.events + 1 < 2 ^ 64 }
         ensures does { InsertsMedium (disks_of self.old) (parts_of self.old) id disk (outcome_of result) (parts_of self.new) }
         ensures disks { disks_of self.new ≡ disks_after (events.Medium id disk) (outcome_of result) (disks_of self.old) }
-        ensures events { self.new.hardware.events ≡ self.old.hardware.events + 1 }
+        ensures inside { InsertsIntoBlock disk (inside_of D.seen self.old) id (outcome_of result) (inside_of D.seen self.new) }
+        ensures events { self.new.hardware.board.events ≡ self.old.hardware.board.events + 1 }
     {
         Told::of(self.hardware.medium(id, disk))
     }
@@ -126,101 +130,37 @@ impl World {
         available: u64,
         used: u64,
     ) -> Told
-        requires count { self.old.hardware.events + 1 < 2 ^ 64 }
+        requires count { self.old.hardware.board.events + 1 < 2 ^ 64 }
         ensures does { SetsBlockQueue (parts_of self.old) id (layout_of size descriptors available used) (outcome_of result) (parts_of self.new) }
         ensures disks { disks_of self.new ≡ disks_of self.old }
-        ensures events { self.new.hardware.events ≡ self.old.hardware.events + 1 }
+        ensures inside { SetsQueueOf (layout_of size descriptors available used) (inside_of D.seen self.old) id (outcome_of result) (inside_of D.seen self.new) }
+        ensures events { self.new.hardware.board.events ≡ self.old.hardware.board.events + 1 }
     {
-        self.hardware.events += 1;
-        let Some(kind) = self.kind_of(id) else {
-            return Told::Refused(Refusal::NoSuchDevice);
-        };
-        if !kind.is_block_device() {
-            return Told::Refused(Refusal::WrongKind);
-        }
-        if Layout::new(size, descriptors, available, used).is_none() {
-            return Told::Refused(Refusal::BadQueue);
-        }
-        reset(&mut self.hardware.devices, id);
-        Told::Done
+        Told::of(self.hardware.queue(id, size, descriptors, available, used))
     }
 
-    /// The block device, where there is one, took a step that began no access.
-    pub(crate) fn stepped(&self, id: DeviceId, step: BlockStep) -> Told
-        ensures { Rests (parts_of self.now) id step (outcome_of result) (parts_of self.now) }
-    {
-        let Some(kind) = self.kind_of(id) else {
-            return Told::Refused(Refusal::NoSuchDevice);
-        };
-        if !kind.is_block_device() {
-            return Told::Refused(Refusal::WrongKind);
-        }
-        Told::Stepped(step)
-    }
-
-    /// The block device, where there is one, has this status.
-    pub(crate) fn has_status(&self, id: DeviceId, status: u8) -> Told
-        ensures { TellsBlockStatus (parts_of self.now) id status (outcome_of result) (parts_of self.now) }
-    {
-        let Some(kind) = self.kind_of(id) else {
-            return Told::Refused(Refusal::NoSuchDevice);
-        };
-        if !kind.is_block_device() {
-            return Told::Refused(Refusal::WrongKind);
-        }
-        Told::Status(status)
-    }
-
-    /// A block device with a cache has an access through that. Where it misses there, the device asks for the
-    /// translation; the question is lost where 64 messages are under way.
-    fn block_through_cache(
-        &mut self,
-        id: DeviceId,
-        address: u64,
-        len: u64,
-        kind: AccessKind,
-        bytes: &[u8],
-    ) -> Told
-        requires count { self.old.hardware.events + 1 < 2 ^ 64 }
-        requires wants { MayWant (access_of address len kind bytes.now) }
-        ensures does { GoesThroughCache (parts_of self.old) id (access_of address len kind bytes.now) (outcome_of result) (parts_of self.new) }
+    /// The block device takes a step, up to the access that it wants, which begins in the same event.
+    pub(crate) fn block_step(&mut self, id: DeviceId) -> Told
+        requires count { self.old.hardware.board.events + 1 < 2 ^ 64 }
+        ensures does { TakesBlockStep (parts_of self.old) id (outcome_of result) (parts_of self.new) }
         ensures disks { disks_of self.new ≡ disks_of self.old }
-        ensures events { self.new.hardware.events ≡ self.old.hardware.events + 1 }
+        ensures inside { TakesStepOf (parts_of self.old) (inside_of D.seen self.old) id (outcome_of result) (parts_of self.new) (inside_of D.seen self.new) }
+        ensures events { self.new.hardware.board.events ≡ self.old.hardware.board.events + 1 }
     {
-        let told = self.through_cache(Sender::Step, id, address, len, kind, bytes);
-        if !is_miss(told) {
-            return told;
-        }
-        let epoch = self.epoch_of(id);
-        let page = PageNumber::new(address / PAGE_SIZE).unwrap();
-        self.hardware.fabric.send(id, Message::Ask { epoch, page });
-        Told::Stepped(BlockStep::Asked)
+        laws_below();
+        Told::of_step(self.hardware.step(id))
     }
 
-    /// The step of a block device wants this access, within one page: `Accepted`, `Busy` or `Fault` as for any
-    /// device's, be it untranslated or, where the device has a cache, through that; `Stepped(Asked)` where it
-    /// misses there.
-    #[inline(always)]
-    pub(crate) fn access<'a>(
-        &mut self,
-        id: DeviceId,
-        address: u64,
-        len: u64,
-        kind: AccessKind,
-        bytes: &[u8],
-        kept: &'a mut KeptOutcomes,
-    ) -> &'a mut Outcome
-        requires count { self.old.hardware.events + 1 < 2 ^ 64 }
-        requires wants { MayWant (access_of address len kind bytes.now) }
-        ensures does { BeginsAccess (parts_of self.old) id (access_of address len kind bytes.now) result.now (parts_of self.new) }
-        ensures fits { address < 2 ^ 64 }
+    /// The status of the block device is read.
+    pub(crate) fn block_status(&mut self, id: DeviceId) -> Told
+        requires count { self.old.hardware.board.events + 1 < 2 ^ 64 }
+        ensures does { (status : ℕ) × TellsBlockStatus (parts_of self.old) id status (outcome_of result) (parts_of self.new) }
         ensures disks { disks_of self.new ≡ disks_of self.old }
-        ensures events { self.new.hardware.events ≡ self.old.hardware.events + 1 }
+        ensures inside { TellsStatusOf (parts_of self.old) (inside_of D.seen self.old) id (outcome_of result) (parts_of self.new) (inside_of D.seen self.new) }
+        ensures events { self.new.hardware.board.events ≡ self.old.hardware.board.events + 1 }
     {
-        let known = self.kind_of(id);
-        if caches(known) {
-            return kept.tell(self.block_through_cache(id, address, len, kind, bytes));
-        }
-        kept.tell_request(self.request(Sender::Step, id, address, len, kind, bytes))
+        let answer = self.hardware.status(id);
+        self.hardware.board.events += 1;
+        Told::of_status(answer)
     }
 }

@@ -6,7 +6,8 @@ ghost use Rattle.iom_inflight.specs.Flights.{first_busy, oldest_in, row_of};
 ghost use Rattle.iom_inflight.specs.Sound.{AreFlights};
 ghost use Rattle.iom_iommu.specs.Parts.{flights_of};
 ghost use Rattle.iom_machine.specs.declared.state.State.{State};
-ghost use Rattle.iom_world.specs.Counts.{IsTraceOf, oldest_number};
+ghost use Rattle.iom_world.specs.Counts.{IsTraceOf};
+ghost use Rattle.iom_world.specs.Seen.{seen_of};
 ghost use Rattle.iom_world.specs.Shows.{Shows};
 
 use crate::world::World;
@@ -14,49 +15,37 @@ use iom_base::DeviceId;
 use iom_fabric::OnLink;
 use iom_inflight::MadeAt;
 use iom_machine::Trace;
+use iom_virtio_blk::Disk;
 
-impl World {
-    /// The number, among the device's accepted accesses, of its oldest one in flight, which a commit makes. None
-    /// where nothing of the device is in flight, or no device has the id.
-    pub fn oldest_access(&self, id: DeviceId) -> Option<u64>
-        ensures { result ≡ oldest_number (row_of (flights_of self.now.hardware.iommu).rows id) }
-    {
-        let in_flight = self.hardware.iommu.in_flight(id);
-        if in_flight == 0 {
-            return None;
-        }
-        let later = (in_flight - 1) as u64;
-        Some(self.hardware.iommu.accepted(id).saturating_sub(later))
-    }
-
+impl<D: Disk> World<D> {
     /// What holds of accesses in flight and of messages, whatever events there were. It does nothing.
     pub fn facts(&self)
-        ensures flights { AreFlights (flights_of self.now.hardware.iommu) }
-        ensures messages { length self.now.hardware.fabric ≤ 64 }
+        ensures flights { AreFlights (flights_of self.now.hardware.board.iommu) }
+        ensures messages { length self.now.hardware.board.fabric ≤ 64 }
     {
-        self.hardware.iommu.facts();
-        self.hardware.fabric.facts();
+        self.hardware.board.iommu.facts();
+        self.hardware.board.fabric.facts();
     }
 
     /// The access that a commit of the device would make. None where nothing of it is in flight, or no device has the id.
     pub fn oldest(&self, id: DeviceId) -> Option<MadeAt>
-        ensures { result ≡ oldest_in (row_of (flights_of self.now.hardware.iommu).rows id) }
+        ensures { result ≡ oldest_in (row_of (flights_of self.now.hardware.board.iommu).rows id) }
     {
-        self.hardware.iommu.oldest(id)
+        self.hardware.board.iommu.oldest(id)
     }
 
     /// The first device, in the order of plugging, that has an access in flight. None where none has.
     pub fn first_busy(&self) -> Option<DeviceId>
-        ensures { result ≡ first_busy (flights_of self.now.hardware.iommu).rows }
+        ensures { result ≡ first_busy (flights_of self.now.hardware.board.iommu).rows }
     {
-        self.hardware.iommu.first_busy()
+        self.hardware.board.iommu.first_busy()
     }
 
     /// Whether no message is under way.
     pub fn is_quiet(&self) -> bool
-        ensures { result ≡ (length self.now.hardware.fabric == 0) }
+        ensures { result ≡ (length self.now.hardware.board.fabric == 0) }
     {
-        self.hardware.fabric.is_empty()
+        self.hardware.board.fabric.is_empty()
     }
 
     /// Whether a ticket isn't confirmed.
@@ -75,21 +64,21 @@ impl World {
 
     /// The message at the place, counted from 0, and the link that it is on; it stays. None where there is none.
     pub fn message(&self, place: u64) -> Option<OnLink>
-        ensures { result ≡ slice_get self.now.hardware.fabric place }
+        ensures { result ≡ slice_get self.now.hardware.board.fabric place }
     {
-        self.hardware.fabric.get(place as usize)
+        self.hardware.board.fabric.get(place as usize)
     }
 
     /// The counts that stand beside an outcome: tickets given and not confirmed, accesses in flight over all
     /// devices, messages under way, and frames that are free. Counting these goes through memory's frames.
     pub fn trace(&self) -> Trace
-        ensures { (state : State) → Shows self.now state → IsTraceOf state self.now result }
+        ensures { (state : State) → Shows (seen_of D.seen self.now) state → IsTraceOf state (seen_of D.seen self.now) result }
     {
-        self.hardware.iommu.facts();
+        self.hardware.board.iommu.facts();
         Trace {
             tickets: self.driver.pending() as u64,
-            flight: self.hardware.iommu.all_in_flight() as u64,
-            messages: self.hardware.fabric.len() as u64,
+            flight: self.hardware.board.iommu.all_in_flight() as u64,
+            messages: self.hardware.board.fabric.len() as u64,
             free: u64::from(self.driver.count_free()),
         }
     }

@@ -3,16 +3,19 @@ ghost use Rattle.std.specs.Prelude.{◌≡◌, ◌+◌, ◌<◌, ◌≤◌, ◌^
 ghost use Rattle.iom_world_effects.specs.Answers.{told_of, ticket_told_of};
 ghost use Rattle.iom_device.specs.Caches.{epoch_in};
 ghost use Rattle.iom_world_effects.specs.Does.{polled_told_of, report_told_of, AttachesDevice, GrantsPage, ReleasesPage, DetachesDevice, PollsTickets, TakesReport};
-ghost use Rattle.iom_world.specs.Seen.{parts_of, disks_of};
+ghost use Rattle.iom_world.specs.Seen.{parts_of, disks_of, inside_of};
+ghost use Rattle.iom_world.specs.Blocks.{LeavesBlock};
 ghost use Rattle.iom_world.specs.Told.{outcome_of};
 
 use crate::block_devices::let_go;
 use crate::told::Told;
 use crate::world::World;
 use iom_base::{DeviceId, GrantRights, Mode, Refusal};
+use iom_block_devices::leave;
 use iom_driver::{Polled, Ticket};
 use iom_fault_queue::Record;
 use iom_machine::FaultRecord;
+use iom_virtio_blk::Disk;
 
 impl Told {
     /// What an answer of the driver that gives nothing is told as.
@@ -65,43 +68,49 @@ impl Told {
     }
 }
 
-impl World {
+impl<D: Disk> World<D> {
     /// A device is attached in the mode, with ATS or without.
     pub(crate) fn attach(&mut self, id: DeviceId, mode: Mode, ats: bool) -> Told
-        requires count { self.old.hardware.events + 1 < 2 ^ 64 }
+        requires count { self.old.hardware.board.events + 1 < 2 ^ 64 }
         ensures does { AttachesDevice (parts_of self.old) id mode ats (outcome_of result) (parts_of self.new) }
         ensures disks { disks_of self.new ≡ disks_of self.old }
-        ensures events { self.new.hardware.events ≡ self.old.hardware.events + 1 }
+        ensures inside { inside_of D.seen self.new ≡ inside_of D.seen self.old }
+        ensures events { self.new.hardware.board.events ≡ self.old.hardware.board.events + 1 }
     {
-        self.hardware.events += 1;
-        Told::of(self.driver.attach(&mut self.hardware.memory, id, mode, ats))
+        self.hardware.board.events += 1;
+        Told::of(
+            self.driver
+                .attach(&mut self.hardware.board.memory, id, mode, ats),
+        )
     }
 
     /// A device gets a frame at a page.
     pub(crate) fn grant(&mut self, id: DeviceId, page: u64, frame: u64, rights: GrantRights) -> Told
-        requires count { self.old.hardware.events + 1 < 2 ^ 64 }
+        requires count { self.old.hardware.board.events + 1 < 2 ^ 64 }
         ensures does { GrantsPage (parts_of self.old) id page frame rights (outcome_of result) (parts_of self.new) }
         ensures disks { disks_of self.new ≡ disks_of self.old }
-        ensures events { self.new.hardware.events ≡ self.old.hardware.events + 1 }
+        ensures inside { inside_of D.seen self.new ≡ inside_of D.seen self.old }
+        ensures events { self.new.hardware.board.events ≡ self.old.hardware.board.events + 1 }
     {
-        self.hardware.events += 1;
+        self.hardware.board.events += 1;
         Told::of(
             self.driver
-                .grant(&mut self.hardware.memory, id, page, frame, rights),
+                .grant(&mut self.hardware.board.memory, id, page, frame, rights),
         )
     }
 
     /// What a device holds at a page is released.
     pub(crate) fn release(&mut self, id: DeviceId, page: u64) -> Told
-        requires count { self.old.hardware.events + 1 < 2 ^ 64 }
+        requires count { self.old.hardware.board.events + 1 < 2 ^ 64 }
         ensures does { ReleasesPage (parts_of self.old) id page (outcome_of result) (parts_of self.new) }
         ensures disks { disks_of self.new ≡ disks_of self.old }
-        ensures events { self.new.hardware.events ≡ self.old.hardware.events + 1 }
+        ensures inside { inside_of D.seen self.new ≡ inside_of D.seen self.old }
+        ensures events { self.new.hardware.board.events ≡ self.old.hardware.board.events + 1 }
     {
-        self.hardware.events += 1;
+        self.hardware.board.events += 1;
         let answer = self.driver.release(
-            &mut self.hardware.memory,
-            &mut self.hardware.iommu,
+            &mut self.hardware.board.memory,
+            &mut self.hardware.board.iommu,
             id,
             page,
         );
@@ -110,31 +119,37 @@ impl World {
 
     /// A device is detached: it leaves until the ticket is confirmed, and its disk goes at once.
     pub(crate) fn detach(&mut self, id: DeviceId) -> Told
-        requires count { self.old.hardware.events + 1 < 2 ^ 64 }
+        requires count { self.old.hardware.board.events + 1 < 2 ^ 64 }
         ensures does { DetachesDevice (parts_of self.old) id (outcome_of result) (parts_of self.new) }
         ensures disks { disks_of self.new ≡ disks_of self.old }
-        ensures events { self.new.hardware.events ≡ self.old.hardware.events + 1 }
+        ensures inside { LeavesBlock (inside_of D.seen self.old) id (outcome_of result) (inside_of D.seen self.new) }
+        ensures events { self.new.hardware.board.events ≡ self.old.hardware.board.events + 1 }
     {
-        self.hardware.events += 1;
-        let answer = self
-            .driver
-            .detach(&mut self.hardware.memory, &mut self.hardware.iommu, id);
-        let_go(&mut self.hardware.devices, id, &answer);
-        Told::of_ticket(answer)
+        self.hardware.board.events += 1;
+        let answer = self.driver.detach(
+            &mut self.hardware.board.memory,
+            &mut self.hardware.board.iommu,
+            id,
+        );
+        let ticket = match answer {
+            Ok(ticket) => ticket,
+            Err(why) => return Told::Refused(why),
+        };
+        let_go(&mut self.hardware.board.devices, id);
+        leave(&mut self.hardware.blocks, id);
+        Told::Ticket(ticket.0)
     }
 
     /// The driver learns which tickets' fences are done, and forgets what waited for them: what a device that is leaving had is given back.
     pub(crate) fn poll(&mut self) -> Told
-        requires count { self.old.hardware.events + 1 < 2 ^ 64 }
+        requires count { self.old.hardware.board.events + 1 < 2 ^ 64 }
         ensures does { PollsTickets (parts_of self.old) (outcome_of result) (parts_of self.new) }
         ensures disks { disks_of self.new ≡ disks_of self.old }
-        ensures events { self.new.hardware.events ≡ self.old.hardware.events + 1 }
+        ensures inside { inside_of D.seen self.new ≡ inside_of D.seen self.old }
+        ensures events { self.new.hardware.board.events ≡ self.old.hardware.board.events + 1 }
     {
-        self.hardware.events += 1;
-        match self
-            .driver
-            .poll(&mut self.hardware.memory, &self.hardware.iommu)
-        {
+        self.hardware.board.events += 1;
+        match self.driver.poll(&mut self.hardware.board.memory, &self.hardware.board.iommu) {
             Ok(polled) => Told::of_poll(polled),
             Err(why) => Told::Refused(why),
         }
@@ -143,15 +158,15 @@ impl World {
     /// The driver takes the oldest fault record of the queue; where it finds none, records are written again
     /// that were dropped before.
     pub(crate) fn faults(&mut self) -> Told
-        requires count { self.old.hardware.events + 1 < 2 ^ 64 }
+        requires count { self.old.hardware.board.events + 1 < 2 ^ 64 }
         ensures does { TakesReport (parts_of self.old) (outcome_of result) (parts_of self.new) }
         ensures disks { disks_of self.new ≡ disks_of self.old }
-        ensures events { self.new.hardware.events ≡ self.old.hardware.events + 1 }
+        ensures inside { inside_of D.seen self.new ≡ inside_of D.seen self.old }
+        ensures events { self.new.hardware.board.events ≡ self.old.hardware.board.events + 1 }
     {
-        self.hardware.events += 1;
+        self.hardware.board.events += 1;
         Told::of_report(
-            self.driver
-                .faults(&self.hardware.memory, &mut self.hardware.iommu),
+            self.driver.faults(&self.hardware.board.memory, &mut self.hardware.board.iommu),
         )
     }
 }

@@ -2,11 +2,12 @@
 ghost use Rattle.std.specs.Prelude.{◌≡◌, ◌+◌, ◌<◌, ◌^◌};
 ghost use Rattle.iom_machine.specs.declared.outcome.Outcome.TheVariants as outcome;
 ghost use Rattle.iom_world_effects.specs.Does.{name_of_command, fetch_named, FetchesNext};
-ghost use Rattle.iom_world.specs.Seen.{parts_of, disks_of};
+ghost use Rattle.iom_world.specs.Seen.{parts_of, disks_of, inside_of};
 
 use crate::world::World;
 use iom_command_queue::Command;
 use iom_machine::{CommandName, Fetched};
+use iom_virtio_blk::Disk;
 use iom_world_effects::laws_below;
 
 /// The name of a command.
@@ -34,16 +35,17 @@ fn named(answer: iom_iommu::Fetched) -> Fetched
     }
 }
 
-impl World {
+impl<D: Disk> World<D> {
     /// The IOMMU takes its next command. Where that is an invalidation of a device's own translations, the
     /// device is asked for it.
     pub(crate) fn fetch(&mut self) -> Fetched
-        requires count { self.old.hardware.events + 1 < 2 ^ 64 }
+        requires count { self.old.hardware.board.events + 1 < 2 ^ 64 }
         ensures does { FetchesNext (parts_of self.old) (outcome.Fetched result) (parts_of self.new) }
         ensures disks { disks_of self.new ≡ disks_of self.old }
-        ensures events { self.new.hardware.events ≡ self.old.hardware.events + 1 }
+        ensures inside { inside_of D.seen self.new ≡ inside_of D.seen self.old }
+        ensures events { self.new.hardware.board.events ≡ self.old.hardware.board.events + 1 }
     {
         laws_below();
-        named(self.hardware.fetch())
+        named(self.hardware.board.fetch())
     }
 }

@@ -1,11 +1,12 @@
 // What is sent between the IOMMU and the devices with caches of their own (PCI Express Base Specification, chapter
 // 10, "Address Translation Services"), and what becomes of it on the way.
-ghost use Rattle.std.specs.Prelude.{◌≡◌, ◌+◌, ◌<◌, ◌^◌};
+ghost use Rattle.std.specs.Prelude.{◌≡◌, ◌+◌, ◌<◌, ◌^◌, slice_get};
 ghost use Rattle.iom_ats_cache.specs.declared.taken.Taken.{Taken};
 ghost use Rattle.iom_world_effects.specs.Deliveries.{taken_told, DeliversMessage};
 ghost use Rattle.iom_world_effects.specs.Messages.{repeat_told, AsksQuestion, ForgesCompletion, DropsMessage, RepeatsMessage};
 ghost use Rattle.iom_world.specs.OnHardware.{told_unless, sending_told, delivered_told};
-ghost use Rattle.iom_world.specs.Seen.{parts_of, disks_of};
+ghost use Rattle.iom_world.specs.Seen.{parts_of, disks_of, inside_of};
+ghost use Rattle.iom_world.specs.Blocks.{DeliversTo};
 ghost use Rattle.iom_world.specs.Told.{outcome_of};
 
 use crate::told::Told;
@@ -14,6 +15,7 @@ use iom_ats_cache::Taken;
 use iom_base::{DeviceId, Refusal};
 use iom_board::Delivered;
 use iom_fabric::{PageNumber, Repeat};
+use iom_virtio_blk::Disk;
 use iom_world_effects::laws_below;
 
 impl Told {
@@ -66,29 +68,31 @@ impl Told {
     }
 }
 
-impl World {
+impl<D: Disk> World<D> {
     /// A device asks for the translation of a page, in the epoch of its cache: `Sent`, or `Lost` where 64 messages
     /// are under way; `Refused(NoSuchDevice)`, and `Refused(WrongKind)` for a block device.
     pub(crate) fn ask(&mut self, id: DeviceId, page: PageNumber) -> Told
-        requires count { self.old.hardware.events + 1 < 2 ^ 64 }
+        requires count { self.old.hardware.board.events + 1 < 2 ^ 64 }
         ensures does { AsksQuestion (parts_of self.old) id page (outcome_of result) (parts_of self.new) }
         ensures disks { disks_of self.new ≡ disks_of self.old }
-        ensures events { self.new.hardware.events ≡ self.old.hardware.events + 1 }
+        ensures inside { inside_of D.seen self.new ≡ inside_of D.seen self.old }
+        ensures events { self.new.hardware.board.events ≡ self.old.hardware.board.events + 1 }
     {
         // What it ensures is known from here on: the page is one of the address space.
         page.number();
-        Told::of_send(self.hardware.ask(id, page))
+        Told::of_send(self.hardware.board.ask(id, page))
     }
 
     /// A device says that it completed the request with this number, whether it was asked or not: answered as a
     /// question is; only a raw device does so.
     pub(crate) fn forge(&mut self, id: DeviceId, serial: u64) -> Told
-        requires count { self.old.hardware.events + 1 < 2 ^ 64 }
+        requires count { self.old.hardware.board.events + 1 < 2 ^ 64 }
         ensures does { ForgesCompletion (parts_of self.old) id serial (outcome_of result) (parts_of self.new) }
         ensures disks { disks_of self.new ≡ disks_of self.old }
-        ensures events { self.new.hardware.events ≡ self.old.hardware.events + 1 }
+        ensures inside { inside_of D.seen self.new ≡ inside_of D.seen self.old }
+        ensures events { self.new.hardware.board.events ≡ self.old.hardware.board.events + 1 }
     {
-        Told::of_send(self.hardware.forge(id, serial))
+        Told::of_send(self.hardware.board.forge(id, serial))
     }
 
     /// The message at the place arrives, and is under way no more: `NoMessage` where there is none. A question is
@@ -96,10 +100,11 @@ impl World {
     /// device without a cache has `Ignored` them. A word that such a request is completed is `Closed` where that is
     /// open for the device, and else `NotClosed`.
     pub(crate) fn deliver(&mut self, place: u64) -> Told
-        requires count { self.old.hardware.events + 1 < 2 ^ 64 }
+        requires count { self.old.hardware.board.events + 1 < 2 ^ 64 }
         ensures does { DeliversMessage (parts_of self.old) place (outcome_of result) (parts_of self.new) }
         ensures disks { disks_of self.new ≡ disks_of self.old }
-        ensures events { self.new.hardware.events ≡ self.old.hardware.events + 1 }
+        ensures inside { DeliversTo (slice_get self.old.hardware.board.fabric place) (inside_of D.seen self.old) (outcome_of result) (inside_of D.seen self.new) }
+        ensures events { self.new.hardware.board.events ≡ self.old.hardware.board.events + 1 }
     {
         laws_below();
         Told::of_delivered(self.hardware.deliver(place))
@@ -107,12 +112,13 @@ impl World {
 
     /// The message at the place is lost; `NoMessage` where there is none.
     pub(crate) fn drop_message(&mut self, place: u64) -> Told
-        requires count { self.old.hardware.events + 1 < 2 ^ 64 }
+        requires count { self.old.hardware.board.events + 1 < 2 ^ 64 }
         ensures does { DropsMessage (parts_of self.old) place (outcome_of result) (parts_of self.new) }
         ensures disks { disks_of self.new ≡ disks_of self.old }
-        ensures events { self.new.hardware.events ≡ self.old.hardware.events + 1 }
+        ensures inside { inside_of D.seen self.new ≡ inside_of D.seen self.old }
+        ensures events { self.new.hardware.board.events ≡ self.old.hardware.board.events + 1 }
     {
-        if self.hardware.drop_message(place) {
+        if self.hardware.board.drop_message(place) {
             Told::Dropped
         } else {
             Told::NoMessage
@@ -122,11 +128,12 @@ impl World {
     /// A copy of the message at the place is sent, and may be `Lost` where 64 are under way; `NoMessage` where there
     /// is none.
     pub(crate) fn repeat(&mut self, place: u64) -> Told
-        requires count { self.old.hardware.events + 1 < 2 ^ 64 }
+        requires count { self.old.hardware.board.events + 1 < 2 ^ 64 }
         ensures does { RepeatsMessage (parts_of self.old) place (outcome_of result) (parts_of self.new) }
         ensures disks { disks_of self.new ≡ disks_of self.old }
-        ensures events { self.new.hardware.events ≡ self.old.hardware.events + 1 }
+        ensures inside { inside_of D.seen self.new ≡ inside_of D.seen self.old }
+        ensures events { self.new.hardware.board.events ≡ self.old.hardware.board.events + 1 }
     {
-        Told::of_repeat(self.hardware.repeat(place))
+        Told::of_repeat(self.hardware.board.repeat(place))
     }
 }

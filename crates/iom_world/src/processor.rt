@@ -1,7 +1,7 @@
 // What the processor writes and reads, and what it is told of a frame.
 ghost use Rattle.std.specs.Prelude.{◌≡◌, ◌+◌, ◌<◌, ◌≤◌, ◌^◌, length};
 ghost use Rattle.iom_base.specs.Bytes.{with_bytes};
-ghost use Rattle.iom_world.specs.Seen.{parts_of, disks_of};
+ghost use Rattle.iom_world.specs.Seen.{parts_of, disks_of, inside_of};
 ghost use Rattle.iom_world_effects.specs.Processor.{PokesBytes, PeeksBytes, AsksFree};
 ghost use Rattle.iom_world.specs.OnHardware.{no_place_told};
 ghost use Rattle.iom_world.specs.Told.{outcome_of};
@@ -13,6 +13,7 @@ use iom_base::{PAGE_SIZE, Refusal, Span};
 use iom_board::NoPlace;
 use iom_machine::Outcome;
 use iom_phys_mem::Bytes;
+use iom_virtio_blk::Disk;
 use iom_world_effects::laws_below;
 
 /// Stores the bytes in the frame, from the offset on.
@@ -35,29 +36,30 @@ impl Told {
     }
 }
 
-impl World {
+impl<D: Disk> World<D> {
     /// The processor writes the bytes at the physical address, within one frame that isn't reserved. Nothing
     /// changes where it is told `BadSpan`, since they are none or too many or leave their frame,
     /// `FrameOutOfRange` or `FrameReserved`.
     pub(crate) fn poke(&mut self, address: u64, bytes: &[u8]) -> Told
-        requires count { self.old.hardware.events + 1 < 2 ^ 64 }
+        requires count { self.old.hardware.board.events + 1 < 2 ^ 64 }
         ensures does { PokesBytes (parts_of self.old) address bytes.now (outcome_of result) (parts_of self.new) }
         ensures disks { disks_of self.new ≡ disks_of self.old }
-        ensures events { self.new.hardware.events ≡ self.old.hardware.events + 1 }
+        ensures inside { inside_of D.seen self.new ≡ inside_of D.seen self.old }
+        ensures events { self.new.hardware.board.events ≡ self.old.hardware.board.events + 1 }
     {
-        self.hardware.events += 1;
+        self.hardware.board.events += 1;
         laws_below();
         if Span::new(address, bytes.len() as u64).is_none() {
             return Told::BadSpan;
         }
         let number = address / PAGE_SIZE;
-        if number >= u64::from(self.hardware.memory.frames()) {
+        if number >= u64::from(self.hardware.board.memory.frames()) {
             return Told::Refused(Refusal::FrameOutOfRange);
         }
         if self.driver.is_reserved(number as u32) {
             return Told::Refused(Refusal::FrameReserved);
         }
-        let frame = self.hardware.memory.frame_mut(number as u32).unwrap();
+        let frame = self.hardware.board.memory.frame_mut(number as u32).unwrap();
         store(frame, (address % PAGE_SIZE) as usize, bytes);
         Told::Done
     }
@@ -71,13 +73,14 @@ impl World {
         len: u64,
         kept: &'a mut KeptOutcomes,
     ) -> &'a mut Outcome
-        requires count { self.old.hardware.events + 1 < 2 ^ 64 }
+        requires count { self.old.hardware.board.events + 1 < 2 ^ 64 }
         ensures does { PeeksBytes (parts_of self.old) address len result.now × (parts_of self.new ≡ parts_of self.old) }
         ensures disks { disks_of self.new ≡ disks_of self.old }
-        ensures events { self.new.hardware.events ≡ self.old.hardware.events + 1 }
+        ensures inside { inside_of D.seen self.new ≡ inside_of D.seen self.old }
+        ensures events { self.new.hardware.board.events ≡ self.old.hardware.board.events + 1 }
     {
-        self.hardware.events += 1;
-        match self.hardware.load(address, len) {
+        self.hardware.board.events += 1;
+        match self.hardware.board.load(address, len) {
             Ok(bytes) => {
                 tell_shown(bytes, &mut kept.shown);
                 &mut kept.shown
@@ -89,13 +92,14 @@ impl World {
     /// Whether the frame is free: no device holds it or may still reach it, and it isn't reserved.
     /// `FrameOutOfRange` where memory has no such frame. Nothing changes.
     pub(crate) fn free(&mut self, frame: u64) -> Told
-        requires count { self.old.hardware.events + 1 < 2 ^ 64 }
+        requires count { self.old.hardware.board.events + 1 < 2 ^ 64 }
         ensures does { AsksFree (parts_of self.old) frame (outcome_of result) × (parts_of self.new ≡ parts_of self.old) }
         ensures disks { disks_of self.new ≡ disks_of self.old }
-        ensures events { self.new.hardware.events ≡ self.old.hardware.events + 1 }
+        ensures inside { inside_of D.seen self.new ≡ inside_of D.seen self.old }
+        ensures events { self.new.hardware.board.events ≡ self.old.hardware.board.events + 1 }
     {
-        self.hardware.events += 1;
-        if frame >= u64::from(self.hardware.memory.frames()) {
+        self.hardware.board.events += 1;
+        if frame >= u64::from(self.hardware.board.memory.frames()) {
             return Told::Refused(Refusal::FrameOutOfRange);
         }
         Told::Free(self.driver.is_free(frame as u32))

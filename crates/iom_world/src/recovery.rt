@@ -2,13 +2,16 @@
 ghost use Rattle.std.specs.Prelude.{◌≡◌, ◌+◌, ◌<◌, ◌^◌, if◌then◌else◌};
 ghost use Rattle.iom_machine.specs.declared.outcome.Outcome.TheVariants as outcome;
 ghost use Rattle.iom_world_effects.specs.Recovery.{QuarantinesDevice, RevivesDevice, RestartsQueue, TimesOutFence, ResetsDevice};
-ghost use Rattle.iom_world.specs.Seen.{parts_of, disks_of};
+ghost use Rattle.iom_world.specs.Seen.{parts_of, disks_of, inside_of};
+ghost use Rattle.iom_world.specs.Blocks.{ResetsBlock};
 ghost use Rattle.iom_world.specs.Told.{outcome_of};
 
 use crate::told::Told;
 use crate::world::World;
 use iom_base::DeviceId;
+use iom_block_devices::reset;
 use iom_revival::revive;
+use iom_virtio_blk::Disk;
 
 impl Told {
     /// What a timeout is told as.
@@ -23,69 +26,82 @@ impl Told {
     }
 }
 
-impl World {
+impl<D: Disk> World<D> {
     /// A device is cut off: what it holds lingers until the ticket is confirmed.
     pub(crate) fn quarantine(&mut self, id: DeviceId) -> Told
-        requires count { self.old.hardware.events + 1 < 2 ^ 64 }
+        requires count { self.old.hardware.board.events + 1 < 2 ^ 64 }
         ensures does { QuarantinesDevice (parts_of self.old) id (outcome_of result) (parts_of self.new) }
         ensures disks { disks_of self.new ≡ disks_of self.old }
-        ensures events { self.new.hardware.events ≡ self.old.hardware.events + 1 }
+        ensures inside { inside_of D.seen self.new ≡ inside_of D.seen self.old }
+        ensures events { self.new.hardware.board.events ≡ self.old.hardware.board.events + 1 }
     {
-        self.hardware.events += 1;
-        let answer = self
-            .driver
-            .quarantine(&mut self.hardware.memory, &mut self.hardware.iommu, id);
+        self.hardware.board.events += 1;
+        let answer = self.driver.quarantine(
+            &mut self.hardware.board.memory,
+            &mut self.hardware.board.iommu,
+            id,
+        );
         Told::of_ticket(answer)
     }
 
     /// A device that was cut off is reset, and then attached again: else its cache might still have translations
     /// from before, of pages that others have by now.
     pub(crate) fn revive(&mut self, id: DeviceId) -> Told
-        requires count { self.old.hardware.events + 1 < 2 ^ 64 }
+        requires count { self.old.hardware.board.events + 1 < 2 ^ 64 }
         ensures does { RevivesDevice (parts_of self.old) id (outcome_of result) (parts_of self.new) }
         ensures disks { disks_of self.new ≡ disks_of self.old }
-        ensures events { self.new.hardware.events ≡ self.old.hardware.events + 1 }
+        ensures inside { ResetsBlock (inside_of D.seen self.old) id (outcome_of result) (inside_of D.seen self.new) }
+        ensures events { self.new.hardware.board.events ≡ self.old.hardware.board.events + 1 }
     {
-        self.hardware.events += 1;
+        self.hardware.board.events += 1;
         let answer = revive(
             &mut self.driver,
-            &mut self.hardware.memory,
-            &mut self.hardware.devices,
+            &mut self.hardware.board.memory,
+            &mut self.hardware.board.devices,
             id,
         );
-        Told::of(answer)
+        if let Err(why) = answer {
+            return Told::Refused(why);
+        }
+        reset(&mut self.hardware.blocks, id);
+        Told::Done
     }
 
     /// The command queue is emptied, and filled with what is still needed.
     pub(crate) fn restart(&mut self) -> Told
-        requires count { self.old.hardware.events + 1 < 2 ^ 64 }
+        requires count { self.old.hardware.board.events + 1 < 2 ^ 64 }
         ensures does { RestartsQueue (parts_of self.old) (outcome_of result) (parts_of self.new) }
         ensures disks { disks_of self.new ≡ disks_of self.old }
-        ensures events { self.new.hardware.events ≡ self.old.hardware.events + 1 }
+        ensures inside { inside_of D.seen self.new ≡ inside_of D.seen self.old }
+        ensures events { self.new.hardware.board.events ≡ self.old.hardware.board.events + 1 }
     {
-        self.hardware.events += 1;
+        self.hardware.board.events += 1;
         Told::of(
-            self.driver
-                .restart(&mut self.hardware.memory, &mut self.hardware.iommu),
+            self.driver.restart(
+                &mut self.hardware.board.memory,
+                &mut self.hardware.board.iommu,
+            ),
         )
     }
 
     /// A fence that waits for devices is given up; `NoEffect` where none does.
     pub(crate) fn timeout(&mut self) -> Told
-        requires count { self.old.hardware.events + 1 < 2 ^ 64 }
+        requires count { self.old.hardware.board.events + 1 < 2 ^ 64 }
         ensures does { TimesOutFence (parts_of self.old) (outcome_of result) (parts_of self.new) }
         ensures disks { disks_of self.new ≡ disks_of self.old }
-        ensures events { self.new.hardware.events ≡ self.old.hardware.events + 1 }
+        ensures inside { inside_of D.seen self.new ≡ inside_of D.seen self.old }
+        ensures events { self.new.hardware.board.events ≡ self.old.hardware.board.events + 1 }
     {
-        Told::of_timeout(self.hardware.timeout())
+        Told::of_timeout(self.hardware.board.timeout())
     }
 
     /// A device is reset: `Refused(NoSuchDevice)` where there is none.
     pub(crate) fn reset(&mut self, device: DeviceId) -> Told
-        requires count { self.old.hardware.events + 1 < 2 ^ 64 }
+        requires count { self.old.hardware.board.events + 1 < 2 ^ 64 }
         ensures does { ResetsDevice (parts_of self.old) device (outcome_of result) (parts_of self.new) }
         ensures disks { disks_of self.new ≡ disks_of self.old }
-        ensures events { self.new.hardware.events ≡ self.old.hardware.events + 1 }
+        ensures inside { ResetsBlock (inside_of D.seen self.old) device (outcome_of result) (inside_of D.seen self.new) }
+        ensures events { self.new.hardware.board.events ≡ self.old.hardware.board.events + 1 }
     {
         Told::of(self.hardware.reset(device))
     }

@@ -7,7 +7,7 @@ ghost use Rattle.iom_inflight.specs.Sound.{CarriesBytes};
 ghost use Rattle.iom_iommu.specs.Requests.{access_of};
 ghost use Rattle.iom_world_effects.specs.Requests.{AsksAccess, AsksTranslated, reply_told_of};
 ghost use Rattle.iom_world.specs.OnHardware.{told_unless};
-ghost use Rattle.iom_world.specs.Seen.{parts_of, disks_of};
+ghost use Rattle.iom_world.specs.Seen.{parts_of, disks_of, inside_of};
 ghost use Rattle.iom_world.specs.Told.{outcome_of};
 
 use crate::told::Told;
@@ -15,6 +15,7 @@ use crate::world::World;
 use iom_base::{AccessKind, DeviceId, Refusal};
 use iom_board::Sender;
 use iom_iommu::Reply;
+use iom_virtio_blk::Disk;
 use iom_world_effects::laws_below;
 
 impl Told {
@@ -31,7 +32,7 @@ impl Told {
     }
 }
 
-impl World {
+impl<D: Disk> World<D> {
     /// A device asks for an access to so many bytes at the address. `Accepted`, with the access's number among the
     /// device's, where it is in flight now; else nothing is: `NoSuchDevice`, `WrongKind` where its kind sends none so,
     /// `BadSpan`, `Busy`, or `Fault` with its cause, whose record goes into the fault queue.
@@ -45,25 +46,29 @@ impl World {
         kind: AccessKind,
         bytes: &[u8],
     ) -> Result<Reply, Refusal>
-        requires count { self.old.hardware.events + 1 < 2 ^ 64 }
+        requires count { self.old.hardware.board.events + 1 < 2 ^ 64 }
         requires carries { CarriesBytes kind len bytes.now }
         ensures does { AsksAccess (untranslated_by sender) (parts_of self.old) id (access_of address len kind bytes.now)
             (told_unless reply_told_of result) (parts_of self.new) }
         ensures fits { address < 2 ^ 64 }
         ensures disks { disks_of self.new ≡ disks_of self.old }
-        ensures events { self.new.hardware.events ≡ self.old.hardware.events + 1 }
+        ensures inside { inside_of D.seen self.new ≡ inside_of D.seen self.old }
+        ensures events { self.new.hardware.board.events ≡ self.old.hardware.board.events + 1 }
     {
         laws_below();
-        self.hardware.request(sender, id, address, len, kind, bytes)
+        self.hardware
+            .board
+            .request(sender, id, address, len, kind, bytes)
     }
 
     /// A device asks for a read of so many bytes at the address.
     pub(crate) fn read(&mut self, id: DeviceId, address: u64, len: u64) -> Result<Reply, Refusal>
-        requires count { self.old.hardware.events + 1 < 2 ^ 64 }
+        requires count { self.old.hardware.board.events + 1 < 2 ^ 64 }
         ensures does { AsksAccess sends_untranslated (parts_of self.old) id (read_of address len) (told_unless reply_told_of result) (parts_of self.new) }
         ensures fits { address < 2 ^ 64 }
         ensures disks { disks_of self.new ≡ disks_of self.old }
-        ensures events { self.new.hardware.events ≡ self.old.hardware.events + 1 }
+        ensures inside { inside_of D.seen self.new ≡ inside_of D.seen self.old }
+        ensures events { self.new.hardware.board.events ≡ self.old.hardware.board.events + 1 }
     {
         self.request(Sender::Own, id, address, len, AccessKind::Read, &[])
     }
@@ -75,12 +80,13 @@ impl World {
         address: u64,
         bytes: &[u8],
     ) -> Result<Reply, Refusal>
-        requires count { self.old.hardware.events + 1 < 2 ^ 64 }
+        requires count { self.old.hardware.board.events + 1 < 2 ^ 64 }
         ensures does { AsksAccess sends_untranslated (parts_of self.old) id (write_of address bytes.now)
             (told_unless reply_told_of result) (parts_of self.new) }
         ensures fits { address < 2 ^ 64 }
         ensures disks { disks_of self.new ≡ disks_of self.old }
-        ensures events { self.new.hardware.events ≡ self.old.hardware.events + 1 }
+        ensures inside { inside_of D.seen self.new ≡ inside_of D.seen self.old }
+        ensures events { self.new.hardware.board.events ≡ self.old.hardware.board.events + 1 }
     {
         let len = bytes.len() as u64;
         self.request(Sender::Own, id, address, len, AccessKind::Write, bytes)
@@ -96,14 +102,17 @@ impl World {
         kind: AccessKind,
         bytes: &[u8],
     ) -> Result<Reply, Refusal>
-        requires count { self.old.hardware.events + 1 < 2 ^ 64 }
+        requires count { self.old.hardware.board.events + 1 < 2 ^ 64 }
         requires carries { CarriesBytes kind len bytes.now }
         ensures does { AsksTranslated (parts_of self.old) id (access_of address len kind bytes.now) (told_unless reply_told_of result) (parts_of self.new) }
         ensures disks { disks_of self.new ≡ disks_of self.old }
-        ensures events { self.new.hardware.events ≡ self.old.hardware.events + 1 }
+        ensures inside { inside_of D.seen self.new ≡ inside_of D.seen self.old }
+        ensures events { self.new.hardware.board.events ≡ self.old.hardware.board.events + 1 }
     {
         laws_below();
-        self.hardware.translated(id, address, len, kind, bytes)
+        self.hardware
+            .board
+            .translated(id, address, len, kind, bytes)
     }
 
     /// A raw device asks so for a read of so many bytes.
@@ -113,10 +122,11 @@ impl World {
         address: u64,
         len: u64,
     ) -> Result<Reply, Refusal>
-        requires count { self.old.hardware.events + 1 < 2 ^ 64 }
+        requires count { self.old.hardware.board.events + 1 < 2 ^ 64 }
         ensures does { AsksTranslated (parts_of self.old) id (read_of address len) (told_unless reply_told_of result) (parts_of self.new) }
         ensures disks { disks_of self.new ≡ disks_of self.old }
-        ensures events { self.new.hardware.events ≡ self.old.hardware.events + 1 }
+        ensures inside { inside_of D.seen self.new ≡ inside_of D.seen self.old }
+        ensures events { self.new.hardware.board.events ≡ self.old.hardware.board.events + 1 }
     {
         self.translated(id, address, len, AccessKind::Read, &[])
     }
@@ -128,10 +138,11 @@ impl World {
         address: u64,
         bytes: &[u8],
     ) -> Result<Reply, Refusal>
-        requires count { self.old.hardware.events + 1 < 2 ^ 64 }
+        requires count { self.old.hardware.board.events + 1 < 2 ^ 64 }
         ensures does { AsksTranslated (parts_of self.old) id (write_of address bytes.now) (told_unless reply_told_of result) (parts_of self.new) }
         ensures disks { disks_of self.new ≡ disks_of self.old }
-        ensures events { self.new.hardware.events ≡ self.old.hardware.events + 1 }
+        ensures inside { inside_of D.seen self.new ≡ inside_of D.seen self.old }
+        ensures events { self.new.hardware.board.events ≡ self.old.hardware.board.events + 1 }
     {
         let len = bytes.len() as u64;
         self.translated(id, address, len, AccessKind::Write, bytes)

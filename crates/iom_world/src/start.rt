@@ -1,46 +1,37 @@
 // A world at power-on.
-ghost use Rattle.std.specs.Prelude.{◌≡◌, ◌↔◌, ◌≤◌, IfOk, IsErrOf};
+ghost use Rattle.std.specs.Prelude.{◌↔◌, ◌≤◌, IfOk, IsErrOf, IsTrue};
+ghost use Rattle.iom_block_devices.specs.Seen.{states_of};
+ghost use Rattle.iom_driver.specs.Layout.{IsLevels};
 ghost use Rattle.iom_phys_mem.specs.Sizes.{IsMemorySize};
 ghost use Rattle.iom_phys_mem.specs.declared.memory.MemError.TheVariants.{BadSize};
-ghost use Rattle.iom_driver.specs.Layout.{IsLevels};
-ghost use Rattle.iom_iommu.specs.Parts.{IsAtPowerOn};
-ghost use Rattle.iom_world.specs.PowerOn.{WorldBeginsAt, WorldBeginsFrom};
+ghost use Rattle.iom_world.specs.PowerOn.{BeginsAt, BeginsFrom};
+ghost use Rattle.iom_world.specs.Seen.{seen_of};
 
 use crate::world::World;
-use iom_base::MAX_DEVICES;
-use iom_board::Board;
 use iom_driver::Driver;
-use iom_fabric::Fabric;
-use iom_iommu::Iommu;
-use iom_phys_mem::{MemError, Memory};
-use iom_tlb::Ioatc;
-use std::alloc::{AllocError, Global};
+use iom_hardware::Hardware;
+use iom_phys_mem::{MAX_FRAMES, MIN_FRAMES, MemError};
+use iom_virtio_blk::Disk;
+use std::alloc::Global;
 
-/// The IOMMU at power-on, over a cache of translations that has nothing.
-fn iommu_at_power_on(alloc: Global, frames: u32) -> Result<Iommu<Ioatc>, AllocError>
-    ensures { IfOk result (IsAtPowerOn frames) }
+/// The most levels of a device directory (IOMMU specification, section 2.1, "Device-Directory-Table (DDT)").
+const MAX_LEVELS: u8 = 3;
+
+/// Whether a memory may have so many frames, and the device directory so many levels.
+fn is_size(frames: u32, levels: u8) -> bool
+    ensures { IsTrue result ↔ IsMemorySize frames × IsLevels levels }
 {
-    Iommu::new(alloc, frames, Ioatc::new(alloc)?)
+    (MIN_FRAMES..=MAX_FRAMES).contains(&frames) && (1..=MAX_LEVELS).contains(&levels)
 }
 
-/// A list of these numbers of disks.
-fn numbers_of(alloc: Global, disks: &[u64]) -> Result<Vec<u64>, AllocError>
-    ensures { IfOk result (λ numbers. numbers.items ≡ disks.now) }
-{
-    let mut numbers = Vec::new(alloc);
-    numbers.extend_from_slice(disks)?;
-    Ok(numbers)
-}
-
-impl World {
-    /// The world at power-on, with so many frames of memory and levels of the device directory, and disks
-    /// of these numbers: all bytes are zero, the last four frames are the system's, no device is plugged
-    /// in, nothing is granted, the driver is started, no command waits, no message is under way, and no
-    /// event was counted. `BadSize` exactly where the frames aren't 64 to 4,096 or the levels aren't 1 to 3
-    /// (IOMMU specification, section 2.1, "Device-Directory-Table (DDT)"); else `OutOfMemory` where an
-    /// allocation is refused.
-    pub fn new(alloc: Global, frames: u32, levels: u8, disks: &[u64]) -> Result<World, MemError>
-        ensures begins { IfOk result (WorldBeginsAt frames levels disks.now) }
+impl<D: Disk> World<D> {
+    /// The world at power-on, with so many frames of memory and levels of the device directory, and with these disks: all
+    /// bytes are zero, the last four frames are the system's, no device is plugged in, nothing is granted, the driver is
+    /// started, no command waits, no message is under way, no event was counted, and each disk is at hand, with its place
+    /// among these as its number, from 0. `BadSize` exactly where the frames aren't 64 to 4,096 or the levels aren't 1 to 3
+    /// (IOMMU specification, section 2.1, "Device-Directory-Table (DDT)"); else `OutOfMemory` where an allocation is refused.
+    pub fn new(alloc: Global, frames: u32, levels: u8, disks: Vec<D>) -> Result<World<D>, MemError>
+        ensures begins { IfOk result (λ world. BeginsAt frames levels (states_of D.seen disks.items) (seen_of D.seen world)) }
         ensures size { IfOk result (λ world. IsMemorySize frames × IsLevels levels) }
         ensures bad_size { (IsErrOf result BadSize) ↔ ¬ (IsMemorySize frames × IsLevels levels) }
     {
@@ -54,34 +45,24 @@ impl World {
         first_fence: u32,
         frames: u32,
         levels: u8,
-        disks: &[u64],
-    ) -> Result<World, MemError>
+        disks: Vec<D>,
+    ) -> Result<World<D>, MemError>
         requires first { 1 ≤ first_fence }
-        ensures begins { IfOk result (WorldBeginsFrom first_fence frames levels disks.now) }
+        ensures begins { IfOk result (λ world. BeginsFrom first_fence frames levels (states_of D.seen disks.items) (seen_of D.seen world)) }
         ensures size { IfOk result (λ world. IsMemorySize frames × IsLevels levels) }
         ensures bad_size { (IsErrOf result BadSize) ↔ ¬ (IsMemorySize frames × IsLevels levels) }
     {
+        // First of all: a size that there isn't is told as that, whatever memory there is for the lists.
+        if !is_size(frames, levels) {
+            return Err(MemError::BadSize);
+        }
         let mut driver = Driver::new(alloc, frames, levels)?;
-        let mut memory = Memory::new(alloc, frames)?;
-        let Ok(devices) = Vec::with_capacity(alloc, MAX_DEVICES) else {
-            return Err(MemError::OutOfMemory);
-        };
-        let Ok(numbers) = numbers_of(alloc, disks) else {
-            return Err(MemError::OutOfMemory);
-        };
-        let Ok(mut iommu) = iommu_at_power_on(alloc, frames) else {
-            return Err(MemError::OutOfMemory);
-        };
-        driver.start_from(first_fence, &mut memory, &mut iommu);
-        let fabric = Fabric::new();
-        let hardware = Board {
-            memory,
-            iommu,
-            devices,
-            fabric,
-            disks: numbers,
-            events: 0,
-        };
+        let mut hardware = Hardware::new(alloc, frames, disks)?;
+        driver.start_from(
+            first_fence,
+            &mut hardware.board.memory,
+            &mut hardware.board.iommu,
+        );
         Ok(World { hardware, driver })
     }
 }

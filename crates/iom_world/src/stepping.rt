@@ -1,33 +1,31 @@
 // One event, and what comes of it.
 ghost use Rattle.std.specs.Prelude.{◌≡◌, ◌+◌, ◌<◌, ◌^◌};
-ghost use Rattle.iom_iommu.specs.Requests.{access_of};
-ghost use Rattle.iom_machine.specs.declared.event.Event.TheVariants as events;
-ghost use Rattle.iom_base.specs.Accesses.{MayWant};
-ghost use Rattle.iom_world_effects.specs.Below.{AddressFits, IsOfAts, IsOfRecovery, IsSeldom, IsOfBlockDevice};
-ghost use Rattle.iom_world_effects.specs.BlockDevices.{BeginsAccess, IsRest, Rests, TellsBlockStatus};
+ghost use Rattle.iom_world_effects.specs.Below.{AddressFits, IsOfAts, IsOfRecovery, IsSeldom};
 ghost use Rattle.iom_world_effects.specs.Does.{Does, disks_after};
 ghost use Rattle.iom_world.specs.Happens.{Happens};
-ghost use Rattle.iom_world_effects.specs.Stays.{IsNoChoice};
-ghost use Rattle.iom_world.specs.Seen.{parts_of, disks_of};
+ghost use Rattle.iom_world.specs.Below.{IsOfBlocks};
+ghost use Rattle.iom_world.specs.Blocks.{DoesToBlocks};
+ghost use Rattle.iom_world.specs.Seen.{parts_of, disks_of, seen_of};
 
 use crate::kept_outcomes::KeptOutcomes;
 use crate::told::Told;
 use crate::world::World;
-use iom_base::{AccessKind, DeviceId};
-use iom_machine::{BlockStep, Event, Outcome};
+use iom_machine::{Event, Outcome};
+use iom_virtio_blk::Disk;
 use iom_world_effects::laws_below;
 use std::mem;
 
-impl World {
+impl<D: Disk> World<D> {
     /// An event of address translation services goes to whom it is for; another does nothing.
     // On its own, so that what is written into the loop of a run stays short.
     #[inline(never)]
     fn dispatch_ats<'a>(&mut self, event: &Event, kept: &'a mut KeptOutcomes) -> &'a mut Outcome
         requires event { IsOfAts event.now }
-        requires count { self.old.hardware.events + 1 < 2 ^ 64 }
+        requires count { self.old.hardware.board.events + 1 < 2 ^ 64 }
         ensures does { Does (disks_of self.old) (parts_of self.old) event.now result.now (parts_of self.new) }
         ensures disks { disks_of self.new ≡ disks_after event.now result.now (disks_of self.old) }
-        ensures counted { self.new.hardware.events ≡ self.old.hardware.events + 1 }
+        ensures blocks { DoesToBlocks (seen_of D.seen self.old) event.now result.now (seen_of D.seen self.new) }
+        ensures counted { self.new.hardware.board.events ≡ self.old.hardware.board.events + 1 }
     {
         match event {
             Event::ReadTranslated {
@@ -67,10 +65,11 @@ impl World {
         kept: &'a mut KeptOutcomes,
     ) -> &'a mut Outcome
         requires event { IsOfRecovery event.now }
-        requires count { self.old.hardware.events + 1 < 2 ^ 64 }
+        requires count { self.old.hardware.board.events + 1 < 2 ^ 64 }
         ensures does { Does (disks_of self.old) (parts_of self.old) event.now result.now (parts_of self.new) }
         ensures disks { disks_of self.new ≡ disks_after event.now result.now (disks_of self.old) }
-        ensures counted { self.new.hardware.events ≡ self.old.hardware.events + 1 }
+        ensures blocks { DoesToBlocks (seen_of D.seen self.old) event.now result.now (seen_of D.seen self.new) }
+        ensures counted { self.new.hardware.board.events ≡ self.old.hardware.board.events + 1 }
     {
         match event {
             Event::Quarantine { device } => kept.tell(self.quarantine(*device)),
@@ -86,10 +85,11 @@ impl World {
     #[inline(never)]
     fn dispatch_seldom<'a>(&mut self, event: &Event, kept: &'a mut KeptOutcomes) -> &'a mut Outcome
         requires event { IsSeldom event.now }
-        requires count { self.old.hardware.events + 1 < 2 ^ 64 }
+        requires count { self.old.hardware.board.events + 1 < 2 ^ 64 }
         ensures does { Does (disks_of self.old) (parts_of self.old) event.now result.now (parts_of self.new) }
         ensures disks { disks_of self.new ≡ disks_after event.now result.now (disks_of self.old) }
-        ensures counted { self.new.hardware.events ≡ self.old.hardware.events + 1 }
+        ensures blocks { DoesToBlocks (seen_of D.seen self.old) event.now result.now (seen_of D.seen self.new) }
+        ensures counted { self.new.hardware.board.events ≡ self.old.hardware.board.events + 1 }
     {
         match event {
             Event::Plug { device, new: what } => kept.tell(self.plug(*device, *what)),
@@ -101,14 +101,15 @@ impl World {
         }
     }
 
-    /// A disk is put into a block device, or its queue is set; another event does nothing.
+    /// An event of a block device goes to it; another does nothing.
     #[inline(never)]
     fn dispatch_block<'a>(&mut self, event: &Event, kept: &'a mut KeptOutcomes) -> &'a mut Outcome
-        requires event { IsOfBlockDevice event.now }
-        requires count { self.old.hardware.events + 1 < 2 ^ 64 }
+        requires event { IsOfBlocks event.now }
+        requires count { self.old.hardware.board.events + 1 < 2 ^ 64 }
         ensures does { Does (disks_of self.old) (parts_of self.old) event.now result.now (parts_of self.new) }
         ensures disks { disks_of self.new ≡ disks_after event.now result.now (disks_of self.old) }
-        ensures counted { self.new.hardware.events ≡ self.old.hardware.events + 1 }
+        ensures blocks { DoesToBlocks (seen_of D.seen self.old) event.now result.now (seen_of D.seen self.new) }
+        ensures counted { self.new.hardware.board.events ≡ self.old.hardware.board.events + 1 }
     {
         match event {
             Event::Medium { device, disk } => kept.tell(self.medium(*device, *disk)),
@@ -119,6 +120,8 @@ impl World {
                 available,
                 used,
             } => kept.tell(self.queue(*device, *size, *descriptors, *available, *used)),
+            Event::Step { device } => kept.tell(self.block_step(*device)),
+            Event::Status { device } => kept.tell(self.block_status(*device)),
             _ => kept.tell(Told::Done),
         }
     }
@@ -127,12 +130,12 @@ impl World {
     // Written into the loop of a run, as `take` is: a call would save and restore registers for each event.
     #[inline(always)]
     fn dispatch<'a>(&mut self, event: &Event, kept: &'a mut KeptOutcomes) -> &'a mut Outcome
-        requires event { IsNoChoice event.now }
-        requires count { self.old.hardware.events + 1 < 2 ^ 64 }
+        requires count { self.old.hardware.board.events + 1 < 2 ^ 64 }
         ensures does { Does (disks_of self.old) (parts_of self.old) event.now result.now (parts_of self.new) }
         ensures disks { disks_of self.new ≡ disks_after event.now result.now (disks_of self.old) }
+        ensures blocks { DoesToBlocks (seen_of D.seen self.old) event.now result.now (seen_of D.seen self.new) }
         ensures fits { AddressFits event.now }
-        ensures counted { self.new.hardware.events ≡ self.old.hardware.events + 1 }
+        ensures counted { self.new.hardware.board.events ≡ self.old.hardware.board.events + 1 }
     {
         match event {
             Event::Grant {
@@ -167,97 +170,48 @@ impl World {
             | Event::Restart
             | Event::Timeout
             | Event::Reset { .. } => self.dispatch_recovery(event, kept),
-            Event::Medium { .. } | Event::Queue { .. } => self.dispatch_block(event, kept),
+            Event::Medium { .. }
+            | Event::Queue { .. }
+            | Event::Step { .. }
+            | Event::Status { .. } => self.dispatch_block(event, kept),
             _ => self.dispatch_ats(event, kept),
         }
+    }
+
+    /// One event, as [`World::step`] says.
+    // Written into the loop of a run.
+    #[inline(always)]
+    pub fn take<'a>(&mut self, event: &Event, kept: &'a mut KeptOutcomes) -> &'a mut Outcome
+        requires count { self.old.hardware.board.events + 1 < 2 ^ 64 }
+        ensures { Happens (seen_of D.seen self.old) event.now result.now (seen_of D.seen self.new) }
+    {
+        laws_below();
+        self.dispatch(event, kept)
     }
 
     /// One event, and what comes of it: a lawful step of the ledger machine from every state that the
     /// world shows. It does to memory, IOMMU, driver and devices what the call behind it says; where a walk
     /// through both stages gives a translation, a guest's own tables are read from frames that the device may
     /// read; from a timeout to the next restart no fence is done; a refusal changes nothing. Each event is
-    /// counted, whatever comes of it. A step of a block device, and its status, are for whoever has the device
-    /// itself: [`World::begin`], [`World::rest`] and [`World::tell_status`].
-    #[inline(always)]
-    pub fn take<'a>(&mut self, event: &Event, kept: &'a mut KeptOutcomes) -> &'a mut Outcome
-        requires event { IsNoChoice event.now }
-        requires count { self.old.hardware.events + 1 < 2 ^ 64 }
-        ensures { Happens self.old event.now result.now self.new }
-    {
-        laws_below();
-        self.dispatch(event, kept)
-    }
-
-    /// The same, with an outcome of its own.
+    /// counted, whatever comes of it.
+    ///
+    /// A step of a block device (virtio 1.2, sections 2.7 and 5.2) goes up to the access that it wants, which begins in
+    /// the same event. A commit hands a block device the bytes of the access that it waits for. An answer that has no
+    /// translation, and counts, makes it need a reset where its access still wants that page. A reset, a revival, a
+    /// queue that is set and a detach make it give up what it had in work, and a detach drops its disk. A disk goes into
+    /// one device, once.
     pub fn step(&mut self, event: &Event) -> Outcome
-        requires event { IsNoChoice event.now }
-        requires count { self.old.hardware.events + 1 < 2 ^ 64 }
-        ensures { Happens self.old event.now result self.new }
+        requires count { self.old.hardware.board.events + 1 < 2 ^ 64 }
+        ensures { Happens (seen_of D.seen self.old) event.now result (seen_of D.seen self.new) }
     {
         let mut kept = KeptOutcomes::new();
         mem::replace(self.take(event, &mut kept), Outcome::Done)
     }
 
-    /// The step of a block device that wants this access, within one page. Where no block device has the id
-    /// it is refused. Else it is `Accepted`, `Busy` or `Fault` as any device's request, untranslated or, where
-    /// the device has a cache, through that; or `Stepped(Asked)` where it misses there.
-    // Written into its caller, which knows whether it reads or writes.
-    #[inline(always)]
-    pub fn begin<'a>(
-        &mut self,
-        device: DeviceId,
-        address: u64,
-        len: u64,
-        kind: AccessKind,
-        bytes: &[u8],
-        kept: &'a mut KeptOutcomes,
-    ) -> &'a mut Outcome
-        requires wants { MayWant (access_of address len kind bytes.now) }
-        requires count { self.old.hardware.events + 1 < 2 ^ 64 }
-        ensures happens { Happens self.old (events.Step device) result.now self.new }
-        ensures begins { BeginsAccess (parts_of self.old) device (access_of address len kind bytes.now) result.now (parts_of self.new) }
-    {
-        laws_below();
-        self.access(device, address, len, kind, bytes, kept)
-    }
-
-    /// The step of a block device that began no access. Where no block device has the id it is refused.
-    pub fn rest<'a>(
-        &mut self,
-        device: DeviceId,
-        step: BlockStep,
-        kept: &'a mut KeptOutcomes,
-    ) -> &'a mut Outcome
-        requires rests { IsRest step }
-        requires count { self.old.hardware.events + 1 < 2 ^ 64 }
-        ensures happens { Happens self.old (events.Step device) result.now self.new }
-        ensures rests { Rests (parts_of self.old) device step result.now (parts_of self.new) }
-    {
-        laws_below();
-        self.hardware.events += 1;
-        kept.tell(self.stepped(device, step))
-    }
-
-    /// The status of a block device, which is this one. Where no block device has the id it is refused.
-    pub fn tell_status<'a>(
-        &mut self,
-        device: DeviceId,
-        status: u8,
-        kept: &'a mut KeptOutcomes,
-    ) -> &'a mut Outcome
-        requires count { self.old.hardware.events + 1 < 2 ^ 64 }
-        ensures happens { Happens self.old (events.Status device) result.now self.new }
-        ensures tells { TellsBlockStatus (parts_of self.old) device status result.now (parts_of self.new) }
-    {
-        laws_below();
-        self.hardware.events += 1;
-        kept.tell(self.has_status(device, status))
-    }
-
     /// How many events there were since power-on.
     pub fn events(&self) -> u64
-        ensures { result ≡ self.now.hardware.events }
+        ensures { result ≡ self.now.hardware.board.events }
     {
-        self.hardware.events
+        self.hardware.board.events
     }
 }

@@ -6,14 +6,15 @@ ghost use Rattle.iom_base.specs.DeviceKinds.{sends_untranslated};
 ghost use Rattle.iom_world_effects.specs.Does.{GrantsPage, ReleasesPage, FetchesNext, PollsTickets};
 ghost use Rattle.iom_world_effects.specs.Processor.{PokesBytes};
 ghost use Rattle.iom_world_effects.specs.Requests.{AsksAccess};
-ghost use Rattle.iom_world.specs.Seen.{parts_of, disks_of};
+ghost use Rattle.iom_world.specs.Seen.{parts_of, disks_of, inside_of};
 
 use crate::kept_outcomes::KeptOutcomes;
 use crate::world::World;
 use iom_base::{DeviceId, GrantRights};
 use iom_machine::Outcome;
+use iom_virtio_blk::Disk;
 
-impl World {
+impl<D: Disk> World<D> {
     /// What [`World::grant`] tells.
     #[inline(never)]
     pub(crate) fn tell_grant<'a>(
@@ -24,10 +25,11 @@ impl World {
         rights: GrantRights,
         kept: &'a mut KeptOutcomes,
     ) -> &'a mut Outcome
-        requires count { self.old.hardware.events + 1 < 2 ^ 64 }
+        requires count { self.old.hardware.board.events + 1 < 2 ^ 64 }
         ensures does { GrantsPage (parts_of self.old) id page frame rights result.now (parts_of self.new) }
         ensures disks { disks_of self.new ≡ disks_of self.old }
-        ensures events { self.new.hardware.events ≡ self.old.hardware.events + 1 }
+        ensures inside { inside_of D.seen self.new ≡ inside_of D.seen self.old }
+        ensures events { self.new.hardware.board.events ≡ self.old.hardware.board.events + 1 }
     {
         kept.tell(self.grant(id, page, frame, rights))
     }
@@ -40,10 +42,11 @@ impl World {
         page: u64,
         kept: &'a mut KeptOutcomes,
     ) -> &'a mut Outcome
-        requires count { self.old.hardware.events + 1 < 2 ^ 64 }
+        requires count { self.old.hardware.board.events + 1 < 2 ^ 64 }
         ensures does { ReleasesPage (parts_of self.old) id page result.now (parts_of self.new) }
         ensures disks { disks_of self.new ≡ disks_of self.old }
-        ensures events { self.new.hardware.events ≡ self.old.hardware.events + 1 }
+        ensures inside { inside_of D.seen self.new ≡ inside_of D.seen self.old }
+        ensures events { self.new.hardware.board.events ≡ self.old.hardware.board.events + 1 }
     {
         kept.tell(self.release(id, page))
     }
@@ -51,10 +54,11 @@ impl World {
     /// What [`World::fetch`] tells.
     #[inline(never)]
     pub(crate) fn tell_fetch<'a>(&mut self, kept: &'a mut KeptOutcomes) -> &'a mut Outcome
-        requires count { self.old.hardware.events + 1 < 2 ^ 64 }
+        requires count { self.old.hardware.board.events + 1 < 2 ^ 64 }
         ensures does { FetchesNext (parts_of self.old) result.now (parts_of self.new) }
         ensures disks { disks_of self.new ≡ disks_of self.old }
-        ensures events { self.new.hardware.events ≡ self.old.hardware.events + 1 }
+        ensures inside { inside_of D.seen self.new ≡ inside_of D.seen self.old }
+        ensures events { self.new.hardware.board.events ≡ self.old.hardware.board.events + 1 }
     {
         kept.tell_fetched(self.fetch())
     }
@@ -62,10 +66,11 @@ impl World {
     /// What [`World::poll`] tells.
     #[inline(never)]
     pub(crate) fn tell_poll<'a>(&mut self, kept: &'a mut KeptOutcomes) -> &'a mut Outcome
-        requires count { self.old.hardware.events + 1 < 2 ^ 64 }
+        requires count { self.old.hardware.board.events + 1 < 2 ^ 64 }
         ensures does { PollsTickets (parts_of self.old) result.now (parts_of self.new) }
         ensures disks { disks_of self.new ≡ disks_of self.old }
-        ensures events { self.new.hardware.events ≡ self.old.hardware.events + 1 }
+        ensures inside { inside_of D.seen self.new ≡ inside_of D.seen self.old }
+        ensures events { self.new.hardware.board.events ≡ self.old.hardware.board.events + 1 }
     {
         kept.tell(self.poll())
     }
@@ -79,11 +84,12 @@ impl World {
         len: u64,
         kept: &'a mut KeptOutcomes,
     ) -> &'a mut Outcome
-        requires count { self.old.hardware.events + 1 < 2 ^ 64 }
+        requires count { self.old.hardware.board.events + 1 < 2 ^ 64 }
         ensures does { AsksAccess sends_untranslated (parts_of self.old) id (read_of address len) result.now (parts_of self.new) }
         ensures fits { address < 2 ^ 64 }
         ensures disks { disks_of self.new ≡ disks_of self.old }
-        ensures events { self.new.hardware.events ≡ self.old.hardware.events + 1 }
+        ensures inside { inside_of D.seen self.new ≡ inside_of D.seen self.old }
+        ensures events { self.new.hardware.board.events ≡ self.old.hardware.board.events + 1 }
     {
         kept.tell_request(self.read(id, address, len))
     }
@@ -97,11 +103,12 @@ impl World {
         bytes: &[u8],
         kept: &'a mut KeptOutcomes,
     ) -> &'a mut Outcome
-        requires count { self.old.hardware.events + 1 < 2 ^ 64 }
+        requires count { self.old.hardware.board.events + 1 < 2 ^ 64 }
         ensures does { AsksAccess sends_untranslated (parts_of self.old) id (write_of address bytes.now) result.now (parts_of self.new) }
         ensures fits { address < 2 ^ 64 }
         ensures disks { disks_of self.new ≡ disks_of self.old }
-        ensures events { self.new.hardware.events ≡ self.old.hardware.events + 1 }
+        ensures inside { inside_of D.seen self.new ≡ inside_of D.seen self.old }
+        ensures events { self.new.hardware.board.events ≡ self.old.hardware.board.events + 1 }
     {
         kept.tell_request(self.write(id, address, bytes))
     }
@@ -114,10 +121,11 @@ impl World {
         bytes: &[u8],
         kept: &'a mut KeptOutcomes,
     ) -> &'a mut Outcome
-        requires count { self.old.hardware.events + 1 < 2 ^ 64 }
+        requires count { self.old.hardware.board.events + 1 < 2 ^ 64 }
         ensures does { PokesBytes (parts_of self.old) address bytes.now result.now (parts_of self.new) }
         ensures disks { disks_of self.new ≡ disks_of self.old }
-        ensures events { self.new.hardware.events ≡ self.old.hardware.events + 1 }
+        ensures inside { inside_of D.seen self.new ≡ inside_of D.seen self.old }
+        ensures events { self.new.hardware.board.events ≡ self.old.hardware.board.events + 1 }
     {
         kept.tell(self.poke(address, bytes))
     }

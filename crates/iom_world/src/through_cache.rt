@@ -8,13 +8,14 @@ ghost use Rattle.iom_inflight.specs.Sound.{CarriesBytes};
 ghost use Rattle.iom_iommu.specs.Requests.{access_of};
 ghost use Rattle.iom_world_effects.specs.ThroughCache.{DeviceAsksThroughCache};
 ghost use Rattle.iom_world.specs.OnHardware.{told_unless, cache_reply_told};
-ghost use Rattle.iom_world.specs.Seen.{parts_of, disks_of};
+ghost use Rattle.iom_world.specs.Seen.{parts_of, disks_of, inside_of};
 ghost use Rattle.iom_world.specs.Told.{outcome_of};
 
 use crate::told::Told;
 use crate::world::World;
 use iom_base::{AccessKind, DeviceId, Refusal};
 use iom_board::{CacheReply, Sender};
+use iom_virtio_blk::Disk;
 use iom_world_effects::laws_below;
 
 impl Told {
@@ -30,7 +31,7 @@ impl Told {
     }
 }
 
-impl World {
+impl<D: Disk> World<D> {
     /// A device asks for an access at the address through its own cache. `BadSpan` and `Busy` as for an
     /// untranslated one; `Miss` where the cache has no frame for it; else what the IOMMU answers to the translated
     /// request at that frame. A device whose kind has none so is refused.
@@ -43,36 +44,40 @@ impl World {
         kind: AccessKind,
         bytes: &[u8],
     ) -> Told
-        requires count { self.old.hardware.events + 1 < 2 ^ 64 }
+        requires count { self.old.hardware.board.events + 1 < 2 ^ 64 }
         requires carries { CarriesBytes kind len bytes.now }
         ensures does { DeviceAsksThroughCache (cached_by sender) (parts_of self.old) id (access_of address len kind bytes.now)
             (outcome_of result) (parts_of self.new) }
         ensures disks { disks_of self.new ≡ disks_of self.old }
-        ensures events { self.new.hardware.events ≡ self.old.hardware.events + 1 }
+        ensures inside { inside_of D.seen self.new ≡ inside_of D.seen self.old }
+        ensures events { self.new.hardware.board.events ≡ self.old.hardware.board.events + 1 }
     {
         laws_below();
         let answer = self
             .hardware
+            .board
             .through_cache(sender, id, address, len, kind, bytes);
         Told::of_cached(answer)
     }
 
     /// A device reads so many bytes at the address through its own cache.
     pub(crate) fn read_through_cache(&mut self, id: DeviceId, address: u64, len: u64) -> Told
-        requires count { self.old.hardware.events + 1 < 2 ^ 64 }
+        requires count { self.old.hardware.board.events + 1 < 2 ^ 64 }
         ensures does { DeviceAsksThroughCache sends_through_cache (parts_of self.old) id (read_of address len) (outcome_of result) (parts_of self.new) }
         ensures disks { disks_of self.new ≡ disks_of self.old }
-        ensures events { self.new.hardware.events ≡ self.old.hardware.events + 1 }
+        ensures inside { inside_of D.seen self.new ≡ inside_of D.seen self.old }
+        ensures events { self.new.hardware.board.events ≡ self.old.hardware.board.events + 1 }
     {
         self.through_cache(Sender::Own, id, address, len, AccessKind::Read, &[])
     }
 
     /// A device writes the bytes at the address through its own cache.
     pub(crate) fn write_through_cache(&mut self, id: DeviceId, address: u64, bytes: &[u8]) -> Told
-        requires count { self.old.hardware.events + 1 < 2 ^ 64 }
+        requires count { self.old.hardware.board.events + 1 < 2 ^ 64 }
         ensures does { DeviceAsksThroughCache sends_through_cache (parts_of self.old) id (write_of address bytes.now) (outcome_of result) (parts_of self.new) }
         ensures disks { disks_of self.new ≡ disks_of self.old }
-        ensures events { self.new.hardware.events ≡ self.old.hardware.events + 1 }
+        ensures inside { inside_of D.seen self.new ≡ inside_of D.seen self.old }
+        ensures events { self.new.hardware.board.events ≡ self.old.hardware.board.events + 1 }
     {
         let len = bytes.len() as u64;
         self.through_cache(Sender::Own, id, address, len, AccessKind::Write, bytes)

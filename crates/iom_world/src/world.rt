@@ -1,14 +1,22 @@
+ghost use Rattle.std.specs.Prelude.{◌≤◌, vec_capacity};
+ghost use Rattle.iom_base.specs.Sizes.{device_limit};
+ghost use Rattle.iom_hardware.specs.Agreement.{AgreesWith};
+ghost use Rattle.iom_hardware.specs.AgreementIsFact.{agrees_prop};
 ghost use Rattle.iom_world_effects.specs.Sound.{IsSoundWorld};
 ghost use Rattle.iom_world_effects.specs.SoundIsFact.{sound_world_prop};
 
-use iom_board::Board;
 use iom_driver::Driver;
+use iom_hardware::Hardware;
+use iom_virtio_blk::Disk;
 
 /// Hardware and its driver.
 #[derive(Drop)]
-pub struct World {
-    /// Memory, the IOMMU, the devices and the messages between them; and how many events there were.
-    pub(crate) hardware: Board,
+pub struct World<D: Disk> {
+    /// Memory, the IOMMU, the devices, the messages between them, the block devices themselves; and how many events there
+    /// were.
+    pub(crate) hardware: Hardware<D>,
     pub(crate) driver: Driver,
-    ghost sound: { IsSoundWorld hardware.memory hardware.iommu driver hardware.devices.items hardware.fabric hardware.events } by { sound_world_prop hardware.memory hardware.iommu driver hardware.devices.items hardware.fabric hardware.events },
+    ghost sound: { IsSoundWorld hardware.board.memory hardware.board.iommu driver hardware.board.devices.items hardware.board.fabric hardware.board.events } by { sound_world_prop hardware.board.memory hardware.board.iommu driver hardware.board.devices.items hardware.board.fabric hardware.board.events },
+    ghost agrees: { AgreesWith hardware.board.devices.items hardware.board.disks.items hardware.blocks.items hardware.at_hand.items } by { agrees_prop hardware.board.devices.items hardware.board.disks.items hardware.blocks.items hardware.at_hand.items },
+    ghost room: { device_limit ≤ vec_capacity hardware.blocks },
 }

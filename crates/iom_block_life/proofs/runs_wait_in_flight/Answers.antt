@@ -1,4 +1,4 @@
-use Rattle.iom_platform.proofs.RunLemmas.{waits_throughout}
+use Rattle.iom_world.proofs.RunLemmas.{waits_throughout}
 use Rattle.iom_block_life.proofs.CommitFills.{leaves_stages}
 use Rattle.iom_block_life.proofs.WaitRuns.{begins_waiting}
 use Rattle.iom_block_life.proofs.runs_wait_in_flight.Goals as goal

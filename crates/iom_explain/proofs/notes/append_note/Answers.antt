@@ -1,4 +1,4 @@
-use Rattle.std.proofs.Common.{◌≡◌, ◌∙◌, ◌++◌, ◌∷◌, [], sym, ap, codes, false}
+use Rattle.std.proofs.Common.{◌≡◌, ◌∙◌, ◌++◌, ◌∷◌, [], sym, ap, false}
 use Rattle.iom_explain.proofs.NoteLemmas.{adds_none, adds_one, no_line_feed}
 use Rattle.iom_explain.proofs.notes.append_note.Goals as goal
 

@@ -4,9 +4,9 @@ use Rattle.iom_litmus_world.proofs.OpeningLemmas.{through_more}
 use Rattle.iom_litmus_world.proofs.opening.go_through.Goals as goal
 
 pub loop-event-init : goal.loop-event-init
-loop-event-init c = Nothing
+loop-event-init g c = Nothing
 
 pub loop-event-preserved : goal.loop-event-preserved
-loop-event-preserved c =
+loop-event-preserved g c =
     through_more c.args.events.now c.loop-event.event-index c.event-item.result c.args.world.now c.loop-event.world c.take.new.self c.take.result.now c.loop-event-test.true c.event-item.is
     c.take.ensures c.loop-event.invariant

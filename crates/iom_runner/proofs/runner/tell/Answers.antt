@@ -10,14 +10,14 @@ returns-in_err-buffer g c =
     let fault = err_from_is_err_and c.from_residual.result c.from_residual.ensures.1 in
     untold (setting_of g.D.Disk.seen c.args.disks.items c.args.counts) c.args.script.now c.in-Some.size _ c.from_residual.result fault.0 c.in-Some.is fault.1 (fault.2 ∙ c.in_err-buffer.ensures.fault)
 
-pub returns-in_err-platform : goal.returns-in_err-platform
-returns-in_err-platform g c =
-    let fault = err_from_is_err_and c.from_residual-in_err-platform.result c.from_residual-in_err-platform.ensures.1 in
-    untold (setting_of g.D.Disk.seen c.args.disks.items c.args.counts) c.args.script.now c.in-Some.size _ c.from_residual-in_err-platform.result fault.0 c.in-Some.is fault.1 (fault.2 ∙ c.in_err-platform.ensures.fault)
+pub returns-in_err-world : goal.returns-in_err-world
+returns-in_err-world g c =
+    let fault = err_from_is_err_and c.from_residual-in_err-world.result c.from_residual-in_err-world.ensures.1 in
+    untold (setting_of g.D.Disk.seen c.args.disks.items c.args.counts) c.args.script.now c.in-Some.size _ c.from_residual-in_err-world.result fault.0 c.in-Some.is fault.1 (fault.2 ∙ c.in_err-world.ensures.fault)
 
 pub returns : goal.returns
 returns g c =
-    let begins = c.in_ok-platform.ensures.begins in
+    let begins = c.in_ok-world.ensures.begins in
     let told = c.tell_run.ensures in
     let size = c.in-Some.size in
     let setting = setting_of g.D.Disk.seen c.args.disks.items c.args.counts in

@@ -1,7 +1,6 @@
--- The platform goes along one line more, or writing fails at it.
+-- The world goes along one line more, or writing fails at it.
 use Rattle.std.proofs.Common.{◌≤◌, List, length, take_all, subst, arith}
-use Rattle.std.proofs.lemmas.Result.{err_from_is_err_and}
-use Rattle.iom_platform.specs.Seen.{platform_seen}
+use Rattle.iom_world.specs.Seen.{seen_of}
 use Rattle.iom_script.specs.declared.script.ScriptLine.{ScriptLine}
 use Rattle.iom_line_writer.proofs.WritingLemmas.{at_err}
 use Rattle.iom_runner.specs.Going.{RunsAlong}
@@ -10,7 +9,7 @@ use Rattle.iom_runner.proofs.runner.tell_lines.Goals as goal
 
 pub loop-line-init : goal.loop-line-init
 loop-line-init g c = record {
-  ran = λ state shows. along_none g.W.Write.contents state (platform_seen g.D.Disk.seen c.args.platform.now) c.args.lines.now shows;
+  ran = λ state shows. along_none g.W.Write.contents state (seen_of g.D.Disk.seen c.args.world.now) c.args.lines.now shows;
   counted = omega arith;
 }
 
@@ -29,7 +28,7 @@ loop-line-preserved g c =
     record {
       ran = λ state shows.
           along_takes g.W.Write.contents state c.args.script.now c.loop-line.line-index c.line-item.result told.0 told.1 c.args.lines.now c.loop-line.lines c.tell_line.new.lines
-          (platform_seen g.D.Disk.seen c.args.platform.now) (platform_seen g.D.Disk.seen c.loop-line.platform) (platform_seen g.D.Disk.seen c.tell_line.new.platform)
+          (seen_of g.D.Disk.seen c.args.world.now) (seen_of g.D.Disk.seen c.loop-line.world) (seen_of g.D.Disk.seen c.tell_line.new.world)
           (c.loop-line.invariant.ran state shows) c.line-item.is c.loop-line-test.true told.2 told.3 told.4;
       counted = omega (arith, so_far, more);
     }
@@ -39,11 +38,11 @@ returns-in_err-tell_line-clause-failed g c = λ state shows.
     let told = c.in_err-tell_line.ensures.told in
     at_err c.from_residual.result
     (along_fails g.W.Write.contents state c.args.script.now c.loop-line.line-index c.line-item.result told.0 told.1 c.args.lines.now c.loop-line.lines c.tell_line.new.lines
-    (platform_seen g.D.Disk.seen c.args.platform.now) (platform_seen g.D.Disk.seen c.loop-line.platform) (platform_seen g.D.Disk.seen c.tell_line.new.platform)
+    (seen_of g.D.Disk.seen c.args.world.now) (seen_of g.D.Disk.seen c.loop-line.world) (seen_of g.D.Disk.seen c.tell_line.new.world)
     (c.loop-line.invariant.ran state shows) c.line-item.is c.loop-line-test.true told.2 told.3 told.5)
 
 pub returns-clause-ran : goal.returns-clause-ran
 returns-clause-ran g c = λ state shows.
     let end : length c.args.script.now ≤ c.loop-line.line-index = omega (arith, c.loop-line-test.false) in
-    subst (λ (l : List ScriptLine). RunsAlong g.W.Write.contents state (platform_seen g.D.Disk.seen c.args.platform.now) l c.args.lines.now c.loop-line.lines (platform_seen g.D.Disk.seen c.loop-line.platform))
+    subst (λ (l : List ScriptLine). RunsAlong g.W.Write.contents state (seen_of g.D.Disk.seen c.args.world.now) l c.args.lines.now c.loop-line.lines (seen_of g.D.Disk.seen c.loop-line.world))
     (take_all c.loop-line.line-index c.args.script.now end) (c.loop-line.invariant.ran state shows)

@@ -1,6 +1,6 @@
 -- What is told by way of the buffer is told to the writer.
 use Rattle.std.proofs.Common.{rules, ◌∙◌}
-use Rattle.iom_runner.specs.PlatformText.{WritesRun, BeginsRun, BeginsRunSoFar}
+use Rattle.iom_runner.specs.WorldText.{WritesRun, BeginsRun, BeginsRunSoFar}
 use Rattle.iom_runner.proofs.TextLemmas.{told_by}
 use Rattle.iom_runner.proofs.runner.tell_run.Goals as goal
 

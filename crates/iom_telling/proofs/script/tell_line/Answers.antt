@@ -11,7 +11,7 @@ returns-in-Event-clause-told g c =
     (event_told g.W.Write.contents g.D.Disk.seen c.args.teller.now c.take.new.self c.in-Event.event c.take.ensures.0 c.take.ensures.1)
 
 pub returns-in-Event-clause-counted : goal.returns-in-Event-clause-counted
-returns-in-Event-clause-counted g c = let one = c.take.ensures.1.happens.0.events in omega (arith, one)
+returns-in-Event-clause-counted g c = let one = c.take.ensures.1.happens.events in omega (arith, one)
 
 pub returns-in-Settle-clause-told : goal.returns-in-Settle-clause-told
 returns-in-Settle-clause-told g c =

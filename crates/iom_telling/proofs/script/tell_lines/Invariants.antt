@@ -8,5 +8,5 @@ invariant-loop-line g l =
     record {
       ran : GoesByLines g.W.Write.contents g.D.Disk.seen l.fn.teller (take l.line-index l.script) l.teller;
       fresh : l.teller.fault ≡ None;
-      counted : l.teller.platform.world.hardware.events ≤ l.fn.teller.platform.world.hardware.events + 400 * l.line-index;
+      counted : l.teller.world.hardware.board.events ≤ l.fn.teller.world.hardware.board.events + 400 * l.line-index;
     }

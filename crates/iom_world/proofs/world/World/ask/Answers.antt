@@ -4,26 +4,30 @@ use Rattle.iom_world_effects.specs.Messages.{AsksQuestion}
 use Rattle.iom_world_invariant.proofs.MessageKeeps.{keeps_question}
 use Rattle.iom_world.specs.OnHardware.{told_unless, sending_told}
 use Rattle.iom_world.proofs.InParts.{question_in_parts}
-use Rattle.iom_world.proofs.OfHardware.{with_driver, counted, at_count, hardware_sound}
+use Rattle.iom_world.proofs.OfHardware.{with_driver, counted, at_count, hardware_sound, agrees_now}
 use Rattle.iom_world.specs.Seen.{parts_of}
 use Rattle.iom_driver.specs.Seen.{state_of}
+use Rattle.iom_hardware.proofs.KeptBlocks.{question}
+use Rattle.iom_world.specs.OnHardware.{hardware_of}
 use Rattle.iom_world.proofs.world.World.ask.Goals as goal
 
 pub ask-requires-clause-sound : goal.ask-requires-clause-sound
-ask-requires-clause-sound c = let world = c.args.self.now in hardware_sound (parts_of world) world.hardware.events world.sound
+ask-requires-clause-sound g c = let world = c.args.self.now in hardware_sound (parts_of world) world.hardware.board.events world.sound
 
 pub invariant_of-self : goal.invariant_of-self
-invariant_of-self c =
+invariant_of-self g c =
     let world = c.args.self.now in
     let new = with_driver c.ask.new.self (state_of world.driver) in
     let effect = question_in_parts (parts_of world) new refl c.args.id c.args.page c.ask.result c.ask.ensures.effect in
     record {
-      sound = at_count new (world.hardware.events + 1) c.ask.new.self.events c.ask.ensures.counted.events
-          (keeps_question (parts_of world) new (world.hardware.events + 1) c.args.id c.args.page (told_unless sending_told c.ask.result) (counted world) (subst (λ n. n < 2 ^ 52) c.number.ensures.value c.number.ensures.range) effect);
+      sound = at_count new (world.hardware.board.events + 1) c.ask.new.self.events c.ask.ensures.counted.events
+          (keeps_question (parts_of world) new (world.hardware.board.events + 1) c.args.id c.args.page (told_unless sending_told c.ask.result) (counted world) (subst (λ n. n < 2 ^ 52) c.number.ensures.value c.number.ensures.range) effect);
+      agrees = agrees_now world c.ask.new.self (question (hardware_of (parts_of world)) (hardware_of new) c.args.id c.args.page c.ask.result c.ask.ensures.effect) c.ask.ensures.counted.disks;
+      room = world.room;
     }
 
 pub returns-clause-does : goal.returns-clause-does
-returns-clause-does c =
+returns-clause-does g c =
     let world = c.args.self.now in
     let new = with_driver c.ask.new.self (state_of world.driver) in
     subst (λ (told : Outcome). AsksQuestion (parts_of world) c.args.id c.args.page told new) (sym c.of_send.ensures)

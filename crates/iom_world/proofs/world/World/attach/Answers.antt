@@ -9,10 +9,12 @@ use Rattle.iom_world.proofs.OfHardware.{counted}
 use Rattle.iom_world.proofs.world.World.attach.Goals as goal
 
 pub invariant_of-self : goal.invariant_of-self
-invariant_of-self c =
+invariant_of-self g c =
     let world = c.args.self.now in
-    let new : Parts = record { memory = c.attach.new.memory; iommu = world.hardware.iommu; driver = state_of c.attach.new.self; devices = world.hardware.devices.items; fabric = world.hardware.fabric } in
+    let new : Parts = record { memory = c.attach.new.memory; iommu = world.hardware.board.iommu; driver = state_of c.attach.new.self; devices = world.hardware.board.devices.items; fabric = world.hardware.board.fabric } in
     record {
-      sound = keeps_attached (parts_of world) new (world.hardware.events + 1) c.args.id c.args.mode c.args.ats (told_of c.attach.result) (counted world) (sound_driver world.driver) (c.attach.ensures.ready _ (counted world).ready)
+      sound = keeps_attached (parts_of world) new (world.hardware.board.events + 1) c.args.id c.args.mode c.args.ats (told_of c.attach.result) (counted world) (sound_driver world.driver) (c.attach.ensures.ready _ (counted world).ready)
           record { answer = c.attach.result; told_so = refl; call = c.attach.ensures.effect; iommu = refl; devices = refl; fabric = refl };
+      agrees = world.agrees;
+      room = world.room;
     }

@@ -9,14 +9,14 @@ use Rattle.iom_world_effects.specs.ThroughCache.{DeviceAsksThroughCache}
 use Rattle.iom_world.proofs.world.World.dispatch_ats.Goals as goal
 
 pub returns-in-ReadThroughCache-clause-does : goal.returns-in-ReadThroughCache-clause-does
-returns-in-ReadThroughCache-clause-does c =
+returns-in-ReadThroughCache-clause-does g c =
     let old = parts_of c.args.self.now in
     let new = parts_of c.read_through_cache.new.self in
     subst (λ (e : Event). Does (disks_of c.args.self.now) old e c.tell.result.now new) (sym c.in-ReadThroughCache.is)
     (subst (λ (t : Outcome). DeviceAsksThroughCache sends_through_cache old c.in-ReadThroughCache.device (read_of c.in-ReadThroughCache.address c.in-ReadThroughCache.len) t new) (sym c.tell.ensures) c.read_through_cache.ensures.does)
 
 pub returns-in-WriteThroughCache-clause-does : goal.returns-in-WriteThroughCache-clause-does
-returns-in-WriteThroughCache-clause-does c =
+returns-in-WriteThroughCache-clause-does g c =
     let old = parts_of c.args.self.now in
     let new = parts_of c.write_through_cache.new.self in
     subst (λ (e : Event). Does (disks_of c.args.self.now) old e c.tell-in-WriteThroughCache.result.now new) (sym c.in-WriteThroughCache.is)

@@ -9,10 +9,12 @@ use Rattle.iom_world.proofs.OfHardware.{counted}
 use Rattle.iom_world.proofs.world.World.faults.Goals as goal
 
 pub invariant_of-self : goal.invariant_of-self
-invariant_of-self c =
+invariant_of-self g c =
     let world = c.args.self.now in
-    let new : Parts = record { memory = world.hardware.memory; iommu = c.faults.new.io; driver = state_of world.driver; devices = world.hardware.devices.items; fabric = world.hardware.fabric } in
+    let new : Parts = record { memory = world.hardware.board.memory; iommu = c.faults.new.io; driver = state_of world.driver; devices = world.hardware.board.devices.items; fabric = world.hardware.board.fabric } in
     record {
-      sound = keeps_taken (parts_of world) new (world.hardware.events + 1) (report_told_of c.faults.result) (counted world) (sound_driver world.driver) c.faults.ensures.ready
+      sound = keeps_taken (parts_of world) new (world.hardware.board.events + 1) (report_told_of c.faults.result) (counted world) (sound_driver world.driver) c.faults.ensures.ready
           record { answer = c.faults.result; told_so = refl; call = c.faults.ensures.effect; driver = refl; memory = refl; devices = refl; fabric = refl };
+      agrees = world.agrees;
+      room = world.room;
     }

@@ -4,26 +4,30 @@ use Rattle.iom_world_effects.specs.Messages.{ForgesCompletion}
 use Rattle.iom_world_invariant.proofs.MessageKeeps.{keeps_forged}
 use Rattle.iom_world.specs.OnHardware.{told_unless, sending_told}
 use Rattle.iom_world.proofs.InParts.{forged_in_parts}
-use Rattle.iom_world.proofs.OfHardware.{with_driver, counted, at_count, hardware_sound}
+use Rattle.iom_world.proofs.OfHardware.{with_driver, counted, at_count, hardware_sound, agrees_now}
 use Rattle.iom_world.specs.Seen.{parts_of}
 use Rattle.iom_driver.specs.Seen.{state_of}
+use Rattle.iom_hardware.proofs.KeptBlocks.{forged}
+use Rattle.iom_world.specs.OnHardware.{hardware_of}
 use Rattle.iom_world.proofs.world.World.forge.Goals as goal
 
 pub forge-requires-clause-sound : goal.forge-requires-clause-sound
-forge-requires-clause-sound c = let world = c.args.self.now in hardware_sound (parts_of world) world.hardware.events world.sound
+forge-requires-clause-sound g c = let world = c.args.self.now in hardware_sound (parts_of world) world.hardware.board.events world.sound
 
 pub invariant_of-self : goal.invariant_of-self
-invariant_of-self c =
+invariant_of-self g c =
     let world = c.args.self.now in
     let new = with_driver c.forge.new.self (state_of world.driver) in
     let effect = forged_in_parts (parts_of world) new refl c.args.id c.args.serial c.forge.result c.forge.ensures.effect in
     record {
-      sound = at_count new (world.hardware.events + 1) c.forge.new.self.events c.forge.ensures.counted.events
-          (keeps_forged (parts_of world) new (world.hardware.events + 1) c.args.id c.args.serial (told_unless sending_told c.forge.result) (counted world) effect);
+      sound = at_count new (world.hardware.board.events + 1) c.forge.new.self.events c.forge.ensures.counted.events
+          (keeps_forged (parts_of world) new (world.hardware.board.events + 1) c.args.id c.args.serial (told_unless sending_told c.forge.result) (counted world) effect);
+      agrees = agrees_now world c.forge.new.self (forged (hardware_of (parts_of world)) (hardware_of new) c.args.id c.args.serial c.forge.result c.forge.ensures.effect) c.forge.ensures.counted.disks;
+      room = world.room;
     }
 
 pub returns-clause-does : goal.returns-clause-does
-returns-clause-does c =
+returns-clause-does g c =
     let world = c.args.self.now in
     let new = with_driver c.forge.new.self (state_of world.driver) in
     subst (λ (told : Outcome). ForgesCompletion (parts_of world) c.args.id c.args.serial told new) (sym c.of_send.ensures)

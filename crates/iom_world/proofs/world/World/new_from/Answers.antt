@@ -1,41 +1,51 @@
-use Rattle.std.proofs.Common.{refl, sym}
+use Rattle.std.proofs.Common.{ℕ, sym, subst}
+use Rattle.iom_world_effects.specs.Parts.{Parts}
+use Rattle.iom_world_effects.specs.Sound.{AreSound}
 use Rattle.iom_driver.specs.Seen.{state_of}
 use Rattle.iom_world_refinement.proofs.StartLemmas.{IsStarted, sound_started, shows_started, memory_is, iommu_started, driver_started}
 use Rattle.iom_world.proofs.world.World.new_from.Goals as goal
 
 pub invariant_of-result : goal.invariant_of-result
-invariant_of-result c =
-    let started : IsStarted c.args.first_fence c.args.frames c.args.levels (state_of c.in_ok-driver.driver) (state_of c.start_from.new.self) c.in_ok-memory.memory c.start_from.new.memory c.in-Ok-iommu_at_power_on.iommu c.start_from.new.io c.in-Ok.devices.items c.new-fabric.result = record {
-      size = c.in_ok-memory.ensures.size;
+invariant_of-result g c =
+    let hardware = c.in_ok-hardware.hardware in
+    let begins = c.in_ok-hardware.ensures.power_on.begins in
+    let started : IsStarted c.args.first_fence c.args.frames c.args.levels (state_of c.in_ok-driver.driver) (state_of c.start_from.new.self) hardware.board.memory c.start_from.new.memory hardware.board.iommu c.start_from.new.io hardware.board.devices.items hardware.board.fabric = record {
+      size = c.in_ok-hardware.ensures.size;
       opening_driver = c.in_ok-driver.ensures.opening;
-      zeros = c.in_ok-memory.ensures.zero;
-      power_on = c.in-Ok-iommu_at_power_on.ensures;
+      zeros = begins.memory;
+      power_on = begins.iommu;
       starts = c.start_from.ensures.effect;
       ready = c.start_from.ensures.ready;
-      unplugged = c.in-Ok.ensures.items;
-      quiet = c.new-fabric.ensures;
+      unplugged = begins.devices;
+      quiet = begins.fabric;
     } in
-    record { sound = sound_started _ _ _ _ _ _ _ _ _ _ _ started }
+    let parts : Parts = record { memory = c.start_from.new.memory; iommu = c.start_from.new.io; driver = state_of c.start_from.new.self; devices = hardware.board.devices.items; fabric = hardware.board.fabric } in
+    record { sound = subst (λ (events : ℕ). AreSound parts events) (sym begins.events) (sound_started _ _ _ _ _ _ _ _ _ _ _ started); agrees = c.in_ok-hardware.ensures.sound.agrees; room = c.in_ok-hardware.ensures.sound.room }
 
 pub returns-clause-begins : goal.returns-clause-begins
-returns-clause-begins c =
-    let started : IsStarted c.args.first_fence c.args.frames c.args.levels (state_of c.in_ok-driver.driver) (state_of c.start_from.new.self) c.in_ok-memory.memory c.start_from.new.memory c.in-Ok-iommu_at_power_on.iommu c.start_from.new.io c.in-Ok.devices.items c.new-fabric.result = record {
-      size = c.in_ok-memory.ensures.size;
+returns-clause-begins g c =
+    let hardware = c.in_ok-hardware.hardware in
+    let on = c.in_ok-hardware.ensures.power_on in
+    let begins = on.begins in
+    let started : IsStarted c.args.first_fence c.args.frames c.args.levels (state_of c.in_ok-driver.driver) (state_of c.start_from.new.self) hardware.board.memory c.start_from.new.memory hardware.board.iommu c.start_from.new.io hardware.board.devices.items hardware.board.fabric = record {
+      size = c.in_ok-hardware.ensures.size;
       opening_driver = c.in_ok-driver.ensures.opening;
-      zeros = c.in_ok-memory.ensures.zero;
-      power_on = c.in-Ok-iommu_at_power_on.ensures;
+      zeros = begins.memory;
+      power_on = begins.iommu;
       starts = c.start_from.ensures.effect;
       ready = c.start_from.ensures.ready;
-      unplugged = c.in-Ok.ensures.items;
-      quiet = c.new-fabric.ensures;
+      unplugged = begins.devices;
+      quiet = begins.fabric;
     } in
     record {
-      shows = (shows_started _ _ _ _ _ _ _ _ _ _ _ started c.args.disks.now, sym c.in-Ok-numbers_of.ensures);
+      shows = (shows_started _ _ _ _ _ _ _ _ _ _ _ started _, sym begins.at_hand);
       memory = memory_is _ _ _ _ _ _ _ _ _ _ _ started;
       iommu = iommu_started _ _ _ _ _ _ _ _ _ _ _ started;
       driver = driver_started _ _ _ _ _ _ _ _ _ _ _ started;
-      devices = c.in-Ok.ensures.items;
+      devices = begins.devices;
       commands = c.start_from.ensures.effect.empty;
-      fabric = c.new-fabric.ensures;
-      events = refl;
+      fabric = begins.fabric;
+      blocks = on.blocks;
+      at_hand = on.at_hand;
+      events = begins.events;
     }

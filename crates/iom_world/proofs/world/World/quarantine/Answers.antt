@@ -9,10 +9,12 @@ use Rattle.iom_world.proofs.OfHardware.{counted}
 use Rattle.iom_world.proofs.world.World.quarantine.Goals as goal
 
 pub invariant_of-self : goal.invariant_of-self
-invariant_of-self c =
+invariant_of-self g c =
     let world = c.args.self.now in
-    let new : Parts = record { memory = c.quarantine-answer.new.memory; iommu = c.quarantine-answer.new.io; driver = state_of c.quarantine-answer.new.self; devices = world.hardware.devices.items; fabric = world.hardware.fabric } in
+    let new : Parts = record { memory = c.quarantine-answer.new.memory; iommu = c.quarantine-answer.new.io; driver = state_of c.quarantine-answer.new.self; devices = world.hardware.board.devices.items; fabric = world.hardware.board.fabric } in
     record {
-      sound = keeps_quarantined (parts_of world) new (world.hardware.events + 1) c.args.id (ticket_told_of c.quarantine-answer.result) (counted world) (sound_driver world.driver) c.quarantine-answer.ensures.ready
+      sound = keeps_quarantined (parts_of world) new (world.hardware.board.events + 1) c.args.id (ticket_told_of c.quarantine-answer.result) (counted world) (sound_driver world.driver) c.quarantine-answer.ensures.ready
           record { answer = c.quarantine-answer.result; told_so = refl; call = c.quarantine-answer.ensures.effect; devices = refl; fabric = refl };
+      agrees = world.agrees;
+      room = world.room;
     }

@@ -1,38 +1,46 @@
-use Rattle.std.proofs.Common.{◌+◌, ◌∙◌, inl, inr, List, refl, sym, ap}
-use Rattle.iom_machine.specs.declared.outcome.Outcome.TheVariants as outcome
+use Rattle.std.proofs.Common.{◌+◌, refl, sym, subst}
+use Rattle.iom_driver.specs.Seen.{state_of}
+use Rattle.iom_hardware.specs.Inside.{inside}
+use Rattle.iom_machine.specs.declared.outcome.Outcome.{Outcome}
 use Rattle.iom_virtqueue.specs.Layouts.{layout_of}
-use Rattle.iom_device.specs.declared.device.Device.{Device}
-use Rattle.iom_world_effects.specs.Parts.{Parts}
-use Rattle.iom_world.specs.Seen.{parts_of}
+use Rattle.iom_world_effects.specs.Answers.{told_of}
+use Rattle.iom_world_effects.specs.BlockDevices.{SetsBlockQueue}
 use Rattle.iom_world_invariant.proofs.BlockKeeps.{keeps_queue}
-use Rattle.iom_world_effects.proofs.PresentLemmas.{kind_absent}
-use Rattle.iom_world.proofs.OfHardware.{counted}
 use Rattle.iom_world_refinement.proofs.EventLemmas.{epochs_counted}
+use Rattle.iom_world.specs.Blocks.{SetsQueueOf}
+use Rattle.iom_world.specs.Seen.{parts_of, inside_of}
+use Rattle.iom_world.proofs.OfHardware.{with_driver, counted, at_count, sound_hardware}
+use Rattle.iom_world.proofs.InsideTold.{done_or_not, queue_in_parts}
 use Rattle.iom_world.proofs.world.World.queue.Goals as goal
 
-pub returns-in_default-clause-does : goal.returns-in_default-clause-does
-returns-in_default-clause-does c =
-    let world = c.args.self.now in
-    inl (record { absent = kind_absent world.hardware.devices.items c.args.id (sym c.kind_of.ensures ∙ c.in_default.is); told_so = refl; same = refl })
+pub queue-requires-clause-sound : goal.queue-requires-clause-sound
+queue-requires-clause-sound g c = sound_hardware c.args.self.now
 
 pub invariant_of-self : goal.invariant_of-self
-invariant_of-self c = record { sound = counted c.args.self.now }
-
-pub invariant_of-self-2 : goal.invariant_of-self-2
-invariant_of-self-2 c =
+invariant_of-self g c =
     let world = c.args.self.now in
-    let new : Parts = record (parts_of world) { devices = c.reset.new.devices.items } in
+    let new = with_driver c.queue.new.self.board (state_of world.driver) in
+    let layout = layout_of c.args.size c.args.descriptors c.args.available c.args.used in
+    let effect = queue_in_parts (parts_of world) new refl c.args.id layout c.queue.result c.queue.ensures.effect in
     record {
-      sound = keeps_queue (parts_of world) new (world.hardware.events + 1) c.args.id (layout_of c.args.size c.args.descriptors c.args.available c.args.used) outcome.Done (counted world) (epochs_counted (parts_of world) world.hardware.events world.sound c.args.id) (inr (inr (
-        (c.in-Some.kind, sym c.kind_of.ensures ∙ c.in-Some.is, sym c.is_block_device.ensures ∙ c.if-not-is_block_device.false),
-        inl (c.new.ensures.found.0 c.if-is_none.ensures, refl, ap (λ (ds : List Device). record (parts_of world) { devices = ds }) c.reset.ensures),
-      )));
+      sound = at_count new (world.hardware.board.events + 1) c.queue.new.self.board.events c.queue.ensures.counted.events
+          (keeps_queue (parts_of world) new (world.hardware.board.events + 1) c.args.id layout (told_of c.queue.result) (counted world)
+          (epochs_counted (parts_of world) world.hardware.board.events world.sound c.args.id) effect);
+      agrees = c.queue.ensures.sound.agrees;
+      room = c.queue.ensures.sound.room;
     }
 
 pub returns-clause-does : goal.returns-clause-does
-returns-clause-does c =
+returns-clause-does g c =
     let world = c.args.self.now in
-    inr (inr (
-      (c.in-Some.kind, sym c.kind_of.ensures ∙ c.in-Some.is, sym c.is_block_device.ensures ∙ c.if-not-is_block_device.false),
-      inl (c.new.ensures.found.0 c.if-is_none.ensures, refl, ap (λ (ds : List Device). record (parts_of world) { devices = ds }) c.reset.ensures),
-    ))
+    let new = with_driver c.queue.new.self.board (state_of world.driver) in
+    let layout = layout_of c.args.size c.args.descriptors c.args.available c.args.used in
+    subst (λ (told : Outcome). SetsBlockQueue (parts_of world) c.args.id layout told new) (sym c.of.ensures)
+    (queue_in_parts (parts_of world) new refl c.args.id layout c.queue.result c.queue.ensures.effect)
+
+pub returns-clause-inside : goal.returns-clause-inside
+returns-clause-inside g c =
+    let world = c.args.self.now in
+    let layout = layout_of c.args.size c.args.descriptors c.args.available c.args.used in
+    subst (λ (told : Outcome). SetsQueueOf layout (inside_of g.D.Disk.seen world) c.args.id told (inside g.D.Disk.seen c.queue.new.self)) (sym c.of.ensures)
+    (done_or_not c.queue.result _ (inside_of g.D.Disk.seen world) (inside g.D.Disk.seen c.queue.new.self) c.queue.ensures.inside)

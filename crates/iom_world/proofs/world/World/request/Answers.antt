@@ -7,28 +7,32 @@ use Rattle.iom_world_invariant.proofs.AskedLemmas.{keeps_asked_counted}
 use Rattle.iom_world_refinement.proofs.EventLemmas.{below_counted}
 use Rattle.iom_world.specs.OnHardware.{told_unless}
 use Rattle.iom_world.proofs.InParts.{asked_in_parts}
-use Rattle.iom_world.proofs.OfHardware.{with_driver, counted, at_count, hardware_sound}
+use Rattle.iom_world.proofs.OfHardware.{with_driver, counted, at_count, hardware_sound, agrees_now}
 use Rattle.iom_world.specs.Seen.{parts_of}
 use Rattle.iom_driver.specs.Seen.{state_of}
+use Rattle.iom_hardware.proofs.KeptBlocks.{requested}
+use Rattle.iom_world.specs.OnHardware.{hardware_of}
 use Rattle.iom_world.proofs.world.World.request.Goals as goal
 
 pub request-requires-clause-sound : goal.request-requires-clause-sound
-request-requires-clause-sound c = let world = c.args.self.now in hardware_sound (parts_of world) world.hardware.events world.sound
+request-requires-clause-sound g c = let world = c.args.self.now in hardware_sound (parts_of world) world.hardware.board.events world.sound
 
 pub invariant_of-self : goal.invariant_of-self
-invariant_of-self c =
+invariant_of-self g c =
     let world = c.args.self.now in
     let new = with_driver c.request.new.self (state_of world.driver) in
     let access = access_of c.args.address c.args.len c.args.kind c.args.bytes.now in
     let asks = asked_in_parts (parts_of world) new refl (untranslated_by c.args.sender) c.args.id access c.request.result c.request.ensures.effect in
     record {
-      sound = at_count new (world.hardware.events + 1) c.request.new.self.events c.request.ensures.counted.events
-          (keeps_asked_counted (untranslated_by c.args.sender) c.laws_below.ensures world.driver (parts_of world) new (world.hardware.events + 1) c.args.id access
-          (told_unless reply_told_of c.request.result) (counted world) (sound_driver world.driver) refl (below_counted (parts_of world) world.hardware.events world.sound) c.ranges.address.fits asks);
+      sound = at_count new (world.hardware.board.events + 1) c.request.new.self.events c.request.ensures.counted.events
+          (keeps_asked_counted (untranslated_by c.args.sender) c.laws_below.ensures world.driver (parts_of world) new (world.hardware.board.events + 1) c.args.id access
+          (told_unless reply_told_of c.request.result) (counted world) (sound_driver world.driver) refl (below_counted (parts_of world) world.hardware.board.events world.sound) c.ranges.address.fits asks);
+      agrees = agrees_now world c.request.new.self (requested (untranslated_by c.args.sender) (hardware_of (parts_of world)) (hardware_of new) c.args.id access c.request.result c.request.ensures.effect) c.request.ensures.counted.disks;
+      room = world.room;
     }
 
 pub returns-clause-does : goal.returns-clause-does
-returns-clause-does c =
+returns-clause-does g c =
     let world = c.args.self.now in
     let new = with_driver c.request.new.self (state_of world.driver) in
     let access = access_of c.args.address c.args.len c.args.kind c.args.bytes.now in

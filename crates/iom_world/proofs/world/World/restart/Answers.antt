@@ -9,10 +9,12 @@ use Rattle.iom_world.proofs.OfHardware.{counted}
 use Rattle.iom_world.proofs.world.World.restart.Goals as goal
 
 pub invariant_of-self : goal.invariant_of-self
-invariant_of-self c =
+invariant_of-self g c =
     let world = c.args.self.now in
-    let new : Parts = record { memory = c.restart.new.memory; iommu = c.restart.new.io; driver = state_of c.restart.new.self; devices = world.hardware.devices.items; fabric = world.hardware.fabric } in
+    let new : Parts = record { memory = c.restart.new.memory; iommu = c.restart.new.io; driver = state_of c.restart.new.self; devices = world.hardware.board.devices.items; fabric = world.hardware.board.fabric } in
     record {
-      sound = keeps_restarted (parts_of world) new (world.hardware.events + 1) (told_of c.restart.result) (counted world) (sound_driver world.driver) c.restart.ensures.ready
+      sound = keeps_restarted (parts_of world) new (world.hardware.board.events + 1) (told_of c.restart.result) (counted world) (sound_driver world.driver) c.restart.ensures.ready
           record { answer = c.restart.result; told_so = refl; call = c.restart.ensures.effect; devices = refl; fabric = refl };
+      agrees = world.agrees;
+      room = world.room;
     }

@@ -1,14 +1,13 @@
 -- The counts are those of the ledger machine's state.
-use Rattle.std.proofs.Common.{◌≡◌, ◌∙◌, refl, sym, ap, subst}
+use Rattle.std.proofs.Common.{◌∙◌, sym, subst}
 use Rattle.iom_driver.specs.Calls.{IsFreeFrame}
-use Rattle.iom_machine.specs.Tickets.{last_confirmed}
 use Rattle.iom_table_frames.specs.Marks.{AreSoMany}
 use Rattle.iom_world.specs.Seen.{parts_of}
 use Rattle.iom_world_refinement.proofs.CountLemmas.{flights_counted, free_shown}
 use Rattle.iom_world.proofs.world.World.trace.Goals as goal
 
 pub returns : goal.returns
-returns c state shows =
+returns g c state shows =
     let world = c.args.self.now in
     let parts = parts_of world in (
       record {

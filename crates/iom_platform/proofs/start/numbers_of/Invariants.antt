@@ -1,7 +1,0 @@
--- The numbers so far are those of the disks before this one.
-use Rattle.std.proofs.Common.{◌≡◌, take}
-use Rattle.iom_platform.specs.Agreement.{numbers_of}
-use Rattle.iom_platform.proofs.start.numbers_of.Given as goal
-
-abbrev pub invariant-loop-one : goal.invariant-loop-one
-invariant-loop-one g l = l.numbers.items ≡ numbers_of (take l.one-index l.at_hand)

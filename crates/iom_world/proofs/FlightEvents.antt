@@ -1,0 +1,268 @@
+-- What each event leaves of the accesses in flight: each keeps its number, but the one that a commit makes.
+use Rattle.std.proofs.Common.{◌≡◌, ◌∙◌, ◌+◌, inl, inr, ℕ, Bool, true, false, List, [], ◌∷◌, length, Option, Some, None, Result, Ok, Err, slice_get, remove, ap}
+use Rattle.iom_base.specs.declared.access.Access.{Access}
+use Rattle.iom_base.specs.Accesses.{at_frame, read_of, write_of}
+use Rattle.iom_base.specs.DeviceKinds.{is_block_device}
+use Rattle.iom_base.specs.declared.device_kind.DeviceKind.{DeviceKind}
+use Rattle.iom_base.specs.Modes.{size_in}
+use Rattle.iom_base.specs.declared.refusal.Refusal.{Refusal}
+use Rattle.iom_command_queue.specs.declared.command.Command.{Command}
+use Rattle.iom_command_queue.specs.declared.entry.QueueEntry.{QueueEntry}
+use Rattle.iom_command_queue.specs.declared.entry.QueueEntry.TheVariants as stands
+use Rattle.iom_coherence.specs.Attachments.{caches_translations}
+use Rattle.iom_device.specs.Caches.{kind_in}
+use Rattle.iom_directory_build.specs.Pages.{root_level}
+use Rattle.iom_directory_build.specs.Written.{without_context}
+use Rattle.iom_driver.specs.declared.answers.Ticket.{Ticket}
+use Rattle.iom_driver.specs.Appends.{AppendsAll, detach_commands, release_commands}
+use Rattle.iom_driver.specs.Calls.{AnswersRelease}
+use Rattle.iom_driver.specs.Fences.{last_fence}
+use Rattle.iom_driver.specs.Layout.{completion_address, directory_frame}
+use Rattle.iom_driver.specs.Leaving.{DoesDetach}
+use Rattle.iom_driver.specs.Quarantines.{AnswersQuarantine, all_unmapped}
+use Rattle.iom_driver.specs.Reports.{AnswersFaults}
+use Rattle.iom_driver.specs.Restarts.{AnswersRestart, restart_commands, turned_off_and_on}
+use Rattle.iom_driver.specs.State.{DriverState}
+use Rattle.iom_fabric.specs.declared.fabric.OnLink.{OnLink}
+use Rattle.iom_fabric.specs.declared.message.Message.{Message}
+use Rattle.iom_fabric.specs.declared.message.Message.TheVariants as sent
+use Rattle.iom_fabric.specs.declared.message.Translation.{Translation}
+use Rattle.iom_fabric.specs.declared.message.Translation.TheVariants as translation
+use Rattle.iom_fault_queue.specs.Fields.{Fields}
+use Rattle.iom_fault_queue.specs.declared.transaction.Transaction.{Transaction}
+use Rattle.iom_iommu.specs.declared.fetched.Fetched.{Fetched}
+use Rattle.iom_iommu.specs.declared.fetched.Fetched.TheVariants.{Did, Waiting, Empty, Stopped}
+use Rattle.iom_iommu.specs.declared.reply.Reply.{Reply}
+use Rattle.iom_iommu.specs.declared.reply.Reply.TheVariants as reply
+use Rattle.iom_iommu.specs.Effects.{FetchesByAnswer, StopsAtEntry, StopsFetching}
+use Rattle.iom_iommu.specs.Fetches.{head_entry}
+use Rattle.iom_iommu.specs.OwnIommu.{Iommu}
+use Rattle.iom_iommu.specs.Parts.{flights_of, mmio, registers_of}
+use Rattle.iom_iommu.specs.Questions.{AnswersQuestion}
+use Rattle.iom_iommu.specs.Requests.{Answers}
+use Rattle.iom_iommu.specs.Timeouts.{TimesFenceOut}
+use Rattle.iom_iommu.proofs.ByAnswer.{by_answer}
+use Rattle.iom_machine.specs.declared.event.Event.{Event}
+use Rattle.iom_machine.specs.declared.event.Event.TheVariants as events
+use Rattle.iom_machine.specs.declared.outcome.Outcome.{Outcome}
+use Rattle.iom_machine.specs.declared.outcome.Outcome.TheVariants as outcome
+use Rattle.iom_page_table.specs.FirstTables.{unmapped}
+use Rattle.iom_registers.specs.Queues.{is_processing_commands}
+use Rattle.iom_stage_walk.specs.declared.walked.WalkFault.{WalkFault}
+use Rattle.iom_tlb.specs.Content.{Translations}
+use Rattle.iom_tlb.specs.declared.trans_cache.Translation.{Translation as Cached}
+use Rattle.iom_world_effects.specs.BlockDevices.{AsksIfMissed, BeginsAccess, GoesToMemory, InsertsMedium, TakesBlockStep}
+use Rattle.iom_world_effects.specs.Deliveries.{Arrives, ArrivesIfAny}
+use Rattle.iom_world_effects.specs.Does.{AddsRow, Does}
+use Rattle.iom_world_effects.specs.Parts.{Parts}
+use Rattle.iom_world_effects.specs.Requests.{AsksAccess, AsksTranslated}
+use Rattle.iom_world_effects.specs.ThroughCache.{DeviceAsksThroughCache, FindsFrame, TriesCache, cached_frame}
+use Rattle.iom_world.proofs.NumberLemmas.{KeepsAllNumbers, same_numbers, keeps_accepted, keeps_added}
+
+-- between parts
+abbrev pub Keeps : Parts → Parts → Type 0
+Keeps old new = KeepsAllNumbers (flights_of old.iommu) (flights_of new.iommu)
+
+same_iommu : (old new : Parts) → new.iommu ≡ old.iommu → Keeps old new
+same_iommu old new same = same_numbers (flights_of old.iommu) (flights_of new.iommu) (ap flights_of same)
+
+pub same_parts : (old new : Parts) → new ≡ old → Keeps old new
+same_parts old new same = same_iommu old new (ap (λ (p : Parts). p.iommu) same)
+
+-- COMMANDS that are appended write registers alone
+flights_appended : (commands : List Command) (memory memory' : List (List ℕ)) (io io' : Iommu) → AppendsAll mmio memory io commands memory' io' → flights_of io' ≡ flights_of io
+flights_appended [] memory memory' io io' all = ap flights_of all.1
+flights_appended (command ∷ later) memory memory' io io' (mid, between, first, rest) =
+    flights_appended later mid memory' between io' rest ∙ ap (λ (i : Iommu). flights_of i) first.rung
+
+released : (d d' : DriverState) (memory memory' : List (List ℕ)) (io io' : Iommu) (id page : ℕ) (answer : Result Ticket Refusal)
+    → AnswersRelease mmio d memory io id page answer d' memory' io' → flights_of io' ≡ flights_of io
+released d d' memory memory' io io' id page (Ok ticket) (none, queues) =
+    flights_appended (release_commands id queues.stage page (completion_address (length memory)) (last_fence d + 1)) (unmapped (size_in queues.stage.mode) memory queues.stage.root page) memory' io io'
+    queues.queued
+released d d' memory memory' io io' id page (Err why) refused = ap flights_of refused.3
+
+detached : (d d' : DriverState) (memory memory' : List (List ℕ)) (io io' : Iommu) (id : ℕ) (answer : Result Ticket Refusal)
+    → DoesDetach mmio d memory io id answer d' memory' io' → flights_of io' ≡ flights_of io
+detached d d' memory memory' io io' id (Ok ticket) queues =
+    flights_appended (detach_commands id queues.stage (completion_address (length memory)) (last_fence d + 1))
+    (without_context memory (root_level d.levels) (directory_frame (length memory)) id) memory' io io' queues.queued
+detached d d' memory memory' io io' id (Err why) same = ap flights_of same.2
+
+cut_off : (d d' : DriverState) (memory memory' : List (List ℕ)) (io io' : Iommu) (id : ℕ) (answer : Result Ticket Refusal)
+    → AnswersQuarantine mmio d memory io id answer d' memory' io' → flights_of io' ≡ flights_of io
+cut_off d d' memory memory' io io' id (Ok ticket) (none, queues) =
+    flights_appended (detach_commands id queues.stage (completion_address (length memory)) (last_fence d + 1))
+    (all_unmapped (size_in queues.stage.mode) (without_context memory (root_level d.levels) (directory_frame (length memory)) id) queues.stage.root queues.pages) memory' io io' queues.queued
+cut_off d d' memory memory' io io' id (Err why) refused = ap flights_of refused.3
+
+restarted : (d d' : DriverState) (memory memory' : List (List ℕ)) (io io' : Iommu) (answer : Result (Unit {0}) Refusal)
+    → AnswersRestart mmio d memory io answer d' memory' io' → flights_of io' ≡ flights_of io
+restarted d d' memory memory' io io' (Ok done) (none, queues) =
+    flights_appended (restart_commands d.devices (completion_address (length memory)) (last_fence d + 1)) memory memory' (turned_off_and_on mmio io) io' queues.queued
+restarted d d' memory memory' io io' (Err why) refused = ap flights_of refused.3
+
+reported : (d : DriverState) (memory : List (List ℕ)) (io io' : Iommu) (answer : Result (Option Fields) Refusal) → AnswersFaults mmio d memory io answer io' → flights_of io' ≡ flights_of io
+reported d memory io io' (Ok (Some fields)) (none, (takes, list)) = ap flights_of takes.1
+reported d memory io io' (Ok None) (none, (empty, is)) = ap flights_of is
+reported d memory io io' (Err why) (refused, is) = ap flights_of is
+
+-- A FETCH and a timeout
+stopped_at : (memory : List (List ℕ)) (entry : Option QueueEntry) (old new : Iommu) → StopsAtEntry memory entry old new → flights_of new ≡ flights_of old
+stopped_at memory None old new stops = absurd stops
+stopped_at memory (Some stands.Outside) old new is = ap flights_of is
+stopped_at memory (Some (stands.Illegal reason)) old new is = ap flights_of is
+stopped_at memory (Some (stands.Command command)) old new stops = ap flights_of stops.2
+
+stopped : (processing : Bool) (memory : List (List ℕ)) (old new : Iommu) → StopsFetching processing memory old new → flights_of new ≡ flights_of old
+stopped false memory old new same = ap flights_of same
+stopped true memory old new stops = stopped_at memory (head_entry memory (registers_of old)) old new stops
+
+fetched : (memory memory' : List (List ℕ)) (old new : Iommu) (answer : Fetched) → FetchesByAnswer memory old answer memory' new → flights_of new ≡ flights_of old
+fetched memory memory' old new (Did command) fetches = fetches.5.flights
+fetched memory memory' old new Waiting fetches = ap flights_of fetches.3
+fetched memory memory' old new Empty fetches = ap flights_of fetches.3
+fetched memory memory' old new Stopped fetches = stopped (is_processing_commands (registers_of old)) memory old new fetches.0
+
+timed_out : (old new : Iommu) (answer : Bool) → TimesFenceOut old answer new → flights_of new ≡ flights_of old
+timed_out old new true call = ap flights_of call.1
+timed_out old new false call = ap flights_of call.1
+
+-- A REQUEST is accepted, or nothing is
+answered : (Served : Result Cached WalkFault → Translations → Type 0) (transaction : Transaction) (memory memory' : List (List ℕ)) (old new : Iommu) (id : ℕ) (access : Access) (told : Reply)
+    → Answers Served transaction memory old id access told memory' new → KeepsAllNumbers (flights_of old) (flights_of new)
+answered Served transaction memory memory' old new id access reply.BadSpan answers = same_numbers (flights_of old) (flights_of new) (ap flights_of answers.1)
+answered Served transaction memory memory' old new id access reply.Busy answers = same_numbers (flights_of old) (flights_of new) (ap flights_of answers.2)
+answered Served transaction memory memory' old new id access (reply.Accepted number) answers =
+    keeps_accepted (flights_of old) (flights_of new) id (record { access = access; frame = answers.0.frame }) number answers.0.accepted
+answered Served transaction memory memory' old new id access (reply.Fault cause) refuses = same_numbers (flights_of old) (flights_of new) refuses.flights
+
+asked : (can : DeviceKind → Bool) (old new : Parts) (id : ℕ) (access : Access) (told : Outcome) → AsksAccess can old id access told new → Keeps old new
+asked can old new id access told (inl unknown) = same_parts old new unknown.same
+asked can old new id access told (inr (inl unable)) = same_parts old new unable.same
+asked can old new id access told (inr (inr (able, replied))) = answered _ _ old.memory new.memory old.iommu new.iommu id access replied.reply replied.call
+
+translated : (old new : Parts) (id : ℕ) (access : Access) (told : Outcome) → AsksTranslated old id access told new → Keeps old new
+translated old new id access told (inl unknown) = same_parts old new unknown.same
+translated old new id access told (inr (inl unable)) = same_parts old new unable.same
+translated old new id access told (inr (inr (able, replied))) = answered _ _ old.memory new.memory old.iommu new.iommu id access replied.reply replied.call
+
+found : (frame : Option ℕ) (old new : Parts) (id : ℕ) (access : Access) (told : Outcome) → FindsFrame frame old id access told new → Keeps old new
+found None old new id access told finds = same_parts old new finds.1
+found (Some frame) old new id access told replied = answered _ _ old.memory new.memory old.iommu new.iommu id (at_frame frame access) replied.reply replied.call
+
+tried : (old new : Parts) (id : ℕ) (access : Access) (told : Outcome) → TriesCache old id access told new → Keeps old new
+tried old new id access told (inl bad) = same_parts old new bad.2
+tried old new id access told (inr (inl full)) = same_parts old new full.3
+tried old new id access told (inr (inr finds)) = found (cached_frame old id access) old new id access told finds.2
+
+through_cache : (can : DeviceKind → Bool) (old new : Parts) (id : ℕ) (access : Access) (told : Outcome) → DeviceAsksThroughCache can old id access told new → Keeps old new
+through_cache can old new id access told (inl unknown) = same_parts old new unknown.same
+through_cache can old new id access told (inr (inl unable)) = same_parts old new unable.same
+through_cache can old new id access told (inr (inr (able, tries))) = tried old new id access told tries
+
+-- A BLOCK DEVICE'S STEP
+missed : (first : Outcome) (old mid new : Parts) (id : ℕ) (access : Access) (told : Outcome) → Keeps old mid → AsksIfMissed first mid id access told new → Keeps old new
+missed outcome.Miss old mid new id access told keeps asks = λ other number own at.
+    same_iommu mid new (ap (λ (p : Parts). p.iommu) asks.1) other number own (keeps other number own at)
+missed first old mid new id access told keeps asks = λ other number own at. same_parts mid new asks.1 other number own (keeps other number own at)
+
+to_memory : (has_cache : Bool) (old new : Parts) (id : ℕ) (access : Access) (told : Outcome) → GoesToMemory has_cache old id access told new → Keeps old new
+to_memory false old new id access told asks = asked is_block_device old new id access told asks
+to_memory true old new id access told goes =
+    missed goes.first old goes.between new id access told (through_cache is_block_device old goes.between id access goes.first goes.tries) goes.asks
+
+begun : (old new : Parts) (id : ℕ) (access : Access) (told : Outcome) → BeginsAccess old id access told new → Keeps old new
+begun old new id access told begins = to_memory (caches_translations (kind_in old.devices id)) old new id access told begins
+
+stepped : (old new : Parts) (id : ℕ) (told : Outcome) → TakesBlockStep old id told new → Keeps old new
+stepped old new id told (inl wants) = begun old new id wants.0 told wants.3
+stepped old new id told (inr (step, is, inl unknown)) = same_parts old new unknown.same
+stepped old new id told (inr (step, is, inr (inl unable))) = same_parts old new unable.same
+stepped old new id told (inr (step, is, inr (inr rests))) = same_parts old new rests.2
+
+-- A MESSAGE arrives
+question : (old new : Parts) (device page : ℕ) (answer : Translation) → AnswersQuestion old.memory old.iommu device page answer new.memory new.iommu → flights_of new.iommu ≡ flights_of old.iommu
+question old new device page (translation.Page frame rights) answers = answers.0.flights
+question old new device page (translation.Refused cause) refuses = refuses.flights
+
+arrived : (message : Message) (old new : Parts) (device : ℕ) (others : List OnLink) (told : Outcome) → Arrives message old device others told new → Keeps old new
+arrived (sent.Ask epoch page) old new device others told answers =
+    same_numbers (flights_of old.iommu) (flights_of new.iommu) (question old new device page answers.answer answers.call)
+arrived (sent.Answer epoch page answer) old new device others told takes = same_iommu old new (ap (λ (p : Parts). p.iommu) takes.rest)
+arrived (sent.InvReq serial range) old new device others told obeys = same_iommu old new (ap (λ (p : Parts). p.iommu) obeys.rest)
+arrived (sent.InvDone serial) old new device others told hears = same_numbers (flights_of old.iommu) (flights_of new.iommu) (ap flights_of hears.call.left)
+
+delivered : (on : Option OnLink) (old new : Parts) (others : List OnLink) (told : Outcome) → ArrivesIfAny on old others told new → Keeps old new
+delivered None old new others told none = same_parts old new none.1
+delivered (Some on) old new others told arrives = arrived on.message old new on.device others told arrives
+
+-- A DEVICE IS PLUGGED IN
+added : (answer : Result (Unit {0}) Refusal) (old new : Iommu) (id : ℕ) → AddsRow answer old id new → KeepsAllNumbers (flights_of old) (flights_of new)
+added (Ok done) old new id adds = keeps_added (flights_of old) (flights_of new) id adds.flights.2
+added (Err why) old new id same = same_numbers (flights_of old) (flights_of new) (ap flights_of same)
+
+-- what the events of block devices leave of the IOMMU
+inserted : (disks : List ℕ) (old new : Parts) (id disk : ℕ) (told : Outcome) → InsertsMedium disks old id disk told new → Keeps old new
+inserted disks old new id disk told (inl unknown) = same_parts old new unknown.same
+inserted disks old new id disk told (inr (inl unable)) = same_parts old new unable.same
+inserted disks old new id disk told (inr (inr (device, is, inl puts))) = same_iommu old new (ap (λ (p : Parts). p.iommu) puts.2)
+inserted disks old new id disk told (inr (inr (device, is, inr refused))) = same_parts old new refused.2
+
+-- THE EVENT is no commit
+abbrev pub MakesNothing : Event → Type 0
+MakesNothing (events.Commit id) = ⊥
+MakesNothing event = Unit {0}
+
+pub keeps_all : (disks : List ℕ) (old new : Parts) (event : Event) (told : Outcome) → MakesNothing event → Does disks old event told new → Keeps old new
+keeps_all disks old new (events.Plug id what) told none (inl lacks) = same_parts old new lacks.same
+keeps_all disks old new (events.Plug id what) told none (inr plugs) = added plugs.answer old.iommu new.iommu id plugs.row
+keeps_all disks old new (events.Medium id disk) told none does = inserted disks old new id disk told does
+keeps_all disks old new (events.Attach id mode ats) told none does = same_iommu old new does.iommu
+keeps_all disks old new (events.Grant id page frame rights) told none does = same_iommu old new does.iommu
+keeps_all disks old new (events.Release id page) told none does =
+    same_numbers (flights_of old.iommu) (flights_of new.iommu) (released old.driver new.driver old.memory new.memory old.iommu new.iommu id page does.answer does.call)
+keeps_all disks old new (events.Detach id) told none does =
+    same_numbers (flights_of old.iommu) (flights_of new.iommu) (detached old.driver new.driver old.memory new.memory old.iommu new.iommu id does.answer does.call.effect)
+keeps_all disks old new (events.Quarantine id) told none does =
+    same_numbers (flights_of old.iommu) (flights_of new.iommu) (cut_off old.driver new.driver old.memory new.memory old.iommu new.iommu id does.answer does.call)
+keeps_all disks old new (events.Revive id) told none does = same_iommu old new does.iommu
+keeps_all disks old new events.Restart told none does =
+    same_numbers (flights_of old.iommu) (flights_of new.iommu) (restarted old.driver new.driver old.memory new.memory old.iommu new.iommu does.answer does.call)
+keeps_all disks old new events.Fetch told none does =
+    same_numbers (flights_of old.iommu) (flights_of new.iommu)
+    (fetched old.memory new.memory old.iommu new.iommu does.answer (by_answer old.memory new.memory old.iommu new.iommu does.answer does.call))
+keeps_all disks old new events.Timeout told none does =
+    same_numbers (flights_of old.iommu) (flights_of new.iommu) (timed_out old.iommu new.iommu does.answer does.call)
+keeps_all disks old new events.Poll told none does = same_iommu old new does.iommu
+keeps_all disks old new events.Faults told none does =
+    same_numbers (flights_of old.iommu) (flights_of new.iommu) (reported old.driver old.memory old.iommu new.iommu does.answer does.call)
+keeps_all disks old new (events.Read id address len) told none does = asked _ old new id (read_of address len) told does
+keeps_all disks old new (events.Write id address bytes) told none does = asked _ old new id (write_of address bytes) told does
+keeps_all disks old new (events.Commit id) told none does = absurd none
+keeps_all disks old new (events.ReadTranslated id address len) told none does = translated old new id (read_of address len) told does
+keeps_all disks old new (events.WriteTranslated id address bytes) told none does = translated old new id (write_of address bytes) told does
+keeps_all disks old new (events.ReadThroughCache id address len) told none does = through_cache _ old new id (read_of address len) told does
+keeps_all disks old new (events.WriteThroughCache id address bytes) told none does = through_cache _ old new id (write_of address bytes) told does
+keeps_all disks old new (events.Ask id page) told none (inl unknown) = same_parts old new unknown.same
+keeps_all disks old new (events.Ask id page) told none (inr (inl unable)) = same_parts old new unable.same
+keeps_all disks old new (events.Ask id page) told none (inr (inr sends)) = same_iommu old new (ap (λ (p : Parts). p.iommu) sends.1.sent)
+keeps_all disks old new (events.Forge id serial) told none (inl unknown) = same_parts old new unknown.same
+keeps_all disks old new (events.Forge id serial) told none (inr (inl unable)) = same_parts old new unable.same
+keeps_all disks old new (events.Forge id serial) told none (inr (inr sends)) = same_iommu old new (ap (λ (p : Parts). p.iommu) sends.1.sent)
+keeps_all disks old new (events.Deliver place) told none does = delivered (slice_get old.fabric place) old new (remove old.fabric place) told does
+keeps_all disks old new (events.Drop place) told none does = same_iommu old new (ap (λ (p : Parts). p.iommu) does.dropped)
+keeps_all disks old new (events.Repeat place) told none does = same_iommu old new (ap (λ (p : Parts). p.iommu) does.repeated)
+keeps_all disks old new (events.Reset id) told none (inl unknown) = same_parts old new unknown.same
+keeps_all disks old new (events.Reset id) told none (inr resets) = same_iommu old new (ap (λ (p : Parts). p.iommu) resets.2)
+keeps_all disks old new (events.Queue id size descriptors available used) told none (inl unknown) = same_parts old new unknown.same
+keeps_all disks old new (events.Queue id size descriptors available used) told none (inr (inl unable)) = same_parts old new unable.same
+keeps_all disks old new (events.Queue id size descriptors available used) told none (inr (inr (able, inl sets))) = same_iommu old new (ap (λ (p : Parts). p.iommu) sets.2)
+keeps_all disks old new (events.Queue id size descriptors available used) told none (inr (inr (able, inr refused))) = same_parts old new refused.2
+keeps_all disks old new (events.Step id) told none does = stepped old new id told does
+keeps_all disks old new (events.Status id) told none (status, inl unknown) = same_parts old new unknown.same
+keeps_all disks old new (events.Status id) told none (status, inr (inl unable)) = same_parts old new unable.same
+keeps_all disks old new (events.Status id) told none (status, inr (inr tells)) = same_parts old new tells.2
+keeps_all disks old new (events.Poke address bytes) told none does = same_iommu old new does.iommu
+keeps_all disks old new (events.Peek address len) told none does = same_parts old new does.1
+keeps_all disks old new (events.Free frame) told none does = same_parts old new does.1
