@@ -77,8 +77,8 @@ pub fn set_up<D: Disk>(blocks: &mut Vec<Block<D>>, id: DeviceId, layout: Layout)
 
 /// It hears that its access of this number was made, and takes the bytes where that is the one that it waits
 /// for.
-// Written into its caller, as what it calls is: a block device hears so at every other event.
-#[inline(always)]
+// On its own: a commit without block devices doesn't pay for what this keeps in registers.
+#[inline(never)]
 pub fn hear_made<D: Disk>(blocks: &mut Vec<Block<D>>, id: DeviceId, number: u64, bytes: &[u8])
     ensures seen { ChangesOne (HearsMade number bytes.now) (blocks_seen D.seen blocks.old.items) id
         (blocks_seen D.seen blocks.new.items) }

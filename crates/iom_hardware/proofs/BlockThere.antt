@@ -1,5 +1,5 @@
 -- Where a device is a block device there is one itself, and else none.
-use Rattle.std.proofs.Common.{◌≡◌, ◌∙◌, inl, inr, ℕ, ◌==◌, Bool, true, false, is_some, List, [], ◌∷◌, Option, None, Some, Err, if◌then◌else◌, refl, sym, ap, subst}
+use Rattle.std.proofs.Common.{◌≡◌, ◌∙◌, inl, inr, ℕ, ◌==◌, Bool, true, false, IsSome, is_some, List, [], ◌∷◌, Option, None, Some, Err, if◌then◌else◌, refl, sym, ap, subst}
 use Rattle.std.proofs.lemmas.Bool.{false≢true}
 use Rattle.iom_base.specs.declared.device_kind.DeviceKind.{DeviceKind}
 use Rattle.iom_base.specs.declared.refusal.Refusal.{Refusal}
@@ -74,3 +74,9 @@ is_able devices id permits = by (kind_in devices id) refl permits
     by : (known : Option DeviceKind) → kind_in devices id ≡ known → IsBlockOrRefused known None → IsAble is_block_device devices id
     by None at never = absurd never
     by (Some kind) at able = (kind, at, able)
+
+-- where none is there, the board says why not
+pub is_refused : {D : Type 0} {d : Ghosts D} (seen : D → DiskState) (hardware : Hardware D d) → IsSoundHardware hardware → (id : ℕ) → block_with (blocks_seen seen hardware.blocks.items) id ≡ None
+    → (why : Option Refusal) → IsBlockOrRefused (kind_in hardware.board.devices.items id) why → IsSome why
+is_refused seen hardware sound id none None permits = absurd (there_able seen hardware sound id (is_able hardware.board.devices.items id permits) none)
+is_refused seen hardware sound id none (Some why) refuses = refl

@@ -1,6 +1,7 @@
 // The oldest access in flight of a device is made, and a block device hears of it.
 ghost use Rattle.std.specs.Prelude.{◌≡◌, ◌+◌, ◌<◌, ◌^◌, ℕ, List, IfOk, length, vec_capacity};
 ghost use Rattle.std.specs.Option.{IfSome};
+ghost use Rattle.iom_block_devices.specs.Changes.{Changes, HearsMade};
 ghost use Rattle.iom_block_devices.specs.Entries.{disk_entries_of};
 ghost use Rattle.iom_board.specs.BoardParts.{board_parts};
 ghost use Rattle.iom_board.specs.Commits.{CommitsOldestAccess};
@@ -8,7 +9,7 @@ ghost use Rattle.iom_board.specs.Counted.{IsCounted};
 ghost use Rattle.iom_inflight.specs.Flights.{row_of};
 ghost use Rattle.iom_iommu.specs.Requests.{IsWithinFrame};
 ghost use Rattle.iom_iommu.specs.Parts.{flights_of};
-ghost use Rattle.iom_hardware.specs.Blocks.{GaveBytes, HearsIfMade, HearsOldest, oldest_number};
+ghost use Rattle.iom_hardware.specs.Blocks.{GaveBytes, HearsIfMade, oldest_number};
 ghost use Rattle.iom_hardware.specs.Inside.{inside};
 ghost use Rattle.iom_hardware.specs.Sound.{IsSoundHardware};
 
@@ -33,20 +34,17 @@ impl<D: Disk> Hardware<D> {
         Some(self.board.iommu.accepted(id).saturating_sub(later))
     }
 
-    /// A block device, if the device is one, hears that its access of this number, if there is one, was made.
+    /// A block device, if the device is one, hears that its access of this number was made.
     #[inline(always)]
-    fn hear(&mut self, id: DeviceId, number: Option<u64>, made: MadeAt)
+    fn hear(&mut self, id: DeviceId, number: u64, made: MadeAt)
         requires within { IsWithinFrame (length self.old.board.memory) made }
         ensures board { self.new.board ≡ self.old.board }
         ensures heard { (bytes : List ℕ) → GaveBytes made.kind self.old.board.memory made bytes
-            → HearsOldest number bytes (inside D.seen self.old) id (inside D.seen self.new) }
+            → Changes (HearsMade number bytes) (inside D.seen self.old) id (inside D.seen self.new) }
         ensures at_hand { self.new.at_hand ≡ self.old.at_hand }
         ensures entries { disk_entries_of self.new.blocks.items ≡ disk_entries_of self.old.blocks.items }
         ensures room { vec_capacity self.new.blocks ≡ vec_capacity self.old.blocks }
     {
-        let Some(number) = number else {
-            return;
-        };
         match made.kind {
             AccessKind::Read => hear_made(&mut self.blocks, id, number, self.board.bytes_of(made)),
             AccessKind::Write => hear_made(&mut self.blocks, id, number, &[]),
@@ -67,12 +65,15 @@ impl<D: Disk> Hardware<D> {
         ensures counted { IsCounted self.old.board self.new.board }
     {
         // Without block devices nobody hears of it.
-        if self.blocks.is_empty() {
-            return self.board.commit(id);
-        }
-        let number = self.oldest_number(id);
+        let number = if self.blocks.is_empty() {
+            None
+        } else {
+            self.oldest_number(id)
+        };
         let answer = self.board.commit(id);
-        if let Ok(Some(made)) = answer {
+        if let Some(number) = number
+            && let Ok(Some(made)) = answer
+        {
             self.hear(id, number, made);
         }
         answer

@@ -202,14 +202,13 @@ impl<D: Disk> Hardware<D> {
         ensures sound { IsSoundHardware self.new }
         ensures counted { IsCounted self.old.board self.new.board }
     {
-        if let Some(why) = self.why_no_block(id) {
-            self.board.events += 1;
-            return Err(why);
-        }
         match place_of(&self.blocks, id) {
             Some(place) => step_once(&mut self.board, &mut self.blocks[place].blk, id),
-            // Both lists of devices agree, so this doesn't come.
-            None => Err(Refusal::WrongKind),
+            None => {
+                self.board.events += 1;
+                // Both lists of devices agree, so there is a cause.
+                Err(self.why_no_block(id).unwrap())
+            }
         }
     }
 }

@@ -6,10 +6,10 @@ ghost use Rattle.iom_device.specs.Caches.{epoch_in, kind_in, with_has_disk};
 ghost use Rattle.iom_device.specs.Calls.{with_block_reset};
 ghost use Rattle.iom_machine.specs.declared.event.Event.TheVariants as events;
 ghost use Rattle.iom_virtqueue.specs.Layouts.{layout_of};
-ghost use Rattle.iom_world_effects.specs.BlockDevices.{InsertsMedium, SetsBlockQueue, TakesBlockStep, TellsBlockStatus};
+ghost use Rattle.iom_world_effects.specs.BlockDevices.{InsertsMedium, SetsBlockQueue, TellsBlockStatus};
 ghost use Rattle.iom_world_effects.specs.Does.{disks_after};
-ghost use Rattle.iom_world.specs.Blocks.{InsertsIntoBlock, SetsQueueOf, TakesStepOf, TellsStatusOf};
-ghost use Rattle.iom_world.specs.OnHardware.{status_told, step_told, told_unless};
+ghost use Rattle.iom_world.specs.Blocks.{InsertsIntoBlock, SetsQueueOf, TellsStatusOf};
+ghost use Rattle.iom_world.specs.OnHardware.{status_told, told_unless};
 ghost use Rattle.iom_world.specs.Seen.{parts_of, disks_of, inside_of};
 ghost use Rattle.iom_world.specs.Told.{outcome_of};
 
@@ -17,10 +17,7 @@ use crate::told::Told;
 use crate::world::World;
 use iom_base::{DeviceId, DeviceKind, Refusal};
 use iom_device::{Device, place_of, reset};
-use iom_hardware::Stepped;
-use iom_machine::BlockStep;
 use iom_virtio_blk::Disk;
-use iom_world_effects::laws_below;
 
 /// The device with this id has a disk from now on, or has none.
 fn set_has_disk(devices: &mut Vec<Device>, id: DeviceId, has: bool)
@@ -71,31 +68,6 @@ pub(crate) fn let_go(devices: &mut Vec<Device>, id: DeviceId)
 }
 
 impl Told {
-    /// What a step of a block device is told as.
-    fn of_stepped(stepped: Stepped) -> Told
-        ensures { outcome_of result ≡ step_told stepped }
-    {
-        match stepped {
-            Stepped::Began(reply) => Told::of_reply(reply),
-            Stepped::Asked => Told::Stepped(BlockStep::Asked),
-            Stepped::Idle => Told::Stepped(BlockStep::Idle),
-            Stepped::Waiting => Told::Stepped(BlockStep::Waiting),
-            Stepped::Down => Told::Stepped(BlockStep::Down),
-            Stepped::Chain(fault) => Told::Stepped(BlockStep::Chain(fault)),
-            Stepped::Finished { head, len } => Told::Stepped(BlockStep::Finished { head, len }),
-        }
-    }
-
-    /// The same, or why there was none.
-    fn of_step(answer: Result<Stepped, Refusal>) -> Told
-        ensures { outcome_of result ≡ told_unless step_told answer }
-    {
-        match answer {
-            Ok(stepped) => Told::of_stepped(stepped),
-            Err(why) => Told::Refused(why),
-        }
-    }
-
     /// What the status of a block device is told as.
     fn of_status(answer: Result<u8, Refusal>) -> Told
         ensures { outcome_of result ≡ told_unless status_told answer }
@@ -137,18 +109,6 @@ impl<D: Disk> World<D> {
         ensures events { self.new.hardware.board.events ≡ self.old.hardware.board.events + 1 }
     {
         Told::of(self.hardware.queue(id, size, descriptors, available, used))
-    }
-
-    /// The block device takes a step, up to the access that it wants, which begins in the same event.
-    pub(crate) fn block_step(&mut self, id: DeviceId) -> Told
-        requires count { self.old.hardware.board.events + 1 < 2 ^ 64 }
-        ensures does { TakesBlockStep (parts_of self.old) id (outcome_of result) (parts_of self.new) }
-        ensures disks { disks_of self.new ≡ disks_of self.old }
-        ensures inside { TakesStepOf (parts_of self.old) (inside_of D.seen self.old) id (outcome_of result) (parts_of self.new) (inside_of D.seen self.new) }
-        ensures events { self.new.hardware.board.events ≡ self.old.hardware.board.events + 1 }
-    {
-        laws_below();
-        Told::of_step(self.hardware.step(id))
     }
 
     /// The status of the block device is read.

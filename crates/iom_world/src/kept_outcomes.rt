@@ -2,14 +2,15 @@
 ghost use Rattle.std.specs.Prelude.{◌≡◌};
 ghost use Rattle.iom_machine.specs.declared.outcome.Outcome.TheVariants as outcome;
 ghost use Rattle.iom_world_effects.specs.Requests.{reply_told_of};
-ghost use Rattle.iom_world.specs.OnHardware.{told_unless};
+ghost use Rattle.iom_world.specs.OnHardware.{step_told, told_unless};
 ghost use Rattle.iom_world.specs.Told.{outcome_of};
 
 use crate::told::Told;
 use arrayvec::ArrayVec;
 use iom_base::Refusal;
+use iom_hardware::Stepped;
 use iom_iommu::Reply;
-use iom_machine::{Fetched, Outcome};
+use iom_machine::{BlockStep, Fetched, Outcome};
 
 /// A place for each kind of outcome, so that what a place held before is of the same kind as what is
 /// told there next, and only what differs is written. Who takes many events keeps one for all of them.
@@ -170,6 +171,35 @@ impl KeptOutcomes {
             Reply::Busy => self.tell(Told::Busy),
             Reply::BadSpan => self.tell(Told::BadSpan),
             Reply::Fault(cause) => self.tell(Told::Fault(cause)),
+        }
+    }
+
+    /// The outcome that says what a step of a block device was.
+    #[inline(always)]
+    fn tell_stepped(&mut self, stepped: Stepped) -> &mut Outcome
+        ensures { result.now ≡ step_told stepped }
+    {
+        match stepped {
+            Stepped::Began(reply) => self.tell_reply(reply),
+            Stepped::Asked => self.tell(Told::Stepped(BlockStep::Asked)),
+            Stepped::Idle => self.tell(Told::Stepped(BlockStep::Idle)),
+            Stepped::Waiting => self.tell(Told::Stepped(BlockStep::Waiting)),
+            Stepped::Down => self.tell(Told::Stepped(BlockStep::Down)),
+            Stepped::Chain(fault) => self.tell(Told::Stepped(BlockStep::Chain(fault))),
+            Stepped::Finished { head, len } => {
+                self.tell(Told::Stepped(BlockStep::Finished { head, len }))
+            }
+        }
+    }
+
+    /// The outcome that says what came of a step of a block device.
+    #[inline(always)]
+    pub(crate) fn tell_step(&mut self, answer: Result<Stepped, Refusal>) -> &mut Outcome
+        ensures { result.now ≡ told_unless step_told answer }
+    {
+        match answer {
+            Ok(stepped) => self.tell_stepped(stepped),
+            Err(why) => self.tell(Told::Refused(why)),
         }
     }
 

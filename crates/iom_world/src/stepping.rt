@@ -120,7 +120,6 @@ impl<D: Disk> World<D> {
                 available,
                 used,
             } => kept.tell(self.queue(*device, *size, *descriptors, *available, *used)),
-            Event::Step { device } => kept.tell(self.block_step(*device)),
             Event::Status { device } => kept.tell(self.block_status(*device)),
             _ => kept.tell(Told::Done),
         }
@@ -158,6 +157,7 @@ impl<D: Disk> World<D> {
                 bytes,
             } => self.tell_write(*device, *address, bytes.as_slice(), kept),
             Event::Commit { device } => self.commit(*device, kept),
+            Event::Step { device } => self.tell_step(*device, kept),
             Event::Poke { address, bytes } => self.tell_poke(*address, bytes.as_slice(), kept),
             Event::Peek { address, len } => self.peek(*address, *len, kept),
             Event::Plug { .. }
@@ -170,10 +170,8 @@ impl<D: Disk> World<D> {
             | Event::Restart
             | Event::Timeout
             | Event::Reset { .. } => self.dispatch_recovery(event, kept),
-            Event::Medium { .. }
-            | Event::Queue { .. }
-            | Event::Step { .. }
-            | Event::Status { .. } => self.dispatch_block(event, kept),
+            Event::Medium { .. } | Event::Queue { .. } | Event::Status { .. } =>
+                self.dispatch_block(event, kept),
             _ => self.dispatch_ats(event, kept),
         }
     }

@@ -3,9 +3,11 @@
 ghost use Rattle.std.specs.Prelude.{◌≡◌, ◌+◌, ◌<◌, ◌^◌};
 ghost use Rattle.iom_base.specs.Accesses.{read_of, write_of};
 ghost use Rattle.iom_base.specs.DeviceKinds.{sends_untranslated};
+ghost use Rattle.iom_world_effects.specs.BlockDevices.{TakesBlockStep};
 ghost use Rattle.iom_world_effects.specs.Does.{GrantsPage, ReleasesPage, FetchesNext, PollsTickets};
 ghost use Rattle.iom_world_effects.specs.Processor.{PokesBytes};
 ghost use Rattle.iom_world_effects.specs.Requests.{AsksAccess};
+ghost use Rattle.iom_world.specs.Blocks.{TakesStepOf};
 ghost use Rattle.iom_world.specs.Seen.{parts_of, disks_of, inside_of};
 
 use crate::kept_outcomes::KeptOutcomes;
@@ -13,6 +15,7 @@ use crate::world::World;
 use iom_base::{DeviceId, GrantRights};
 use iom_machine::Outcome;
 use iom_virtio_blk::Disk;
+use iom_world_effects::laws_below;
 
 impl<D: Disk> World<D> {
     /// What [`World::grant`] tells.
@@ -111,6 +114,23 @@ impl<D: Disk> World<D> {
         ensures events { self.new.hardware.board.events ≡ self.old.hardware.board.events + 1 }
     {
         kept.tell_request(self.write(id, address, bytes))
+    }
+
+    /// The block device takes a step, up to the access that it wants, which begins in the same event.
+    #[inline(never)]
+    pub(crate) fn tell_step<'a>(
+        &mut self,
+        id: DeviceId,
+        kept: &'a mut KeptOutcomes,
+    ) -> &'a mut Outcome
+        requires count { self.old.hardware.board.events + 1 < 2 ^ 64 }
+        ensures does { TakesBlockStep (parts_of self.old) id result.now (parts_of self.new) }
+        ensures disks { disks_of self.new ≡ disks_of self.old }
+        ensures inside { TakesStepOf (parts_of self.old) (inside_of D.seen self.old) id result.now (parts_of self.new) (inside_of D.seen self.new) }
+        ensures events { self.new.hardware.board.events ≡ self.old.hardware.board.events + 1 }
+    {
+        laws_below();
+        kept.tell_step(self.hardware.step(id))
     }
 
     /// What [`World::poke`] tells.

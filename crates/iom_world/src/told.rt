@@ -175,6 +175,18 @@ impl Told {
     }
 }
 
+/// Puts a new outcome that says so into the place, of another kind than the one that was there.
+// On its own, as `Told::replace` is: its page stands on no stack before it is known that it has to be.
+#[inline(never)]
+fn replace_by_read(bytes: &[u8], place: &mut Outcome)
+    requires { length bytes.now ≤ page_size }
+    ensures { TellsBytes place.new bytes.now }
+{
+    let mut held = ArrayVec::new();
+    held.try_extend_from_slice(bytes).unwrap();
+    *place = Outcome::Read(held);
+}
+
 /// Makes the outcome in the place say that a read gave the bytes.
 pub(crate) fn tell_read(bytes: &[u8], place: &mut Outcome)
     requires { length bytes.now ≤ page_size }
@@ -189,9 +201,7 @@ pub(crate) fn tell_read(bytes: &[u8], place: &mut Outcome)
         held.try_extend_from_slice(bytes).unwrap();
         return;
     }
-    let mut held = ArrayVec::new();
-    held.try_extend_from_slice(bytes).unwrap();
-    *place = Outcome::Read(held);
+    replace_by_read(bytes, place);
 }
 
 /// Makes the outcome in the place say that the processor read the bytes.

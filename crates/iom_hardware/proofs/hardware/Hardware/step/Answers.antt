@@ -10,68 +10,60 @@ use Rattle.iom_device.specs.Caches.{kind_in}
 use Rattle.iom_hardware.specs.Permits.{IsBlockOrRefused}
 use Rattle.iom_hardware.specs.Steps.{IsRefusedIfNone, TakesOneStep}
 use Rattle.iom_hardware.proofs.AgreementLemmas.{sound_after}
-use Rattle.iom_hardware.proofs.BlockThere.{is_able, no_block, none_there, there_able}
+use Rattle.iom_hardware.proofs.BlockThere.{able_there, is_refused, no_block}
 use Rattle.iom_hardware.proofs.StepLemmas.{disk_stays, stepped_known}
 use Rattle.iom_hardware.proofs.hardware.Hardware.step.Goals as goal
+
+pub index_mut-requires : goal.index_mut-requires
+index_mut-requires g c =
+    let lt = get_lt c.deref.result.now c.in-Some.place c.in-Some.ensures.block c.in-Some.ensures.there in
+    let len = c.deref.ensures.len in
+    omega (arith, lt, len)
 
 pub returns-in-Some-clause-refused : goal.returns-in-Some-clause-refused
 returns-in-Some-clause-refused g c =
     let self = c.args.self.now in
-    let refuses = subst (IsBlockOrRefused (kind_in self.board.devices.items c.args.id)) c.in-Some.is c.why_no_block.ensures in
-    subst (λ (found : Option BlockSeen). IsRefusedIfNone found (board_parts self.board) c.args.id (Err c.in-Some.why) (board_parts self.board)) (sym (none_there g.D.Disk.seen self c.requires.sound c.args.id c.in-Some.why refuses))
-    (no_block self.board.devices.items (board_parts self.board) c.args.id c.in-Some.why refl refuses)
+    let here = subst (λ blocks. IsBlockPlace g.D.Disk.seen blocks c.args.id c.in-Some.place) c.deref.ensures.value c.in-Some.ensures in
+    let able = able_there g.D.Disk.seen self c.requires.sound c.args.id _ here.found in
+    subst (λ (found : Option BlockSeen). IsRefusedIfNone found (board_parts self.board) c.args.id c.step_once.result (board_parts c.step_once.new.board)) (sym here.found) able
 
 pub returns-in-Some-clause-steps : goal.returns-in-Some-clause-steps
 returns-in-Some-clause-steps g c =
     let self = c.args.self.now in
-    let refuses = subst (IsBlockOrRefused (kind_in self.board.devices.items c.args.id)) c.in-Some.is c.why_no_block.ensures in (
-      changed_none (TakesOneStep (board_parts self.board) c.args.id (Err c.in-Some.why) (board_parts self.board)) (blocks_seen g.D.Disk.seen self.blocks.items) c.args.id
-          (none_there g.D.Disk.seen self c.requires.sound c.args.id c.in-Some.why refuses),
-      refl,
-    )
-
-pub index_mut-requires : goal.index_mut-requires
-index_mut-requires g c =
-    let lt = get_lt c.deref.result.now c.in-Some-place_of.place c.in-Some-place_of.ensures.block c.in-Some-place_of.ensures.there in
-    let len = c.deref.ensures.len in
-    omega (arith, lt, len)
-
-pub returns-in-Some-place_of-clause-refused : goal.returns-in-Some-place_of-clause-refused
-returns-in-Some-place_of-clause-refused g c =
-    let self = c.args.self.now in
-    let here = subst (λ blocks. IsBlockPlace g.D.Disk.seen blocks c.args.id c.in-Some-place_of.place) c.deref.ensures.value c.in-Some-place_of.ensures in
-    let able = is_able self.board.devices.items c.args.id (subst (IsBlockOrRefused (kind_in self.board.devices.items c.args.id)) c.in_default.is c.why_no_block.ensures) in
-    subst (λ (found : Option BlockSeen). IsRefusedIfNone found (board_parts self.board) c.args.id c.step_once.result (board_parts c.step_once.new.board)) (sym here.found) able
-
-pub returns-in-Some-place_of-clause-steps : goal.returns-in-Some-place_of-clause-steps
-returns-in-Some-place_of-clause-steps g c =
-    let self = c.args.self.now in
-    let here = subst (λ blocks. IsBlockPlace g.D.Disk.seen blocks c.args.id c.in-Some-place_of.place) c.deref.ensures.value c.in-Some-place_of.ensures in
-    let is = at_place g.D.Disk.seen self.blocks.items c.args.id c.in-Some-place_of.place c.index_mut.result.now here c.index_mut.ensures.value in (
-      changed_from g.D.Disk.seen (TakesOneStep (board_parts self.board) c.args.id c.step_once.result (board_parts c.step_once.new.board)) self.blocks.items c.args.id c.in-Some-place_of.place c.index_mut.result.now
+    let here = subst (λ blocks. IsBlockPlace g.D.Disk.seen blocks c.args.id c.in-Some.place) c.deref.ensures.value c.in-Some.ensures in
+    let is = at_place g.D.Disk.seen self.blocks.items c.args.id c.in-Some.place c.index_mut.result.now here c.index_mut.ensures.value in (
+      changed_from g.D.Disk.seen (TakesOneStep (board_parts self.board) c.args.id c.step_once.result (board_parts c.step_once.new.board)) self.blocks.items c.args.id c.in-Some.place c.index_mut.result.now
           (record { id = c.index_mut.result.now.id; blk = c.step_once.new.blk }) here is refl c.step_once.ensures.steps,
       refl,
     )
 
-pub returns-in-Some-place_of-clause-sound : goal.returns-in-Some-place_of-clause-sound
-returns-in-Some-place_of-clause-sound g c =
+pub returns-in-Some-clause-sound : goal.returns-in-Some-clause-sound
+returns-in-Some-clause-sound g c =
     let self = c.args.self.now in
-    let here = subst (λ blocks. IsBlockPlace g.D.Disk.seen blocks c.args.id c.in-Some-place_of.place) c.deref.ensures.value c.in-Some-place_of.ensures in
-    let is = at_place g.D.Disk.seen self.blocks.items c.args.id c.in-Some-place_of.place c.index_mut.result.now here c.index_mut.ensures.value in
+    let here = subst (λ blocks. IsBlockPlace g.D.Disk.seen blocks c.args.id c.in-Some.place) c.deref.ensures.value c.in-Some.ensures in
+    let is = at_place g.D.Disk.seen self.blocks.items c.args.id c.in-Some.place c.index_mut.result.now here c.index_mut.ensures.value in
     let other : Block _ _ = record { id = c.index_mut.result.now.id; blk = c.step_once.new.blk } in
     let stays = disk_stays (board_parts self.board) (board_parts c.step_once.new.board) c.args.id c.step_once.result _ _ c.step_once.ensures.steps in
     sound_after self (record { board = c.step_once.new.board; blocks = _; at_hand = self.at_hand }) c.requires.sound c.step_once.ensures.sound
     (stepped_known (board_parts self.board) (board_parts c.step_once.new.board) c.args.id c.step_once.result _ _ c.step_once.ensures.steps) c.step_once.ensures.counted.disks
-    (entries_from g.D.Disk.seen self.blocks.items c.args.id c.in-Some-place_of.place c.index_mut.result.now other here is refl stays) refl refl
+    (entries_from g.D.Disk.seen self.blocks.items c.args.id c.in-Some.place c.index_mut.result.now other here is refl stays) refl refl
+
+pub unwrap-requires : goal.unwrap-requires
+unwrap-requires g c =
+    let self = c.args.self.now in
+    let none = subst (λ blocks. block_with (blocks_seen g.D.Disk.seen blocks) c.args.id ≡ None) c.deref.ensures.value c.in-None.ensures in
+    is_refused g.D.Disk.seen self c.requires.sound c.args.id none c.why_no_block.result c.why_no_block.ensures
 
 pub returns-in-None-clause-refused : goal.returns-in-None-clause-refused
 returns-in-None-clause-refused g c =
     let self = c.args.self.now in
-    let able = is_able self.board.devices.items c.args.id (subst (IsBlockOrRefused (kind_in self.board.devices.items c.args.id)) c.in_default.is c.why_no_block.ensures) in
-    absurd (there_able g.D.Disk.seen self c.requires.sound c.args.id able (subst (λ blocks. block_with (blocks_seen g.D.Disk.seen blocks) c.args.id ≡ None) c.deref.ensures.value c.in-None.ensures))
+    let none = subst (λ blocks. block_with (blocks_seen g.D.Disk.seen blocks) c.args.id ≡ None) c.deref.ensures.value c.in-None.ensures in
+    let refuses = subst (IsBlockOrRefused (kind_in self.board.devices.items c.args.id)) c.unwrap.ensures c.why_no_block.ensures in
+    subst (λ (found : Option BlockSeen). IsRefusedIfNone found (board_parts self.board) c.args.id (Err c.unwrap.result) (board_parts self.board)) (sym none)
+    (no_block self.board.devices.items (board_parts self.board) c.args.id c.unwrap.result refl refuses)
 
-pub returns-in-None-clause-counted : goal.returns-in-None-clause-counted
-returns-in-None-clause-counted g c =
+pub returns-in-None-clause-steps : goal.returns-in-None-clause-steps
+returns-in-None-clause-steps g c =
     let self = c.args.self.now in
-    let able = is_able self.board.devices.items c.args.id (subst (IsBlockOrRefused (kind_in self.board.devices.items c.args.id)) c.in_default.is c.why_no_block.ensures) in
-    absurd (there_able g.D.Disk.seen self c.requires.sound c.args.id able (subst (λ blocks. block_with (blocks_seen g.D.Disk.seen blocks) c.args.id ≡ None) c.deref.ensures.value c.in-None.ensures))
+    let none = subst (λ blocks. block_with (blocks_seen g.D.Disk.seen blocks) c.args.id ≡ None) c.deref.ensures.value c.in-None.ensures in
+    (changed_none (TakesOneStep (board_parts self.board) c.args.id (Err c.unwrap.result) (board_parts self.board)) (blocks_seen g.D.Disk.seen self.blocks.items) c.args.id none, refl)

@@ -22,14 +22,6 @@ returns-in-Queue-clause-does g c =
     subst (λ (event : Event). Does disks old event c.tell-in-Queue.result.now new) (sym c.in-Queue.is)
     (subst (λ (told : Outcome). Does disks old (events.Queue c.in-Queue.device c.in-Queue.size c.in-Queue.descriptors c.in-Queue.available c.in-Queue.used) told new) (sym c.tell-in-Queue.ensures) c.queue.ensures.does)
 
-pub returns-in-Step-clause-does : goal.returns-in-Step-clause-does
-returns-in-Step-clause-does g c =
-    let disks = disks_of c.args.self.now in
-    let old = parts_of c.args.self.now in
-    let new = parts_of c.block_step.new.self in
-    subst (λ (event : Event). Does disks old event c.tell-in-Step.result.now new) (sym c.in-Step.is)
-    (subst (λ (told : Outcome). Does disks old (events.Step c.in-Step.device) told new) (sym c.tell-in-Step.ensures) c.block_step.ensures.does)
-
 pub returns-in-Status-clause-does : goal.returns-in-Status-clause-does
 returns-in-Status-clause-does g c =
     let disks = disks_of c.args.self.now in
