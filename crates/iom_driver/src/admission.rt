@@ -14,6 +14,7 @@ use crate::device::{Attachment, Stages};
 use crate::driver::Driver;
 use crate::layout::id_limit;
 use crate::lookups::place_of;
+use crate::mapping::Mapping;
 use crate::room::lacks_places;
 use iom_base::{DeviceId, Refusal};
 use iom_ledger::MAX_PENDING;
@@ -76,23 +77,23 @@ impl Driver {
     }
 
     /// The stages of the device, where the frame may be granted to it at the page, or why not.
-    pub(crate) fn admit_grant(&self, id: DeviceId, page: u64, frame: u64) -> Result<Stages, Refusal>
-        ensures admitted { IfOk result (λ stage. NoneApplies (why_not_grant (state_of self.now) id page frame)) }
-        ensures may { IfOk result (λ stage. MayBeGranted (state_of self.now) id page frame stage) }
+    pub(crate) fn admit_grant(&self, id: DeviceId, mapping: Mapping) -> Result<Stages, Refusal>
+        ensures admitted { IfOk result (λ stage. NoneApplies (why_not_grant (state_of self.now) id mapping.page mapping.frame)) }
+        ensures may { IfOk result (λ stage. MayBeGranted (state_of self.now) id mapping.page mapping.frame stage) }
         ensures refused { IfErr result (λ why.
-            first_that_applies (why_not_grant (state_of self.now) id page frame) ≡ Some why) }
+            first_that_applies (why_not_grant (state_of self.now) id mapping.page mapping.frame) ≡ Some why) }
     {
         let stage = self.stages_of(id)?;
-        if frame >= u64::from(self.frames) {
+        if mapping.frame >= u64::from(self.frames) {
             return Err(Refusal::FrameOutOfRange);
         }
-        if self.marks.is_reserved(frame as u32) {
+        if self.marks.is_reserved(mapping.frame as u32) {
             return Err(Refusal::FrameReserved);
         }
-        if page >= stage.mode.size().page_limit() {
+        if mapping.page >= stage.mode.size().page_limit() {
             return Err(Refusal::IovaOutOfRange);
         }
-        if !self.ledger.is_vacant(id, page) {
+        if !self.ledger.is_vacant(id, mapping.page) {
             return Err(Refusal::IovaBusy);
         }
         Ok(stage)

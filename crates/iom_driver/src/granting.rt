@@ -6,7 +6,8 @@ ghost use Rattle.iom_driver.specs.Seen.{state_of};
 
 use crate::choosing::reserve_all;
 use crate::driver::Driver;
-use iom_base::{DeviceId, GrantRights, Owner, Refusal};
+use crate::mapping::Mapping;
+use iom_base::{DeviceId, Owner, Refusal};
 use iom_page_table::{PageLeaf, map, missing};
 use iom_phys_mem::Memory;
 
@@ -20,23 +21,22 @@ impl Driver {
         &mut self,
         memory: &mut Memory,
         id: DeviceId,
-        page: u64,
-        frame: u64,
-        rights: GrantRights,
+        mapping: Mapping,
     ) -> Result<(), Refusal>
         requires stand { TablesStand (state_of self.old) memory.old }
-        ensures effect { AnswersGrant (state_of self.old) memory.old id page frame rights result (state_of self.new) memory.new }
+        ensures effect { AnswersGrant (state_of self.old) memory.old id mapping.page mapping.frame mapping.rights result (state_of self.new) memory.new }
         ensures stand { TablesStand (state_of self.new) memory.new }
         ensures ready { (r : Registers) → IsReady (state_of self.old) memory.old r → IsReady (state_of self.new) memory.new r }
     {
-        let stage = match self.admit_grant(id, page, frame) {
+        let stage = match self.admit_grant(id, mapping) {
             Ok(stage) => stage,
             Err(why) => return Err(why),
         };
         let size = stage.mode.size();
         let root = stage.root;
-        let frame = frame as u32;
-        let rights = rights.rights();
+        let page = mapping.page;
+        let frame = mapping.frame as u32;
+        let rights = mapping.rights.rights();
         let lacking = missing(memory, size, root, page);
         let Some(tables) = self.choose(lacking, Some(frame)) else {
             return Err(Refusal::NoFrames);

@@ -6,7 +6,7 @@ use crate::recording::Recording;
 use iom_base::{DeviceId, GrantRights, Mode, Refusal, Size};
 use iom_device::Device;
 use iom_driver::laws::stays_ready;
-use iom_driver::{Driver, Polled, Ticket};
+use iom_driver::{Driver, Mapping, Polled, Ticket};
 use iom_fault_queue::Record;
 use iom_phys_mem::{Bytes, MemError, Memory};
 use iom_registers::Register;
@@ -140,8 +140,12 @@ impl Bench {
     }
 
     fn grant(&mut self, id: DeviceId, page: u64, frame: u64) -> Result<(), Refusal> {
-        self.driver
-            .grant(&mut self.memory, id, page, frame, GrantRights::ReadWrite)
+        let mapping = Mapping {
+            page,
+            frame,
+            rights: GrantRights::ReadWrite,
+        };
+        self.driver.grant(&mut self.memory, id, mapping)
     }
 
     fn release(&mut self, id: DeviceId, page: u64) -> Result<Ticket, Refusal> {

@@ -10,9 +10,9 @@ ghost use Rattle.iom_world.specs.Told.{outcome_of};
 use crate::block_devices::let_go;
 use crate::told::Told;
 use crate::world::World;
-use iom_base::{DeviceId, GrantRights, Mode, Refusal};
+use iom_base::{DeviceId, Mode, Refusal};
 use iom_block_devices::leave;
-use iom_driver::{Polled, Ticket};
+use iom_driver::{Mapping, Polled, Ticket};
 use iom_fault_queue::Record;
 use iom_machine::FaultRecord;
 use iom_virtio_blk::Disk;
@@ -85,9 +85,9 @@ impl<D: Disk> World<D> {
     }
 
     /// A device gets a frame at a page.
-    pub(crate) fn grant(&mut self, id: DeviceId, page: u64, frame: u64, rights: GrantRights) -> Told
+    pub(crate) fn grant(&mut self, id: DeviceId, mapping: Mapping) -> Told
         requires count { self.old.hardware.board.events + 1 < 2 ^ 64 }
-        ensures does { GrantsPage (parts_of self.old) id page frame rights (outcome_of result) (parts_of self.new) }
+        ensures does { GrantsPage (parts_of self.old) id mapping.page mapping.frame mapping.rights (outcome_of result) (parts_of self.new) }
         ensures disks { disks_of self.new ≡ disks_of self.old }
         ensures inside { inside_of D.seen self.new ≡ inside_of D.seen self.old }
         ensures events { self.new.hardware.board.events ≡ self.old.hardware.board.events + 1 }
@@ -95,7 +95,7 @@ impl<D: Disk> World<D> {
         self.hardware.board.events += 1;
         Told::of(
             self.driver
-                .grant(&mut self.hardware.board.memory, id, page, frame, rights),
+                .grant(&mut self.hardware.board.memory, id, mapping),
         )
     }
 

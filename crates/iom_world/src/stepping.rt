@@ -10,6 +10,7 @@ ghost use Rattle.iom_world.specs.Seen.{parts_of, disks_of, seen_of};
 use crate::kept_outcomes::KeptOutcomes;
 use crate::told::Told;
 use crate::world::World;
+use iom_driver::Mapping;
 use iom_machine::{Event, Outcome};
 use iom_virtio_blk::Disk;
 use iom_world_effects::laws_below;
@@ -142,7 +143,14 @@ impl<D: Disk> World<D> {
                 page,
                 frame,
                 rights,
-            } => self.tell_grant(*device, *page, *frame, *rights, kept),
+            } => {
+                let mapping = Mapping {
+                    page: *page,
+                    frame: *frame,
+                    rights: *rights,
+                };
+                self.tell_grant(*device, mapping, kept)
+            }
             Event::Release { device, page } => self.tell_release(*device, *page, kept),
             Event::Fetch => self.tell_fetch(kept),
             Event::Poll => self.tell_poll(kept),

@@ -12,7 +12,8 @@ ghost use Rattle.iom_world.specs.Seen.{parts_of, disks_of, inside_of};
 
 use crate::kept_outcomes::KeptOutcomes;
 use crate::world::World;
-use iom_base::{DeviceId, GrantRights};
+use iom_base::DeviceId;
+use iom_driver::Mapping;
 use iom_machine::Outcome;
 use iom_virtio_blk::Disk;
 use iom_world_effects::laws_below;
@@ -23,18 +24,16 @@ impl<D: Disk> World<D> {
     pub(crate) fn tell_grant<'a>(
         &mut self,
         id: DeviceId,
-        page: u64,
-        frame: u64,
-        rights: GrantRights,
+        mapping: Mapping,
         kept: &'a mut KeptOutcomes,
     ) -> &'a mut Outcome
         requires count { self.old.hardware.board.events + 1 < 2 ^ 64 }
-        ensures does { GrantsPage (parts_of self.old) id page frame rights result.now (parts_of self.new) }
+        ensures does { GrantsPage (parts_of self.old) id mapping.page mapping.frame mapping.rights result.now (parts_of self.new) }
         ensures disks { disks_of self.new ≡ disks_of self.old }
         ensures inside { inside_of D.seen self.new ≡ inside_of D.seen self.old }
         ensures events { self.new.hardware.board.events ≡ self.old.hardware.board.events + 1 }
     {
-        kept.tell(self.grant(id, page, frame, rights))
+        kept.tell(self.grant(id, mapping))
     }
 
     /// What [`World::release`] tells.

@@ -80,7 +80,7 @@ returns-in-Err c =
     let memory = c.args.memory.now in
     record {
       effect = (
-        first_told (why_not_grant d c.args.id c.args.page c.args.frame) (LacksTables d memory c.args.id c.args.page c.args.frame) c.in-Err.why c.in-Err.ensures.refused,
+        first_told (why_not_grant d c.args.id c.args.mapping.page c.args.mapping.frame) (LacksTables d memory c.args.id c.args.mapping.page c.args.mapping.frame) c.in-Err.why c.in-Err.ensures.refused,
         same_state d,
         refl,
       );
@@ -104,11 +104,11 @@ returns-in_default c =
     let d = state_of driver in
     let memory = c.args.memory.now in
     let many : driver.frames ≡ length memory = sym (c.requires.stand.size ∙ driver.sound.sizes.marked) in
-    let counted = c.missing-lacking.ensures ∙ ap (λ s. missing_for s memory c.in-Ok.stage.root c.args.page) c.size-size.ensures in
-    let without = no_frames d memory c.args.id c.args.page c.args.frame c.in-Ok.stage driver.frames c.missing-lacking.result c.in-Ok.ensures.may.attached many counted c.in_default.ensures.none in
+    let counted = c.missing-lacking.ensures ∙ ap (λ s. missing_for s memory c.in-Ok.stage.root c.args.mapping.page) c.size-size.ensures in
+    let without = no_frames d memory c.args.id c.args.mapping.page c.args.mapping.frame c.in-Ok.stage driver.frames c.missing-lacking.result c.in-Ok.ensures.may.attached many counted c.in_default.ensures.none in
     record {
       effect = (
-        none_told (why_not_grant d c.args.id c.args.page c.args.frame) (LacksTables d memory c.args.id c.args.page c.args.frame) NoFrames c.in-Ok.ensures.admitted without,
+        none_told (why_not_grant d c.args.id c.args.mapping.page c.args.mapping.frame) (LacksTables d memory c.args.id c.args.mapping.page c.args.mapping.frame) NoFrames c.in-Ok.ensures.admitted without,
         same_state d,
         refl,
       );
@@ -117,7 +117,7 @@ returns-in_default c =
     }
 
 pub choose-requires : goal.choose-requires
-choose-requires c = subst (λ n. n ≤ 3) (sym c.missing-lacking.ensures) (missing_few c.size-size.result c.args.memory.now c.in-Ok.stage.root c.args.page)
+choose-requires c = subst (λ n. n ≤ 3) (sym c.missing-lacking.ensures) (missing_few c.size-size.result c.args.memory.now c.in-Ok.stage.root c.args.mapping.page)
 
 pub grant-requires : goal.grant-requires
 grant-requires c = record {
@@ -131,8 +131,8 @@ reserve_all-requires c =
     let driver = c.args.self.now in
     let memory = c.args.memory.now in
     let chosen = c.in-Some.tables.items in
-    let are : AreChosen driver.marks driver.ledger (Some c.args.frame) driver.frames c.missing-lacking.result chosen =
-    are_chosen driver.marks driver.ledger (Some c.args.frame) driver.frames c.missing-lacking.result chosen c.in-Some.ensures.chosen in
+    let are : AreChosen driver.marks driver.ledger (Some c.args.mapping.frame) driver.frames c.missing-lacking.result chosen =
+    are_chosen driver.marks driver.ledger (Some c.args.mapping.frame) driver.frames c.missing-lacking.result chosen c.in-Some.ensures.chosen in
     rw c.as_slice.ensures.value record {
       marked = λ k d lt. subst (λ n. get_or chosen k d < n) (sym driver.sound.sizes.marked) (are.inside k d lt);
       inside = λ k d lt. subst (λ n. get_or chosen k d < n) (sym (c.requires.stand.size ∙ driver.sound.sizes.marked)) (are.inside k d lt);
@@ -161,14 +161,14 @@ returns-then-is_err-clause-effect c =
     let failed = sym c.is_err.ensures.value ∙ c.if-is_err.true in
     let unchanged : IsUnchanged driver.ledger c.grant.new.self = err_then c.grant.result failed c.grant.ensures.refused in
     let many = sym (c.requires.stand.size ∙ driver.sound.sizes.marked) in
-    let chosen : AreHighestFree driver.marks driver.ledger (Some c.args.frame) (length memory) (missing_for (size_in c.in-Ok.stage.mode) memory c.in-Ok.stage.root c.args.page) c.in-Some.tables.items =
-    subst (λ n. AreHighestFree driver.marks driver.ledger (Some c.args.frame) (length memory) n c.in-Some.tables.items)
-    (c.missing-lacking.ensures ∙ ap (λ s. missing_for s memory c.in-Ok.stage.root c.args.page) c.size-size.ensures)
-    (subst (λ n. AreHighestFree driver.marks driver.ledger (Some c.args.frame) n c.missing-lacking.result c.in-Some.tables.items) many c.in-Some.ensures.chosen) in (
+    let chosen : AreHighestFree driver.marks driver.ledger (Some c.args.mapping.frame) (length memory) (missing_for (size_in c.in-Ok.stage.mode) memory c.in-Ok.stage.root c.args.mapping.page) c.in-Some.tables.items =
+    subst (λ n. AreHighestFree driver.marks driver.ledger (Some c.args.mapping.frame) (length memory) n c.in-Some.tables.items)
+    (c.missing-lacking.ensures ∙ ap (λ s. missing_for s memory c.in-Ok.stage.root c.args.mapping.page) c.size-size.ensures)
+    (subst (λ n. AreHighestFree driver.marks driver.ledger (Some c.args.mapping.frame) n c.missing-lacking.result c.in-Some.tables.items) many c.in-Some.ensures.chosen) in (
       rw c.in-Ok.ensures.admitted record {
         stage = c.in-Ok.stage;
         attached = c.in-Ok.ensures.may.attached;
-        enough = enough driver.marks driver.ledger (Some c.args.frame) (length memory) (missing_for (size_in c.in-Ok.stage.mode) memory c.in-Ok.stage.root c.args.page) c.in-Some.tables.items chosen;
+        enough = enough driver.marks driver.ledger (Some c.args.mapping.frame) (length memory) (missing_for (size_in c.in-Ok.stage.mode) memory c.in-Ok.stage.root c.args.mapping.page) c.in-Some.tables.items chosen;
       },
       record { ledger = unchanged; agrees = err_then c.grant.result failed c.grant.ensures.refused_agrees; rest = refl },
       refl,
@@ -180,54 +180,54 @@ invariant_of-self-2 c =
     let tables = c.in-Some.tables.items in
     let may = c.in-Ok.ensures.may in
     let granted = ok_then c.grant.result (sym c.is_err.ensures.value ∙ c.if-is_err.false) c.grant.ensures.granted in
-    let chose = are_chosen driver.marks driver.ledger (Some c.args.frame) (length driver.marks) c.missing-lacking.result tables
-    (subst (λ n. AreHighestFree driver.marks driver.ledger (Some c.args.frame) n c.missing-lacking.result tables) (sym driver.sound.sizes.marked) c.in-Some.ensures.chosen) in
+    let chose = are_chosen driver.marks driver.ledger (Some c.args.mapping.frame) (length driver.marks) c.missing-lacking.result tables
+    (subst (λ n. AreHighestFree driver.marks driver.ledger (Some c.args.mapping.frame) n c.missing-lacking.result tables) (sym driver.sound.sizes.marked) c.in-Some.ensures.chosen) in
     record {
       sound =
           subst (λ (ms : List (Option Owner)). IsSound c.grant.new.self ms driver.devices.items driver.frames driver.levels driver.started driver.given driver.confirmed driver.restarts driver.restarted)
           (sym (c.reserve_all.ensures.marks ∙ ap (λ fs. marked_for (OneDevice c.args.id) fs driver.marks) c.as_slice.ensures.value))
-          (sound_granted driver.ledger c.grant.new.self driver.marks driver.devices.items driver.frames driver.levels driver.started driver.given driver.confirmed driver.restarts driver.restarted c.args.id c.args.page c.args.frame c.rights-rights.result c.in-Ok.stage tables
-          driver.sound granted may.attached (low_in_any (size_in c.in-Ok.stage.mode) c.args.page may.page_low) (unmarked driver.marks c.args.frame may.inside may.unreserved) chose.inside chose.free);
+          (sound_granted driver.ledger c.grant.new.self driver.marks driver.devices.items driver.frames driver.levels driver.started driver.given driver.confirmed driver.restarts driver.restarted c.args.id c.args.mapping.page c.args.mapping.frame c.rights-rights.result c.in-Ok.stage tables
+          driver.sound granted may.attached (low_in_any (size_in c.in-Ok.stage.mode) c.args.mapping.page may.page_low) (unmarked driver.marks c.args.mapping.frame may.inside may.unreserved) chose.inside chose.free);
     }
 
 pub map-requires-clause-tree : goal.map-requires-clause-tree
 map-requires-clause-tree c =
     let driver = c.args.self.now in
     let many = sym (c.requires.stand.size ∙ driver.sound.sizes.marked) in
-    let may = may_be_mapped c.args.memory.now driver.marks driver.ledger c.args.id c.in-Ok.stage.mode c.in-Ok.stage.root c.args.page c.args.frame c.missing-lacking.result c.in-Some.tables.items
+    let may = may_be_mapped c.args.memory.now driver.marks driver.ledger c.args.id c.in-Ok.stage.mode c.in-Ok.stage.root c.args.mapping.page c.args.mapping.frame c.missing-lacking.result c.in-Some.tables.items
     (c.requires.stand.tables c.args.id c.in-Ok.stage (attached_owns (attachment_by_id driver.devices.items c.args.id) c.in-Ok.stage c.in-Ok.ensures.may.attached)) c.in-Ok.ensures.may.page_low c.in-Ok.ensures.may.not_held
-    (c.missing-lacking.ensures ∙ ap (λ s. missing_for s c.args.memory.now c.in-Ok.stage.root c.args.page) c.size-size.ensures)
-    (chosen_below driver.marks driver.ledger c.args.frame driver.frames c.missing-lacking.result c.in-Some.tables.items c.args.memory.now many c.in-Some.ensures.chosen) in
+    (c.missing-lacking.ensures ∙ ap (λ s. missing_for s c.args.memory.now c.in-Ok.stage.root c.args.mapping.page) c.size-size.ensures)
+    (chosen_below driver.marks driver.ledger c.args.mapping.frame driver.frames c.missing-lacking.result c.in-Some.tables.items c.args.memory.now many c.in-Some.ensures.chosen) in
     rw (c.size-size.ensures, c.reserve_all.ensures.memory, c.as_slice.ensures.value) may.tree
 
 pub map-requires-clause-free : goal.map-requires-clause-free
 map-requires-clause-free c =
     let driver = c.args.self.now in
     let many = sym (c.requires.stand.size ∙ driver.sound.sizes.marked) in
-    let may = may_be_mapped c.args.memory.now driver.marks driver.ledger c.args.id c.in-Ok.stage.mode c.in-Ok.stage.root c.args.page c.args.frame c.missing-lacking.result c.in-Some.tables.items
+    let may = may_be_mapped c.args.memory.now driver.marks driver.ledger c.args.id c.in-Ok.stage.mode c.in-Ok.stage.root c.args.mapping.page c.args.mapping.frame c.missing-lacking.result c.in-Some.tables.items
     (c.requires.stand.tables c.args.id c.in-Ok.stage (attached_owns (attachment_by_id driver.devices.items c.args.id) c.in-Ok.stage c.in-Ok.ensures.may.attached)) c.in-Ok.ensures.may.page_low c.in-Ok.ensures.may.not_held
-    (c.missing-lacking.ensures ∙ ap (λ s. missing_for s c.args.memory.now c.in-Ok.stage.root c.args.page) c.size-size.ensures)
-    (chosen_below driver.marks driver.ledger c.args.frame driver.frames c.missing-lacking.result c.in-Some.tables.items c.args.memory.now many c.in-Some.ensures.chosen) in
+    (c.missing-lacking.ensures ∙ ap (λ s. missing_for s c.args.memory.now c.in-Ok.stage.root c.args.mapping.page) c.size-size.ensures)
+    (chosen_below driver.marks driver.ledger c.args.mapping.frame driver.frames c.missing-lacking.result c.in-Some.tables.items c.args.memory.now many c.in-Some.ensures.chosen) in
     rw (c.size-size.ensures, c.reserve_all.ensures.memory, c.as_slice.ensures.value) may.free
 
 pub map-requires-clause-count : goal.map-requires-clause-count
 map-requires-clause-count c =
     let driver = c.args.self.now in
     let many = sym (c.requires.stand.size ∙ driver.sound.sizes.marked) in
-    let may = may_be_mapped c.args.memory.now driver.marks driver.ledger c.args.id c.in-Ok.stage.mode c.in-Ok.stage.root c.args.page c.args.frame c.missing-lacking.result c.in-Some.tables.items
+    let may = may_be_mapped c.args.memory.now driver.marks driver.ledger c.args.id c.in-Ok.stage.mode c.in-Ok.stage.root c.args.mapping.page c.args.mapping.frame c.missing-lacking.result c.in-Some.tables.items
     (c.requires.stand.tables c.args.id c.in-Ok.stage (attached_owns (attachment_by_id driver.devices.items c.args.id) c.in-Ok.stage c.in-Ok.ensures.may.attached)) c.in-Ok.ensures.may.page_low c.in-Ok.ensures.may.not_held
-    (c.missing-lacking.ensures ∙ ap (λ s. missing_for s c.args.memory.now c.in-Ok.stage.root c.args.page) c.size-size.ensures)
-    (chosen_below driver.marks driver.ledger c.args.frame driver.frames c.missing-lacking.result c.in-Some.tables.items c.args.memory.now many c.in-Some.ensures.chosen) in
+    (c.missing-lacking.ensures ∙ ap (λ s. missing_for s c.args.memory.now c.in-Ok.stage.root c.args.mapping.page) c.size-size.ensures)
+    (chosen_below driver.marks driver.ledger c.args.mapping.frame driver.frames c.missing-lacking.result c.in-Some.tables.items c.args.memory.now many c.in-Some.ensures.chosen) in
     rw (c.size-size.ensures, c.as_slice-2.ensures.value, c.reserve_all.ensures.memory, c.as_slice.ensures.value) may.count
 
 pub map-requires-clause-fresh : goal.map-requires-clause-fresh
 map-requires-clause-fresh c =
     let driver = c.args.self.now in
     let many = sym (c.requires.stand.size ∙ driver.sound.sizes.marked) in
-    let may = may_be_mapped c.args.memory.now driver.marks driver.ledger c.args.id c.in-Ok.stage.mode c.in-Ok.stage.root c.args.page c.args.frame c.missing-lacking.result c.in-Some.tables.items
+    let may = may_be_mapped c.args.memory.now driver.marks driver.ledger c.args.id c.in-Ok.stage.mode c.in-Ok.stage.root c.args.mapping.page c.args.mapping.frame c.missing-lacking.result c.in-Some.tables.items
     (c.requires.stand.tables c.args.id c.in-Ok.stage (attached_owns (attachment_by_id driver.devices.items c.args.id) c.in-Ok.stage c.in-Ok.ensures.may.attached)) c.in-Ok.ensures.may.page_low c.in-Ok.ensures.may.not_held
-    (c.missing-lacking.ensures ∙ ap (λ s. missing_for s c.args.memory.now c.in-Ok.stage.root c.args.page) c.size-size.ensures)
-    (chosen_below driver.marks driver.ledger c.args.frame driver.frames c.missing-lacking.result c.in-Some.tables.items c.args.memory.now many c.in-Some.ensures.chosen) in
+    (c.missing-lacking.ensures ∙ ap (λ s. missing_for s c.args.memory.now c.in-Ok.stage.root c.args.mapping.page) c.size-size.ensures)
+    (chosen_below driver.marks driver.ledger c.args.mapping.frame driver.frames c.missing-lacking.result c.in-Some.tables.items c.args.memory.now many c.in-Some.ensures.chosen) in
     rw (c.size-size.ensures, c.as_slice-2.ensures.value, c.reserve_all.ensures.memory, c.as_slice.ensures.value) may.fresh
 
 pub returns-clause-effect : goal.returns-clause-effect
@@ -246,19 +246,19 @@ returns-clause-effect c =
         stage = c.in-Ok.stage;
         attached = c.in-Ok.ensures.may.attached;
         tables = tables;
-        chosen = subst (λ n. AreHighestFree driver.marks driver.ledger (Some c.args.frame) n (missing_for size memory root c.args.page) tables) many
-            (subst (λ n. AreHighestFree driver.marks driver.ledger (Some c.args.frame) driver.frames n tables) (c.missing-lacking.ensures ∙ ap (λ s. missing_for s memory root c.args.page) c.size-size.ensures) c.in-Some.ensures.chosen);
-        shown = subst (λ (r : Rights). ShowsGrant driver.ledger c.grant.new.self c.args.id c.args.page (c.args.frame, r)) right granted;
-        agrees = subst (λ (r : Rights). (h : History) → Agrees driver.ledger h → Agrees c.grant.new.self (entry.Granted c.args.id c.args.page c.args.frame r ∷ h)) right agrees;
+        chosen = subst (λ n. AreHighestFree driver.marks driver.ledger (Some c.args.mapping.frame) n (missing_for size memory root c.args.mapping.page) tables) many
+            (subst (λ n. AreHighestFree driver.marks driver.ledger (Some c.args.mapping.frame) driver.frames n tables) (c.missing-lacking.ensures ∙ ap (λ s. missing_for s memory root c.args.mapping.page) c.size-size.ensures) c.in-Some.ensures.chosen);
+        shown = subst (λ (r : Rights). ShowsGrant driver.ledger c.grant.new.self c.args.id c.args.mapping.page (c.args.mapping.frame, r)) right granted;
+        agrees = subst (λ (r : Rights). (h : History) → Agrees driver.ledger h → Agrees c.grant.new.self (entry.Granted c.args.id c.args.mapping.page c.args.mapping.frame r ∷ h)) right agrees;
         driver = rw (c.reserve_all.ensures.marks, c.as_slice.ensures.value) refl;
-        bytes = mapped_is size memory c.reserve_all.new.memory c.map.new.memory root c.args.page (record { frame = c.args.frame; rights = c.rights-rights.result }) (granted_leaf c.args.frame c.args.rights)
+        bytes = mapped_is size memory c.reserve_all.new.memory c.map.new.memory root c.args.mapping.page (record { frame = c.args.mapping.frame; rights = c.rights-rights.result }) (granted_leaf c.args.mapping.frame c.args.mapping.rights)
             c.as_slice.result.now c.as_slice-2.result.now tables
-            (c.map.ensures.whole ∙ ap (λ s. mapped s c.reserve_all.new.memory root c.args.page (record { frame = c.args.frame; rights = c.rights-rights.result }) c.as_slice-2.result.now) c.size-size.ensures)
+            (c.map.ensures.whole ∙ ap (λ s. mapped s c.reserve_all.new.memory root c.args.mapping.page (record { frame = c.args.mapping.frame; rights = c.rights-rights.result }) c.as_slice-2.result.now) c.size-size.ensures)
             c.reserve_all.ensures.memory c.as_slice.ensures.value c.as_slice-2.ensures.value
-            (ap (λ (r : Rights). granted_with c.args.frame r) right);
+            (ap (λ (r : Rights). granted_with c.args.mapping.frame r) right);
         others =
-            let leaf : PageLeaf = record { frame = c.args.frame; rights = c.rights-rights.result } in
-            let mapped_so = mapped_as size c.size-size.result memory c.reserve_all.new.memory c.map.new.memory root c.args.page leaf c.as_slice.result.now c.as_slice-2.result.now tables
+            let leaf : PageLeaf = record { frame = c.args.mapping.frame; rights = c.rights-rights.result } in
+            let mapped_so = mapped_as size c.size-size.result memory c.reserve_all.new.memory c.map.new.memory root c.args.mapping.page leaf c.as_slice.result.now c.as_slice-2.result.now tables
             c.size-size.ensures c.reserve_all.ensures.memory c.as_slice.ensures.value c.as_slice-2.ensures.value record {
               tree = c.map.ensures.tree;
               tables = c.map.ensures.tables;
@@ -268,9 +268,9 @@ returns-clause-effect c =
             } in
             subst (λ (ms : List (Option Owner)). KeepsOtherFrames ms c.args.id memory c.map.new.memory)
             (sym (c.reserve_all.ensures.marks ∙ ap (λ fs. marked_for (OneDevice c.args.id) fs driver.marks) c.as_slice.ensures.value))
-            (others_kept memory c.map.new.memory driver.marks driver.ledger c.args.id c.in-Ok.stage.mode root c.args.page c.args.frame c.missing-lacking.result leaf tables (sym c.requires.stand.size)
+            (others_kept memory c.map.new.memory driver.marks driver.ledger c.args.id c.in-Ok.stage.mode root c.args.mapping.page c.args.mapping.frame c.missing-lacking.result leaf tables (sym c.requires.stand.size)
             (c.requires.stand.tables c.args.id c.in-Ok.stage (attached_owns (attachment_by_id driver.devices.items c.args.id) c.in-Ok.stage c.in-Ok.ensures.may.attached))
-            (chosen_below driver.marks driver.ledger c.args.frame driver.frames c.missing-lacking.result tables memory many c.in-Some.ensures.chosen) mapped_so);
+            (chosen_below driver.marks driver.ledger c.args.mapping.frame driver.frames c.missing-lacking.result tables memory many c.in-Some.ensures.chosen) mapped_so);
       },
     )
   where
@@ -283,8 +283,8 @@ returns-clause-stand c =
     let tables = c.in-Some.tables.items in
     let memory = c.args.memory.now in
     let may = c.in-Ok.ensures.may in
-    let leaf : PageLeaf = record { frame = c.args.frame; rights = c.rights-rights.result } in
-    let mapped_so = mapped_as (size_in c.in-Ok.stage.mode) c.size-size.result memory c.reserve_all.new.memory c.map.new.memory c.in-Ok.stage.root c.args.page leaf c.as_slice.result.now c.as_slice-2.result.now tables
+    let leaf : PageLeaf = record { frame = c.args.mapping.frame; rights = c.rights-rights.result } in
+    let mapped_so = mapped_as (size_in c.in-Ok.stage.mode) c.size-size.result memory c.reserve_all.new.memory c.map.new.memory c.in-Ok.stage.root c.args.mapping.page leaf c.as_slice.result.now c.as_slice-2.result.now tables
     c.size-size.ensures c.reserve_all.ensures.memory c.as_slice.ensures.value c.as_slice-2.ensures.value record {
       tree = c.map.ensures.tree;
       tables = c.map.ensures.tables;
@@ -294,13 +294,13 @@ returns-clause-stand c =
     } in
     let granted = ok_then c.grant.result (sym c.is_err.ensures.value ∙ c.if-is_err.false) c.grant.ensures.granted in
     let many = sym (c.requires.stand.size ∙ driver.sound.sizes.marked) in
-    let chose = chosen_below driver.marks driver.ledger c.args.frame driver.frames c.missing-lacking.result tables memory many c.in-Some.ensures.chosen in
+    let chose = chosen_below driver.marks driver.ledger c.args.mapping.frame driver.frames c.missing-lacking.result tables memory many c.in-Some.ensures.chosen in
     let marks = c.reserve_all.ensures.marks ∙ ap (λ fs. marked_for (OneDevice c.args.id) fs driver.marks) c.as_slice.ensures.value in
     record {
       size = mapped_so.long ∙ length-cleared tables memory ∙ c.requires.stand.size ∙ sym (length-marked_for (OneDevice c.args.id) tables driver.marks) ∙ sym (ap (λ (ms : List (Option Owner)). length ms) marks);
       tables =
           subst (λ (ms : List (Option Owner)). HaveTables c.map.new.memory ms c.grant.new.self driver.devices.items) (sym marks)
-          (tables_granted memory c.map.new.memory driver.marks driver.ledger c.grant.new.self driver.devices.items c.args.id c.args.page c.args.frame c.missing-lacking.result c.rights-rights.result c.in-Ok.stage tables
+          (tables_granted memory c.map.new.memory driver.marks driver.ledger c.grant.new.self driver.devices.items c.args.id c.args.mapping.page c.args.mapping.frame c.missing-lacking.result c.rights-rights.result c.in-Ok.stage tables
           (sym c.requires.stand.size) c.requires.stand.tables (attached_owns (attachment_by_id driver.devices.items c.args.id) c.in-Ok.stage c.in-Ok.ensures.may.attached) may.page_low granted chose mapped_so);
       directory = λ started.
           let before = c.requires.stand.tables c.args.id c.in-Ok.stage (attached_owns (attachment_by_id driver.devices.items c.args.id) c.in-Ok.stage c.in-Ok.ensures.may.attached) in
@@ -308,10 +308,10 @@ returns-clause-stand c =
           stands_in driver.frames c.map.new.memory _ driver.devices.items driver.levels (size ∙ sym many)
           (directory_stay driver.frames memory c.map.new.memory driver.marks _ driver.devices.items driver.devices.items driver.levels driver.sound.sizes.in_range size
           (λ n own. (
-            kept_others memory c.map.new.memory driver.marks driver.ledger c.args.id c.in-Ok.stage.mode c.in-Ok.stage.root c.args.page c.args.frame c.missing-lacking.result n leaf tables System
+            kept_others memory c.map.new.memory driver.marks driver.ledger c.args.id c.in-Ok.stage.mode c.in-Ok.stage.root c.args.mapping.page c.args.mapping.frame c.missing-lacking.result n leaf tables System
                 (sym c.requires.stand.size) before chose mapped_so own.system (λ same. not_system c.args.id same),
             ap (λ (ms : List (Option Owner)). slice_get ms n) marks ∙ mark_stays (OneDevice c.args.id) n tables driver.marks
-                (owned_not_chosen driver.marks driver.ledger (Some c.args.frame) (length memory) c.missing-lacking.result n tables System (sym c.requires.stand.size) chose own.system),
+                (owned_not_chosen driver.marks driver.ledger (Some c.args.mapping.frame) (length memory) c.missing-lacking.result n tables System (sym c.requires.stand.size) chose own.system),
           )) (λ id. refl) (λ id stage at. at) (in_stands driver.frames memory driver.marks driver.devices.items driver.levels (sym many) (c.requires.stand.directory started)));
     }
 
@@ -327,9 +327,9 @@ returns-clause-ready c = λ r ready.
     let size = c.map.ensures.size ∙ ap (λ (m : List (List ℕ)). length m) c.reserve_all.ensures.memory ∙ length-cleared c.as_slice.result.now memory in
     let many : length memory ≡ driver.frames = c.requires.stand.size ∙ driver.sound.sizes.marked in
     let system : slice_get driver.marks (fault_frame (length memory)) ≡ Some (Some System) = ap (λ n. slice_get driver.marks (fault_frame n)) many ∙ driver.sound.fixed.fault in
-    let chose = chosen_below driver.marks driver.ledger c.args.frame driver.frames c.missing-lacking.result tables memory (sym many) c.in-Some.ensures.chosen in
+    let chose = chosen_below driver.marks driver.ledger c.args.mapping.frame driver.frames c.missing-lacking.result tables memory (sym many) c.in-Some.ensures.chosen in
     let marks = c.reserve_all.ensures.marks ∙ ap (λ fs. marked_for (OneDevice c.args.id) fs driver.marks) c.as_slice.ensures.value in
     let still = ap (λ (ms : List (Option Owner)). slice_get ms (fault_frame (length memory))) marks ∙ mark_stays (OneDevice c.args.id) (fault_frame (length memory)) tables driver.marks
-    (owned_not_chosen driver.marks driver.ledger (Some c.args.frame) (length memory) c.missing-lacking.result (fault_frame (length memory)) tables System (sym c.requires.stand.size) chose system) ∙ system in
+    (owned_not_chosen driver.marks driver.ledger (Some c.args.mapping.frame) (length memory) c.missing-lacking.result (fault_frame (length memory)) tables System (sym c.requires.stand.size) chose system) ∙ system in
     let unreported = (returns-clause-effect c).1.others (fault_frame (length memory)) (λ own. system_device c.args.id (sym still ∙ own)) in
     ready_from (state_of driver) _ memory c.map.new.memory r (returns-clause-stand c) size unreported refl refl ready

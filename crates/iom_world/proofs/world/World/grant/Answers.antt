@@ -13,7 +13,7 @@ invariant_of-self g c =
     let world = c.args.self.now in
     let new : Parts = record { memory = c.grant.new.memory; iommu = world.hardware.board.iommu; driver = state_of c.grant.new.self; devices = world.hardware.board.devices.items; fabric = world.hardware.board.fabric } in
     record {
-      sound = keeps_granted (parts_of world) new (world.hardware.board.events + 1) c.args.id c.args.page c.args.frame c.args.rights (told_of c.grant.result) (counted world) (sound_driver world.driver)
+      sound = keeps_granted (parts_of world) new (world.hardware.board.events + 1) c.args.id c.args.mapping.page c.args.mapping.frame c.args.mapping.rights (told_of c.grant.result) (counted world) (sound_driver world.driver)
           (c.grant.ensures.ready _ (counted world).ready)
           record { answer = c.grant.result; told_so = refl; call = c.grant.ensures.effect; iommu = refl; devices = refl; fabric = refl };
       agrees = world.agrees;
