@@ -1,5 +1,5 @@
 -- Ways emptied one after the other, from the lowest on: what holds so far.
-use Rattle.std.proofs.Common.{◌≡◌, ◌≢◌, ◌<◌, ◌≤◌, ◌+◌, ◌⊎◌, ◌∙◌, inl, inr, ℕ, Bool, true, false, cond, List, length, get_or, set, slice_get, Some, refl, sym, ap, arith}
+use Rattle.std.proofs.Common.{◌≡◌, ◌≢◌, ◌<◌, ◌≤◌, ◌+◌, ◌⊎◌, ◌∙◌, inl, inr, ℕ, zero, suc, Bool, true, false, cond, List, length, replicate, get_or, set, slice_get, Some, refl, sym, ap, arith}
 use Rattle.std.proofs.lemmas.Bool.Decides.{eqb_tells}
 use Rattle.std.proofs.lemmas.List.{get_or-set_other, get_or_past, length-set}
 use Rattle.std.proofs.lemmas.Grind.{get_or-set_at}
@@ -10,6 +10,12 @@ use Rattle.iom_tlb.specs.Ways.{is_space, space_word}
 use Rattle.iom_tlb.specs.WayCalls.{Empties}
 use Rattle.iom_tlb.proofs.WordLemmas.{no_word}
 
+-- eight zeros, or however many, have nothing else
+pub zeros : (many way : ℕ) → ◌≡◌ {A = ℕ} (get_or (replicate many 0) way 0) 0
+zeros zero way = refl
+zeros (suc many) zero = refl
+zeros (suc many) (suc way) = zeros many way
+
 -- the ways below a number are tested, and the others are as they were
 pub record EmptiesBelow (n : ℕ) (is_out : Key → Translation → Bool) (pages : List ℕ) (translations : List Translation) (old new : List ℕ) : Type 0 where
   pub as_many : length new ≡ length old
@@ -19,6 +25,14 @@ pub record EmptiesBelow (n : ℕ) (is_out : Key → Translation → Bool) (pages
       → get_or new way 0 ≡ cond (is_out (space, get_or pages way 0) cached) 0 (space_word space)
 
 module _ (is_out : Key → Translation → Bool) (pages : List ℕ) (translations : List Translation) (old : List ℕ) where
+  -- where all are empty already
+  pub empty_already : ((way : ℕ) → get_or old way 0 ≡ 0) → Empties is_out pages translations old old
+  empty_already none = record {
+    as_many = refl;
+    empty_or_same = λ way. inr refl;
+    tested = λ way space cached own e at. absurd (no_word space (sym e ∙ none way));
+  }
+
   pub none_yet : EmptiesBelow 0 is_out pages translations old old
   none_yet = record { as_many = refl; rest = λ way le. refl; empty_or_same = λ way. inr refl; tested = λ way space cached lt own e at. absurd (omega arith) }
 

@@ -1,5 +1,5 @@
 -- Leaves of 4 KiB and larger ones: what a cover covers of them, and of which address spaces there may be large ones.
-use Rattle.std.proofs.Common.{◌≡◌, ◌≢◌, ◌+◌, ◌*◌, ◌/◌, ◌%◌, ◌^◌, ◌∙◌, inl, inr, ℕ, suc, Bool, true, false, ◌==◌, ◌&&◌, Option, Some, None, refl, sym, ap, arith}
+use Rattle.std.proofs.Common.{◌≡◌, ◌≢◌, ◌+◌, ◌/◌, ◌%◌, ◌^◌, ◌∙◌, inl, inr, ℕ, suc, Bool, true, false, ◌==◌, ◌&&◌, Some, None, refl, sym, ap, arith}
 use Rattle.std.proofs.lemmas.Bool.{eq-eqb, eqb-true}
 use Rattle.std.proofs.Math.Nat.{div-div-eq-div-mul, pow-suc}
 use Rattle.iom_tlb.specs.declared.space.Space.{Space}
@@ -9,7 +9,7 @@ use Rattle.iom_tlb.specs.declared.cover.Cover.TheVariants as cover
 use Rattle.iom_tlb.specs.declared.large_leaves.LargeLeaves.{LargeLeaves}
 use Rattle.iom_tlb.specs.declared.trans_cache.Translation.{Translation}
 use Rattle.iom_tlb.specs.Content.{Key, Translations, Keeps, DropsWhere, HasNothing}
-use Rattle.iom_tlb.specs.Covers.{admits, admits_page, covers, is_same_leaf, may_be_large, may_cover_large}
+use Rattle.iom_tlb.specs.Covers.{admits, covers, is_same_leaf, may_be_large, may_cover_large}
 use Rattle.iom_tlb.specs.Entries.{is_key}
 use Rattle.iom_tlb.specs.WayCalls.{AreMarked}
 use Rattle.iom_tlb.proofs.KeyLemmas.{apart_keys}

@@ -1,5 +1,5 @@
 -- What the calls of a set do to its ways, and what holds of them whatever calls were made.
-use Rattle.std.specs.Prelude.{◌≡◌, ◌≢◌, ◌⊎◌, ℕ, ◌+◌, ◌%◌, ◌<◌, Bool, true, false, List, Option, Some, length, get_or, set, slice_get, if◌then◌else◌}
+use Rattle.std.specs.Prelude.{◌≡◌, ◌≢◌, ◌⊎◌, ℕ, ◌+◌, ◌%◌, ◌<◌, Bool, true, false, List, Some, length, get_or, set, slice_get, if◌then◌else◌}
 use Rattle.iom_tlb.specs.declared.large_leaves.LargeLeaves.{LargeLeaves}
 use Rattle.iom_tlb.specs.declared.space.Space.{Space}
 use Rattle.iom_tlb.specs.declared.trans_cache.Translation.{Translation}

@@ -1,5 +1,5 @@
 // A set of the cache: eight ways, side by side.
-ghost use Rattle.std.specs.Prelude.{◌≡◌, ◌<◌, ◌%◌, ◌↔◌, ℕ, true, false, IsTrue, IfSome, Some};
+ghost use Rattle.std.specs.Prelude.{◌≡◌, ◌<◌, ◌%◌, ◌↔◌, ℕ, true, false, IsTrue, IfSome, Some, get_or};
 ghost use Rattle.iom_tlb.specs.Content.{Sets, DropsWhere, HasNothing};
 ghost use Rattle.iom_tlb.specs.Covers.{covers};
 ghost use Rattle.iom_tlb.specs.declared.cached_page.CachedPage.{CachedPage};
@@ -87,6 +87,14 @@ fn is_covered(cover: &Cover, word: u64, page: u64, cached: Translation) -> bool
     }
 }
 
+/// Whether all ways are empty.
+#[inline(always)]
+fn is_empty(spaces: &[u64; WAYS]) -> bool
+    ensures { IsTrue result → (way : ℕ) → get_or spaces.now way 0 ≡ 0 }
+{
+    are_same_lanes(spaces, &[0; WAYS])
+}
+
 /// Empties each way whose translation is covered.
 fn empty_covered(
     spaces: &mut [u64; WAYS],
@@ -96,6 +104,10 @@ fn empty_covered(
 )
     ensures { Empties (covers cover.now) pages.now translations.now spaces.old spaces.new }
 {
+    // Most sets of a cache that is hardly used are empty.
+    if is_empty(spaces) {
+        return;
+    }
     for way in 0..WAYS {
         if is_covered(cover, spaces[way], pages[way], translations[way]) {
             spaces[way] = 0;
