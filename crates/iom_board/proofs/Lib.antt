@@ -3,6 +3,7 @@ pub mod DeviceLists
 pub mod SoundThen
 pub mod Sent
 pub mod SoundReplies
+pub mod LookLemmas
 pub mod MakeLemmas
 pub mod SoundDeliveries
 pub mod SoundPlugging

@@ -12,6 +12,7 @@ pub mod Sound
 pub mod Senders
 pub mod PowerOn
 pub mod Counted
+pub mod Looks
 pub mod SoundIsFact
 pub mod Software
 pub mod Same

@@ -133,16 +133,25 @@ impl CommandRing {
         registers.command_tail()
     }
 
+    /// What stands at the head, where a command waits.
+    #[inline(always)]
+    pub fn first(memory: &Memory, registers: &Registers) -> QueueEntry
+        requires waits { command_head registers.now ≢ command_tail registers.now }
+        ensures { slice_get (commands_in memory.now registers.now) 0 ≡ Some result }
+    {
+        let head = registers.command_head();
+        let place = registers.command_base() + COMMAND_SIZE as u64 * head as u64;
+        entry_at(memory, place)
+    }
+
     /// What stands at the head: the first of the commands that wait. None exactly where none waits.
     pub fn next(memory: &Memory, registers: &Registers) -> Option<QueueEntry>
         ensures { result ≡ slice_get (commands_in memory.now registers.now) 0 }
     {
-        let head = registers.command_head();
-        if head == registers.command_tail() {
+        if registers.command_head() == registers.command_tail() {
             return None;
         }
-        let place = registers.command_base() + COMMAND_SIZE as u64 * head as u64;
-        Some(entry_at(memory, place))
+        Some(CommandRing::first(memory, registers))
     }
 
     /// How many commands wait between head and tail, by the registers.

@@ -3,6 +3,7 @@ pub mod ByAnswer
 pub mod FenceLemmas
 mod ForeseenLemmas
 pub mod FetchLemmas
+pub mod LookLemmas
 pub mod OneFetch
 pub mod ServiceLemmas
 pub mod StageLemmas

@@ -1,10 +1,10 @@
 -- What a fetch does, by what stands at the head of the command queue, and a command by its own section (IOMMU specification, section 3.1, "Command-Queue (CQ)").
-use Rattle.std.specs.Prelude.{◌≡◌, ◌⊎◌, ℕ, ◌==◌, Bool, true, false, not, ◌&&◌, ◌||◌, List, length, Option, Some, None, slice_get, if◌then◌else◌}
+use Rattle.std.specs.Prelude.{◌≡◌, ◌≢◌, ◌⊎◌, ℕ, ◌==◌, Bool, true, false, not, ◌&&◌, ◌||◌, List, length, Option, Some, None, slice_get, if◌then◌else◌}
 use Rattle.iom_base.specs.declared.access.AccessKind.{AccessKind}
 use Rattle.iom_base.specs.declared.access.AccessKind.TheVariants.{Read, Write}
 use Rattle.iom_phys_mem.specs.Words.{IsPlace, with_word}
 use Rattle.iom_registers.specs.declared.registers.Registers.{Registers}
-use Rattle.iom_registers.specs.Queues.{is_processing_commands, with_command_done, with_fence_w_ip, with_cqmf, with_cmd_ill}
+use Rattle.iom_registers.specs.Queues.{command_head, command_tail, is_processing_commands, with_command_done, with_fence_w_ip, with_cqmf, with_cmd_ill}
 use Rattle.iom_command_queue.specs.declared.command.Command.{Command}
 use Rattle.iom_command_queue.specs.declared.command.Command.TheVariants.{IotinvalVma, IotinvalGvma, IofenceC, IodirInvalDdt, AtsInval}
 use Rattle.iom_command_queue.specs.declared.command.FenceStore.{FenceStore}
@@ -22,6 +22,8 @@ use Rattle.iom_tlb.specs.Invalidations.{vma_covers, gvma_covers}
 use Rattle.iom_iommu.specs.declared.iommu.Iommu.{Iommu}
 use Rattle.iom_iommu.specs.declared.fetched.Fetched.{Fetched}
 use Rattle.iom_iommu.specs.declared.fetched.Fetched.TheVariants.{Did, Waiting, Empty, Stopped}
+use Rattle.iom_iommu.specs.declared.front.Front.{Front}
+use Rattle.iom_iommu.specs.declared.front.Front.TheVariants as front
 use Rattle.iom_iommu.specs.Cached.{AreTranslationsIn}
 use Rattle.iom_iommu.specs.Parts.{registers_of, contexts_of, translations_of, flights_of, fence_snapshot_of, slots_of}
 
@@ -152,3 +154,15 @@ FetchesFrom true (Some (stands.Command command)) memory old answer new_memory ne
 abbrev pub FetchesCommand : {C : Type 0} {c : Cache C} → List (List ℕ) → Iommu C c → Fetched → List (List ℕ) → Iommu C c → Type 0
 FetchesCommand memory old answer new_memory new =
     FetchesFrom (is_processing_commands (registers_of old)) (head_entry memory (registers_of old)) memory old answer new_memory new
+
+-- commands are processed, and one waits
+pub record IsAtCommand {C : Type 0} {c : Cache C} (iommu : Iommu C c) : Type 0 where
+  pub processing : is_processing_commands (registers_of iommu) ≡ true
+  pub waits : command_head (registers_of iommu) ≢ command_tail (registers_of iommu)
+
+-- WHAT A LOOK AT THE FRONT finds and leaves: of a queue that is stopped or empty all that a fetch does, before a command nothing
+abbrev pub LooksAhead : {C : Type 0} {c : Cache C} → Iommu C c → Front → Iommu C c → Type 0
+LooksAhead old front.Stopped new = (is_processing_commands (registers_of old) ≡ false) × (new ≡ old)
+LooksAhead old front.Empty new =
+    (is_processing_commands (registers_of old) ≡ true) × (command_head (registers_of old) ≡ command_tail (registers_of old)) × (new ≡ without_fence old)
+LooksAhead old front.Command new = IsAtCommand old × (new ≡ old)

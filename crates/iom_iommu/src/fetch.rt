@@ -2,9 +2,10 @@
 ghost use Rattle.std.specs.Prelude.{◌≡◌, ◌≢◌, ◌+◌, ◌<◌, ◌^◌, length};
 ghost use Rattle.iom_registers.specs.Queues.{command_head, command_tail};
 ghost use Rattle.iom_iommu.specs.Parts.{registers_of, slots_of, frames_of};
-ghost use Rattle.iom_iommu.specs.Fetches.{FetchesCommand, ExecutesCommand};
+ghost use Rattle.iom_iommu.specs.Fetches.{IsAtCommand, LooksAhead, FetchesCommand, ExecutesCommand};
 
 use crate::fetched::Fetched;
+use crate::front::Front;
 use crate::iommu::Iommu;
 use iom_command_queue::{Command, CommandRing, QueueEntry};
 use iom_phys_mem::Memory;
@@ -24,25 +25,51 @@ impl<C: TransCache> Iommu<C> {
         requires serials { (slots_of self.old).last + 1 < 2 ^ 64 }
         ensures { FetchesCommand memory.old self.old result memory.new self.new }
     {
-        if !self.registers.is_processing_commands() {
-            return Fetched::Stopped;
+        match self.look() {
+            Front::Stopped => Fetched::Stopped,
+            Front::Empty => Fetched::Empty,
+            Front::Command => self.fetch_next(memory),
         }
-        match CommandRing::next(memory, &self.registers) {
-            None => {
-                self.forget_fence();
-                Fetched::Empty
-            }
-            Some(QueueEntry::Outside) => {
+    }
+
+    /// The first part of a fetch: what stands at the front of the queue, which the registers alone say. Where commands
+    /// aren't processed, or none waits, it is all that a fetch does: in an empty queue nothing is kept of a fence. Before
+    /// a command it changes nothing, and [`fetch_next`](Self::fetch_next) goes on.
+    #[inline(always)]
+    pub fn look(&mut self) -> Front
+        ensures { LooksAhead self.old result self.new }
+    {
+        if !self.registers.is_processing_commands() {
+            return Front::Stopped;
+        }
+        if self.registers.command_head() == self.registers.command_tail() {
+            self.forget_fence();
+            return Front::Empty;
+        }
+        Front::Command
+    }
+
+    /// The rest of a fetch, where commands are processed and one waits: takes it from memory and does it, as
+    /// [`fetch`](Self::fetch) says.
+    #[inline(always)]
+    pub fn fetch_next(&mut self, memory: &mut Memory) -> Fetched
+        requires memory { length memory.old ≡ frames_of self.old }
+        requires serials { (slots_of self.old).last + 1 < 2 ^ 64 }
+        requires waits { IsAtCommand self.old }
+        ensures { FetchesCommand memory.old self.old result memory.new self.new }
+    {
+        match CommandRing::first(memory, &self.registers) {
+            QueueEntry::Outside => {
                 self.forget_fence();
                 self.registers.set_cqmf();
                 Fetched::Stopped
             }
-            Some(QueueEntry::Illegal(_)) => {
+            QueueEntry::Illegal(_) => {
                 self.forget_fence();
                 self.registers.set_cmd_ill();
                 Fetched::Stopped
             }
-            Some(QueueEntry::Command(command)) => self.take(memory, &command),
+            QueueEntry::Command(command) => self.take(memory, &command),
         }
     }
 

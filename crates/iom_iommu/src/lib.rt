@@ -27,6 +27,7 @@ mod contexts;
 mod fetch;
 mod fetched;
 mod foreseen;
+mod front;
 mod invalidations;
 mod iommu;
 pub mod laws;
@@ -42,5 +43,6 @@ mod translated;
 mod translations;
 
 pub use fetched::Fetched;
+pub use front::Front;
 pub use iommu::Iommu;
 pub use reply::Reply;

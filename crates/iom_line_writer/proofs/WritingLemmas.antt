@@ -8,7 +8,7 @@ use Rattle.iom_machine.specs.declared.outcome.Outcome.{Outcome}
 use Rattle.iom_machine.specs.declared.outcome.Trace.{Trace}
 use Rattle.iom_script.specs.Lines.{line_of, settled_line, trace_line}
 use Rattle.iom_line_writer.specs.declared.writing.LineWriter.{LineWriter}
-use Rattle.iom_line_writer.specs.Told.{told_line, told_settled}
+use Rattle.iom_line_writer.specs.Told.{told_settled}
 use Rattle.iom_line_writer.specs.Writing.{AppendsFront, AppendsPart, TakesText, FailsAt, FailsWriting}
 
 -- nothing is written of a text

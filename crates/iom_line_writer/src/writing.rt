@@ -3,12 +3,14 @@ ghost use Rattle.std.specs.Prelude.{◌≡◌, ◌≢◌, [], OnOk, OnErr, IfErr
 ghost use Rattle.std.specs.Io.{WritesAtMost};
 ghost use Rattle.std.specs.IoError.{error_kind};
 ghost use Rattle.std.specs.Io.KnownBytes.{Appends, WriteAppends};
+ghost use Rattle.iom_answers.specs.Answers.{outcome_of};
 ghost use Rattle.iom_script.specs.Lines.{line_of, settled_line, trace_line};
 ghost use Rattle.iom_line_writer.specs.Told.{told_settled};
 ghost use Rattle.iom_line_writer.specs.Writing.{AppendsPart, KeepsWriter, wants_counts, TakesText, FailsAt, TakesLine, FailsWriting};
 
+use iom_answers::{Answer, AnswerSink};
 use iom_base::Refusal;
-use iom_machine::{Outcome, Sink, Trace};
+use iom_machine::Trace;
 use iom_script::LineBuffer;
 use std::io::{self, ErrorKind, Write};
 
@@ -59,7 +61,7 @@ fn write_all<W: Write>(writer: &mut W, bytes: &[u8]) -> io::Result<()>
     Ok(())
 }
 
-/// A sink that puts the line of each outcome into a buffer, and behind it the line of its counts where it wants
+/// A sink that puts the line of each answer into a buffer, and behind it the line of its counts where it wants
 /// these, and writes the buffer out when it is nearly full. It takes no memory.
 pub struct LineWriter<'a, W> {
     /// The lines that aren't written yet.
@@ -96,16 +98,16 @@ impl<'a, W: Write> LineWriter<'a, W> {
         Ok(())
     }
 
-    /// Puts the line of the outcome into the buffer.
+    /// Puts the line of the answer into the buffer.
     #[inline(always)]
-    fn put_line(&mut self, outcome: &Outcome) -> Result<(), WriteFault>
-        ensures taken { OnOk result (TakesText W.contents self.old (line_of outcome.now) self.new) }
-        ensures failed { OnErr result (FailsAt W.contents self.old (line_of outcome.now) self.new) }
+    fn put_line(&mut self, answer: Answer<'_>) -> Result<(), WriteFault>
+        ensures taken { OnOk result (TakesText W.contents self.old (line_of (outcome_of answer.entry)) self.new) }
+        ensures failed { OnErr result (FailsAt W.contents self.old (line_of (outcome_of answer.entry)) self.new) }
     {
         if !self.buffer.has_room() {
             self.write_out()?;
         }
-        self.buffer.append_line(outcome);
+        self.buffer.append_answer(answer);
         Ok(())
     }
 
@@ -152,7 +154,7 @@ impl<'a, W: Write> LineWriter<'a, W> {
     }
 }
 
-impl<W: Write> Sink for LineWriter<'_, W> {
+impl<W: Write> AnswerSink for LineWriter<'_, W> {
     type Fault = WriteFault;
 
     ghost wants = { wants_counts };
@@ -168,8 +170,8 @@ impl<W: Write> Sink for LineWriter<'_, W> {
 
     // Written into the loop of a run: a call would save and restore registers for each event.
     #[inline(always)]
-    fn put(&mut self, outcome: &Outcome, trace: Option<Trace>) -> Result<(), WriteFault> {
-        self.put_line(outcome)?;
+    fn put(&mut self, answer: Answer<'_>, trace: Option<Trace>) -> Result<(), WriteFault> {
+        self.put_line(answer)?;
         match trace {
             None => Ok(()),
             Some(trace) => self.put_trace(&trace),

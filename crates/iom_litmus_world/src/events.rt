@@ -3,14 +3,15 @@ ghost use Rattle.std.specs.Prelude.{◌≡◌, ◌+◌, ◌<◌, ◌^◌, false,
 ghost use Rattle.iom_litmus_world.specs.Lines.{is_of_block, made_by, Says, TakesEvent};
 ghost use Rattle.iom_script.specs.Reading.{Reads};
 
+use iom_answers::Answer;
 use iom_base::Sequence;
 use iom_inflight::MadeAt;
 use iom_litmus::Reply;
 use iom_litmus_looks::{front_of, touches_of};
-use iom_machine::{Event, Outcome};
+use iom_machine::Event;
 use iom_script::{LineBuffer, event_of};
 use iom_virtio_blk::Disk;
-use iom_world::{KeptOutcomes, World};
+use iom_world::World;
 use std::alloc::{AllocError, Global};
 
 /// Whether the event is one of a block device.
@@ -43,10 +44,10 @@ fn made_by<D: Disk>(world: &World<D>, event: &Event) -> Option<MadeAt>
     }
 }
 
-/// Writes the line of the outcome, without its line feed, in place of what stood there.
-fn put(buffer: &mut LineBuffer, outcome: &Outcome) {
+/// Writes the line of the answer, without its line feed, in place of what stood there.
+fn put(buffer: &mut LineBuffer, answer: Answer<'_>) {
     buffer.clear();
-    buffer.append_line(outcome);
+    buffer.append_answer(answer);
     buffer.take_line_feed();
 }
 
@@ -55,7 +56,6 @@ pub(crate) fn take<D: Disk>(
     alloc: Global,
     world: &mut World<D>,
     event: &Event,
-    kept: &mut KeptOutcomes,
     buffer: &mut LineBuffer,
 ) -> Result<Reply, AllocError>
     requires event { is_of_block event.now ≡ false }
@@ -63,7 +63,7 @@ pub(crate) fn take<D: Disk>(
     ensures { IfOk result (λ reply. TakesEvent event.now world.old reply world.new) }
 {
     let touches = touches_of(alloc, made_by(world, event))?;
-    put(buffer, world.take(event, kept));
+    put(buffer, world.take(event));
     let text = Vec::from_slice(alloc, front_of(buffer.as_slice()))?;
     Ok(Reply {
         text: Sequence::from_vec(text),

@@ -14,16 +14,9 @@ use iom_litmus_looks::{event_of, fingerprint_of, ids_of, memory_text};
 use iom_machine::Event;
 use iom_script::LineBuffer;
 use iom_virtio_blk::Disk;
-use iom_world::{KeptOutcomes, World};
+use iom_world::World;
 use std::alloc::{AllocError, Global};
 use std::marker::Model;
-
-/// Where answers are put together.
-#[derive(Drop)]
-struct Bench {
-    kept: KeptOutcomes,
-    buffer: LineBuffer,
-}
 
 /// A world, hardware with the driver, without a disk.
 #[derive(Drop)]
@@ -32,7 +25,7 @@ pub struct UnderTest<D: Disk> {
     /// The ids of the devices, in the order of plugging.
     ids: Sequence<DeviceId>,
     /// Where answers are put together, once one was.
-    bench: Option<Box<Bench>>,
+    buffer: Option<LineBuffer>,
 }
 
 impl<D: Disk> Model for UnderTest<D> {
@@ -45,15 +38,6 @@ impl<D: Disk> Model for UnderTest<D> {
     ghost coded = { Prim.hlevel (codes, rows_coded, translations_coded) };
 
     ghost view = { λ t. record { place = place_of t.world; ids = t.ids } };
-}
-
-fn new_bench(alloc: Global) -> Result<Box<Bench>, AllocError> {
-    let buffer = LineBuffer::new(alloc)?;
-    let kept = KeptOutcomes::new();
-    match Box::new(alloc, Bench { kept, buffer }) {
-        Ok(bench) => Ok(bench),
-        Err(_) => Err(AllocError),
-    }
 }
 
 impl<D: Disk> UnderTest<D> {
@@ -85,13 +69,12 @@ impl<D: Disk> UnderTest<D> {
         if self.world.events() >= MOST_EVENTS {
             return Err(AllocError);
         }
-        let mut bench = match self.bench.take() {
-            Some(bench) => bench,
-            None => new_bench(alloc)?,
+        let mut buffer = match self.buffer.take() {
+            Some(buffer) => buffer,
+            None => LineBuffer::new(alloc)?,
         };
-        let Bench { kept, buffer } = &mut *bench;
-        let reply = take(alloc, &mut self.world, event, kept, buffer)?;
-        self.bench = Some(bench);
+        let reply = take(alloc, &mut self.world, event, &mut buffer)?;
+        self.buffer = Some(buffer);
         self.list(alloc)?;
         Ok(reply)
     }
@@ -107,13 +90,12 @@ impl<D: Disk> System for UnderTest<D> {
     ghost readings = { readings };
 
     fn new(alloc: Global, opening: &Opening) -> Result<UnderTest<D>, AllocError> {
-        let mut bench = new_bench(alloc)?;
-        let world = opening.world(alloc, &mut bench.kept)?;
+        let world = opening.world(alloc)?;
         let ids = ids_of(alloc, &world.hardware().board.devices)?;
         Ok(UnderTest {
             world,
             ids,
-            bench: Some(bench),
+            buffer: None,
         })
     }
 
@@ -178,7 +160,7 @@ impl<D: Disk> System for UnderTest<D> {
     }
 
     fn shrink(&mut self) {
-        self.bench = None;
+        self.buffer = None;
     }
 
     fn fingerprint(&self) -> u64 {

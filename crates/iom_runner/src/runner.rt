@@ -22,11 +22,11 @@ ghost use Rattle.iom_world.specs.Shows.{Shows};
 
 use crate::faults::RunFault;
 use crate::reading::read_bytes;
+use iom_answers::AnswerSink;
 use iom_line_writer::{LineWriter, WriteFault};
-use iom_machine::{Outcome, Sink};
 use iom_script::{LineBuffer, Script, ScriptLine, WorldSize, parse};
 use iom_virtio_blk::Disk;
-use iom_world::{KeptOutcomes, World};
+use iom_world::World;
 use std::alloc::Global;
 use std::io::{Read, Write};
 
@@ -73,7 +73,6 @@ fn tell_settling<W: Write, D: Disk>(
 fn tell_line<W: Write, D: Disk>(
     world: &mut World<D>,
     line: &ScriptLine,
-    kept: &mut KeptOutcomes,
     lines: &mut LineWriter<'_, W>,
 ) -> Result<(), WriteFault>
     requires count { world.old.hardware.board.events + 400 < 2 ^ 64 }
@@ -84,7 +83,7 @@ fn tell_line<W: Write, D: Disk>(
     ensures counted { world.new.hardware.board.events ≤ world.old.hardware.board.events + 400 }
 {
     match line {
-        ScriptLine::Event(event) => world.run_one(event, kept, lines),
+        ScriptLine::Event(event) => world.run_one(event, lines),
         ScriptLine::Settle => tell_settling(world, lines),
     }
 }
@@ -101,9 +100,8 @@ fn tell_lines<W: Write, D: Disk>(
     ensures failed { (state : State) → Shows (seen_of D.seen world.old) state
         → OnErr result (FailsAlong W.contents state (seen_of D.seen world.old) script.now lines.old lines.new (seen_of D.seen world.new)) }
 {
-    let mut kept = KeptOutcomes::new();
     for line in script {
-        tell_line(world, line, &mut kept, lines)?;
+        tell_line(world, line, lines)?;
     }
     Ok(())
 }
@@ -129,7 +127,7 @@ fn tell_all<W: Write, D: Disk>(
         → OnErr result (BeginsRunSoFar setting size script.now (W.contents lines.old.writer.now) (W.contents lines.new.writer.now)) }
 {
     let trace = world.trace_for(lines);
-    lines.put(&Outcome::Done, trace)?;
+    lines.put(iom_answers::Answer::Done, trace)?;
     tell_lines(world, script, lines)?;
     lines.write_out()
 }

@@ -8,7 +8,7 @@ use iom_machine::{Event, Outcome, Sink, Trace};
 use iom_runner::program_disks;
 use iom_script::{ScriptLine, parse};
 use iom_virtio_blk::MemoryDisk;
-use iom_world::{KeptOutcomes, World};
+use iom_world::World;
 use std::alloc::Global;
 use std::process::Abort;
 
@@ -78,8 +78,6 @@ fn a_run_stops_where_the_sink_fails(rt: HostRuntime) {
 fn settled(rt: &impl Abort, alloc: Global, lines: &[u8]) -> Option<(u32, u64)> {
     let script = parse(alloc, lines).ok()?;
     let mut world = opened(rt, alloc);
-    let mut sink = Room { left: 1000 };
-    let mut kept = KeptOutcomes::new();
     for line in script.lines.as_slice() {
         let ScriptLine::Event(event) = line else {
             return None;
@@ -87,7 +85,7 @@ fn settled(rt: &impl Abort, alloc: Global, lines: &[u8]) -> Option<(u32, u64)> {
         if world.events() > 1000 {
             return None;
         }
-        world.run_one(event, &mut kept, &mut sink).ok()?;
+        world.step(event);
     }
     if world.events() > 10000 {
         return None;

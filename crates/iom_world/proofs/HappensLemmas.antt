@@ -1,5 +1,5 @@
 -- What an event does to the parts of a world is a lawful step of the ledger machine, and a refusal changes nothing.
-use Rattle.std.proofs.Common.{◌≡◌, ◌+◌, ◌∙◌, inl, inr, ℕ, List, length, Result, Ok, Err, sym, ap}
+use Rattle.std.proofs.Common.{◌≡◌, ◌+◌, ◌∙◌, inl, inr, ℕ, List, length, Result, Ok, Err, sym, ap, subst}
 use Rattle.iom_base.specs.Accesses.{read_of, write_of}
 use Rattle.iom_driver.specs.Restarts.{AnswersRestart}
 use Rattle.iom_driver.specs.State.{DriverState}
@@ -153,3 +153,10 @@ happens seen laws old new event told fits does disks blocks counted =
       refused = refused_same (disks_of old) (parts_of old) (parts_of new) event told does;
       events = counted;
     }
+
+-- the same of an event that is of this form
+pub happens_at : {D : Type 0} {d : Ghosts D} (seen : D → DiskState) → LawsBelow → (old new : World D d) (event form : Event) (told : Outcome) → event ≡ form → AddressFits form
+    → Does (disks_of old) (parts_of old) form told (parts_of new) → disks_of new ≡ disks_after form told (disks_of old) → DoesToBlocks (seen_of seen old) form told (seen_of seen new)
+    → new.hardware.board.events ≡ old.hardware.board.events + 1 → Happens (seen_of seen old) event told (seen_of seen new)
+happens_at seen laws old new event form told is fits does disks blocks counted =
+    subst (λ (e : Event). Happens (seen_of seen old) e told (seen_of seen new)) (sym is) (happens seen laws old new form told fits does disks blocks counted)

@@ -10,3 +10,4 @@ pub mod RunLemmas
 pub mod StepInParts
 pub mod InsideTold
 pub mod StepKeeps
+pub mod FetchLemmas

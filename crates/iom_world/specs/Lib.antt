@@ -1,13 +1,12 @@
-pub mod Told
 pub mod Seen
 pub mod Shows
 pub mod PowerOn
 pub mod Blocks
 pub mod Happens
+pub mod Made
 pub mod Counts
 pub mod OnHardware
 pub mod Same
 pub mod Waiting
 pub mod EachWaits
 pub mod Runs
-pub mod Below

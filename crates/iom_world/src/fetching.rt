@@ -1,11 +1,15 @@
 // What the IOMMU does with the driver's commands.
 ghost use Rattle.std.specs.Prelude.{◌≡◌, ◌+◌, ◌<◌, ◌^◌};
+ghost use Rattle.iom_answers.specs.Answers.{outcome_of};
+ghost use Rattle.iom_iommu.specs.Fetches.{IsAtCommand};
 ghost use Rattle.iom_machine.specs.declared.outcome.Outcome.TheVariants as outcome;
 ghost use Rattle.iom_world_effects.specs.Does.{name_of_command, fetch_named, FetchesNext};
 ghost use Rattle.iom_world.specs.Seen.{parts_of, disks_of, inside_of};
 
 use crate::world::World;
+use iom_answers::Answer;
 use iom_command_queue::Command;
+use iom_iommu::Front;
 use iom_machine::{CommandName, Fetched};
 use iom_virtio_blk::Disk;
 use iom_world_effects::laws_below;
@@ -38,14 +42,36 @@ fn named(answer: iom_iommu::Fetched) -> Fetched
 impl<D: Disk> World<D> {
     /// The IOMMU takes its next command. Where that is an invalidation of a device's own translations, the
     /// device is asked for it.
-    pub(crate) fn fetch(&mut self) -> Fetched
+    // What costs little is written into the loop of a run.
+    #[inline(always)]
+    pub(crate) fn fetch(&mut self) -> Answer<'static>
         requires count { self.old.hardware.board.events + 1 < 2 ^ 64 }
+        ensures does { FetchesNext (parts_of self.old) (outcome_of result) (parts_of self.new) }
+        ensures disks { disks_of self.new ≡ disks_of self.old }
+        ensures inside { inside_of D.seen self.new ≡ inside_of D.seen self.old }
+        ensures events { self.new.hardware.board.events ≡ self.old.hardware.board.events + 1 }
+        ensures made { self.new.made ≡ self.old.made }
+    {
+        laws_below();
+        match self.hardware.board.look() {
+            Front::Stopped => Answer::Fetched(Fetched::Stopped),
+            Front::Empty => Answer::Fetched(Fetched::Empty),
+            Front::Command => Answer::Fetched(self.fetch_next()),
+        }
+    }
+
+    /// The rest of a fetch that finds a command.
+    #[inline(never)]
+    fn fetch_next(&mut self) -> Fetched
+        requires count { self.old.hardware.board.events + 1 < 2 ^ 64 }
+        requires waits { IsAtCommand self.old.hardware.board.iommu }
         ensures does { FetchesNext (parts_of self.old) (outcome.Fetched result) (parts_of self.new) }
         ensures disks { disks_of self.new ≡ disks_of self.old }
         ensures inside { inside_of D.seen self.new ≡ inside_of D.seen self.old }
         ensures events { self.new.hardware.board.events ≡ self.old.hardware.board.events + 1 }
+        ensures made { self.new.made ≡ self.old.made }
     {
         laws_below();
-        named(self.hardware.board.fetch())
+        named(self.hardware.board.fetch_next())
     }
 }

@@ -11,6 +11,7 @@
 //! whole run ([`World::run`]) being a run of that machine.
 #![tactic(auto)]
 
+mod answering;
 mod block_devices;
 mod commits;
 mod comparing;
@@ -18,7 +19,6 @@ mod counts;
 mod disks;
 mod driving;
 mod fetching;
-mod kept_outcomes;
 mod looks;
 mod messages;
 mod plugging;
@@ -29,10 +29,7 @@ mod run;
 mod settling;
 mod start;
 mod stepping;
-mod telling;
 mod through_cache;
-mod told;
 mod world;
 
-pub use kept_outcomes::KeptOutcomes;
 pub use world::World;

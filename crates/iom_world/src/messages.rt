@@ -7,10 +7,11 @@ ghost use Rattle.iom_world_effects.specs.Messages.{repeat_told, AsksQuestion, Fo
 ghost use Rattle.iom_world.specs.OnHardware.{told_unless, sending_told, delivered_told};
 ghost use Rattle.iom_world.specs.Seen.{parts_of, disks_of, inside_of};
 ghost use Rattle.iom_world.specs.Blocks.{DeliversTo};
-ghost use Rattle.iom_world.specs.Told.{outcome_of};
+ghost use Rattle.iom_answers.specs.Answers.{outcome_of};
 
-use crate::told::Told;
+use crate::answering::{delivery_answer, repeat_answer, send_answer};
 use crate::world::World;
+use iom_answers::Answer;
 use iom_ats_cache::Taken;
 use iom_base::{DeviceId, Refusal};
 use iom_board::Delivered;
@@ -18,122 +19,82 @@ use iom_fabric::{PageNumber, Repeat};
 use iom_virtio_blk::Disk;
 use iom_world_effects::laws_below;
 
-impl Told {
-    /// What is told of a message that a device sends.
-    fn of_send(answer: Result<bool, Refusal>) -> Told
-        ensures { outcome_of result ≡ told_unless sending_told answer }
-    {
-        match answer {
-            Ok(true) => Told::Sent,
-            Ok(false) => Told::Lost,
-            Err(why) => Told::Refused(why),
-        }
-    }
-
-    /// What is told of a message that was repeated.
-    fn of_repeat(repeat: Repeat) -> Told
-        ensures { outcome_of result ≡ repeat_told repeat }
-    {
-        match repeat {
-            Repeat::Repeated => Told::Repeated,
-            Repeat::Lost => Told::Lost,
-            Repeat::Nothing => Told::NoMessage,
-        }
-    }
-
-    /// What is told of an answer, by what the device does with it.
-    fn of_taken(taken: Taken) -> Told
-        ensures { outcome_of result ≡ taken_told taken }
-    {
-        match taken {
-            Taken::Kept => Told::Kept,
-            Taken::Stale => Told::Stale,
-            Taken::Refused => Told::AnswerRefused,
-        }
-    }
-
-    /// What is told of a message that arrives.
-    fn of_delivered(delivered: Delivered) -> Told
-        ensures { outcome_of result ≡ delivered_told delivered }
-    {
-        match delivered {
-            Delivered::NoMessage => Told::NoMessage,
-            Delivered::Answered(answer) => Told::Answered(answer),
-            Delivered::Taken(taken) => Told::of_taken(taken),
-            Delivered::Ignored => Told::Ignored,
-            Delivered::Invalidated(serial) => Told::Invalidated(serial),
-            Delivered::Closed(serial) => Told::Closed(serial),
-            Delivered::NotClosed(serial) => Told::NotClosed(serial),
-        }
-    }
-}
-
 impl<D: Disk> World<D> {
     /// A device asks for the translation of a page, in the epoch of its cache: `Sent`, or `Lost` where 64 messages
     /// are under way; `Refused(NoSuchDevice)`, and `Refused(WrongKind)` for a block device.
-    pub(crate) fn ask(&mut self, id: DeviceId, page: PageNumber) -> Told
+    #[inline(never)]
+    pub(crate) fn ask(&mut self, id: DeviceId, page: PageNumber) -> Answer<'static>
         requires count { self.old.hardware.board.events + 1 < 2 ^ 64 }
         ensures does { AsksQuestion (parts_of self.old) id page (outcome_of result) (parts_of self.new) }
         ensures disks { disks_of self.new ≡ disks_of self.old }
         ensures inside { inside_of D.seen self.new ≡ inside_of D.seen self.old }
         ensures events { self.new.hardware.board.events ≡ self.old.hardware.board.events + 1 }
+        ensures made { self.new.made ≡ self.old.made }
     {
         // What it ensures is known from here on: the page is one of the address space.
         page.number();
-        Told::of_send(self.hardware.board.ask(id, page))
+        send_answer(self.hardware.board.ask(id, page))
     }
 
     /// A device says that it completed the request with this number, whether it was asked or not: answered as a
     /// question is; only a raw device does so.
-    pub(crate) fn forge(&mut self, id: DeviceId, serial: u64) -> Told
+    #[inline(never)]
+    pub(crate) fn forge(&mut self, id: DeviceId, serial: u64) -> Answer<'static>
         requires count { self.old.hardware.board.events + 1 < 2 ^ 64 }
         ensures does { ForgesCompletion (parts_of self.old) id serial (outcome_of result) (parts_of self.new) }
         ensures disks { disks_of self.new ≡ disks_of self.old }
         ensures inside { inside_of D.seen self.new ≡ inside_of D.seen self.old }
         ensures events { self.new.hardware.board.events ≡ self.old.hardware.board.events + 1 }
+        ensures made { self.new.made ≡ self.old.made }
     {
-        Told::of_send(self.hardware.board.forge(id, serial))
+        send_answer(self.hardware.board.forge(id, serial))
     }
 
     /// The message at the place arrives, and is under way no more: `NoMessage` where there is none. A question is
     /// `Answered`. An answer is `Kept`, `Stale` or `AnswerRefused`, and a request to invalidate `Invalidated`; a
     /// device without a cache has `Ignored` them. A word that such a request is completed is `Closed` where that is
     /// open for the device, and else `NotClosed`.
-    pub(crate) fn deliver(&mut self, place: u64) -> Told
+    #[inline(never)]
+    pub(crate) fn deliver(&mut self, place: u64) -> Answer<'static>
         requires count { self.old.hardware.board.events + 1 < 2 ^ 64 }
         ensures does { DeliversMessage (parts_of self.old) place (outcome_of result) (parts_of self.new) }
         ensures disks { disks_of self.new ≡ disks_of self.old }
         ensures inside { DeliversTo (slice_get self.old.hardware.board.fabric place) (inside_of D.seen self.old) (outcome_of result) (inside_of D.seen self.new) }
         ensures events { self.new.hardware.board.events ≡ self.old.hardware.board.events + 1 }
+        ensures made { self.new.made ≡ self.old.made }
     {
         laws_below();
-        Told::of_delivered(self.hardware.deliver(place))
+        delivery_answer(self.hardware.deliver(place))
     }
 
     /// The message at the place is lost; `NoMessage` where there is none.
-    pub(crate) fn drop_message(&mut self, place: u64) -> Told
+    #[inline(never)]
+    pub(crate) fn drop_message(&mut self, place: u64) -> Answer<'static>
         requires count { self.old.hardware.board.events + 1 < 2 ^ 64 }
         ensures does { DropsMessage (parts_of self.old) place (outcome_of result) (parts_of self.new) }
         ensures disks { disks_of self.new ≡ disks_of self.old }
         ensures inside { inside_of D.seen self.new ≡ inside_of D.seen self.old }
         ensures events { self.new.hardware.board.events ≡ self.old.hardware.board.events + 1 }
+        ensures made { self.new.made ≡ self.old.made }
     {
         if self.hardware.board.drop_message(place) {
-            Told::Dropped
+            Answer::Dropped
         } else {
-            Told::NoMessage
+            Answer::NoMessage
         }
     }
 
     /// A copy of the message at the place is sent, and may be `Lost` where 64 are under way; `NoMessage` where there
     /// is none.
-    pub(crate) fn repeat(&mut self, place: u64) -> Told
+    #[inline(never)]
+    pub(crate) fn repeat(&mut self, place: u64) -> Answer<'static>
         requires count { self.old.hardware.board.events + 1 < 2 ^ 64 }
         ensures does { RepeatsMessage (parts_of self.old) place (outcome_of result) (parts_of self.new) }
         ensures disks { disks_of self.new ≡ disks_of self.old }
         ensures inside { inside_of D.seen self.new ≡ inside_of D.seen self.old }
         ensures events { self.new.hardware.board.events ≡ self.old.hardware.board.events + 1 }
+        ensures made { self.new.made ≡ self.old.made }
     {
-        Told::of_repeat(self.hardware.board.repeat(place))
+        repeat_answer(self.hardware.board.repeat(place))
     }
 }

@@ -7,11 +7,11 @@ ghost use Rattle.iom_world.specs.Seen.{parts_of, disks_of, inside_of};
 ghost use Rattle.iom_world_effects.specs.Places.{IsPresent};
 ghost use Rattle.iom_base.specs.DeviceKinds.{disk_of};
 ghost use Rattle.iom_world.specs.Blocks.{PlugsBlock};
-ghost use Rattle.iom_world.specs.Told.{outcome_of};
+ghost use Rattle.iom_answers.specs.Answers.{outcome_of};
 
 use crate::disks::{is_missing, take_out};
-use crate::told::Told;
 use crate::world::World;
+use iom_answers::Answer;
 use iom_base::{DeviceId, DeviceKind, MAX_DEVICES, NewDevice, Refusal};
 use iom_block_devices::plug_in;
 use iom_device::Device;
@@ -64,30 +64,32 @@ impl<D: Disk> World<D> {
 
     /// A device is plugged in, attached to nothing and with nothing in flight; a block device with the disk that
     /// it names. The driver learns of it once there is room for it: so nothing is half done.
-    pub(crate) fn plug(&mut self, id: DeviceId, what: NewDevice) -> Told
+    #[inline(never)]
+    pub(crate) fn plug(&mut self, id: DeviceId, what: NewDevice) -> Answer<'static>
         requires count { self.old.hardware.board.events + 1 < 2 ^ 64 }
         ensures does { PlugsDevice (disks_of self.old) (parts_of self.old) id what (outcome_of result) (parts_of self.new) }
         ensures disks { disks_of self.new ≡ disks_after (events.Plug id what) (outcome_of result) (disks_of self.old) }
         ensures inside { PlugsBlock (disk_of what) (inside_of D.seen self.old) id (outcome_of result) (inside_of D.seen self.new) }
         ensures events { self.new.hardware.board.events ≡ self.old.hardware.board.events + 1 }
+        ensures made { self.new.made ≡ self.old.made }
     {
         self.hardware.board.events += 1;
         let kind = what.kind();
         let disk = what.disk();
         if self.is_plugged(id) {
-            return Told::Refused(Refusal::AlreadyPlugged);
+            return Answer::Refused(Refusal::AlreadyPlugged);
         }
         if self.hardware.board.devices.len() >= MAX_DEVICES {
-            return Told::Refused(Refusal::TooManyDevices);
+            return Answer::Refused(Refusal::TooManyDevices);
         }
         if is_missing(&self.hardware.board.disks, disk) {
-            return Told::Refused(Refusal::BadMedium);
+            return Answer::Refused(Refusal::BadMedium);
         }
         if self.hardware.board.devices.reserve(1).is_err() {
-            return Told::Refused(Refusal::Memory);
+            return Answer::Refused(Refusal::Memory);
         }
         if let Err(why) = self.driver.plug(id, kind.has_cache()) {
-            return Told::Refused(why);
+            return Answer::Refused(why);
         }
         self.hardware.board.iommu.add(id);
         take_out(&mut self.hardware.board.disks, disk);
@@ -97,7 +99,7 @@ impl<D: Disk> World<D> {
             .push(Device::new(id, kind, disk))
             .unwrap();
         let Some(number) = disk else {
-            return Told::Done;
+            return Answer::Done;
         };
         plug_in(
             &mut self.hardware.blocks,
@@ -105,6 +107,6 @@ impl<D: Disk> World<D> {
             id,
             number,
         );
-        Told::Done
+        Answer::Done
     }
 }

@@ -4,36 +4,26 @@ ghost use Rattle.iom_machine.specs.declared.outcome.Outcome.TheVariants as outco
 ghost use Rattle.iom_world_effects.specs.Recovery.{QuarantinesDevice, RevivesDevice, RestartsQueue, TimesOutFence, ResetsDevice};
 ghost use Rattle.iom_world.specs.Seen.{parts_of, disks_of, inside_of};
 ghost use Rattle.iom_world.specs.Blocks.{ResetsBlock};
-ghost use Rattle.iom_world.specs.Told.{outcome_of};
+ghost use Rattle.iom_answers.specs.Answers.{outcome_of};
 
-use crate::told::Told;
+use crate::answering::{done_answer, ticket_answer, timeout_answer};
 use crate::world::World;
+use iom_answers::Answer;
 use iom_base::DeviceId;
 use iom_block_devices::reset;
 use iom_revival::revive;
 use iom_virtio_blk::Disk;
 
-impl Told {
-    /// What a timeout is told as.
-    fn of_timeout(has_effect: bool) -> Told
-        ensures { outcome_of result ≡ (if has_effect then outcome.TimedOut else outcome.NoEffect) }
-    {
-        if has_effect {
-            Told::TimedOut
-        } else {
-            Told::NoEffect
-        }
-    }
-}
-
 impl<D: Disk> World<D> {
     /// A device is cut off: what it holds lingers until the ticket is confirmed.
-    pub(crate) fn quarantine(&mut self, id: DeviceId) -> Told
+    #[inline(never)]
+    pub(crate) fn quarantine(&mut self, id: DeviceId) -> Answer<'static>
         requires count { self.old.hardware.board.events + 1 < 2 ^ 64 }
         ensures does { QuarantinesDevice (parts_of self.old) id (outcome_of result) (parts_of self.new) }
         ensures disks { disks_of self.new ≡ disks_of self.old }
         ensures inside { inside_of D.seen self.new ≡ inside_of D.seen self.old }
         ensures events { self.new.hardware.board.events ≡ self.old.hardware.board.events + 1 }
+        ensures made { self.new.made ≡ self.old.made }
     {
         self.hardware.board.events += 1;
         let answer = self.driver.quarantine(
@@ -41,17 +31,19 @@ impl<D: Disk> World<D> {
             &mut self.hardware.board.iommu,
             id,
         );
-        Told::of_ticket(answer)
+        ticket_answer(answer)
     }
 
     /// A device that was cut off is reset, and then attached again: else its cache might still have translations
     /// from before, of pages that others have by now.
-    pub(crate) fn revive(&mut self, id: DeviceId) -> Told
+    #[inline(never)]
+    pub(crate) fn revive(&mut self, id: DeviceId) -> Answer<'static>
         requires count { self.old.hardware.board.events + 1 < 2 ^ 64 }
         ensures does { RevivesDevice (parts_of self.old) id (outcome_of result) (parts_of self.new) }
         ensures disks { disks_of self.new ≡ disks_of self.old }
         ensures inside { ResetsBlock (inside_of D.seen self.old) id (outcome_of result) (inside_of D.seen self.new) }
         ensures events { self.new.hardware.board.events ≡ self.old.hardware.board.events + 1 }
+        ensures made { self.new.made ≡ self.old.made }
     {
         self.hardware.board.events += 1;
         let answer = revive(
@@ -61,22 +53,24 @@ impl<D: Disk> World<D> {
             id,
         );
         if let Err(why) = answer {
-            return Told::Refused(why);
+            return Answer::Refused(why);
         }
         reset(&mut self.hardware.blocks, id);
-        Told::Done
+        Answer::Done
     }
 
     /// The command queue is emptied, and filled with what is still needed.
-    pub(crate) fn restart(&mut self) -> Told
+    #[inline(never)]
+    pub(crate) fn restart(&mut self) -> Answer<'static>
         requires count { self.old.hardware.board.events + 1 < 2 ^ 64 }
         ensures does { RestartsQueue (parts_of self.old) (outcome_of result) (parts_of self.new) }
         ensures disks { disks_of self.new ≡ disks_of self.old }
         ensures inside { inside_of D.seen self.new ≡ inside_of D.seen self.old }
         ensures events { self.new.hardware.board.events ≡ self.old.hardware.board.events + 1 }
+        ensures made { self.new.made ≡ self.old.made }
     {
         self.hardware.board.events += 1;
-        Told::of(
+        done_answer(
             self.driver.restart(
                 &mut self.hardware.board.memory,
                 &mut self.hardware.board.iommu,
@@ -85,24 +79,28 @@ impl<D: Disk> World<D> {
     }
 
     /// A fence that waits for devices is given up; `NoEffect` where none does.
-    pub(crate) fn timeout(&mut self) -> Told
+    #[inline(never)]
+    pub(crate) fn timeout(&mut self) -> Answer<'static>
         requires count { self.old.hardware.board.events + 1 < 2 ^ 64 }
         ensures does { TimesOutFence (parts_of self.old) (outcome_of result) (parts_of self.new) }
         ensures disks { disks_of self.new ≡ disks_of self.old }
         ensures inside { inside_of D.seen self.new ≡ inside_of D.seen self.old }
         ensures events { self.new.hardware.board.events ≡ self.old.hardware.board.events + 1 }
+        ensures made { self.new.made ≡ self.old.made }
     {
-        Told::of_timeout(self.hardware.board.timeout())
+        timeout_answer(self.hardware.board.timeout())
     }
 
     /// A device is reset: `Refused(NoSuchDevice)` where there is none.
-    pub(crate) fn reset(&mut self, device: DeviceId) -> Told
+    #[inline(never)]
+    pub(crate) fn reset(&mut self, device: DeviceId) -> Answer<'static>
         requires count { self.old.hardware.board.events + 1 < 2 ^ 64 }
         ensures does { ResetsDevice (parts_of self.old) device (outcome_of result) (parts_of self.new) }
         ensures disks { disks_of self.new ≡ disks_of self.old }
         ensures inside { ResetsBlock (inside_of D.seen self.old) device (outcome_of result) (inside_of D.seen self.new) }
         ensures events { self.new.hardware.board.events ≡ self.old.hardware.board.events + 1 }
+        ensures made { self.new.made ≡ self.old.made }
     {
-        Told::of(self.hardware.reset(device))
+        done_answer(self.hardware.reset(device))
     }
 }

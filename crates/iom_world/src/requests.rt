@@ -8,29 +8,16 @@ ghost use Rattle.iom_iommu.specs.Requests.{access_of};
 ghost use Rattle.iom_world_effects.specs.Requests.{AsksAccess, AsksTranslated, reply_told_of};
 ghost use Rattle.iom_world.specs.OnHardware.{told_unless};
 ghost use Rattle.iom_world.specs.Seen.{parts_of, disks_of, inside_of};
-ghost use Rattle.iom_world.specs.Told.{outcome_of};
+ghost use Rattle.iom_answers.specs.Answers.{outcome_of};
 
-use crate::told::Told;
+use crate::answering::request_answer;
 use crate::world::World;
+use iom_answers::Answer;
 use iom_base::{AccessKind, DeviceId, Refusal};
 use iom_board::Sender;
 use iom_iommu::Reply;
 use iom_virtio_blk::Disk;
 use iom_world_effects::laws_below;
-
-impl Told {
-    /// What an answer of the IOMMU is told as.
-    pub(crate) fn of_reply(reply: Reply) -> Told
-        ensures { outcome_of result ≡ reply_told_of reply }
-    {
-        match reply {
-            Reply::Accepted(number) => Told::Accepted(number),
-            Reply::Busy => Told::Busy,
-            Reply::BadSpan => Told::BadSpan,
-            Reply::Fault(cause) => Told::Fault(cause),
-        }
-    }
-}
 
 impl<D: Disk> World<D> {
     /// A device asks for an access to so many bytes at the address. `Accepted`, with the access's number among the
@@ -54,6 +41,7 @@ impl<D: Disk> World<D> {
         ensures disks { disks_of self.new ≡ disks_of self.old }
         ensures inside { inside_of D.seen self.new ≡ inside_of D.seen self.old }
         ensures events { self.new.hardware.board.events ≡ self.old.hardware.board.events + 1 }
+        ensures made { self.new.made ≡ self.old.made }
     {
         laws_below();
         self.hardware
@@ -62,34 +50,33 @@ impl<D: Disk> World<D> {
     }
 
     /// A device asks for a read of so many bytes at the address.
-    pub(crate) fn read(&mut self, id: DeviceId, address: u64, len: u64) -> Result<Reply, Refusal>
+    #[inline(never)]
+    pub(crate) fn read(&mut self, id: DeviceId, address: u64, len: u64) -> Answer<'static>
         requires count { self.old.hardware.board.events + 1 < 2 ^ 64 }
-        ensures does { AsksAccess sends_untranslated (parts_of self.old) id (read_of address len) (told_unless reply_told_of result) (parts_of self.new) }
+        ensures does { AsksAccess sends_untranslated (parts_of self.old) id (read_of address len) (outcome_of result) (parts_of self.new) }
         ensures fits { address < 2 ^ 64 }
         ensures disks { disks_of self.new ≡ disks_of self.old }
         ensures inside { inside_of D.seen self.new ≡ inside_of D.seen self.old }
         ensures events { self.new.hardware.board.events ≡ self.old.hardware.board.events + 1 }
+        ensures made { self.new.made ≡ self.old.made }
     {
-        self.request(Sender::Own, id, address, len, AccessKind::Read, &[])
+        request_answer(self.request(Sender::Own, id, address, len, AccessKind::Read, &[]))
     }
 
     /// A device asks for a write of the bytes at the address: answered as a read is.
-    pub(crate) fn write(
-        &mut self,
-        id: DeviceId,
-        address: u64,
-        bytes: &[u8],
-    ) -> Result<Reply, Refusal>
+    #[inline(never)]
+    pub(crate) fn write(&mut self, id: DeviceId, address: u64, bytes: &[u8]) -> Answer<'static>
         requires count { self.old.hardware.board.events + 1 < 2 ^ 64 }
         ensures does { AsksAccess sends_untranslated (parts_of self.old) id (write_of address bytes.now)
-            (told_unless reply_told_of result) (parts_of self.new) }
+            (outcome_of result) (parts_of self.new) }
         ensures fits { address < 2 ^ 64 }
         ensures disks { disks_of self.new ≡ disks_of self.old }
         ensures inside { inside_of D.seen self.new ≡ inside_of D.seen self.old }
         ensures events { self.new.hardware.board.events ≡ self.old.hardware.board.events + 1 }
+        ensures made { self.new.made ≡ self.old.made }
     {
         let len = bytes.len() as u64;
-        self.request(Sender::Own, id, address, len, AccessKind::Write, bytes)
+        request_answer(self.request(Sender::Own, id, address, len, AccessKind::Write, bytes))
     }
 
     /// A raw device asks for an access at an address of memory, and says that it is translated. Answered as an
@@ -108,6 +95,7 @@ impl<D: Disk> World<D> {
         ensures disks { disks_of self.new ≡ disks_of self.old }
         ensures inside { inside_of D.seen self.new ≡ inside_of D.seen self.old }
         ensures events { self.new.hardware.board.events ≡ self.old.hardware.board.events + 1 }
+        ensures made { self.new.made ≡ self.old.made }
     {
         laws_below();
         self.hardware
@@ -116,35 +104,39 @@ impl<D: Disk> World<D> {
     }
 
     /// A raw device asks so for a read of so many bytes.
+    #[inline(never)]
     pub(crate) fn read_translated(
         &mut self,
         id: DeviceId,
         address: u64,
         len: u64,
-    ) -> Result<Reply, Refusal>
+    ) -> Answer<'static>
         requires count { self.old.hardware.board.events + 1 < 2 ^ 64 }
-        ensures does { AsksTranslated (parts_of self.old) id (read_of address len) (told_unless reply_told_of result) (parts_of self.new) }
+        ensures does { AsksTranslated (parts_of self.old) id (read_of address len) (outcome_of result) (parts_of self.new) }
         ensures disks { disks_of self.new ≡ disks_of self.old }
         ensures inside { inside_of D.seen self.new ≡ inside_of D.seen self.old }
         ensures events { self.new.hardware.board.events ≡ self.old.hardware.board.events + 1 }
+        ensures made { self.new.made ≡ self.old.made }
     {
-        self.translated(id, address, len, AccessKind::Read, &[])
+        request_answer(self.translated(id, address, len, AccessKind::Read, &[]))
     }
 
     /// A raw device asks so for a write of the bytes.
+    #[inline(never)]
     pub(crate) fn write_translated(
         &mut self,
         id: DeviceId,
         address: u64,
         bytes: &[u8],
-    ) -> Result<Reply, Refusal>
+    ) -> Answer<'static>
         requires count { self.old.hardware.board.events + 1 < 2 ^ 64 }
-        ensures does { AsksTranslated (parts_of self.old) id (write_of address bytes.now) (told_unless reply_told_of result) (parts_of self.new) }
+        ensures does { AsksTranslated (parts_of self.old) id (write_of address bytes.now) (outcome_of result) (parts_of self.new) }
         ensures disks { disks_of self.new ≡ disks_of self.old }
         ensures inside { inside_of D.seen self.new ≡ inside_of D.seen self.old }
         ensures events { self.new.hardware.board.events ≡ self.old.hardware.board.events + 1 }
+        ensures made { self.new.made ≡ self.old.made }
     {
         let len = bytes.len() as u64;
-        self.translated(id, address, len, AccessKind::Write, bytes)
+        request_answer(self.translated(id, address, len, AccessKind::Write, bytes))
     }
 }

@@ -8,70 +8,79 @@ ghost use Rattle.iom_world.specs.Runs.{AreCounts, RunsTo, FailsAfter};
 ghost use Rattle.iom_world.specs.Seen.{seen_of};
 ghost use Rattle.iom_world.specs.Shows.{Shows};
 
-use crate::kept_outcomes::KeptOutcomes;
 use crate::world::World;
-use iom_machine::{Event, Outcome, Sink, Trace};
+use iom_answers::{Answer, AnswerSink};
+use iom_machine::{Event, Sink, Trace};
 use iom_virtio_blk::Disk;
 
 impl<D: Disk> World<D> {
+    /// The counts that stand beside an outcome, where they are wanted.
+    #[inline(always)]
+    fn trace_if(&self, wanted: bool) -> Option<Trace>
+        ensures wanted { is_some result ≡ wanted }
+        ensures counts { (state : State) → Shows (seen_of D.seen self.now) state → AreCounts state (seen_of D.seen self.now) result }
+    {
+        if wanted { Some(self.trace()) } else { None }
+    }
+
     /// The counts that stand beside an outcome, where the sink wants them beside the next one.
     #[inline(always)]
-    pub fn trace_for<S: Sink>(&self, sink: &S) -> Option<Trace>
+    pub fn trace_for<S: AnswerSink>(&self, sink: &S) -> Option<Trace>
         ensures wanted { is_some result ≡ S.wants sink.now }
         ensures counts { (state : State) → Shows (seen_of D.seen self.now) state → AreCounts state (seen_of D.seen self.now) result }
     {
-        if sink.wants_trace() {
-            Some(self.trace())
-        } else {
-            None
-        }
+        self.trace_if(sink.wants_trace())
     }
 
-    /// The outcome goes to the sink, with the counts beside it.
-    // Apart from the loop of a run, so that no place for counts is kept there.
+    /// What [`World::run_one`] does, where the sink wants the counts.
+    // Apart from the loop of a run, so that no place for counts is kept there. They are counted while nothing is lent.
     #[inline(never)]
-    fn tell_with_trace<S: Sink>(&self, outcome: &Outcome, sink: &mut S) -> Result<(), S::Fault>
-        requires { S.wants sink.old ≡ true }
-        ensures { (trace : Option counts.Trace) × (is_some trace ≡ S.wants sink.old)
-            × ((state : State) → Shows (seen_of D.seen self.now) state → AreCounts state (seen_of D.seen self.now) trace)
-            × OnOk result (S.takes sink.old outcome.now trace sink.new) × OnErr result (S.fails sink.old outcome.now trace sink.new) }
+    fn run_one_counted<S: AnswerSink>(
+        &mut self,
+        event: &Event,
+        sink: &mut S,
+    ) -> Result<(), S::Fault>
+        requires count { self.old.hardware.board.events + 1 < 2 ^ 64 }
+        requires wants { S.wants sink.old ≡ true }
+        ensures { (outcome : spec.Outcome) × Happens (seen_of D.seen self.old) event.now outcome (seen_of D.seen self.new)
+            × (trace : Option counts.Trace) × (is_some trace ≡ S.wants sink.old)
+            × ((state : State) → Shows (seen_of D.seen self.new) state → AreCounts state (seen_of D.seen self.new) trace)
+            × OnOk result (S.takes sink.old outcome trace sink.new) × OnErr result (S.fails sink.old outcome trace sink.new) }
     {
+        let outcome = self.step(event);
         let trace = self.trace();
-        sink.put(outcome, Some(trace))
-    }
-
-    /// The outcome goes to the sink, with the counts beside it where it wants them.
-    #[inline(always)]
-    fn tell<S: Sink>(&self, outcome: &Outcome, sink: &mut S) -> Result<(), S::Fault>
-        ensures { (trace : Option counts.Trace) × (is_some trace ≡ S.wants sink.old)
-            × ((state : State) → Shows (seen_of D.seen self.now) state → AreCounts state (seen_of D.seen self.now) trace)
-            × OnOk result (S.takes sink.old outcome.now trace sink.new) × OnErr result (S.fails sink.old outcome.now trace sink.new) }
-    {
-        if sink.wants_trace() {
-            self.tell_with_trace(outcome, sink)
-        } else {
-            sink.put(outcome, None)
-        }
+        sink.put(Answer::of(&outcome), Some(trace))
     }
 
     /// One event happens, as [`World::step`] says, and its outcome goes to the sink, with the counts beside it where
     /// it wants them.
     // Written into the loop of a run, by whoever has one.
     #[inline(always)]
-    pub fn run_one<S: Sink>(
-        &mut self,
-        event: &Event,
-        kept: &mut KeptOutcomes,
-        sink: &mut S,
-    ) -> Result<(), S::Fault>
+    pub fn run_one<S: AnswerSink>(&mut self, event: &Event, sink: &mut S) -> Result<(), S::Fault>
         requires count { self.old.hardware.board.events + 1 < 2 ^ 64 }
         ensures { (outcome : spec.Outcome) × Happens (seen_of D.seen self.old) event.now outcome (seen_of D.seen self.new)
             × (trace : Option counts.Trace) × (is_some trace ≡ S.wants sink.old)
             × ((state : State) → Shows (seen_of D.seen self.new) state → AreCounts state (seen_of D.seen self.new) trace)
             × OnOk result (S.takes sink.old outcome trace sink.new) × OnErr result (S.fails sink.old outcome trace sink.new) }
     {
-        let outcome = self.take(event, kept);
-        self.tell(outcome, sink)
+        if sink.wants_trace() {
+            self.run_one_counted(event, sink)
+        } else {
+            sink.put(self.take(event), None)
+        }
+    }
+
+    /// The same, for a sink that takes outcomes.
+    fn run_event<S: Sink>(&mut self, event: &Event, sink: &mut S) -> Result<(), S::Fault>
+        requires count { self.old.hardware.board.events + 1 < 2 ^ 64 }
+        ensures { (outcome : spec.Outcome) × Happens (seen_of D.seen self.old) event.now outcome (seen_of D.seen self.new)
+            × (trace : Option counts.Trace) × (is_some trace ≡ S.wants sink.old)
+            × ((state : State) → Shows (seen_of D.seen self.new) state → AreCounts state (seen_of D.seen self.new) trace)
+            × OnOk result (S.takes sink.old outcome trace sink.new) × OnErr result (S.fails sink.old outcome trace sink.new) }
+    {
+        let outcome = self.step(event);
+        let trace = self.trace_if(sink.wants_trace());
+        sink.put(&outcome, trace)
     }
 
     /// The events, one after another: the sink takes the outcome of each, with the counts beside it where it
@@ -92,9 +101,8 @@ impl<D: Disk> World<D> {
         ensures counted { OnOk result (self.new.hardware.board.events ≡ self.old.hardware.board.events + length events.now) }
         ensures counted_at_most { OnErr result (self.new.hardware.board.events ≤ self.old.hardware.board.events + length events.now) }
     {
-        let mut kept = KeptOutcomes::new();
         for event in events {
-            self.run_one(event, &mut kept, sink)?;
+            self.run_event(event, sink)?;
         }
         Ok(())
     }

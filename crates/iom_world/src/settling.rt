@@ -1,23 +1,25 @@
 // Settling: events of the driver and the hardware alone, after which no ticket is unconfirmed.
 ghost use Rattle.std.specs.Prelude.{◌≡◌, ◌+◌, ◌<◌, ◌≤◌, ◌^◌};
 ghost use Rattle.iom_world_effects.proofs.DriverLemmas.{sound_driver};
+ghost use Rattle.iom_answers.specs.Answers.{outcome_of};
 ghost use Rattle.iom_world.specs.Happens.{Happens};
 ghost use Rattle.iom_settling.specs.Stages.{Settled, brief};
 ghost use Rattle.iom_world.specs.Seen.{disks_of, parts_of, seen_of};
 
 use crate::world::World;
+use iom_answers::Answer;
 use iom_base::{DeviceId, Refusal};
-use iom_machine::{Event, Fetched, Outcome};
+use iom_machine::{Event, Fetched};
 use iom_settling::{TakesEvents, Told, settle};
 use iom_virtio_blk::Disk;
 
 /// What settling wants to know of the outcome.
-fn brief(outcome: &Outcome) -> Told
-    ensures { result ≡ brief outcome.now }
+fn brief(answer: Answer<'_>) -> Told
+    ensures { result ≡ brief (outcome_of answer.entry) }
 {
-    match outcome {
-        Outcome::Fetched(Fetched::Waiting) => Told::Waits,
-        Outcome::Fetched(Fetched::Empty) => Told::Empty,
+    match answer {
+        Answer::Fetched(Fetched::Waiting) => Told::Waits,
+        Answer::Fetched(Fetched::Empty) => Told::Empty,
         _ => Told::Other,
     }
 }
@@ -61,7 +63,7 @@ impl<D: Disk> TakesEvents for World<D> {
     }
 
     fn take(&mut self, event: &Event) -> Told {
-        brief(&self.step(event))
+        brief(self.take(event))
     }
 }
 

@@ -1,5 +1,5 @@
 // A world at power-on.
-ghost use Rattle.std.specs.Prelude.{◌↔◌, ◌≤◌, IfOk, IsErrOf, IsTrue};
+ghost use Rattle.std.specs.Prelude.{◌≡◌, ◌↔◌, ◌≤◌, None, IfOk, IsErrOf, IsTrue};
 ghost use Rattle.iom_block_devices.specs.Seen.{states_of};
 ghost use Rattle.iom_driver.specs.Layout.{IsLevels};
 ghost use Rattle.iom_phys_mem.specs.Sizes.{IsMemorySize};
@@ -10,6 +10,7 @@ ghost use Rattle.iom_world.specs.Seen.{seen_of};
 use crate::world::World;
 use iom_driver::Driver;
 use iom_hardware::Hardware;
+use iom_machine::FaultRecord;
 use iom_phys_mem::{MAX_FRAMES, MIN_FRAMES, MemError};
 use iom_virtio_blk::Disk;
 use std::alloc::Global;
@@ -32,6 +33,7 @@ impl<D: Disk> World<D> {
     /// (IOMMU specification, section 2.1, "Device-Directory-Table (DDT)"); else `OutOfMemory` where an allocation is refused.
     pub fn new(alloc: Global, frames: u32, levels: u8, disks: Vec<D>) -> Result<World<D>, MemError>
         ensures begins { IfOk result (λ world. BeginsAt frames levels (states_of D.seen disks.items) (seen_of D.seen world)) }
+        ensures made { IfOk result (λ world. world.made ≡ None) }
         ensures size { IfOk result (λ world. IsMemorySize frames × IsLevels levels) }
         ensures bad_size { (IsErrOf result BadSize) ↔ ¬ (IsMemorySize frames × IsLevels levels) }
     {
@@ -49,6 +51,7 @@ impl<D: Disk> World<D> {
     ) -> Result<World<D>, MemError>
         requires first { 1 ≤ first_fence }
         ensures begins { IfOk result (λ world. BeginsFrom first_fence frames levels (states_of D.seen disks.items) (seen_of D.seen world)) }
+        ensures made { IfOk result (λ world. world.made ≡ None) }
         ensures size { IfOk result (λ world. IsMemorySize frames × IsLevels levels) }
         ensures bad_size { (IsErrOf result BadSize) ↔ ¬ (IsMemorySize frames × IsLevels levels) }
     {
@@ -63,6 +66,11 @@ impl<D: Disk> World<D> {
             &mut hardware.board.memory,
             &mut hardware.board.iommu,
         );
-        Ok(World { hardware, driver })
+        Ok(World {
+            hardware,
+            driver,
+            record: FaultRecord { words: [0; 4] },
+            made: None,
+        })
     }
 }

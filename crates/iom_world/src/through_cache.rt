@@ -9,27 +9,15 @@ ghost use Rattle.iom_iommu.specs.Requests.{access_of};
 ghost use Rattle.iom_world_effects.specs.ThroughCache.{DeviceAsksThroughCache};
 ghost use Rattle.iom_world.specs.OnHardware.{told_unless, cache_reply_told};
 ghost use Rattle.iom_world.specs.Seen.{parts_of, disks_of, inside_of};
-ghost use Rattle.iom_world.specs.Told.{outcome_of};
+ghost use Rattle.iom_answers.specs.Answers.{outcome_of};
 
-use crate::told::Told;
+use crate::answering::cached_answer;
 use crate::world::World;
+use iom_answers::Answer;
 use iom_base::{AccessKind, DeviceId, Refusal};
 use iom_board::{CacheReply, Sender};
 use iom_virtio_blk::Disk;
 use iom_world_effects::laws_below;
-
-impl Told {
-    /// What an access through a device's own cache is told as.
-    fn of_cached(answer: Result<CacheReply, Refusal>) -> Told
-        ensures { outcome_of result ≡ told_unless cache_reply_told answer }
-    {
-        match answer {
-            Ok(CacheReply::Miss) => Told::Miss,
-            Ok(CacheReply::Replied(reply)) => Told::of_reply(reply),
-            Err(why) => Told::Refused(why),
-        }
-    }
-}
 
 impl<D: Disk> World<D> {
     /// A device asks for an access at the address through its own cache. `BadSpan` and `Busy` as for an
@@ -43,7 +31,7 @@ impl<D: Disk> World<D> {
         len: u64,
         kind: AccessKind,
         bytes: &[u8],
-    ) -> Told
+    ) -> Answer<'static>
         requires count { self.old.hardware.board.events + 1 < 2 ^ 64 }
         requires carries { CarriesBytes kind len bytes.now }
         ensures does { DeviceAsksThroughCache (cached_by sender) (parts_of self.old) id (access_of address len kind bytes.now)
@@ -51,33 +39,48 @@ impl<D: Disk> World<D> {
         ensures disks { disks_of self.new ≡ disks_of self.old }
         ensures inside { inside_of D.seen self.new ≡ inside_of D.seen self.old }
         ensures events { self.new.hardware.board.events ≡ self.old.hardware.board.events + 1 }
+        ensures made { self.new.made ≡ self.old.made }
     {
         laws_below();
         let answer = self
             .hardware
             .board
             .through_cache(sender, id, address, len, kind, bytes);
-        Told::of_cached(answer)
+        cached_answer(answer)
     }
 
     /// A device reads so many bytes at the address through its own cache.
-    pub(crate) fn read_through_cache(&mut self, id: DeviceId, address: u64, len: u64) -> Told
+    #[inline(never)]
+    pub(crate) fn read_through_cache(
+        &mut self,
+        id: DeviceId,
+        address: u64,
+        len: u64,
+    ) -> Answer<'static>
         requires count { self.old.hardware.board.events + 1 < 2 ^ 64 }
         ensures does { DeviceAsksThroughCache sends_through_cache (parts_of self.old) id (read_of address len) (outcome_of result) (parts_of self.new) }
         ensures disks { disks_of self.new ≡ disks_of self.old }
         ensures inside { inside_of D.seen self.new ≡ inside_of D.seen self.old }
         ensures events { self.new.hardware.board.events ≡ self.old.hardware.board.events + 1 }
+        ensures made { self.new.made ≡ self.old.made }
     {
         self.through_cache(Sender::Own, id, address, len, AccessKind::Read, &[])
     }
 
     /// A device writes the bytes at the address through its own cache.
-    pub(crate) fn write_through_cache(&mut self, id: DeviceId, address: u64, bytes: &[u8]) -> Told
+    #[inline(never)]
+    pub(crate) fn write_through_cache(
+        &mut self,
+        id: DeviceId,
+        address: u64,
+        bytes: &[u8],
+    ) -> Answer<'static>
         requires count { self.old.hardware.board.events + 1 < 2 ^ 64 }
         ensures does { DeviceAsksThroughCache sends_through_cache (parts_of self.old) id (write_of address bytes.now) (outcome_of result) (parts_of self.new) }
         ensures disks { disks_of self.new ≡ disks_of self.old }
         ensures inside { inside_of D.seen self.new ≡ inside_of D.seen self.old }
         ensures events { self.new.hardware.board.events ≡ self.old.hardware.board.events + 1 }
+        ensures made { self.new.made ≡ self.old.made }
     {
         let len = bytes.len() as u64;
         self.through_cache(Sender::Own, id, address, len, AccessKind::Write, bytes)

@@ -7,6 +7,8 @@ ghost use Rattle.iom_world_effects.specs.SoundIsFact.{sound_world_prop};
 
 use iom_driver::Driver;
 use iom_hardware::Hardware;
+use iom_inflight::MadeAt;
+use iom_machine::FaultRecord;
 use iom_virtio_blk::Disk;
 
 /// Hardware and its driver.
@@ -16,6 +18,10 @@ pub struct World<D: Disk> {
     /// were.
     pub(crate) hardware: Hardware<D>,
     pub(crate) driver: Driver,
+    /// The fault record that the driver took last.
+    pub(crate) record: FaultRecord,
+    /// The access that the last event made, if it made one.
+    pub(crate) made: Option<MadeAt>,
     ghost sound: { IsSoundWorld hardware.board.memory hardware.board.iommu driver hardware.board.devices.items hardware.board.fabric hardware.board.events } by { sound_world_prop hardware.board.memory hardware.board.iommu driver hardware.board.devices.items hardware.board.fabric hardware.board.events },
     ghost agrees: { AgreesWith hardware.board.devices.items hardware.board.disks.items hardware.blocks.items hardware.at_hand.items } by { agrees_prop hardware.board.devices.items hardware.board.disks.items hardware.blocks.items hardware.at_hand.items },
     ghost room: { device_limit ≤ vec_capacity hardware.blocks },

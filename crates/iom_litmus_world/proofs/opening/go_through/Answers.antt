@@ -8,5 +8,5 @@ loop-event-init g c = Nothing
 
 pub loop-event-preserved : goal.loop-event-preserved
 loop-event-preserved g c =
-    through_more c.args.events.now c.loop-event.event-index c.event-item.result c.args.world.now c.loop-event.world c.take.new.self c.take.result.now c.loop-event-test.true c.event-item.is
-    c.take.ensures c.loop-event.invariant
+    through_more c.args.events.now c.loop-event.event-index c.event-item.result c.args.world.now c.loop-event.world c.step.new.self c.step.result c.loop-event-test.true c.event-item.is
+    c.step.ensures.happens c.loop-event.invariant

@@ -11,7 +11,7 @@ pub returns-in-Some : goal.returns-in-Some
 returns-in-Some g c =
     let line = told_line (seen_of g.D.Disk.seen c.args.self.now.world) c.args.event.now c.step.result (seen_of g.D.Disk.seen c.step.new.self) in
     record {
-      happens = c.step.ensures;
+      happens = c.step.ensures.happens;
       line = line ++ 10 ∷ [];
       told = line_alone c.args.self.now.explains line;
       goes = subst (λ (f : Option TellingFault). GoesOnTelling g.W.Write.contents f c.args.self.now.lines (line ++ 10 ∷ []) c.args.self.now.fault c.args.self.now.lines) (sym c.in-Some.is) (c.in-Some.is, refl);

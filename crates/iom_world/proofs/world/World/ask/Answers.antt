@@ -30,5 +30,5 @@ pub returns-clause-does : goal.returns-clause-does
 returns-clause-does g c =
     let world = c.args.self.now in
     let new = with_driver c.ask.new.self (state_of world.driver) in
-    subst (λ (told : Outcome). AsksQuestion (parts_of world) c.args.id c.args.page told new) (sym c.of_send.ensures)
+    subst (λ (told : Outcome). AsksQuestion (parts_of world) c.args.id c.args.page told new) (sym c.send_answer.ensures)
     (question_in_parts (parts_of world) new refl c.args.id c.args.page c.ask.result c.ask.ensures.effect)

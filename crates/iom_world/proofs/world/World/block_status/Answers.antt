@@ -15,7 +15,7 @@ pub returns-clause-does : goal.returns-clause-does
 returns-clause-does g c =
     let world = c.args.self.now in
     let found = block_with (inside_of g.D.Disk.seen world).blocks c.args.id in
-    subst (λ (told : Outcome). (status : ℕ) × TellsBlockStatus (parts_of world) c.args.id status told (parts_of world)) (sym c.of_status.ensures)
+    subst (λ (told : Outcome). (status : ℕ) × TellsBlockStatus (parts_of world) c.args.id status told (parts_of world)) (sym c.status_answer.ensures)
     (status_in_parts (parts_of world) found c.args.id c.status-answer.result c.status-answer.ensures).0
 
 pub returns-clause-inside : goal.returns-clause-inside
@@ -24,4 +24,4 @@ returns-clause-inside g c =
     let inside = inside_of g.D.Disk.seen world in
     let found = block_with inside.blocks c.args.id in
     let told = (status_in_parts (parts_of world) found c.args.id c.status-answer.result c.status-answer.ensures).1 in
-    subst (λ (told : Outcome). TellsStatusOf (parts_of world) inside c.args.id told (parts_of world) inside) (sym c.of_status.ensures) (told.0, told.1, refl)
+    subst (λ (told : Outcome). TellsStatusOf (parts_of world) inside c.args.id told (parts_of world) inside) (sym c.status_answer.ensures) (told.0, told.1, refl)

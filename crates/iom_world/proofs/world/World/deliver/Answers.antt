@@ -36,12 +36,12 @@ pub returns-clause-does : goal.returns-clause-does
 returns-clause-does g c =
     let world = c.args.self.now in
     let new = with_driver c.deliver.new.self.board (state_of world.driver) in
-    subst (λ (told : Outcome). DeliversMessage (parts_of world) c.args.place told new) (sym c.of_delivered.ensures)
+    subst (λ (told : Outcome). DeliversMessage (parts_of world) c.args.place told new) (sym c.delivery_answer.ensures)
     (delivered_in_parts (parts_of world) new refl c.args.place c.deliver.result c.deliver.ensures.effect)
 
 pub returns-clause-inside : goal.returns-clause-inside
 returns-clause-inside g c =
     let world = c.args.self.now in
     let on = slice_get world.hardware.board.fabric c.args.place in
-    subst (λ (told : Outcome). DeliversTo on (inside_of g.D.Disk.seen world) told (inside g.D.Disk.seen c.deliver.new.self)) (sym c.of_delivered.ensures)
+    subst (λ (told : Outcome). DeliversTo on (inside_of g.D.Disk.seen world) told (inside g.D.Disk.seen c.deliver.new.self)) (sym c.delivery_answer.ensures)
     (delivers_as_told on c.deliver.result (inside_of g.D.Disk.seen world) (inside g.D.Disk.seen c.deliver.new.self) c.deliver.ensures.inside)

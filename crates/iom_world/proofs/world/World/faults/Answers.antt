@@ -1,20 +1,80 @@
-use Rattle.std.proofs.Common.{◌+◌, refl}
-use Rattle.iom_world_effects.specs.Does.{report_told_of}
+use Rattle.std.proofs.Common.{◌≡◌, ◌+◌, ◌∙◌, Option, None, Some, Result, Ok, Err, refl, sym, ap}
+use Rattle.iom_base.specs.declared.refusal.Refusal.{Refusal}
+use Rattle.iom_fault_queue.specs.Fields.{Fields}
+use Rattle.iom_machine.specs.declared.outcome.Outcome.{Outcome}
+use Rattle.iom_machine.specs.declared.outcome.Outcome.TheVariants as outcome
+use Rattle.iom_world_effects.specs.Does.{report_told_of, TakesReport}
 use Rattle.iom_driver.specs.Seen.{state_of}
 use Rattle.iom_world_effects.specs.Parts.{Parts}
+use Rattle.iom_world_effects.specs.Sound.{AreSound}
 use Rattle.iom_world.specs.Seen.{parts_of}
 use Rattle.iom_world_invariant.proofs.ReportKeeps.{keeps_taken}
 use Rattle.iom_world_effects.proofs.DriverLemmas.{sound_driver}
 use Rattle.iom_world.proofs.OfHardware.{counted}
+use Rattle.iom_world.proofs.world.World.faults.Given as given
 use Rattle.iom_world.proofs.world.World.faults.Goals as goal
+use Rattle.iom_world.proofs.world.World.faults.Goals.{After-faults}
+
+-- the parts behind the driver's call
+abbrev parts_after : (g : given.Over) → After-faults g → Parts
+parts_after g c =
+    let world = c.args.self.now in
+    record { memory = world.hardware.board.memory; iommu = c.faults.new.io; driver = state_of world.driver; devices = world.hardware.board.devices.items; fabric = world.hardware.board.fabric }
+
+sound_after : (g : given.Over) (c : After-faults g) → AreSound (parts_after g c) (c.args.self.now.hardware.board.events + 1)
+sound_after g c =
+    let world = c.args.self.now in
+    keeps_taken (parts_of world) (parts_after g c) (world.hardware.board.events + 1) (report_told_of c.faults.result) (counted world) (sound_driver world.driver) c.faults.ensures.ready
+    record { answer = c.faults.result; told_so = refl; call = c.faults.ensures.effect; driver = refl; memory = refl; devices = refl; fabric = refl }
 
 pub invariant_of-self : goal.invariant_of-self
-invariant_of-self g c =
-    let world = c.args.self.now in
-    let new : Parts = record { memory = world.hardware.board.memory; iommu = c.faults.new.io; driver = state_of world.driver; devices = world.hardware.board.devices.items; fabric = world.hardware.board.fabric } in
-    record {
-      sound = keeps_taken (parts_of world) new (world.hardware.board.events + 1) (report_told_of c.faults.result) (counted world) (sound_driver world.driver) c.faults.ensures.ready
-          record { answer = c.faults.result; told_so = refl; call = c.faults.ensures.effect; driver = refl; memory = refl; devices = refl; fabric = refl };
-      agrees = world.agrees;
-      room = world.room;
-    }
+invariant_of-self g c = let world = c.args.self.now in record { sound = sound_after g (goal.at.invariant_of-self g c).After-faults; agrees = world.agrees; room = world.room }
+
+pub invariant_of-self-in-Ok-None : goal.invariant_of-self-in-Ok-None
+invariant_of-self-in-Ok-None g c = let world = c.args.self.now in record { sound = sound_after g (goal.at.invariant_of-self-in-Ok-None g c).After-faults; agrees = world.agrees; room = world.room }
+
+-- the report, by what the call answered
+taken_so : (g : given.Over) (c : After-faults g) (answer : Result (Option Fields) Refusal) (told : Outcome) → c.faults.result ≡ answer → told ≡ report_told_of answer
+    → TakesReport (parts_of c.args.self.now) told (parts_after g c)
+taken_so g c answer told is so =
+    record { answer = c.faults.result; told_so = so ∙ sym (ap report_told_of is); call = c.faults.ensures.effect; driver = refl; memory = refl; devices = refl; fabric = refl }
+
+pub returns-in-Ok-Some : goal.returns-in-Ok-Some
+returns-in-Ok-Some g c =
+    let after = (goal.at.returns-in-Ok-Some g c).After-faults in
+    let told = outcome.Record (record { words = c.words-self.result }) in (
+      (
+        refl,
+        (λ _. _),
+        (
+          taken_so g after (Ok (Some c.in-Ok-Some.record)) told (c.in-Ok-Some.is ∙ ap (λ (o : Option Fields). Ok o) c.in-Ok-Some.field-0-is) (ap (λ w. outcome.Record (record { words = w })) c.words-self.ensures.value),
+          refl,
+          refl,
+          refl,
+          refl,
+        ),
+      ),
+      _,
+    )
+
+pub returns-in-Ok-None : goal.returns-in-Ok-None
+returns-in-Ok-None g c =
+    let after = (goal.at.returns-in-Ok-None g c).After-faults in (
+      (
+        refl,
+        (λ _. _),
+        (
+          taken_so g after (Ok None) outcome.NoRecord (c.in-Ok-None.is ∙ ap (λ (o : Option Fields). Ok o) c.in-Ok-None.field-0-is) refl,
+          refl,
+          refl,
+          refl,
+          refl,
+        ),
+      ),
+      _,
+    )
+
+pub returns-in-Err : goal.returns-in-Err
+returns-in-Err g c =
+    let after = (goal.at.returns-in-Err g c).After-faults in
+    ((refl, (λ _. _), (taken_so g after (Err c.in-Err.why) (outcome.Refused c.in-Err.why) c.in-Err.is refl, refl, refl, refl, refl)), _)

@@ -1,34 +1,27 @@
-use Rattle.std.proofs.Common.{◌+◌, ap, refl, sym, subst}
-use Rattle.iom_machine.specs.declared.outcome.Outcome.TheVariants as outcome
-use Rattle.iom_world_effects.specs.Does.{FetchesNext, fetch_named}
-use Rattle.iom_world_effects.proofs.DriverLemmas.{sound_driver}
-use Rattle.iom_world_effects.proofs.PartsLemmas.{stays_of}
-use Rattle.iom_world_invariant.proofs.FetchKeeps.{keeps_fetched}
-use Rattle.iom_world_refinement.proofs.EventLemmas.{serials_counted}
+use Rattle.iom_world.proofs.FetchLemmas.{looked_fits}
 use Rattle.iom_world.proofs.InParts.{fetched_in_parts}
-use Rattle.iom_world.proofs.OfHardware.{with_driver, counted, at_count, hardware_sound, agrees_now}
-use Rattle.iom_world.specs.Seen.{parts_of}
+use Rattle.iom_world.proofs.OfHardware.{with_driver, hardware_sound}
 use Rattle.iom_driver.specs.Seen.{state_of}
-use Rattle.iom_hardware.specs.Agreement.{known_blocks}
+use Rattle.iom_iommu.specs.declared.fetched.Fetched.TheVariants as fetched
+use Rattle.std.proofs.Common.{refl}
+use Rattle.iom_world.specs.Seen.{parts_of}
 use Rattle.iom_world.proofs.world.World.fetch.Goals as goal
 
-pub fetch-requires-clause-sound : goal.fetch-requires-clause-sound
-fetch-requires-clause-sound g c = let world = c.args.self.now in hardware_sound (parts_of world) world.hardware.board.events world.sound
+pub look-requires-clause-sound : goal.look-requires-clause-sound
+look-requires-clause-sound g c = let world = c.args.self.now in hardware_sound (parts_of world) world.hardware.board.events world.sound
 
 pub invariant_of-self : goal.invariant_of-self
 invariant_of-self g c =
     let world = c.args.self.now in
-    let new = with_driver c.fetch.new.self (state_of world.driver) in
-    record {
-      sound = at_count new (world.hardware.board.events + 1) c.fetch.new.self.events c.fetch.ensures.counted.events
-          (keeps_fetched (parts_of world) new (world.hardware.board.events + 1) (outcome.Fetched (fetch_named c.fetch.result)) (counted world) (sound_driver world.driver) (stays_of c.laws_below.ensures.stays world.driver)
-          (serials_counted (parts_of world) world.hardware.board.events world.sound) (fetched_in_parts (parts_of world) new refl c.fetch.result c.fetch.ensures.effect));
-      agrees = agrees_now world c.fetch.new.self (ap known_blocks c.fetch.ensures.effect.devices) c.fetch.ensures.counted.disks;
-      room = world.room;
-    }
+    let fits = looked_fits c.laws_below.ensures.stays world c.look.new.self c.look.result c.look.ensures in
+    record { sound = fits.sound; agrees = fits.agrees; room = world.room }
 
-pub returns-clause-does : goal.returns-clause-does
-returns-clause-does g c =
+pub returns-in-Stopped-clause-does : goal.returns-in-Stopped-clause-does
+returns-in-Stopped-clause-does g c =
     let world = c.args.self.now in
-    let new = with_driver c.fetch.new.self (state_of world.driver) in
-    subst (λ f. FetchesNext (parts_of world) (outcome.Fetched f) new) (sym c.named.ensures) (fetched_in_parts (parts_of world) new refl c.fetch.result c.fetch.ensures.effect)
+    fetched_in_parts (parts_of world) (with_driver c.look.new.self (state_of world.driver)) refl fetched.Stopped c.in-Stopped.ensures.effect
+
+pub returns-in-Empty-clause-does : goal.returns-in-Empty-clause-does
+returns-in-Empty-clause-does g c =
+    let world = c.args.self.now in
+    fetched_in_parts (parts_of world) (with_driver c.look.new.self (state_of world.driver)) refl fetched.Empty c.in-Empty.ensures.effect

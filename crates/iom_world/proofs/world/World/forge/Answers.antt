@@ -30,5 +30,5 @@ pub returns-clause-does : goal.returns-clause-does
 returns-clause-does g c =
     let world = c.args.self.now in
     let new = with_driver c.forge.new.self (state_of world.driver) in
-    subst (λ (told : Outcome). ForgesCompletion (parts_of world) c.args.id c.args.serial told new) (sym c.of_send.ensures)
+    subst (λ (told : Outcome). ForgesCompletion (parts_of world) c.args.id c.args.serial told new) (sym c.send_answer.ensures)
     (forged_in_parts (parts_of world) new refl c.args.id c.args.serial c.forge.result c.forge.ensures.effect)

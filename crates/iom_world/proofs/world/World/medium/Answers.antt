@@ -34,7 +34,7 @@ pub returns-clause-does : goal.returns-clause-does
 returns-clause-does g c =
     let world = c.args.self.now in
     let new = with_driver c.medium.new.self.board (state_of world.driver) in
-    subst (λ (told : Outcome). InsertsMedium (disks_of world) (parts_of world) c.args.id c.args.disk told new) (sym c.of.ensures)
+    subst (λ (told : Outcome). InsertsMedium (disks_of world) (parts_of world) c.args.id c.args.disk told new) (sym c.done_answer.ensures)
     (inserted_in_parts (parts_of world) new refl (disks_of world) c.medium.new.self.board.disks.items c.args.id c.args.disk c.medium.result c.medium.ensures.effect)
 
 pub returns-clause-disks : goal.returns-clause-disks
@@ -42,10 +42,10 @@ returns-clause-disks g c =
     let world = c.args.self.now in
     let new = with_driver c.medium.new.self.board (state_of world.driver) in
     disks_left (disks_of world) c.medium.new.self.board.disks.items (hardware_of (parts_of world)) (hardware_of new) c.args.id c.args.disk c.medium.result c.medium.ensures.effect
-    ∙ sym (ap (λ (told : Outcome). disks_after (events.Medium c.args.id c.args.disk) told (disks_of world)) c.of.ensures)
+    ∙ sym (ap (λ (told : Outcome). disks_after (events.Medium c.args.id c.args.disk) told (disks_of world)) c.done_answer.ensures)
 
 pub returns-clause-inside : goal.returns-clause-inside
 returns-clause-inside g c =
     let world = c.args.self.now in
-    subst (λ (told : Outcome). InsertsIntoBlock c.args.disk (inside_of g.D.Disk.seen world) c.args.id told (inside g.D.Disk.seen c.medium.new.self)) (sym c.of.ensures)
+    subst (λ (told : Outcome). InsertsIntoBlock c.args.disk (inside_of g.D.Disk.seen world) c.args.id told (inside g.D.Disk.seen c.medium.new.self)) (sym c.done_answer.ensures)
     (done_or_not c.medium.result _ (inside_of g.D.Disk.seen world) (inside g.D.Disk.seen c.medium.new.self) c.medium.ensures.inside)

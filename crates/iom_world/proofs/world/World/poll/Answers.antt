@@ -19,5 +19,5 @@ invariant_of-self g c =
       room = world.room;
     }
 
-pub of_poll-requires : goal.of_poll-requires
-of_poll-requires g c = polled_low (parts_of c.args.self.now) c.args.self.now.hardware.board.events c.in-Ok.polled (state_of c.poll.new.self) c.poll.new.memory c.args.self.now.sound (sound_driver c.args.self.now.driver) c.in-Ok.ensures.effect
+pub poll_answer-requires : goal.poll_answer-requires
+poll_answer-requires g c = polled_low (parts_of c.args.self.now) c.args.self.now.hardware.board.events c.in-Ok.polled (state_of c.poll.new.self) c.poll.new.memory c.args.self.now.sound (sound_driver c.args.self.now.driver) c.in-Ok.ensures.effect

@@ -35,12 +35,12 @@ returns-clause-does g c =
     let world = c.args.self.now in
     let new = with_driver c.queue.new.self.board (state_of world.driver) in
     let layout = layout_of c.args.size c.args.descriptors c.args.available c.args.used in
-    subst (λ (told : Outcome). SetsBlockQueue (parts_of world) c.args.id layout told new) (sym c.of.ensures)
+    subst (λ (told : Outcome). SetsBlockQueue (parts_of world) c.args.id layout told new) (sym c.done_answer.ensures)
     (queue_in_parts (parts_of world) new refl c.args.id layout c.queue.result c.queue.ensures.effect)
 
 pub returns-clause-inside : goal.returns-clause-inside
 returns-clause-inside g c =
     let world = c.args.self.now in
     let layout = layout_of c.args.size c.args.descriptors c.args.available c.args.used in
-    subst (λ (told : Outcome). SetsQueueOf layout (inside_of g.D.Disk.seen world) c.args.id told (inside g.D.Disk.seen c.queue.new.self)) (sym c.of.ensures)
+    subst (λ (told : Outcome). SetsQueueOf layout (inside_of g.D.Disk.seen world) c.args.id told (inside g.D.Disk.seen c.queue.new.self)) (sym c.done_answer.ensures)
     (done_or_not c.queue.result _ (inside_of g.D.Disk.seen world) (inside g.D.Disk.seen c.queue.new.self) c.queue.ensures.inside)

@@ -29,5 +29,5 @@ pub returns-clause-does : goal.returns-clause-does
 returns-clause-does g c =
     let world = c.args.self.now in
     let new = with_driver c.repeat.new.self (state_of world.driver) in
-    subst (λ (told : Outcome). RepeatsMessage (parts_of world) c.args.place told new) (sym c.of_repeat.ensures)
+    subst (λ (told : Outcome). RepeatsMessage (parts_of world) c.args.place told new) (sym c.repeat_answer.ensures)
     (repeated_in_parts (parts_of world) new refl c.args.place c.repeat.result c.repeat.ensures.effect)

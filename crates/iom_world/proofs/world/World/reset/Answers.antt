@@ -32,11 +32,11 @@ pub returns-clause-does : goal.returns-clause-does
 returns-clause-does g c =
     let world = c.args.self.now in
     let new = with_driver c.reset.new.self.board (state_of world.driver) in
-    subst (λ (told : Outcome). ResetsDevice (parts_of world) c.args.device told new) (sym c.of.ensures)
+    subst (λ (told : Outcome). ResetsDevice (parts_of world) c.args.device told new) (sym c.done_answer.ensures)
     (reset_in_parts (parts_of world) new refl c.args.device c.reset.result c.reset.ensures.effect)
 
 pub returns-clause-inside : goal.returns-clause-inside
 returns-clause-inside g c =
     let world = c.args.self.now in
-    subst (λ (told : Outcome). ResetsBlock (inside_of g.D.Disk.seen world) c.args.device told (inside g.D.Disk.seen c.reset.new.self)) (sym c.of.ensures)
+    subst (λ (told : Outcome). ResetsBlock (inside_of g.D.Disk.seen world) c.args.device told (inside g.D.Disk.seen c.reset.new.self)) (sym c.done_answer.ensures)
     (done_or_not c.reset.result _ (inside_of g.D.Disk.seen world) (inside g.D.Disk.seen c.reset.new.self) c.reset.ensures.inside)

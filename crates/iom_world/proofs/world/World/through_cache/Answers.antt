@@ -37,5 +37,5 @@ returns-clause-does g c =
     let world = c.args.self.now in
     let new = with_driver c.through_cache-answer.new.self (state_of world.driver) in
     let access = access_of c.args.address c.args.len c.args.kind c.args.bytes.now in
-    subst (λ (told : Outcome). DeviceAsksThroughCache (cached_by c.args.sender) (parts_of world) c.args.id access told new) (sym c.of_cached.ensures)
+    subst (λ (told : Outcome). DeviceAsksThroughCache (cached_by c.args.sender) (parts_of world) c.args.id access told new) (sym c.cached_answer.ensures)
     (cached_in_parts (parts_of world) new refl (cached_by c.args.sender) c.args.id access c.through_cache-answer.result c.through_cache-answer.ensures.effect)

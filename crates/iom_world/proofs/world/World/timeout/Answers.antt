@@ -30,5 +30,5 @@ pub returns-clause-does : goal.returns-clause-does
 returns-clause-does g c =
     let world = c.args.self.now in
     let new = with_driver c.timeout.new.self (state_of world.driver) in
-    subst (λ (told : Outcome). TimesOutFence (parts_of world) told new) (sym c.of_timeout.ensures)
+    subst (λ (told : Outcome). TimesOutFence (parts_of world) told new) (sym c.timeout_answer.ensures)
     (timed_out_in_parts (parts_of world) new refl c.timeout.result c.timeout.ensures.effect)

@@ -11,7 +11,7 @@ use Rattle.iom_world.proofs.OfHardware.{with_driver, counted, at_count, sound_ha
 use Rattle.iom_world.proofs.StepKeeps.{keeps_stepped}
 use Rattle.iom_world.proofs.StepInParts.{step_in_parts}
 use Rattle.iom_world_refinement.proofs.EventLemmas.{below_counted}
-use Rattle.iom_world.proofs.world.World.tell_step.Goals as goal
+use Rattle.iom_world.proofs.world.World.step_block.Goals as goal
 
 pub step-requires-clause-sound : goal.step-requires-clause-sound
 step-requires-clause-sound g c = sound_hardware c.args.self.now
@@ -33,12 +33,12 @@ pub returns-clause-does : goal.returns-clause-does
 returns-clause-does g c =
     let world = c.args.self.now in
     let new = with_driver c.step.new.self.board (state_of world.driver) in
-    subst (λ (told : Outcome). TakesBlockStep (parts_of world) c.args.id told new) (sym c.tell_step.ensures)
+    subst (λ (told : Outcome). TakesBlockStep (parts_of world) c.args.id told new) (sym c.step_answer.ensures)
     (step_in_parts (parts_of world) new refl (inside_of g.D.Disk.seen world) (inside g.D.Disk.seen c.step.new.self) c.args.id c.step.result c.step.ensures.refused c.step.ensures.steps).0
 
 pub returns-clause-inside : goal.returns-clause-inside
 returns-clause-inside g c =
     let world = c.args.self.now in
     let new = with_driver c.step.new.self.board (state_of world.driver) in
-    subst (λ (told : Outcome). TakesStepOf (parts_of world) (inside_of g.D.Disk.seen world) c.args.id told new (inside g.D.Disk.seen c.step.new.self)) (sym c.tell_step.ensures)
+    subst (λ (told : Outcome). TakesStepOf (parts_of world) (inside_of g.D.Disk.seen world) c.args.id told new (inside g.D.Disk.seen c.step.new.self)) (sym c.step_answer.ensures)
     (step_in_parts (parts_of world) new refl (inside_of g.D.Disk.seen world) (inside g.D.Disk.seen c.step.new.self) c.args.id c.step.result c.step.ensures.refused c.step.ensures.steps).1
