@@ -8,7 +8,8 @@
         and with hardware acting by itself before each line of software, from N seeds (20): is each claim good. With
         --traffic the devices make requests then, too. With --mistake our driver has one. --mistakes names them.
 
-A script with block devices, or with walks in several events, isn't taken; nor is one that isn't in the grammar."""
+A script with walks in several events isn't taken, nor one in which a block device gets a disk behind its detach, since hardware
+keeps its first one; nor is one that isn't in the grammar."""
 import concurrent.futures
 import os
 import pathlib
@@ -21,7 +22,6 @@ import tempfile
 from our_driver import CQB, CQCSR, CQH, CQT, FQB, FQCSR, FQH, FQT, CMD_TO, MISTAKES, QUEUE, RECORDS, STOPS, WIDTHS, Driver
 
 DRIVERS = {"attach", "detach", "grant", "release", "quarantine", "revive", "restart", "poll", "faults", "free"}
-BLOCK_LINES = {"queue", "step", "status", "medium"}
 WRONG = re.compile("violated|again: |wrong: ")
 # causes with which an answer to a question has a fault record
 RECORDED = ("answer fault 258", "answer fault 260")
@@ -71,8 +71,6 @@ class World:
             else:
                 self.lines.append(line)
         self.answers = answers_of(program, self.lines)
-        left = [k for k, line in enumerate(self.lines) if line.split()[0] not in BLOCK_LINES]
-        self.lines, self.answers = [self.lines[k] for k in left], [self.answers[k] for k in left]
 
     def then(self, lines):
         """The answers to these lines behind those that there are."""
@@ -288,7 +286,7 @@ def is_span(words):
 def drive(world, port, mistake=None, traffic=()):
     """All lines of the world, the driver's by our driver, the others as they are. The driver, and where it answers otherwise
     than the world does."""
-    others, driver = [], None
+    others, driver, blocks = [], None, set()
     for number, (line, answer) in enumerate(zip(world.lines, world.answers)):
         words = line.split()
         port.number, port.line, port.answer = number, line, answer
@@ -298,11 +296,14 @@ def drive(world, port, mistake=None, traffic=()):
             told = driver.call(words)
             if told != answer:
                 others.append(f"{line}: our driver answers {told}, the world {answer}")
+            if words[0] == "detach" and answer.startswith("ticket") and words[1] in blocks:
+                port.say(f"reset {words[1]}", "ok")
         elif words[0] != "poke" or not is_span(words) or driver.takes_poke(int(words[1], 16)):
             port.hardware(line, answer)
         if words[0] == "device" and answer == "ok":
             driver.plug(words[1], words[2])
-            for request in (request for request in traffic if request.split()[1] == words[1]):
+            blocks.update(words[1:2] if words[2] in ("blk", "ablk") else ())
+            for request in (request for request in traffic if request.split()[1] == words[1] and words[1] not in blocks):
                 port.say(request, "ok")
     return driver, others
 
@@ -380,10 +381,13 @@ class Found:
 
 def left_out(text):
     lines = says(text)
-    if any(re.match(r"device \S+ a?blk ", line) for line in lines):
-        return "block devices"
     if lines and lines[0].endswith(" stepped"):
         return "walks in several events"
+    detached = set()
+    for words in (line.split() for line in lines):
+        if words[0] == "medium" and words[1] in detached:
+            return "with a disk behind a detach"
+        detached.update(words[1:2] if words[0] == "detach" else ())
     return ""
 
 

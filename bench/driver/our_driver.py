@@ -280,7 +280,7 @@ class Driver:
         row[2] = ticket
 
     def plug(self, name, kind):
-        self.devices.append(Device(name, kind == "ats"))
+        self.devices.append(Device(name, kind in ("ats", "ablk")))
 
     def attach(self, name, mode, ats=""):
         device = self.device_of(name)

@@ -2,8 +2,8 @@
 //! simulator that shares no code with this repository; the gate compares these lines.
 //!
 //! `data/drivers` has each script with its answers: correct drivers, drivers with one mistake each, scripts in which
-//! something is certain only as long as nobody but the driver writes what hardware reads, some in which hardware acts by
-//! itself, and the model's own driver as lines of hardware. A script's own text is run as
+//! something is certain only as long as nobody but the driver writes what hardware reads, some in which a block device
+//! serves its queue, some in which hardware acts by itself, and the model's own driver as lines of hardware. A script's own text is run as
 //! `iommu-hw` runs it.
 #![tactic(auto)]
 
@@ -11,7 +11,7 @@ use iom_hardware_runner::run;
 use std::{fs, io};
 
 /// The scripts of `data/drivers`. A new one is its two files and a line here.
-static DRIVERS: [&str; 52] = [
+static DRIVERS: [&str; 56] = [
     "correct-first",
     "correct-second",
     "correct-ats",
@@ -51,6 +51,10 @@ static DRIVERS: [&str; 52] = [
     "trusted-writes",
     "hardwired-registers",
     "block-forges",
+    "block-correct",
+    "block-no-inval",
+    "block-no-drain",
+    "block-no-ats-inval",
     "large-leaf",
     "auto-correct-first",
     "auto-correct-ats",

@@ -5,16 +5,20 @@ ghost use Rattle.std.specs.Prelude.{◌≡◌, ◌≤◌, ◌++◌, length};
 ghost use Rattle.std.specs.Fmt.{decimal};
 ghost use Rattle.iom_base.specs.Refusals as refusals;
 ghost use Rattle.iom_base.specs.Rights.{letters};
-ghost use Rattle.iom_script.specs.Lines.{answer_text};
+ghost use Rattle.iom_machine.specs.declared.outcome.BlockStep.TheVariants as steps;
+ghost use Rattle.iom_script.specs.Lines as lines;
+ghost use Rattle.iom_script.specs.Lines.{answer_text, step_text};
 
 use iom_ats_cache::Taken;
 use iom_base::{AccessKind, Refusal, Rights};
 use iom_board::{Board, CacheReply, Delivered, NoPlace};
 use iom_command_queue::Command;
 use iom_fabric::{Repeat, Translation};
+use iom_hardware::Stepped;
 use iom_inflight::MadeAt;
 use iom_iommu::{Fetched, Reply};
 use iom_script::{BUFFER_SIZE, LineBuffer};
+use iom_virtqueue::ChainFault;
 
 /// Writes the words, in place of what stood there.
 pub(crate) fn put_words(out: &mut LineBuffer, words: &[u8])
@@ -238,6 +242,60 @@ pub(crate) fn put_committed(
     match answer {
         Ok(Some(made)) => put_made(out, hardware, made),
         Ok(None) => put_words(out, b"none"),
+        Err(why) => put_refusal(out, why),
+    }
+}
+
+/// The name of a fault in a chain of descriptors.
+fn chain_name(fault: ChainFault) -> &'static [u8]
+    ensures text { result.now ≡ lines.chain_name fault }
+    ensures short { length result.now ≤ 8 }
+{
+    match fault {
+        ChainFault::Loop => b"Loop",
+        ChainFault::BadIndex => b"BadIndex",
+        ChainFault::Order => b"Order",
+        ChainFault::Indirect => b"Indirect",
+        ChainFault::TooLong => b"TooLong",
+        ChainFault::Short => b"Short",
+    }
+}
+
+/// Writes that a request is done, and how many bytes of it were written.
+fn put_finished(out: &mut LineBuffer, head: u16, len: u32)
+    ensures { out.new ≡ step_text (steps.Finished head len) }
+{
+    put_numbered(out, b"finished ", u64::from(head));
+    out.append(b" ");
+    out.append_decimal(u64::from(len));
+}
+
+/// Writes why a device is down.
+fn put_chain(out: &mut LineBuffer, fault: ChainFault)
+    ensures { out.new ≡ step_text (steps.Chain fault) }
+{
+    put_words(out, b"chain ");
+    out.append(chain_name(fault));
+}
+
+/// Writes what a step of a block device was.
+pub(crate) fn put_step(out: &mut LineBuffer, answer: Result<Stepped, Refusal>) {
+    match answer {
+        Ok(Stepped::Began(reply)) => put_reply(out, reply),
+        Ok(Stepped::Asked) => put_words(out, b"asked"),
+        Ok(Stepped::Idle) => put_words(out, b"idle"),
+        Ok(Stepped::Waiting) => put_words(out, b"waiting"),
+        Ok(Stepped::Down) => put_words(out, b"down"),
+        Ok(Stepped::Chain(fault)) => put_chain(out, fault),
+        Ok(Stepped::Finished { head, len }) => put_finished(out, head, len),
+        Err(why) => put_refusal(out, why),
+    }
+}
+
+/// Writes the status of a block device.
+pub(crate) fn put_status(out: &mut LineBuffer, answer: Result<u8, Refusal>) {
+    match answer {
+        Ok(status) => put_numbered(out, b"status ", u64::from(status)),
         Err(why) => put_refusal(out, why),
     }
 }

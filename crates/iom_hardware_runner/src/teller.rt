@@ -9,6 +9,7 @@ use iom_base::{AccessKind, DeviceId, PAGE_SIZE};
 use iom_board::CacheReply;
 use iom_chronicle::{Chronicle, Entrance, Origin};
 use iom_command_queue::Command;
+use iom_hardware::Stepped as Begun;
 use iom_hardware_script::{Claim, HardwareLine, NumberedLine};
 use iom_hardware_session::{Answer, ClaimAnswer, Session, Stepped};
 use iom_inflight::MadeAt;
@@ -172,6 +173,26 @@ impl Teller {
         }
     }
 
+    /// A block device's step began an access, which was accepted: what let it through. The device waits for it now.
+    fn remember_step(&mut self, event: &Event) -> Result<(), AllocError>
+        ensures { KeepsSession self.old self.new }
+    {
+        let Event::Step { device } = event else {
+            return Ok(());
+        };
+        let Some(access) = self.session.wanted(*device)? else {
+            return Ok(());
+        };
+        let hardware = self.session.hardware();
+        let entrance = match hardware.kind_of(*device) {
+            Some(kind) if kind.has_cache() => Entrance::ThroughCache,
+            _ => Entrance::Untranslated,
+        };
+        self.chronicle
+            .accepted(hardware, *device, access.address, entrance);
+        Ok(())
+    }
+
     /// An access was made: where a write stored its bytes, and what let it through.
     fn remember_made(&mut self, made: MadeAt) -> Option<Origin>
         ensures { KeepsSession self.old self.new }
@@ -184,7 +205,11 @@ impl Teller {
     }
 
     /// What is remembered of a line of hardware, devices or the processor. What let the access through, where one was made.
-    fn remember_event(&mut self, event: &Event, answer: &Answer) -> Option<Origin>
+    fn remember_event(
+        &mut self,
+        event: &Event,
+        answer: &Answer,
+    ) -> Result<Option<Origin>, AllocError>
         ensures { KeepsSession self.old self.new }
     {
         let mut origin = None;
@@ -193,6 +218,7 @@ impl Teller {
             | Answer::ThroughCache(Ok(CacheReply::Replied(Reply::Accepted(_)))) => {
                 self.remember_access(event)
             }
+            Answer::TookStep(Ok(Begun::Began(Reply::Accepted(_)))) => self.remember_step(event)?,
             Answer::Committed(Ok(Some(made))) => origin = self.remember_made(*made),
             Answer::Fetched(
                 Fetched::Did(
@@ -206,7 +232,7 @@ impl Teller {
             _ => {}
         }
         self.chronicle.notice(self.session.hardware());
-        origin
+        Ok(origin)
     }
 
     fn remember_store(&mut self, event: &Event)
@@ -220,7 +246,7 @@ impl Teller {
 
     /// The answer of the line, without a line feed, but for the words of what is wrong, which come second.
     pub(crate) fn tell(&mut self, line: &NumberedLine) -> Result<String, AllocError>
-        requires { self.old.session.hardware.events + 1 < 2 ^ 64 }
+        requires { self.old.session.hardware.board.events + 1 < 2 ^ 64 }
         ensures { TellsLine self.old line.now.line self.new }
     {
         self.chronicle.begin(line.number);
@@ -238,7 +264,7 @@ impl Teller {
 
     /// The line happens, and its answer stands in the buffer.
     fn step(&mut self, line: &HardwareLine) -> Stepped
-        requires { self.old.session.hardware.events + 1 < 2 ^ 64 }
+        requires { self.old.session.hardware.board.events + 1 < 2 ^ 64 }
         ensures { TellsLine self.old line.now self.new }
     {
         let stepped = self.session.line(line);
@@ -253,7 +279,7 @@ impl Teller {
     }
 
     fn tell_claim(&mut self, line: &HardwareLine, claim: Claim) -> Result<String, AllocError>
-        requires { self.old.session.hardware.events + 1 < 2 ^ 64 }
+        requires { self.old.session.hardware.board.events + 1 < 2 ^ 64 }
         ensures { TellsLine self.old line.now self.new }
     {
         let about = self.subject_of(claim);
@@ -277,14 +303,14 @@ impl Teller {
     }
 
     fn tell_event(&mut self, line: &HardwareLine, event: &Event) -> Result<String, AllocError>
-        requires { self.old.session.hardware.events + 1 < 2 ^ 64 }
+        requires { self.old.session.hardware.board.events + 1 < 2 ^ 64 }
         ensures { TellsLine self.old line.now self.new }
     {
         let stepped = self.step(line);
-        let origin = self.remember_event(event, &stepped.answer);
+        let origin = self.remember_event(event, &stepped.answer)?;
         match stepped.answer {
             Answer::Committed(Ok(Some(made))) => self.tell_made(made, stepped.violated, origin),
-            Answer::Stored(_) | Answer::Plugged(_) => self.tell_fallen(),
+            Answer::Stored(_) | Answer::Plugged(_) | Answer::TookDisk(_) => self.tell_fallen(),
             _ => Ok(String::new(self.alloc)),
         }
     }
@@ -313,7 +339,7 @@ impl Teller {
 
     /// How many events hardware has counted.
     pub(crate) fn events(&self) -> u64
-        ensures { result ≡ self.now.session.hardware.events }
+        ensures { result ≡ self.now.session.hardware.board.events }
     {
         self.session.hardware().events
     }

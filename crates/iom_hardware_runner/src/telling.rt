@@ -1,7 +1,7 @@
 // The answer of a line, as text.
 use crate::outcomes::{
     put_cache, put_committed, put_delivered, put_done, put_fetched, put_loaded, put_refusal,
-    put_repeated, put_replied, put_sent, put_stored, put_words,
+    put_repeated, put_replied, put_sent, put_status, put_step, put_stored, put_words,
 };
 use iom_board::Board;
 use iom_hardware_script::{Answer as Text, HardwareLine, append_answer};
@@ -46,7 +46,12 @@ fn put_bytes(out: &mut LineBuffer, line: &HardwareLine, hardware: &Board) {
 /// Writes the answer of the line, in place of what stood there; of a claim that is wrong only `wrong: `.
 pub fn put_answer(out: &mut LineBuffer, line: &HardwareLine, answer: &Answer, hardware: &Board) {
     match *answer {
-        Answer::Plugged(done) | Answer::Reset(done) => put_done(out, done),
+        Answer::Plugged(done)
+        | Answer::Reset(done)
+        | Answer::TookDisk(done)
+        | Answer::QueueSet(done) => put_done(out, done),
+        Answer::TookStep(stepped) => put_step(out, stepped),
+        Answer::Status(status) => put_status(out, status),
         Answer::Replied(reply) => put_replied(out, reply),
         Answer::ThroughCache(reply) => put_cache(out, reply),
         Answer::Sent(sent) => put_sent(out, sent),

@@ -12,8 +12,7 @@ use iom_script::event_of;
 use iom_script::words::after;
 use std::alloc::{AllocError, Global};
 
-/// Whether devices or hardware do this, or it is a store or a load of the processor. What our own driver is asked,
-/// and what block devices do at their queues, isn't.
+/// Whether devices or hardware do this, or it is a store or a load of the processor. What our own driver is asked isn't.
 pub fn is_of_hardware(event: &Event) -> bool
     ensures { result ≡ is_of_hardware event.now }
 {
@@ -35,12 +34,12 @@ pub fn is_of_hardware(event: &Event) -> bool
         | Event::Drop { .. }
         | Event::Repeat { .. }
         | Event::Poke { .. }
-        | Event::Peek { .. } => true,
-        Event::Medium { .. }
+        | Event::Peek { .. }
+        | Event::Medium { .. }
         | Event::Queue { .. }
         | Event::Step { .. }
-        | Event::Status { .. }
-        | Event::Attach { .. }
+        | Event::Status { .. } => true,
+        Event::Attach { .. }
         | Event::Detach { .. }
         | Event::Grant { .. }
         | Event::Release { .. }

@@ -38,7 +38,7 @@ fn bad_first_lines_are_named(rt: HostRuntime) {
     expect(&rt, setup_of(b"hardware 4097").is_none());
 }
 
-/// Second lines that aren't in the grammar: those of our driver, of block devices and of settling, and lines of each
+/// Second lines that aren't in the grammar: those of our driver and of settling, and lines of each
 /// kind that lack a word, have one too many, or have another where a number, a device or a right is to be.
 const BAD_SECOND: &[u8] = b"\
     hardware 64\n\
@@ -53,10 +53,14 @@ const BAD_SECOND: &[u8] = b"\
     |faults\
     |free 5\
     |settle\
-    |medium 000001 0\
-    |queue 000001 8 0x3000 0x3080 0x30c0\
-    |step 000001\
-    |status 000001\
+    |medium 000001\
+    |medium 000001 0x0\
+    |queue 000001 8 0x3000 0x3080\
+    |queue 000001 0x8 0x3000 0x3080 0x30c0\
+    |queue 000001 8 0x3000 0x3080 0x30c0 \
+    |step\
+    |step 000001 1\
+    |status 1\
     |load 000001\
     |auto\
     |auto \

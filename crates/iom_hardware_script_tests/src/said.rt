@@ -44,14 +44,18 @@ const EACH: &[u8] = b"\
     auto 18446744073709551615\n\
     auto 0\n\
     traffic 00000a 18446744073709551615 4\n\
-    quiesce\n";
+    quiesce\n\
+    medium 00000b 3\n\
+    queue 00000b 256 0x1000 0x2002 0x3004\n\
+    step 00000b\n\
+    status 00000b\n";
 
 /// What a line says: the number of the line, its name and its numbers. Bytes are a number too, the first of them the
 /// highest digits, after their count.
 type Told = (u64, &'static str, [u64; 4]);
 
 /// What those lines say, behind that of the hardware.
-static TOLD_OF_EACH: [Told; 36] = [
+static TOLD_OF_EACH: [Told; 40] = [
     (4, "raw", [1, 0, 0, 0]),
     (5, "ats", [10, 0, 0, 0]),
     (6, "blk", [11, 3, 0, 0]),
@@ -88,6 +92,10 @@ static TOLD_OF_EACH: [Told; 36] = [
     (38, "auto", [0, 0, 0, 0]),
     (39, "traffic", [10, u64::MAX, 4, 0]),
     (40, "quiesce", [0, 0, 0, 0]),
+    (41, "medium", [11, 3, 0, 0]),
+    (42, "queue", [11, 256, 0x1000, 0x20023004]),
+    (43, "step", [11, 0, 0, 0]),
+    (44, "status", [11, 0, 0, 0]),
 ];
 
 /// A name and numbers.
@@ -184,6 +192,19 @@ fn told_of_event(event: &Event) -> Named {
             ("poke", [*address, count, number_of(bytes), 0])
         }
         Event::Peek { address, len } => ("peek", [*address, *len, 0, 0]),
+        Event::Medium { device, disk } => of_device("medium", *device, *disk),
+        Event::Queue {
+            device,
+            size,
+            descriptors,
+            available,
+            used,
+        } => {
+            let rings = available.wrapping_mul(65536).wrapping_add(*used);
+            ("queue", [u64::from(*device), *size, *descriptors, rings])
+        }
+        Event::Step { device } => of_device("step", *device, 0),
+        Event::Status { device } => of_device("status", *device, 0),
         _ => one("another", 0),
     }
 }

@@ -69,15 +69,15 @@ claim_at (first ∷ others) (head ∷ rest) (suc k) own same at = claim_at other
     tails e = cc
 
 -- where all are judged again, and none has fallen, each holds on
-pub judged_holds : GoodAgainHolds → (claim : GoodClaim) (old new : List Watched) (session : Session) (claimed : Claimed) → AreJudgedAgain old new session.hardware session.trusted.items claimed
+pub judged_holds : GoodAgainHolds → (claim : GoodClaim) (old new : List Watched) (session : Session) (claimed : Claimed) → AreJudgedAgain old new session.hardware.board session.trusted.items claimed
     → has_fallen new ≡ false → IsWatched claim old → IsWatched claim new × HoldsOn claim session claimed
 judged_holds holds claim old new session claimed judged none (own, within_old, same, fine) =
     let (k, below, at) = contains_get old own within_old in
     let (other, there, claims) = claim_at old new k own judged.same at in
     let within = get_contains new k other there in
     let why = none_fallen new other none within in
-    let told : IsToldOf None other.claim session.hardware session.trusted.items claimed =
-    subst (λ (w : Option Wrong). IsToldOf w other.claim session.hardware session.trusted.items claimed) why (judged.told k other there) in
+    let told : IsToldOf None other.claim session.hardware.board session.trusted.items claimed =
+    subst (λ (w : Option Wrong). IsToldOf w other.claim session.hardware.board session.trusted.items claimed) why (judged.told k other there) in
     let about = subst (λ (c : GoodClaim). is_about_same claim c ≡ true) (sym claims) same in
     ((other, within, about, why), same_holds claim other.claim session claimed about (holds session claimed other.claim told))
 
@@ -92,18 +92,18 @@ still_watched claim watched (own, there, same, fine) =
 abbrev pub ComesSooner : Session → Session → Type 0
 ComesSooner old new = (calls : List HardwareCall) (id : ℕ) (made : MadeAt) → ComesToMake new calls id made → (sooner : List HardwareCall) × ComesToMake old sooner id made
 
-pub stays_sooner : (old new : Session) → board_parts new.hardware ≡ board_parts old.hardware → AreFewer (is_id_among old.trusted.items) (is_id_among new.trusted.items) → ComesSooner old new
+pub stays_sooner : (old new : Session) → board_parts new.hardware.board ≡ board_parts old.hardware.board → AreFewer (is_id_among old.trusted.items) (is_id_among new.trusted.items) → ComesSooner old new
 stays_sooner old new same fewer = λ calls id made comes. (
   calls,
-  comes_fewer (is_id_among old.trusted.items) (is_id_among new.trusted.items) (board_parts old.hardware) calls id made fewer
+  comes_fewer (is_id_among old.trusted.items) (is_id_among new.trusted.items) (board_parts old.hardware.board) calls id made fewer
       (subst (λ (parts : BoardParts). ComesFromParts (is_id_among new.trusted.items) parts calls id made) same comes),
 )
 
-pub call_sooner : (old new : Session) → new.trusted.items ≡ old.trusted.items → DoesByCall old.trusted.items old.hardware new.hardware → ComesSooner old new
+pub call_sooner : (old new : Session) → new.trusted.items ≡ old.trusted.items → DoesByCall old.trusted.items old.hardware.board new.hardware.board → ComesSooner old new
 call_sooner old new same (done, does, harmless) = λ calls id made comes. (
   done ∷ calls,
-  comes_before (is_id_among old.trusted.items) done calls old.hardware.events id made (board_parts old.hardware) (board_parts new.hardware) old.sound harmless does
-      (subst (λ (trusted : List ℕ). ComesFromParts (is_id_among trusted) (board_parts new.hardware) calls id made) same comes),
+  comes_before (is_id_among old.trusted.items) done calls old.hardware.board.events id made (board_parts old.hardware.board) (board_parts new.hardware.board) old.sound harmless does
+      (subst (λ (trusted : List ℕ). ComesFromParts (is_id_among trusted) (board_parts new.hardware.board) calls id made) same comes),
 )
 
 -- who was trusted is

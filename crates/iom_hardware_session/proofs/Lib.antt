@@ -6,6 +6,8 @@ pub mod WatchLemmas
 pub mod GoodLemmas
 pub mod TurnLemmas
 pub mod MayLemmas
+pub mod SoundLemmas
+pub mod BlockLemmas
 pub mod EventLemmas
 pub mod KeepLemmas
 pub mod ClaimLemmas

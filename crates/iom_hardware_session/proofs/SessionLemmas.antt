@@ -17,6 +17,7 @@ use Rattle.iom_hardware_session.proofs.KeepLemmas.{IsWatched, judged_holds, stil
 use Rattle.iom_hardware_session.specs.Answered.{judgement_in}
 use Rattle.iom_hardware_session.specs.Good.{scene_in, GoodMeans}
 use Rattle.iom_hardware_session.specs.Laws.{DoneStaysDone, HandedOffStaysFree, GoodAgainHolds}
+use Rattle.iom_hardware_session.specs.Seen.{seen_in}
 use Rattle.iom_hardware_session.specs.Lines.{LineDoes, Trusts, TrustsWhere, TrustsBy, IsAdmittedWhere, IsAdmittedLine, IsGoodWhere, IsGoodLine, WatchesClaimWhere, WatchesStep, WatchesWhere, WatchesBy, claimed_where, claimed_by, is_of_software}
 use Rattle.iom_hardware_session.specs.Runs.{Told, claimed_then, LineGoesOn, GoThrough, is_wrong_claim, has_fallen, is_wrong, is_any_told_wrong}
 use Rattle.iom_hardware_session.specs.Sessions.{comes_back_by, comes_back, AccessesAreClaimed, DoneStaysOutOfReach, HandedOffStaysUntouched}
@@ -74,12 +75,12 @@ software_claims_nothing (line.Help help) answer trusted before is = refl
 
 -- a claim, where it is judged
 claim_line : DoneStaysDone → HandedOffStaysFree → (own : Said) (answer : Option ClaimAnswer) (claim : GoodClaim) (old new : Session) (before : Claimed) → ShowsClaimed old.claims before
-    → board_parts new.hardware ≡ board_parts old.hardware → TrustsWhere own answer old.trusted.items new.trusted.items → IsAdmittedWhere own answer old.hardware before
+    → board_parts new.hardware.board ≡ board_parts old.hardware.board → TrustsWhere own answer old.trusted.items new.trusted.items → IsAdmittedWhere own answer old.hardware.board before
     → IsGoodWhere own answer (scene_in new) before → WatchesClaimWhere own answer before (still_good old.watched.items) new.watched.items → is_wrong_claim answer ≡ false
     → IsNotEndedWhere claim own answer → IsKept claim old before → IsKept claim new (claimed_where own answer before)
 claim_line stays free own None claim old new before shows same trusts admitted means watches fine ends (was, holds) = absurd admitted
 claim_line stays free own (Some answer) claim old new before shows same trusts admitted means watches fine ends (was, holds) =
-    claim_keeps stays free own answer claim old.hardware old.claims new before (still_good old.watched.items) shows admitted means watches fine (not_ended_where claim own answer ends) (still_watched claim old.watched.items was)
+    claim_keeps stays free own answer claim old.hardware.board old.claims new before (still_good old.watched.items) shows admitted means watches fine (not_ended_where claim own answer ends) (still_watched claim old.watched.items was)
     (holds_sooner claim old new before (stays_sooner old new same (trusts_more own answer old.trusted.items new.trusted.items trusts)) holds)
 
 not_ended_claim : (claim : GoodClaim) (own : Said) (answer : Answer) → IsNotEndedBy claim (line.Claim own) answer → IsNotEndedWhere claim own (judgement_in answer)
@@ -87,7 +88,7 @@ not_ended_claim (good.Done number device frame) own answer ends = tt
 not_ended_claim (good.HandedOff frame) own answer ends = ends
 
 -- where hardware stays
-stays_line : (claim : GoodClaim) (old new : Session) (before : Claimed) → board_parts new.hardware ≡ board_parts old.hardware → new.trusted.items ≡ old.trusted.items
+stays_line : (claim : GoodClaim) (old new : Session) (before : Claimed) → board_parts new.hardware.board ≡ board_parts old.hardware.board → new.trusted.items ≡ old.trusted.items
     → new.watched.items ≡ still_good old.watched.items → IsKept claim old before → IsKept claim new before
 stays_line claim old new before same trusts watches (was, holds) = (
   subst (λ (w : List Watched). IsWatched claim w) (sym watches) (still_watched claim old.watched.items was),
@@ -96,13 +97,13 @@ stays_line claim old new before same trusts watches (was, holds) = (
 
 -- a line that isn't of software
 hard_line : DoneStaysDone → HandedOffStaysFree → (own : HardwareLine) (answer : Answer) (claim : GoodClaim) (old new : Session) (before : Claimed) → ShowsClaimed old.claims before
-    → LineDoes own answer old.hardware new.hardware → TrustsBy own answer old.trusted.items new.trusted.items → IsAdmittedLine own answer old.hardware before → IsGoodLine own answer (scene_in new) before
+    → LineDoes own answer (seen_in old) (seen_in new) → TrustsBy own answer old.trusted.items new.trusted.items → IsAdmittedLine own answer old.hardware.board before → IsGoodLine own answer (scene_in new) before
     → WatchesStep own answer before (still_good old.watched.items) new.watched.items → is_of_software own answer old.trusted.items ≡ false → is_wrong_claim (judgement_in answer) ≡ false
     → IsNotEndedBy claim own answer → IsKept claim old before → IsKept claim new (claimed_by own answer before)
 hard_line stays free (line.Event event) answer claim old new before shows does trusts admitted means watches soft fine ends (was, holds) = (
   subst (λ (w : List Watched). IsWatched claim w) (sym watches) (still_watched claim old.watched.items was),
-  elim (event_does old.trusted.items old.hardware new.hardware event answer soft does) [
-    | inl same ↦ holds_sooner claim old new before (stays_sooner old new same.0 (none_fewer old.trusted.items new.trusted.items trusts)) holds
+  elim (event_does old.trusted.items (seen_in old) (seen_in new) event answer soft does) [
+    | inl same ↦ holds_sooner claim old new before (stays_sooner old new same (none_fewer old.trusted.items new.trusted.items trusts)) holds
     | inr done ↦ holds_sooner claim old new before (call_sooner old new trusts done) holds
   ],
 )

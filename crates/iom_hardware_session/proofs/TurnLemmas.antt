@@ -3,7 +3,7 @@ use Rattle.std.proofs.Common.{◌≡◌, inl, inr, ℕ, ◌+◌, Bool, true, Lis
 use Rattle.iom_base.specs.declared.refusal.Refusal.{Refusal}
 use Rattle.iom_board.specs.BoardParts.{BoardParts}
 use Rattle.iom_board.specs.Sound.{IsSoundBoard}
-use Rattle.iom_hardware_ways.specs.Calls.{HardwareCall, Request, Translated, ThroughCache, Ask, Forge, Fetch, Timeout, Deliver, Drop, Repeat, Commit, Reset, CallDoes, IsMadeHarmlessly, DoesHarmlessly, DoInTurn}
+use Rattle.iom_hardware_ways.specs.Calls.{HardwareCall, Request, Translated, ThroughCache, Ask, AskAtStep, Forge, Fetch, Timeout, Deliver, Drop, Repeat, Commit, Reset, CallDoes, IsMadeHarmlessly, DoesHarmlessly, DoInTurn}
 use Rattle.iom_hardware_ways.specs.Scenes.{scene_of}
 use Rattle.iom_hardware_session.specs.Laws.{ComesFromParts}
 use Rattle.iom_inflight.specs.declared.made.MadeAt.{MadeAt}
@@ -77,6 +77,7 @@ does_fewer fewer more (Request sender id access answer) parts are is = is
 does_fewer fewer more (Translated id access answer) parts are is = is
 does_fewer fewer more (ThroughCache sender id access answer) parts are is = is
 does_fewer fewer more (Ask id page answer) parts are is = is
+does_fewer fewer more (AskAtStep id page) parts are is = is
 does_fewer fewer more (Forge id serial answer) parts are is = is
 does_fewer fewer more (Fetch fetched) parts are is = is
 does_fewer fewer more (Timeout has_effect) parts are is = is

@@ -1,10 +1,11 @@
 -- What a line is answered, by the kind of its answer.
-use Rattle.std.specs.Prelude.{Bool, Option, None, Some, Result}
+use Rattle.std.specs.Prelude.{ℕ, Bool, Option, None, Some, Result}
 use Rattle.iom_base.specs.declared.refusal.Refusal.{Refusal}
 use Rattle.iom_fabric.specs.declared.fabric.Repeat.{Repeat as Repeated}
 use Rattle.iom_board.specs.declared.answers.CacheReply.{CacheReply}
 use Rattle.iom_board.specs.declared.answers.Delivered.{Delivered}
 use Rattle.iom_board.specs.declared.answers.NoPlace.{NoPlace}
+use Rattle.iom_hardware.specs.declared.steps.Stepped.{Stepped}
 use Rattle.iom_inflight.specs.declared.made.MadeAt.{MadeAt}
 use Rattle.iom_iommu.specs.declared.fetched.Fetched.{Fetched}
 use Rattle.iom_iommu.specs.declared.reply.Reply.{Reply}
@@ -56,6 +57,22 @@ reset_in answer = None
 abbrev pub plug_in : Answer → Option (Result (Unit {0}) Refusal)
 plug_in (answered.Plugged answer) = Some answer
 plug_in answer = None
+
+abbrev pub medium_in : Answer → Option (Result (Unit {0}) Refusal)
+medium_in (answered.TookDisk answer) = Some answer
+medium_in answer = None
+
+abbrev pub queue_in : Answer → Option (Result (Unit {0}) Refusal)
+queue_in (answered.QueueSet answer) = Some answer
+queue_in answer = None
+
+abbrev pub step_in : Answer → Option (Result Stepped Refusal)
+step_in (answered.TookStep answer) = Some answer
+step_in answer = None
+
+abbrev pub status_in : Answer → Option (Result ℕ Refusal)
+status_in (answered.Status answer) = Some answer
+status_in answer = None
 
 abbrev pub store_in : Answer → Option (Result (Unit {0}) NoPlace)
 store_in (answered.Stored answer) = Some answer

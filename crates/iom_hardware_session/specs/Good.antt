@@ -22,7 +22,7 @@ abbrev pub scene_with : Board → List ℕ → HardwareScene
 scene_with hardware trusted = scene_of (is_id_among trusted) (board_parts hardware)
 
 abbrev pub scene_in : Session → HardwareScene
-scene_in session = scene_with session.hardware session.trusted.items
+scene_in session = scene_with session.hardware.board session.trusted.items
 
 -- Something can be certain: what hardware reads nobody but software writes, and no message is of an epoch to come
 abbrev pub IsCertain : HardwareScene → Type 0

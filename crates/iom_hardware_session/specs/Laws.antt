@@ -22,7 +22,7 @@ ComesFromParts trusted parts calls id made =
 
 -- so from where the session stands
 abbrev pub ComesToMake : Session → List HardwareCall → ℕ → MadeAt → Type 0
-ComesToMake session calls id made = ComesFromParts (is_id_among session.trusted.items) (board_parts session.hardware) calls id made
+ComesToMake session calls id made = ComesFromParts (is_id_among session.trusted.items) (board_parts session.hardware.board) calls id made
 
 -- WHAT WAS WITHDRAWN IS OUT OF REACH. After a claim is done and good, the device makes no access to that frame but those that what is claimed allows
 abbrev pub DoneStaysDone : Type 0
@@ -43,4 +43,4 @@ HoldsOn (good.HandedOff frame) session claimed = (calls : List HardwareCall) (id
 
 -- WHAT WAS FOUND GOOD AGAIN, of whatever was claimed by then, holds on until software changes something
 abbrev pub GoodAgainHolds : Type 0
-GoodAgainHolds = (session : Session) (claimed : Claimed) (claim : GoodClaim) → IsToldOf None claim session.hardware session.trusted.items claimed → HoldsOn claim session claimed
+GoodAgainHolds = (session : Session) (claimed : Claimed) (claim : GoodClaim) → IsToldOf None claim session.hardware.board session.trusted.items claimed → HoldsOn claim session claimed

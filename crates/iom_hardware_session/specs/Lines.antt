@@ -6,11 +6,12 @@ use Rattle.iom_base.specs.declared.refusal.Refusal.{Refusal}
 use Rattle.iom_claims.specs.Claimed.{Claimed}
 use Rattle.iom_board.specs.BoardParts.{board_parts, disks_at_hand}
 use Rattle.iom_board.specs.declared.board.Board.{Board}
+use Rattle.iom_hardware.specs.Blocks.{Stay}
 use Rattle.iom_hardware_script.specs.declared.script.Claim.{Claim as Said}
 use Rattle.iom_hardware_script.specs.declared.script.Claim.TheVariants as claim
 use Rattle.iom_hardware_script.specs.declared.script.HardwareLine.{HardwareLine}
 use Rattle.iom_hardware_script.specs.declared.script.HardwareLine.TheVariants as line
-use Rattle.iom_machine.specs.declared.event.Event.TheVariants.{Plug, Poke, Commit}
+use Rattle.iom_machine.specs.declared.event.Event.TheVariants.{Plug, Medium, Poke, Commit}
 use Rattle.iom_hardware_session.specs.declared.answer.Answer.{Answer}
 use Rattle.iom_hardware_session.specs.declared.answer.Answer.TheVariants as answered
 use Rattle.iom_hardware_session.specs.declared.answer.ClaimAnswer.{ClaimAnswer}
@@ -21,6 +22,7 @@ use Rattle.iom_hardware_session.specs.Answered.{commit_in, judgement_in}
 use Rattle.iom_hardware_session.specs.Claiming.{claimed_after}
 use Rattle.iom_hardware_session.specs.Events.{EventOrNone, Stays}
 use Rattle.iom_hardware_session.specs.Good.{GoodMeans}
+use Rattle.iom_hardware_session.specs.Seen.{SeenHardware}
 use Rattle.iom_hardware_session.specs.Watching.{still_good, AreJudgedAgain, WatchesClaim}
 use Rattle.iom_hardware_session.specs.declared.watched.Watched.{Watched}
 use Rattle.iom_hardware_session.specs.Wrong.{WrongMeans, IfWrong}
@@ -64,15 +66,15 @@ abbrev pub ReadsRegister : (offset width : ℕ) → Board → Answer → Type 0
 ReadsRegister offset width old answer = answer ≡ answered.Value (value_at (is_hardwired offset width) offset width old)
 
 -- what a write of a register does, by whether it is one of those
-abbrev pub WritesWhere : Bool → (offset width value : ℕ) → Board → Answer → Board → Type 0
+abbrev pub WritesWhere : Bool → (offset width value : ℕ) → SeenHardware → Answer → SeenHardware → Type 0
 WritesWhere true offset width value old answer new = (answer ≡ answered.Written (Ok tt)) × Stays old new
 WritesWhere false offset width value old answer new =
     (answer ≡ answered.Written (done_of (register_at offset (short_width width))))
-    × (board_parts new ≡ record (board_parts old) { iommu = changed_by (after_write old.iommu) old.iommu value (register_at offset (short_width width)) })
-    × (disks_at_hand new ≡ disks_at_hand old)
+    × (board_parts new.board ≡ record (board_parts old.board) { iommu = changed_by (after_write old.board.iommu) old.board.iommu value (register_at offset (short_width width)) })
+    × (disks_at_hand new.board ≡ disks_at_hand old.board) × Stay old.inside new.inside
 
 -- THE DRIVER WRITES a register
-abbrev pub WritesRegister : (offset width value : ℕ) → Board → Answer → Board → Type 0
+abbrev pub WritesRegister : (offset width value : ℕ) → SeenHardware → Answer → SeenHardware → Type 0
 WritesRegister offset width value old answer new = WritesWhere (is_hardwired offset width) offset width value old answer new
 
 -- the device is trusted, besides those that are
@@ -86,9 +88,9 @@ Trusts (claim.Trust device) answer old new = TrustsAlso device answer old new
 Trusts said answer old new = new ≡ old
 
 -- WHAT A LINE DOES TO HARDWARE, by its answer
-abbrev pub LineDoes : HardwareLine → Answer → Board → Board → Type 0
+abbrev pub LineDoes : HardwareLine → Answer → SeenHardware → SeenHardware → Type 0
 LineDoes (line.Event event) answer old new = EventOrNone event answer old new
-LineDoes (line.RegisterRead offset width) answer old new = ReadsRegister offset width old answer × Stays old new
+LineDoes (line.RegisterRead offset width) answer old new = ReadsRegister offset width old.board answer × Stays old new
 LineDoes (line.RegisterWrite offset width value) answer old new = WritesRegister offset width value old answer new
 LineDoes (line.Claim said) answer old new = Stays old new
 LineDoes (line.Help help) answer old new = (answer ≡ answered.NotOfHardware) × Stays old new
@@ -162,10 +164,11 @@ is_made_write None = false
 abbrev pub writes : Answer → Bool
 writes answer = is_made_write (commit_in answer)
 
--- Software changes hardware by the line, or plugs a device in. What a device writes that software trusts counts as a store of software
+-- Software changes hardware by the line, or plugs a device or a disk in. What a device writes that software trusts counts as a store of software
 abbrev pub is_of_software : HardwareLine → Answer → List ℕ → Bool
 is_of_software (line.Event (Poke address bytes)) answer trusted = true
 is_of_software (line.Event (Plug device what)) answer trusted = true
+is_of_software (line.Event (Medium device disk)) answer trusted = true
 is_of_software (line.RegisterWrite offset width value) answer trusted = true
 is_of_software (line.Event (Commit device)) answer trusted = writes answer && is_id_among trusted device
 is_of_software said answer trusted = false
@@ -181,7 +184,7 @@ WatchesStep said answer before old new = new ≡ old
 
 -- so of any line, by whether it is of software
 abbrev pub WatchesWhere : Bool → HardwareLine → Answer → Claimed → Session → Session → Type 0
-WatchesWhere true said answer before old new = AreJudgedAgain (still_good old.watched.items) new.watched.items new.hardware new.trusted.items before
+WatchesWhere true said answer before old new = AreJudgedAgain (still_good old.watched.items) new.watched.items new.hardware.board new.trusted.items before
 WatchesWhere false said answer before old new = WatchesStep said answer before (still_good old.watched.items) new.watched.items
 
 -- WHAT IS WATCHED after a line: what was found wrong at the line before is forgotten, and where software changes hardware all the others are judged again

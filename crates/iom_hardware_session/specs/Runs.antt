@@ -3,7 +3,8 @@ use Rattle.std.specs.Prelude.{◌≡◌, ℕ, ◌↔◌, ◌||◌, Bool, true, f
 use Rattle.std.specs.List.{list_any}
 use Rattle.iom_claims.specs.Claimed.{Claimed, nothing_claimed}
 use Rattle.iom_claims.specs.Shown.{ShowsClaimed}
-use Rattle.iom_board.specs.PowerOn.{IsBoardAtPowerOn}
+use Rattle.iom_hardware.specs.Inside.{inside}
+use Rattle.iom_hardware.specs.PowerOn.{IsHardwareAtPowerOn}
 use Rattle.iom_hardware_script.specs.declared.script.HardwareLine.{HardwareLine}
 use Rattle.iom_hardware_session.specs.Answered.{judgement_in}
 use Rattle.iom_hardware_session.specs.declared.answer.ClaimAnswer.{ClaimAnswer}
@@ -12,6 +13,9 @@ use Rattle.iom_hardware_session.specs.declared.session.Stepped.{Stepped}
 use Rattle.iom_hardware_session.specs.declared.state.Session.{Session}
 use Rattle.iom_hardware_session.specs.declared.watched.Watched.{Watched}
 use Rattle.iom_hardware_session.specs.Good.{scene_in}
+use Rattle.iom_hardware_session.specs.Seen.{seen_in}
+use Rattle.iom_program_disks.specs.Disks.{program_disks}
+use Rattle.iom_virtio_blk.specs.MemoryDisks.{disk_state}
 use Rattle.iom_hardware_session.specs.Lines.{LineDoes, TrustsBy, IsAdmittedLine, IsGoodLine, IsWrongLine, WatchesBy, IsViolation, IsAllowed, claimed_by, made_by}
 
 -- a line, what came of it, and what is watched behind it
@@ -26,12 +30,12 @@ claimed_then told before = claimed_by told.said told.stepped.answer before
 
 -- WHAT COMES OF A LINE, by what was claimed before it: all that `Session::line` says
 pub record LineGoesOn (old : Session) (before : Claimed) (told : Told) (new : Session) : Type 0 where
-  pub does : LineDoes told.said told.stepped.answer old.hardware new.hardware
+  pub does : LineDoes told.said told.stepped.answer (seen_in old) (seen_in new)
   pub claimed : ShowsClaimed new.claims (claimed_then told before)
   pub trusted : TrustsBy told.said told.stepped.answer old.trusted.items new.trusted.items
-  pub admitted : IsAdmittedLine told.said told.stepped.answer old.hardware before
+  pub admitted : IsAdmittedLine told.said told.stepped.answer old.hardware.board before
   pub good : IsGoodLine told.said told.stepped.answer (scene_in new) before
-  pub wrong : IsWrongLine told.said told.stepped.answer new.hardware new.trusted.items before
+  pub wrong : IsWrongLine told.said told.stepped.answer new.hardware.board new.trusted.items before
   pub again : WatchesBy told.said told.stepped.answer before old new
   pub violated : IsTrue told.stepped.violated ↔ IsViolation before (made_by told.stepped.answer)
   pub allowed : told.stepped.violated ≡ false → IsAllowed before (made_by told.stepped.answer)
@@ -67,9 +71,9 @@ is_wrong told = is_wrong_by told.stepped told.watched
 abbrev pub is_any_told_wrong : List Told → Bool
 is_any_told_wrong all = list_any is_wrong all
 
--- A SESSION BEGINS: hardware at power-on with so many frames of memory and four disks at hand, nothing claimed, nobody trusted, nothing watched
+-- A SESSION BEGINS: hardware at power-on with so many frames of memory and the disks of the programs at hand, nothing claimed, nobody trusted, nothing watched
 pub record IsSessionAtPowerOn (frames : ℕ) (session : Session) : Type 0 where
-  pub power_on : IsBoardAtPowerOn frames (0 ∷ 1 ∷ 2 ∷ 3 ∷ []) session.hardware
+  pub power_on : IsHardwareAtPowerOn frames program_disks session.hardware.board (inside disk_state session.hardware)
   pub claims : ShowsClaimed session.claims nothing_claimed
   pub trusted : session.trusted.items ≡ []
   pub watched : session.watched.items ≡ []

@@ -5,6 +5,7 @@ ghost use Rattle.iom_hardware_session.specs.declared.answer.Found.TheVariants as
 use iom_base::{AccessKind, Cause, DeviceId, Refusal};
 use iom_board::{CacheReply, Delivered, NoPlace};
 use iom_fabric::Repeat;
+use iom_hardware::Stepped;
 use iom_inflight::MadeAt;
 use iom_iommu::{Fetched, Reply};
 use iom_registers::RegFault;
@@ -17,6 +18,14 @@ pub enum Answer {
     Plugged(Result<(), Refusal>),
     /// A device is reset.
     Reset(Result<(), Refusal>),
+    /// A disk is put into a block device, or isn't.
+    TookDisk(Result<(), Refusal>),
+    /// The queue of a block device is set, or isn't.
+    QueueSet(Result<(), Refusal>),
+    /// A block device took a step.
+    TookStep(Result<Stepped, Refusal>),
+    /// The status of a block device.
+    Status(Result<u8, Refusal>),
     /// The IOMMU answers a request so.
     Replied(Result<Reply, Refusal>),
     /// A device's own cache, or the IOMMU behind it, answers so.

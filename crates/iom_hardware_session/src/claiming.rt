@@ -24,10 +24,10 @@ const PAGES: u64 = 1 << 52;
 impl Session {
     /// The number of a frame of memory.
     fn frame_of(&self, frame: u64) -> Result<u32, Refusal>
-        ensures number { IfOk result (λ number. (number ≡ frame) × (number < length self.now.hardware.memory)) }
-        ensures refused { IfErr result (λ why. FrameIsRefused why frame self.now.hardware) }
+        ensures number { IfOk result (λ number. (number ≡ frame) × (number < length self.now.hardware.board.memory)) }
+        ensures refused { IfErr result (λ why. FrameIsRefused why frame self.now.hardware.board) }
     {
-        if frame >= u64::from(self.hardware.memory.frames()) {
+        if frame >= u64::from(self.hardware.board.memory.frames()) {
             return Err(Refusal::FrameOutOfRange);
         }
         Ok(frame as u32)
@@ -35,11 +35,11 @@ impl Session {
 
     /// The number of the frame that is claimed for the device at the page, or why it can't be.
     fn grantable(&self, device: DeviceId, page: u64, frame: u64) -> Result<u32, Refusal>
-        ensures number { IfOk result (λ number. (number ≡ frame) × (number < length self.now.hardware.memory)) }
-        ensures admitted { OnOk result (IsDeviceKnown self.now.hardware device × (page < 2 ^ 52)) }
-        ensures refused { (c : Claimed) → IfErr result (λ why. GrantIsRefused why device page frame self.now.hardware c) }
+        ensures number { IfOk result (λ number. (number ≡ frame) × (number < length self.now.hardware.board.memory)) }
+        ensures admitted { OnOk result (IsDeviceKnown self.now.hardware.board device × (page < 2 ^ 52)) }
+        ensures refused { (c : Claimed) → IfErr result (λ why. GrantIsRefused why device page frame self.now.hardware.board c) }
     {
-        if self.hardware.kind_of(device).is_none() {
+        if self.hardware.board.kind_of(device).is_none() {
             return Err(Refusal::NoSuchDevice);
         }
         let number = self.frame_of(frame)?;
@@ -74,11 +74,11 @@ impl Session {
             → GoodMeans (said.Grant device page frame rights) (scene_in self.new) c (claimed_after (said.Grant device page frame rights) result c) }
         ensures wrong { (c : Claimed) → ShowsClaimed self.old.claims c
             → IfWrong result
-            (λ why. WrongMeans (said.Grant device page frame rights) why self.new.hardware self.new.trusted.items c
+            (λ why. WrongMeans (said.Grant device page frame rights) why self.new.hardware.board self.new.trusted.items c
             (claimed_after (said.Grant device page frame rights) result c)) }
         ensures watched { (c : Claimed) → ShowsClaimed self.old.claims c
             → WatchesClaim (said.Grant device page frame rights) result c self.old.watched.items self.new.watched.items }
-        ensures admitted { (c : Claimed) → ShowsClaimed self.old.claims c → ClaimIsAdmitted (said.Grant device page frame rights) result self.old.hardware c }
+        ensures admitted { (c : Claimed) → ShowsClaimed self.old.claims c → ClaimIsAdmitted (said.Grant device page frame rights) result self.old.hardware.board c }
         ensures hardware { KeepsHardware self.old self.new }
     {
         let number = match self.grantable(device, page, frame) {
@@ -110,10 +110,10 @@ impl Session {
             → ShowsClaimed self.new.claims (claimed_after (said.Release device page) result c) }
         ensures wrong { IfWrong result (λ why. ⊥) }
         ensures watched { self.new.watched ≡ self.old.watched }
-        ensures admitted { (c : Claimed) → ShowsClaimed self.old.claims c → ClaimIsAdmitted (said.Release device page) result self.old.hardware c }
+        ensures admitted { (c : Claimed) → ShowsClaimed self.old.claims c → ClaimIsAdmitted (said.Release device page) result self.old.hardware.board c }
         ensures hardware { KeepsHardware self.old self.new }
     {
-        if self.hardware.kind_of(device).is_none() {
+        if self.hardware.board.kind_of(device).is_none() {
             return ClaimAnswer::Refused(Refusal::NoSuchDevice);
         }
         match self.claims.release(device, page) {
@@ -130,10 +130,10 @@ impl Session {
             → GoodMeans (said.Done number) (scene_in self.new) c (claimed_after (said.Done number) result c) }
         ensures wrong { (c : Claimed) → ShowsClaimed self.old.claims c
             → IfWrong result
-            (λ why. WrongMeans (said.Done number) why self.new.hardware self.new.trusted.items c (claimed_after (said.Done number) result c)) }
+            (λ why. WrongMeans (said.Done number) why self.new.hardware.board self.new.trusted.items c (claimed_after (said.Done number) result c)) }
         ensures watched { (c : Claimed) → ShowsClaimed self.old.claims c
             → WatchesClaim (said.Done number) result c self.old.watched.items self.new.watched.items }
-        ensures admitted { (c : Claimed) → ShowsClaimed self.old.claims c → ClaimIsAdmitted (said.Done number) result self.old.hardware c }
+        ensures admitted { (c : Claimed) → ShowsClaimed self.old.claims c → ClaimIsAdmitted (said.Done number) result self.old.hardware.board c }
         ensures hardware { KeepsHardware self.old self.new }
     {
         let Ok(short) = self.number_of(number) else {
@@ -169,10 +169,10 @@ impl Session {
             → GoodMeans (said.HandOff frame) (scene_in self.new) c (claimed_after (said.HandOff frame) result c) }
         ensures wrong { (c : Claimed) → ShowsClaimed self.old.claims c
             → IfWrong result
-            (λ why. WrongMeans (said.HandOff frame) why self.new.hardware self.new.trusted.items c (claimed_after (said.HandOff frame) result c)) }
+            (λ why. WrongMeans (said.HandOff frame) why self.new.hardware.board self.new.trusted.items c (claimed_after (said.HandOff frame) result c)) }
         ensures watched { (c : Claimed) → ShowsClaimed self.old.claims c
             → WatchesClaim (said.HandOff frame) result c self.old.watched.items self.new.watched.items }
-        ensures admitted { (c : Claimed) → ShowsClaimed self.old.claims c → ClaimIsAdmitted (said.HandOff frame) result self.old.hardware c }
+        ensures admitted { (c : Claimed) → ShowsClaimed self.old.claims c → ClaimIsAdmitted (said.HandOff frame) result self.old.hardware.board c }
         ensures hardware { KeepsHardware self.old self.new }
     {
         let number = match self.frame_of(frame) {
@@ -209,10 +209,10 @@ impl Session {
             → GoodMeans (said.Take frame) (scene_in self.new) c (claimed_after (said.Take frame) result c) }
         ensures wrong { (c : Claimed) → ShowsClaimed self.old.claims c
             → IfWrong result
-            (λ why. WrongMeans (said.Take frame) why self.new.hardware self.new.trusted.items c (claimed_after (said.Take frame) result c)) }
+            (λ why. WrongMeans (said.Take frame) why self.new.hardware.board self.new.trusted.items c (claimed_after (said.Take frame) result c)) }
         ensures watched { (c : Claimed) → ShowsClaimed self.old.claims c
             → WatchesClaim (said.Take frame) result c self.old.watched.items self.new.watched.items }
-        ensures admitted { (c : Claimed) → ShowsClaimed self.old.claims c → ClaimIsAdmitted (said.Take frame) result self.old.hardware c }
+        ensures admitted { (c : Claimed) → ShowsClaimed self.old.claims c → ClaimIsAdmitted (said.Take frame) result self.old.hardware.board c }
         ensures hardware { KeepsHardware self.old self.new }
     {
         let number = match self.frame_of(frame) {
@@ -230,10 +230,10 @@ impl Session {
 
     /// A request of the device at the page is accepted now, on what it holds there.
     pub(crate) fn claim_ready(&mut self, device: DeviceId, page: u64) -> ClaimAnswer
-        ensures admitted { (c : Claimed) → ShowsClaimed self.old.claims c → ClaimIsAdmitted (said.Ready device page) result self.old.hardware c }
+        ensures admitted { (c : Claimed) → ShowsClaimed self.old.claims c → ClaimIsAdmitted (said.Ready device page) result self.old.hardware.board c }
         ensures rest { KeepsAll self.old self.new }
     {
-        if self.hardware.kind_of(device).is_none() {
+        if self.hardware.board.kind_of(device).is_none() {
             return ClaimAnswer::Refused(Refusal::NoSuchDevice);
         }
         let Some((frame, rights)) = self.claims.held_at(device, page) else {
@@ -251,10 +251,10 @@ impl Session {
         ensures wrong { IfWrong result (λ why. ⊥) }
         ensures watched { self.new.watched ≡ self.old.watched }
         ensures trusted { TrustsAlso device result self.old.trusted.items self.new.trusted.items }
-        ensures admitted { (c : Claimed) → ShowsClaimed self.old.claims c → ClaimIsAdmitted (said.Trust device) result self.old.hardware c }
+        ensures admitted { (c : Claimed) → ShowsClaimed self.old.claims c → ClaimIsAdmitted (said.Trust device) result self.old.hardware.board c }
         ensures hardware { self.new.hardware ≡ self.old.hardware }
     {
-        if self.hardware.kind_of(device).is_none() {
+        if self.hardware.board.kind_of(device).is_none() {
             return ClaimAnswer::Refused(Refusal::NoSuchDevice);
         }
         match self.trusted.push(device) {

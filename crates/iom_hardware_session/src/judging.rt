@@ -28,13 +28,13 @@ impl Session {
     /// a survey has places for: none has, and that is asked here, since it isn't carried through every line.
     pub(crate) fn look(&mut self) -> bool
         ensures looked { IsTrue result → IsSurveyOf self.new.survey (scene_in self.new) }
-        ensures too_large { result ≡ false → 4096 < length self.new.hardware.memory }
+        ensures too_large { result ≡ false → 4096 < length self.new.hardware.board.memory }
         ensures rest { KeepsAll self.old self.new }
     {
-        if self.hardware.memory.frames() > MAX_FRAMES {
+        if self.hardware.board.memory.frames() > MAX_FRAMES {
             return false;
         }
-        self.survey.look(&self.hardware, &self.trusted);
+        self.survey.look(&self.hardware.board, &self.trusted);
         true
     }
 
@@ -70,11 +70,11 @@ impl Session {
 
     /// Whether the message is of no epoch to come of its device's cache.
     fn is_timely_message(&self, on: &OnLink) -> bool
-        ensures { IsTrue result ↔ IsTimelyMessage (board_parts self.now.hardware) on.now }
+        ensures { IsTrue result ↔ IsTimelyMessage (board_parts self.now.hardware.board) on.now }
     {
         match on.message {
-            Message::Ask { epoch, page: _ } => epoch <= self.hardware.epoch_of(on.device),
-            Message::Answer { epoch, .. } => epoch <= self.hardware.epoch_of(on.device),
+            Message::Ask { epoch, page: _ } => epoch <= self.hardware.board.epoch_of(on.device),
+            Message::Answer { epoch, .. } => epoch <= self.hardware.board.epoch_of(on.device),
             Message::InvReq { .. } | Message::InvDone { .. } => true,
         }
     }
@@ -83,9 +83,9 @@ impl Session {
     /// messages are looked at sooner than it is carried through every line.
     fn is_timely(&self) -> bool
         ensures timely { IsTrue result → AreTimely (scene_in self.now) }
-        ensures untimely { result ≡ false → IsUntimely (board_parts self.now.hardware) }
+        ensures untimely { result ≡ false → IsUntimely (board_parts self.now.hardware.board) }
     {
-        let messages = self.hardware.messages();
+        let messages = self.hardware.board.messages();
         for place in 0..messages.len() {
             if let Some(on) = messages.get(place) {
                 if !self.is_timely_message(&on) {
@@ -100,7 +100,7 @@ impl Session {
     pub(crate) fn is_certain(&self) -> bool
         requires { IsSurveyOf self.now.survey (scene_in self.now) }
         ensures certain { IsTrue result → IsCertain (scene_in self.now) }
-        ensures uncertain { result ≡ false → IsUncertain self.now.hardware self.now.trusted.items }
+        ensures uncertain { result ≡ false → IsUncertain self.now.hardware.board self.now.trusted.items }
     {
         if !self.survey.is_safe() {
             return false;
@@ -154,8 +154,8 @@ impl Session {
         ensures none { result ≡ None → IsOutOfReach (scene_in self.now) frame }
         ensures some { IfSome result (λ way. reaches_in_rows self.now.survey.devices.items way.0 way.1 frame ≡ true) }
     {
-        for place in 0..self.hardware.devices.len() {
-            let id = self.hardware.devices[place].id;
+        for place in 0..self.hardware.board.devices.len() {
+            let id = self.hardware.board.devices[place].id;
             if let Some(kind) = self.way_to(id, frame) {
                 return Some((id, kind));
             }
@@ -169,7 +169,7 @@ impl Session {
         ensures none { (c : Claimed) → ShowsClaimed self.now.claims c
             → result ≡ None → HasClaimedWaysAlone (scene_in self.now) c device frame }
         ensures some { (c : Claimed) → ShowsClaimed self.now.claims c
-            → IfSome result (λ why. DoneIsWrong why self.now.hardware self.now.trusted.items c device frame) }
+            → IfSome result (λ why. DoneIsWrong why self.now.hardware.board self.now.trusted.items c device frame) }
     {
         match self.way_beyond(device, frame) {
             Some(kind) => Some(Wrong::Reached(device, kind)),
@@ -181,7 +181,7 @@ impl Session {
     pub(crate) fn left_of_hand_off(&self, frame: u32) -> Option<Wrong>
         requires looked { IsSurveyOf self.now.survey (scene_in self.now) }
         ensures none { result ≡ None → IsOutOfReach (scene_in self.now) frame × IsUnused (scene_in self.now) frame }
-        ensures some { (c : Claimed) → IfSome result (λ why. HandOffIsWrong why self.now.hardware self.now.trusted.items c frame) }
+        ensures some { (c : Claimed) → IfSome result (λ why. HandOffIsWrong why self.now.hardware.board self.now.trusted.items c frame) }
     {
         if let Some((device, kind)) = self.first_way_to(frame) {
             return Some(Wrong::Reached(device, kind));
@@ -198,7 +198,7 @@ impl Session {
         ensures good { (c : Claimed) → ShowsClaimed self.now.claims c → result ≡ ClaimAnswer.Good
             → IsCertain (scene_in self.now) × HasClaimedWaysAlone (scene_in self.now) c device frame }
         ensures wrong { (c : Claimed) → ShowsClaimed self.now.claims c
-            → IfWrong result (λ why. DoneIsWrong why self.now.hardware self.now.trusted.items c device frame) }
+            → IfWrong result (λ why. DoneIsWrong why self.now.hardware.board self.now.trusted.items c device frame) }
         ensures made { is_judgement result ≡ true }
     {
         if let Some(why) = self.left_of_done(device, frame) {
@@ -214,7 +214,7 @@ impl Session {
     pub(crate) fn judge_hand_off(&self, frame: u32) -> ClaimAnswer
         requires looked { IsSurveyOf self.now.survey (scene_in self.now) }
         ensures good { result ≡ ClaimAnswer.Good → IsCertain (scene_in self.now) × IsOutOfReach (scene_in self.now) frame × IsUnused (scene_in self.now) frame }
-        ensures wrong { (c : Claimed) → IfWrong result (λ why. HandOffIsWrong why self.now.hardware self.now.trusted.items c frame) }
+        ensures wrong { (c : Claimed) → IfWrong result (λ why. HandOffIsWrong why self.now.hardware.board self.now.trusted.items c frame) }
         ensures made { is_judgement result ≡ true }
     {
         if let Some(why) = self.left_of_hand_off(frame) {

@@ -43,11 +43,11 @@ impl Session {
         if !fits_directory(pointer.mode, device) {
             return None;
         }
-        match self.hardware.iommu.cached_context(device) {
+        match self.hardware.board.iommu.cached_context(device) {
             Some(context) => Some(context),
             None => match pointer.mode {
                 DirectoryMode::Off | DirectoryMode::Bare => None,
-                _ => locate(&self.hardware.memory, pointer, device).ok(),
+                _ => locate(&self.hardware.board.memory, pointer, device).ok(),
             },
         }
     }
@@ -56,7 +56,7 @@ impl Session {
     fn cached_frame(&self, space: Space, page: u64, kind: AccessKind) -> Option<u32> {
         let first = (page % SETS) as usize * WAYS;
         for place in first..first + WAYS {
-            if let Some(cached) = self.hardware.iommu.translations().page_at(place) {
+            if let Some(cached) = self.hardware.board.iommu.translations().page_at(place) {
                 let translation = cached.translation;
                 if cached.space == space && cached.page == page && translation.rights.allows(kind) {
                     return Some(translation.frame);
@@ -69,7 +69,7 @@ impl Session {
     /// Where the walk of the context's stages ends. In both stages the page is a guest physical one, and the second stage
     /// alone is walked.
     fn walk(&self, context: &Context, address: u64, kind: AccessKind) -> Found {
-        let memory = &self.hardware.memory;
+        let memory = &self.hardware.board.memory;
         if let SecondStage::Tables { size, root } = context.second_stage {
             return Found::of(walk_second(memory, size, root.number(), address, kind));
         }
@@ -83,7 +83,7 @@ impl Session {
 
     /// What a request of the device for an access of the kind at the page finds now.
     pub(crate) fn found_at(&self, device: DeviceId, page: u64, kind: AccessKind) -> Found {
-        let registers = self.hardware.iommu.registers();
+        let registers = self.hardware.board.iommu.registers();
         let mode = registers.directory_mode();
         if mode == DirectoryMode::Bare {
             return Found::by_walk(page);

@@ -21,8 +21,8 @@ fn are_same_watched(watched: &[Watched], others: &[Watched]) -> bool
 }
 
 impl Session {
-    /// Whether the two are equal but for how many events there were, and for what was last looked at: then whatever lines
-    /// go through both are answered alike.
+    /// Whether the two are equal but for how many events there were, for what was last looked at, and for what is inside
+    /// block devices: then whatever lines go through both, but those of block devices, are answered alike.
     pub fn is_same(&self, other: &Session) -> bool
         ensures { IsTrue result ↔ IsSameSession self.now other.now }
     {
@@ -35,6 +35,6 @@ impl Session {
         if !self.claims.is_same(&other.claims) {
             return false;
         }
-        self.hardware.is_same(&other.hardware)
+        self.hardware.board.is_same(&other.hardware.board)
     }
 }

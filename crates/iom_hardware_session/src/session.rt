@@ -1,32 +1,37 @@
-ghost use Rattle.std.specs.Prelude.{◌≡◌, ◌↔◌, ◌+◌, ◌<◌, ◌^◌, ◌≤◌, [], ◌∷◌, Some, false, IfOk, IfSome, IfNone, IsTrue};
+ghost use Rattle.std.specs.Prelude.{◌≡◌, ◌↔◌, ◌+◌, ◌<◌, ◌^◌, ◌≤◌, [], Some, false, IfOk, IfSome, IfNone, IsTrue};
 ghost use Rattle.iom_claims.specs.Claimed.{Claimed, nothing_claimed};
 ghost use Rattle.iom_claims.specs.Shown.{ShowsClaimed};
-ghost use Rattle.iom_board.specs.PowerOn.{IsBoardAtPowerOn};
+ghost use Rattle.iom_block_devices.specs.Changes.{block_with};
+ghost use Rattle.iom_block_devices.specs.Wanted.{wanted_of};
+ghost use Rattle.iom_hardware.specs.Inside.{inside};
+ghost use Rattle.iom_hardware.specs.PowerOn.{IsHardwareAtPowerOn};
 ghost use Rattle.iom_hardware_session.specs.Admitted.{ClaimIsAdmitted};
 ghost use Rattle.iom_hardware_session.specs.Claiming.{claimed_after};
 ghost use Rattle.iom_hardware_session.specs.Answered.{judgement_in};
 ghost use Rattle.iom_hardware_session.specs.Runs.{is_wrong_claim, has_fallen, is_wrong_by};
 ghost use Rattle.iom_hardware_session.specs.Good.{GoodMeans, scene_in};
+ghost use Rattle.iom_hardware_session.specs.Seen.{seen_in};
 ghost use Rattle.iom_hardware_session.specs.Watching.{WatchesClaim};
 ghost use Rattle.iom_hardware_session.specs.Wrong.{IfWrong, WrongMeans};
 ghost use Rattle.iom_hardware_session.specs.Lines.{Trusts, LineDoes, TrustsBy, IsGoodLine, IsWrongLine, WatchesStep, WatchesBy, writes, is_of_software, claimed_by, made_by, IsViolation, IsAllowed, IsAdmittedLine};
+ghost use Rattle.iom_program_disks.specs.Disks.{program_disks};
+ghost use Rattle.iom_virtio_blk.specs.MemoryDisks.{disk_state};
 ghost use Rattle.iom_way_survey.specs.Surveys.{IsConflict, IsConflictFree, is_id_among};
 
 use crate::answer::{Answer, ClaimAnswer};
 use crate::state::Session;
 use crate::watched::{Watched, drop_fallen};
-use iom_base::{AccessKind, DeviceId};
+use iom_base::{Access, AccessKind, DeviceId};
 use iom_board::Board;
 use iom_claims::Claims;
+use iom_hardware::Hardware;
 use iom_hardware_script::{Claim, HardwareLine};
 use iom_inflight::MadeAt;
 use iom_machine::Event;
 use iom_phys_mem::MemError;
+use iom_program_disks::program_disks;
 use iom_way_survey::{Conflict, Survey};
-use std::alloc::Global;
-
-/// The numbers of the disks that block devices may be plugged in with. What they serve is no matter here.
-const DISKS: [u64; 4] = [0, 1, 2, 3];
+use std::alloc::{AllocError, Global};
 
 /// What comes of a line, and whether the access that it made is one that nothing claimed allows.
 #[derive(Clone, Copy, PartialEq, Eq, Debug)]
@@ -36,14 +41,17 @@ pub struct Stepped {
 }
 
 impl Session {
-    /// Hardware at power-on, with so many frames of memory and four disks at hand, and nothing claimed.
+    /// Hardware at power-on, with so many frames of memory and the disks of the programs at hand, and nothing claimed.
     pub fn new(alloc: Global, frames: u32) -> Result<Session, MemError>
-        ensures power_on { IfOk result (λ session. IsBoardAtPowerOn frames (0 ∷ 1 ∷ 2 ∷ 3 ∷ []) session.hardware) }
+        ensures power_on { IfOk result (λ session. IsHardwareAtPowerOn frames program_disks session.hardware.board (inside disk_state session.hardware)) }
         ensures claims { IfOk result (λ session. ShowsClaimed session.claims nothing_claimed) }
         ensures trusted { IfOk result (λ session. session.trusted.items ≡ []) }
         ensures watched { IfOk result (λ session. session.watched.items ≡ []) }
     {
-        let hardware = Board::new(alloc, frames, &DISKS)?;
+        let Ok(disks) = program_disks(alloc) else {
+            return Err(MemError::OutOfMemory);
+        };
+        let hardware = Hardware::new(alloc, frames, disks)?;
         let Ok(survey) = Survey::new(alloc) else {
             return Err(MemError::OutOfMemory);
         };
@@ -57,11 +65,19 @@ impl Session {
         })
     }
 
-    /// The hardware, to be looked at.
+    /// The board of the hardware, to be looked at.
     pub fn hardware(&self) -> &Board
-        ensures { result.now ≡ self.now.hardware }
+        ensures { result.now ≡ self.now.hardware.board }
     {
-        &self.hardware
+        &self.hardware.board
+    }
+
+    /// The access that the block device wants, or waits for where it began that. None where it wants none, or no block
+    /// device has the id.
+    pub fn wanted(&self, id: DeviceId) -> Result<Option<Access>, AllocError>
+        ensures { IfOk result (λ access. access ≡ wanted_of (block_with (seen_in self.now).inside.blocks id)) }
+    {
+        self.hardware.wanted(self.alloc, id)
     }
 
     /// What is claimed, to be looked at.
@@ -84,10 +100,10 @@ impl Session {
         ensures good { (c : Claimed) → ShowsClaimed self.old.claims c
             → result ≡ ClaimAnswer.Good → GoodMeans claim (scene_in self.new) c (claimed_after claim result c) }
         ensures wrong { (c : Claimed) → ShowsClaimed self.old.claims c
-            → IfWrong result (λ why. WrongMeans claim why self.new.hardware self.new.trusted.items c (claimed_after claim result c)) }
+            → IfWrong result (λ why. WrongMeans claim why self.new.hardware.board self.new.trusted.items c (claimed_after claim result c)) }
         ensures watched { (c : Claimed) → ShowsClaimed self.old.claims c
             → WatchesClaim claim result c self.old.watched.items self.new.watched.items }
-        ensures admitted { (c : Claimed) → ShowsClaimed self.old.claims c → ClaimIsAdmitted claim result self.old.hardware c }
+        ensures admitted { (c : Claimed) → ShowsClaimed self.old.claims c → ClaimIsAdmitted claim result self.old.hardware.board c }
         ensures trusts { Trusts claim result self.old.trusted.items self.new.trusted.items }
         ensures hardware { self.new.hardware ≡ self.old.hardware }
     {
@@ -128,17 +144,17 @@ impl Session {
 
     /// What comes of a line, of hardware, of software or of what the driver claims.
     fn answer(&mut self, line: &HardwareLine) -> Answer
-        requires count { self.old.hardware.events + 1 < 2 ^ 64 }
-        ensures does { LineDoes line.now result self.old.hardware self.new.hardware }
+        requires count { self.old.hardware.board.events + 1 < 2 ^ 64 }
+        ensures does { LineDoes line.now result (seen_in self.old) (seen_in self.new) }
         ensures claimed { (c : Claimed) → ShowsClaimed self.old.claims c → ShowsClaimed self.new.claims (claimed_by line.now result c) }
         ensures trusted { TrustsBy line.now result self.old.trusted.items self.new.trusted.items }
         ensures good { (c : Claimed) → ShowsClaimed self.old.claims c → IsGoodLine line.now result (scene_in self.new) c }
         ensures wrong { (c : Claimed) → ShowsClaimed self.old.claims c
-            → IsWrongLine line.now result self.new.hardware self.new.trusted.items c }
-        ensures admitted { (c : Claimed) → ShowsClaimed self.old.claims c → IsAdmittedLine line.now result self.old.hardware c }
+            → IsWrongLine line.now result self.new.hardware.board self.new.trusted.items c }
+        ensures admitted { (c : Claimed) → ShowsClaimed self.old.claims c → IsAdmittedLine line.now result self.old.hardware.board c }
         ensures watched { (c : Claimed) → ShowsClaimed self.old.claims c
             → WatchesStep line.now result c self.old.watched.items self.new.watched.items }
-        ensures counted { self.new.hardware.events ≤ self.old.hardware.events + 1 }
+        ensures counted { self.new.hardware.board.events ≤ self.old.hardware.board.events + 1 }
     {
         match line {
             HardwareLine::Event(event) => self.event(event),
@@ -156,19 +172,19 @@ impl Session {
     /// What comes of a line, and whether it made an access that nothing claimed allows. Claims that were good are judged
     /// again where software changes hardware: [`Session::watched`] tells what is found of them.
     pub fn line(&mut self, line: &HardwareLine) -> Stepped
-        requires count { self.old.hardware.events + 1 < 2 ^ 64 }
-        ensures does { LineDoes line.now result.answer self.old.hardware self.new.hardware }
+        requires count { self.old.hardware.board.events + 1 < 2 ^ 64 }
+        ensures does { LineDoes line.now result.answer (seen_in self.old) (seen_in self.new) }
         ensures claimed { (c : Claimed) → ShowsClaimed self.old.claims c
             → ShowsClaimed self.new.claims (claimed_by line.now result.answer c) }
         ensures trusted { TrustsBy line.now result.answer self.old.trusted.items self.new.trusted.items }
         ensures good { (c : Claimed) → ShowsClaimed self.old.claims c → IsGoodLine line.now result.answer (scene_in self.new) c }
         ensures wrong { (c : Claimed) → ShowsClaimed self.old.claims c
-            → IsWrongLine line.now result.answer self.new.hardware self.new.trusted.items c }
-        ensures admitted { (c : Claimed) → ShowsClaimed self.old.claims c → IsAdmittedLine line.now result.answer self.old.hardware c }
+            → IsWrongLine line.now result.answer self.new.hardware.board self.new.trusted.items c }
+        ensures admitted { (c : Claimed) → ShowsClaimed self.old.claims c → IsAdmittedLine line.now result.answer self.old.hardware.board c }
         ensures watched { (c : Claimed) → ShowsClaimed self.old.claims c → WatchesBy line.now result.answer c self.old self.new }
         ensures violated { (c : Claimed) → ShowsClaimed self.old.claims c → IsTrue result.violated ↔ IsViolation c (made_by result.answer) }
         ensures allowed { (c : Claimed) → ShowsClaimed self.old.claims c → result.violated ≡ false → IsAllowed c (made_by result.answer) }
-        ensures counted { self.new.hardware.events ≤ self.old.hardware.events + 1 }
+        ensures counted { self.new.hardware.board.events ≤ self.old.hardware.board.events + 1 }
     {
         drop_fallen(&mut self.watched);
         let answer = self.answer(line);
@@ -227,13 +243,13 @@ fn is_among(devices: &[DeviceId], device: DeviceId) -> bool
     devices.iter().any(|own| *own == device)
 }
 
-/// Whether software changes hardware by the line, or plugs a device in. What a trusted device writes counts as a store of
+/// Whether software changes hardware by the line, or plugs a device or a disk in. What a trusted device writes counts as a store of
 /// software.
 fn is_of_software(line: &HardwareLine, answer: &Answer, trusted: &[DeviceId]) -> bool
     ensures { result ≡ is_of_software line.now answer.now trusted.now }
 {
     match line {
-        HardwareLine::Event(Event::Poke { .. } | Event::Plug { .. })
+        HardwareLine::Event(Event::Poke { .. } | Event::Plug { .. } | Event::Medium { .. })
         | HardwareLine::RegisterWrite { .. } => true,
         HardwareLine::Event(Event::Commit { device }) => {
             writes(answer) && is_among(trusted, *device)

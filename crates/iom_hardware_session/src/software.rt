@@ -1,6 +1,7 @@
 // What the driver does: it reads and writes registers (IOMMU specification, chapter 5).
 ghost use Rattle.std.specs.Prelude.{◌≡◌};
 ghost use Rattle.iom_hardware_session.specs.Lines.{KeepsClaims, short_width, is_hardwired, ReadsRegister, WritesRegister};
+ghost use Rattle.iom_hardware_session.specs.Seen.{seen_in};
 
 use crate::answer::Answer;
 use crate::state::Session;
@@ -35,24 +36,29 @@ fn is_hardwired(offset: u64, width: u64) -> bool
 impl Session {
     /// The value of the register at the offset, which has this width, both in bytes; or why there is none.
     pub(crate) fn read_register(&self, offset: u64, width: u64) -> Answer
-        ensures { ReadsRegister offset width self.now.hardware result }
+        ensures { ReadsRegister offset width self.now.hardware.board result }
     {
         if is_hardwired(offset, width) {
             return Answer::Value(Ok(0));
         }
-        Answer::Value(self.hardware.iommu.read(offset, width_of(width)))
+        Answer::Value(self.hardware.board.iommu.read(offset, width_of(width)))
     }
 
     /// Writes the register at the offset, which has this width; or says why there is none, and then nothing changes.
     pub(crate) fn write_register(&mut self, offset: u64, width: u64, value: u64) -> Answer
-        ensures written { WritesRegister offset width value self.old.hardware result self.new.hardware }
+        ensures written { WritesRegister offset width value (seen_in self.old) result (seen_in self.new) }
         ensures claims { KeepsClaims self.old self.new }
-        ensures counted { self.new.hardware.events ≡ self.old.hardware.events }
+        ensures counted { self.new.hardware.board.events ≡ self.old.hardware.board.events }
     {
         if is_hardwired(offset, width) {
             return Answer::Written(Ok(()));
         }
         software_keeps_sound();
-        Answer::Written(self.hardware.iommu.write(offset, width_of(width), value))
+        Answer::Written(
+            self.hardware
+                .board
+                .iommu
+                .write(offset, width_of(width), value),
+        )
     }
 }

@@ -1,18 +1,24 @@
+ghost use Rattle.std.specs.Prelude.{◌≤◌, vec_capacity};
+ghost use Rattle.iom_base.specs.Sizes.{device_limit};
 ghost use Rattle.iom_board.specs.BoardParts.{board_parts};
 ghost use Rattle.iom_board.specs.Sound.{IsSoundBoard};
 ghost use Rattle.iom_board.specs.SoundIsFact.{sound_board_prop};
+ghost use Rattle.iom_hardware.specs.Agreement.{AgreesWith};
+ghost use Rattle.iom_hardware.specs.AgreementIsFact.{agrees_prop};
 
 use crate::watched::Watched;
 use iom_base::DeviceId;
-use iom_board::Board;
 use iom_claims::Claims;
+use iom_hardware::Hardware;
+use iom_virtio_blk::MemoryDisk;
 use iom_way_survey::Survey;
 use std::alloc::Global;
 
 /// Hardware under somebody's driver, and what the driver claims.
 #[derive(Drop)]
 pub struct Session {
-    pub(crate) hardware: Board,
+    /// The board, and the block devices themselves.
+    pub(crate) hardware: Hardware<MemoryDisk>,
     pub(crate) claims: Claims,
     /// The devices that software trusts with all memory.
     pub(crate) trusted: Vec<DeviceId>,
@@ -21,5 +27,7 @@ pub struct Session {
     pub(crate) alloc: Global,
     /// Where the ways are looked for.
     pub(crate) survey: Survey,
-    ghost sound: { IsSoundBoard (board_parts hardware) hardware.events } by { sound_board_prop (board_parts hardware) hardware.events },
+    ghost sound: { IsSoundBoard (board_parts hardware.board) hardware.board.events } by { sound_board_prop (board_parts hardware.board) hardware.board.events },
+    ghost agrees: { AgreesWith hardware.board.devices.items hardware.board.disks.items hardware.blocks.items hardware.at_hand.items } by { agrees_prop hardware.board.devices.items hardware.board.disks.items hardware.blocks.items hardware.at_hand.items },
+    ghost room: { device_limit ≤ vec_capacity hardware.blocks },
 }

@@ -18,6 +18,7 @@ use Rattle.iom_iommu.specs.Parts.{registers_of, contexts_of, translations_of, fl
 use Rattle.iom_registers.specs.Queues.{with_cmd_to}
 use Rattle.iom_reach.specs.Occurrences.{CarryMessages, IsSendable}
 use Rattle.iom_reach.specs.Scene.{Message}
+use Rattle.iom_hardware_ways.specs.Calls.{AsksAtStep}
 use Rattle.iom_hardware_ways.specs.Scenes.{said_on, message_of, scene_of}
 use Rattle.iom_hardware_ways.proofs.ListLemmas.{remove_among, map_among, map_cases, contains_map, get_contains}
 use Rattle.iom_hardware_ways.proofs.SceneParts.{scene_is}
@@ -91,6 +92,11 @@ pub asks : (trusted : ℕ → Bool) (old : BoardParts) (id page : ℕ) (answer :
 asks trusted old id page answer new call =
     by_device trusted asks_questions (λ old is_sent new. SendsMessage id (sent.Ask (epoch_in old.devices id) page) old is_sent new) old id answer new call
     (λ is_sent able told does. sends trusted id (sent.Ask (epoch_in old.devices id) page) old is_sent new does (λ caches. omega arith))
+
+-- a block device asks at a step
+pub asks_at_step : (trusted : ℕ → Bool) (old : BoardParts) (id page : ℕ) (new : BoardParts) → AsksAtStep old id page new → Comes (scene_of trusted old) (scene_of trusted new)
+asks_at_step trusted old id page new asks =
+    sends trusted id (sent.Ask (epoch_in old.devices id) page) old (nat_lt (length old.fabric) 64) new (record { room = refl; sent = asks.asked }) (λ caches. omega arith)
 
 pub forged : (trusted : ℕ → Bool) (old : BoardParts) (id serial : ℕ) (answer : Result Bool Refusal) (new : BoardParts) → ClaimsCompletion old id serial answer new
     → Comes (scene_of trusted old) (scene_of trusted new)

@@ -1,12 +1,15 @@
 -- The calls of hardware, with what each answers, and one after another.
 use Rattle.std.specs.Prelude.{◌≡◌, ℕ, ◌+◌, Bool, List, [], ◌∷◌, Option, None, Some, Result, Ok, Err, ⊤}
+use Rattle.iom_base.specs.DeviceKinds.{is_block_device}
 use Rattle.iom_base.specs.declared.access.Access.{Access}
 use Rattle.iom_base.specs.declared.refusal.Refusal.{Refusal}
+use Rattle.iom_device.specs.Caches.{IsAble, epoch_in}
 use Rattle.iom_fabric.specs.declared.fabric.Repeat.{Repeat as Repeated}
+use Rattle.iom_fabric.specs.declared.message.Message.TheVariants as sent
 use Rattle.iom_board.specs.Commits.{CommitsOldestAccess, ResetsAnyDevice, TakesCommand, GivesUpFence}
 use Rattle.iom_board.specs.Deliveries.{DeliversAtPlace}
 use Rattle.iom_board.specs.BoardParts.{BoardParts}
-use Rattle.iom_board.specs.Messages.{AsksTranslation, ClaimsCompletion, LosesMessage, CopiesMessage}
+use Rattle.iom_board.specs.Messages.{with_message, AsksTranslation, ClaimsCompletion, LosesMessage, CopiesMessage}
 use Rattle.iom_board.specs.Requests.{RequestsAccess, RequestsTranslatedAccess}
 use Rattle.iom_board.specs.Senders.{untranslated_by, cached_by}
 use Rattle.iom_board.specs.Sound.{IsSoundBoard}
@@ -25,6 +28,7 @@ pub data HardwareCall : Type 0 where
   Translated : (id : ℕ) (access : Access) (answer : Result Reply Refusal) → HardwareCall
   ThroughCache : (sender : Sender) (id : ℕ) (access : Access) (answer : Result CacheReply Refusal) → HardwareCall
   Ask : (id page : ℕ) (answer : Result Bool Refusal) → HardwareCall
+  AskAtStep : (id page : ℕ) → HardwareCall
   Forge : (id serial : ℕ) (answer : Result Bool Refusal) → HardwareCall
   Fetch : (fetched : Fetched) → HardwareCall
   Timeout : (has_effect : Bool) → HardwareCall
@@ -34,12 +38,18 @@ pub data HardwareCall : Type 0 where
   Commit : (id : ℕ) (answer : Result (Option MadeAt) Refusal) → HardwareCall
   Reset : (id : ℕ) (answer : Result (Unit {0}) Refusal) → HardwareCall
 
+-- a block device asks at a step for the translation of a page, in the epoch of its cache; the question is lost where 64 messages are under way
+pub record AsksAtStep (old : BoardParts) (id page : ℕ) (new : BoardParts) : Type 0 where
+  pub able : IsAble is_block_device old.devices id
+  pub asked : new ≡ record old { fabric = with_message old.fabric id (sent.Ask (epoch_in old.devices id) page) }
+
 -- what each does is said of hardware itself
 abbrev pub CallDoes : HardwareCall → BoardParts → BoardParts → Type 0
 CallDoes (Request sender id access answer) old new = RequestsAccess (untranslated_by sender) old id access answer new
 CallDoes (Translated id access answer) old new = RequestsTranslatedAccess old id access answer new
 CallDoes (ThroughCache sender id access answer) old new = RequestsAccessThroughCache (cached_by sender) old id access answer new
 CallDoes (Ask id page answer) old new = AsksTranslation old id page answer new
+CallDoes (AskAtStep id page) old new = AsksAtStep old id page new
 CallDoes (Forge id serial answer) old new = ClaimsCompletion old id serial answer new
 CallDoes (Fetch fetched) old new = TakesCommand old fetched new
 CallDoes (Timeout has_effect) old new = GivesUpFence old has_effect new

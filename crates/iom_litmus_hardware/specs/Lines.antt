@@ -1,8 +1,9 @@
 -- What comes of a line, and of what hardware does by itself.
-use Rattle.std.specs.Prelude.{◌≡◌, ◌⊎◌, ℕ, List}
+use Rattle.std.specs.Prelude.{◌≡◌, ◌⊎◌, ℕ, Bool, true, false, List}
 use Rattle.iom_claims.specs.Claimed.{Claimed}
 use Rattle.iom_claims.specs.Shown.{ShowsClaimed}
 use Rattle.iom_hardware_script.specs.declared.script.HardwareLine.{HardwareLine}
+use Rattle.iom_hardware_script.specs.declared.script.HardwareLine.TheVariants as line
 use Rattle.iom_hardware_script.specs.Grammar.{IsHardwareLine}
 use Rattle.iom_hardware_session.specs.declared.session.Stepped.{Stepped}
 use Rattle.iom_hardware_session.specs.declared.state.Session.{Session}
@@ -13,6 +14,21 @@ use Rattle.iom_litmus.specs.declared.reply.Reply.{Reply}
 use Rattle.iom_litmus.specs.Replies.{no_reply}
 use Rattle.iom_litmus_looks.specs.Touches.{touches_of}
 use Rattle.iom_litmus_hardware.specs.Places.{SessionPlace, place_of}
+use Rattle.iom_machine.specs.declared.event.Event.{Event}
+use Rattle.iom_machine.specs.declared.event.Event.TheVariants as events
+
+-- whether the event is one of a block device, which places don't compare
+abbrev pub is_event_of_block : Event → Bool
+is_event_of_block (events.Medium device disk) = true
+is_event_of_block (events.Queue device size descriptors available used) = true
+is_event_of_block (events.Step device) = true
+is_event_of_block (events.Status device) = true
+is_event_of_block event = false
+
+-- so of a line
+abbrev pub is_of_block : HardwareLine → Bool
+is_of_block (line.Event event) = is_event_of_block event
+is_of_block said = false
 
 -- The reply tells which access was made, whether something is wrong, and whether the access is one that nothing claimed allows. Its text is left open.
 pub record RepliesTo (stepped : Stepped) (watched : List Watched) (reply : Reply) : Type 0 where
@@ -30,12 +46,16 @@ pub record TakesLine (said : HardwareLine) (before : Session) (reply : Reply) (a
 abbrev pub LeadsBy : HardwareLine → SessionPlace → Reply → SessionPlace → Type 0
 LeadsBy said old reply new = (before : Session) × (after : Session) × (place_of before ≡ old) × (place_of after ≡ new) × TakesLine said before reply after
 
--- a line that the language hasn't does nothing
+-- the text says a line that a test can have
+abbrev pub Says : List ℕ → HardwareLine → Type 0
+Says text said = IsHardwareLine text said × (is_of_block said ≡ false)
+
+-- a text that says no such line does nothing
 abbrev pub SaysNothing : List ℕ → Type 0
-SaysNothing text = (said : HardwareLine) → ¬ IsHardwareLine text said
+SaysNothing text = (said : HardwareLine) → ¬ Says text said
 
 -- WHAT COMES OF A TEXT
 abbrev pub RunsText : SessionPlace → List ℕ → Reply → SessionPlace → Type 0
 RunsText old text reply new =
-    ((said : HardwareLine) × IsHardwareLine text said × LeadsBy said old reply new)
+    ((said : HardwareLine) × Says text said × LeadsBy said old reply new)
     ⊎ (SaysNothing text × (reply ≡ no_reply) × (new ≡ old))

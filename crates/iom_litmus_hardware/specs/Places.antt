@@ -5,7 +5,8 @@ use Rattle.iom_hardware_session.specs.declared.state.Session.{Session}
 use Rattle.iom_hardware_session.specs.declared.watched.Watched.{Watched}
 use Rattle.iom_litmus_looks.specs.Places.{HardwarePlace, hardware_place, ids_of}
 
--- The hardware, what is claimed of it, who is trusted, and what is watched. Where a survey was made last isn't part of it.
+-- The board, what is claimed of it, who is trusted, and what is watched. What is inside block devices isn't part of it, since their lines aren't for tests; nor is
+-- where a survey was made last.
 pub record SessionPlace : Type 0 where
   pub hardware : HardwarePlace
   pub claims : Rows
@@ -14,7 +15,7 @@ pub record SessionPlace : Type 0 where
 
 abbrev pub place_of : Session → SessionPlace
 place_of session = record {
-  hardware = hardware_place session.hardware;
+  hardware = hardware_place session.hardware.board;
   claims = session.claims;
   trusted = session.trusted.items;
   watched = session.watched.items;

@@ -2,6 +2,7 @@
 ghost use Rattle.std.specs.Prelude.{IfOk, OnOk};
 ghost use Rattle.iom_litmus_hardware.specs.Openings.{GoesThrough, HasOpened};
 
+use crate::lines::is_of_block;
 use iom_base::Sequence;
 use iom_hardware_script::HardwareLine;
 use iom_hardware_session::Session;
@@ -22,7 +23,7 @@ fn go_through(session: &mut Session, lines: &[HardwareLine]) -> Result<(), Alloc
     ensures { OnOk result (GoesThrough session.old lines.now session.new) }
 {
     for line in lines {
-        if session.hardware().events >= MOST_EVENTS {
+        if session.hardware().events >= MOST_EVENTS || is_of_block(line) {
             return Err(AllocError);
         }
         session.line(line);

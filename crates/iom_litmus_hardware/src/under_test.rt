@@ -6,10 +6,10 @@ ghost use Rattle.iom_litmus_hardware.specs.Openings.{Opens};
 ghost use Rattle.iom_litmus_hardware.specs.Places.{AreListed};
 ghost use Rattle.iom_litmus_hardware.specs.Systems.{readings, rules};
 
-use crate::lines::take;
+use crate::lines::{line_for_tests, take};
 use crate::opening::{MOST_EVENTS, Opening};
 use iom_base::{DeviceId, Sequence};
-use iom_hardware_script::{HardwareLine, line_of};
+use iom_hardware_script::HardwareLine;
 use iom_hardware_session::Session;
 use iom_litmus::{HardwareStep, Reply, System};
 use iom_litmus_looks::{event_of, fingerprint_of, ids_of, memory_text, mixed};
@@ -98,7 +98,7 @@ impl System for UnderTest {
     }
 
     fn run(&mut self, alloc: Global, line: &[u8]) -> Result<Reply, AllocError> {
-        match line_of(alloc, line)? {
+        match line_for_tests(alloc, line)? {
             Some(said) => self.take(alloc, &said),
             None => self.pass(alloc),
         }

@@ -1,8 +1,8 @@
 //! Tests of hardware under somebody's driver.
 use crate::fault::{TestFault, Trouble};
 use iom_base::Sequence;
-use iom_hardware_script::{HardwareLine, line_of, setup_of};
-use iom_litmus_hardware::Opening;
+use iom_hardware_script::{HardwareLine, setup_of};
+use iom_litmus_hardware::{Opening, line_for_tests};
 use iom_litmus_test::{Column, NumberedText, Test};
 use std::alloc::Global;
 
@@ -13,9 +13,10 @@ fn not_of_language(number: u64) -> TestFault {
     }
 }
 
-/// What the text of a line says. Lines that ask hardware to act by itself aren't for tests, which say that by their parts.
+/// What the text of a line says. Lines that ask hardware to act by itself aren't for tests, which say that by their parts;
+/// nor are those of block devices.
 fn said_by(alloc: Global, number: u64, text: &[u8]) -> Result<HardwareLine, TestFault> {
-    match line_of(alloc, text)? {
+    match line_for_tests(alloc, text)? {
         None | Some(HardwareLine::Help(_)) => Err(not_of_language(number)),
         Some(said) => Ok(said),
     }

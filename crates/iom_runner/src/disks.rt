@@ -1,9 +1,7 @@
 // A script that is run with the program's own disks.
-ghost use Rattle.std.specs.Prelude.{◌≡◌, ◌≤◌, List, ℕ, length, IfOk, IfSome};
-ghost use Rattle.iom_block_devices.specs.Seen.{states_of};
+ghost use Rattle.std.specs.Prelude.{◌≡◌, ◌≤◌, List, ℕ, length, IfSome};
 ghost use Rattle.iom_script.specs.Grammar.{IsWorldSize};
-ghost use Rattle.iom_virtio_blk.specs.MemoryDisks.{disk_state};
-ghost use Rattle.iom_runner.specs.Disks.{program_disks, program_setting};
+ghost use Rattle.iom_runner.specs.Disks.{program_setting};
 ghost use Rattle.iom_script_reading.specs.Reading.{ConsumesAtMost};
 ghost use Rattle.iom_runner.specs.Reading.{FailsWithin};
 ghost use Rattle.iom_runner.specs.Runs.{TellsScript, RunsBytes, AreLeft};
@@ -11,24 +9,11 @@ ghost use Rattle.iom_runner.specs.Runs.{TellsScript, RunsBytes, AreLeft};
 use crate::faults::RunFault;
 use crate::reading::read_bytes;
 use crate::runner::{script_of, tell};
+use iom_program_disks::program_disks;
 use iom_script::Script;
-use iom_virtio_blk::MemoryDisk;
-use std::alloc::{AllocError, Global};
+use std::alloc::Global;
 use std::io::{Read, Write};
 use std::mem;
-
-/// The disks of the program, whose names are their places: 0 and 1 have 64 sectors, 2 has 2, and 3 has 64 and fails at
-/// its second call.
-pub fn program_disks(alloc: Global) -> Result<Vec<MemoryDisk>, AllocError>
-    ensures { IfOk result (λ disks. states_of disk_state disks.items ≡ program_disks) }
-{
-    let mut disks = Vec::with_capacity(alloc, 4)?;
-    disks.push(MemoryDisk::new(alloc, 0, 64, None)?)?;
-    disks.push(MemoryDisk::new(alloc, 1, 64, None)?)?;
-    disks.push(MemoryDisk::new(alloc, 2, 2, None)?)?;
-    disks.push(MemoryDisk::new(alloc, 3, 64, Some(2))?)?;
-    Ok(disks)
-}
 
 /// Writes the lines of the script, which is run with the program's disks. These take memory only where the script
 /// has a world.

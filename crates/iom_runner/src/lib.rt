@@ -18,7 +18,7 @@ mod program;
 mod reading;
 mod runner;
 
-pub use disks::program_disks;
 pub use faults::{ProgramFault, RunFault};
+pub use iom_program_disks::program_disks;
 pub use program::{run_words, start};
 pub use runner::run;

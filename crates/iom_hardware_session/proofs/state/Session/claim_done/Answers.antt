@@ -29,7 +29,7 @@ returns-clause-wrong c = λ claimed shows.
     subst (λ (rows : Rows). ShowsClaimed rows (after_done c.args.number claimed)) (sym c.look.ensures.rest.1) (subst (λ (n : ℕ). ShowsClaimed c.done.new.self (after_done n claimed)) same done) in
     let opened : IsOpen claimed.history (record { number = c.args.number; grant = c.in-Some.grant }) =
     subst (λ (n : ℕ). IsOpen claimed.history (record { number = n; grant = c.in-Some.grant })) same ((c.open_claim.ensures claimed shows c.in-Some.grant).0 c.in-Some.is) in
-    done_wrong c.look.new.self.hardware c.look.new.self.trusted.items claimed c.args.number c.in-Some.grant c.judge_done-found.result c.judge_done-found.ensures.made opened (c.judge_done-found.ensures.wrong (after_done c.args.number claimed) after)
+    done_wrong c.look.new.self.hardware.board c.look.new.self.trusted.items claimed c.args.number c.in-Some.grant c.judge_done-found.result c.judge_done-found.ensures.made opened (c.judge_done-found.ensures.wrong (after_done c.args.number claimed) after)
 
 pub returns-clause-watched : goal.returns-clause-watched
 returns-clause-watched c = λ claimed shows.
@@ -51,4 +51,4 @@ returns-clause-admitted c = λ claimed shows.
     let same = c.in-Ok.ensures.short in
     let opened : IsOpen claimed.history (record { number = c.args.number; grant = c.in-Some.grant }) =
     subst (λ (n : ℕ). IsOpen claimed.history (record { number = n; grant = c.in-Some.grant })) same ((c.open_claim.ensures claimed shows c.in-Some.grant).0 c.in-Some.is) in
-    judgement_admitted (said.Done c.args.number) c.judge_done-found.result c.args.self.now.hardware claimed c.judge_done-found.ensures.made tt (c.in-Some.grant, opened)
+    judgement_admitted (said.Done c.args.number) c.judge_done-found.result c.args.self.now.hardware.board claimed c.judge_done-found.ensures.made tt (c.in-Some.grant, opened)

@@ -21,7 +21,7 @@ returns-then-is_used-clause-admitted c = λ claimed shows. (
   tt,
   (
     c.in-Ok.ensures.admitted.0,
-    subst (λ (f : ℕ). IsFrameOfMemory c.args.self.now.hardware f) c.in-Ok.ensures.number.0 c.in-Ok.ensures.number.1,
+    subst (λ (f : ℕ). IsFrameOfMemory c.args.self.now.hardware.board f) c.in-Ok.ensures.number.0 c.in-Ok.ensures.number.1,
     c.in-Ok.ensures.admitted.1,
     vacant c.grant.result c.in_default.field-0 (held_at claimed.history c.args.device c.args.page) c.in_default.is (c.grant.ensures.busy claimed shows),
   ),

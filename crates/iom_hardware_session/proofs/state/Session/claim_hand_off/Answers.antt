@@ -18,9 +18,9 @@ returns-clause-good c = λ claimed shows is.
 
 pub returns-clause-wrong : goal.returns-clause-wrong
 returns-clause-wrong c = λ claimed shows.
-    hand_off_wrong c.look.new.self.hardware c.look.new.self.trusted.items claimed c.in-Ok.number c.args.frame c.judge_hand_off-found.result c.in-Ok.ensures.number.0 c.judge_hand_off-found.ensures.made (c.judge_hand_off-found.ensures.wrong claimed)
+    hand_off_wrong c.look.new.self.hardware.board c.look.new.self.trusted.items claimed c.in-Ok.number c.args.frame c.judge_hand_off-found.result c.in-Ok.ensures.number.0 c.judge_hand_off-found.ensures.made (c.judge_hand_off-found.ensures.wrong claimed)
 
 pub returns-clause-admitted : goal.returns-clause-admitted
 returns-clause-admitted c = λ claimed shows.
-    judgement_admitted (said.HandOff c.args.frame) c.judge_hand_off-found.result c.args.self.now.hardware claimed c.judge_hand_off-found.ensures.made tt
-    (subst (λ (f : ℕ). IsFrameOfMemory c.args.self.now.hardware f) c.in-Ok.ensures.number.0 c.in-Ok.ensures.number.1)
+    judgement_admitted (said.HandOff c.args.frame) c.judge_hand_off-found.result c.args.self.now.hardware.board claimed c.judge_hand_off-found.ensures.made tt
+    (subst (λ (f : ℕ). IsFrameOfMemory c.args.self.now.hardware.board f) c.in-Ok.ensures.number.0 c.in-Ok.ensures.number.1)

@@ -13,15 +13,15 @@ use Rattle.iom_hardware_session.proofs.state.Session.first_way_to.Goals as goal
 pub returns-clause-none : goal.returns-clause-none
 returns-clause-none c = λ is device kind way.
     let session = c.args.self.now in
-    let (k, own, there, same) = has_place (is_id_among session.trusted.items) (board_parts session.hardware) session.hardware.events device c.args.frame kind session.sound way in
-    let within = slice_get_within session.hardware.devices.items k own there in
-    c.loop-place.invariant k own kind (omega (arith, within, c.len-place-end.ensures, c.loop-place-test.false, session.hardware.devices.ok.0)) there
+    let (k, own, there, same) = has_place (is_id_among session.trusted.items) (board_parts session.hardware.board) session.hardware.board.events device c.args.frame kind session.sound way in
+    let within = slice_get_within session.hardware.board.devices.items k own there in
+    c.loop-place.invariant k own kind (omega (arith, within, c.len-place-end.ensures, c.loop-place-test.false, session.hardware.board.devices.ok.0)) there
     (subst (λ (d : ℕ). Way (scene_in session) d c.args.frame kind) (sym same) way)
 
 pub loop-place-preserved : goal.loop-place-preserved
 loop-place-preserved c = λ k own kind less there way.
     let session = c.args.self.now in
-    let devices = session.hardware.devices in
+    let devices = session.hardware.board.devices in
     let at : slice_get devices.items c.loop-place.place ≡ Some c.index.result.now =
     slice_get_read devices.items _ c.loop-place.place c.index.result.now devices.ok.0 (omega (arith, c.len-place-end.ensures, c.loop-place-test.true)) c.index.ensures in
     elim (eqb_tells k c.loop-place.place) [

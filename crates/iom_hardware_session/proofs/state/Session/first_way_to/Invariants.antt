@@ -7,4 +7,4 @@ use Rattle.iom_hardware_session.proofs.state.Session.first_way_to.Given as goal
 
 -- the devices so far have no way
 abbrev pub invariant-loop-place : goal.invariant-loop-place
-invariant-loop-place l = (k : ℕ) (own : Device) (kind : AccessKind) → k < l.place → slice_get l.self.hardware.devices.items k ≡ Some own → ¬ Way (scene_in l.self) own.id l.frame kind
+invariant-loop-place l = (k : ℕ) (own : Device) (kind : AccessKind) → k < l.place → slice_get l.self.hardware.board.devices.items k ≡ Some own → ¬ Way (scene_in l.self) own.id l.frame kind

@@ -6,4 +6,4 @@ use Rattle.iom_hardware_session.proofs.state.Session.is_timely.Given as goal
 
 -- the messages so far
 abbrev pub invariant-loop-place : goal.invariant-loop-place
-invariant-loop-place l = (k : ℕ) (on : OnLink) → k < l.place → slice_get l.self.hardware.fabric k ≡ Some on → IsTimelyMessage (board_parts l.self.hardware) on
+invariant-loop-place l = (k : ℕ) (on : OnLink) → k < l.place → slice_get l.self.hardware.board.fabric k ≡ Some on → IsTimelyMessage (board_parts l.self.hardware.board) on

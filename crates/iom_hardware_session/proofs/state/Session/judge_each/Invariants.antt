@@ -9,4 +9,4 @@ use Rattle.iom_hardware_session.proofs.state.Session.judge_each.Given as goal
 abbrev pub invariant-loop-place : goal.invariant-loop-place
 invariant-loop-place l =
     (claims_of l.watched.items ≡ claims_of l.fn.watched.items)
-    × ((claimed : Claimed) → ShowsClaimed l.self.claims claimed → AreJudgedBelow l.place l.watched.items l.self.hardware l.self.trusted.items claimed)
+    × ((claimed : Claimed) → ShowsClaimed l.self.claims claimed → AreJudgedBelow l.place l.watched.items l.self.hardware.board l.self.trusted.items claimed)
