@@ -1,6 +1,8 @@
 ghost use Rattle.std.specs.Prelude.{◌≡◌, ◌≤◌, length};
+ghost use Rattle.iom_machine.specs.declared.outcome.Outcome.TheVariants as outcome;
 
 use arrayvec::ArrayVec;
+use iom_machine::Outcome;
 
 /// Bytes that were read, lent from where they stand: a page of them at most.
 #[derive(Clone, Copy)]
@@ -26,6 +28,23 @@ impl<'a> Lent<'a> {
         let mut held = ArrayVec::new();
         held.try_extend_from_slice(self.bytes).unwrap();
         held
+    }
+
+    /// The outcome of a read that gave the bytes.
+    // On its own, as the next: so no other kind of answer has a place for the page.
+    #[inline(never)]
+    pub(crate) fn read(self) -> Outcome
+        ensures { result ≡ outcome.Read (record { items = self.entry.bytes.now }) }
+    {
+        Outcome::Read(self.held())
+    }
+
+    /// The outcome of a load of the processor that gave the bytes.
+    #[inline(never)]
+    pub(crate) fn loaded(self) -> Outcome
+        ensures { result ≡ outcome.Bytes (record { items = self.entry.bytes.now }) }
+    {
+        Outcome::Bytes(self.held())
     }
 }
 

@@ -3,16 +3,16 @@ use Rattle.std.proofs.Common.{◌≡◌, ◌≢◌, ◌⊎◌, inl, inr, ℕ, �
 use Rattle.std.proofs.lemmas.Bool.{cases_eq, eqb-true, ne_eqb}
 use Rattle.iom_virtio_blk.specs.Steps.{Device}
 use Rattle.iom_block_devices.specs.Changes.{block_with, with_block, ChangesIfThere, ChangesOne}
-use Rattle.iom_block_devices.specs.Seen.{BlockSeen}
+use Rattle.iom_block_devices.specs.Shown.{ShownBlock}
 
-abbrev pub as_device : BlockSeen → Device → BlockSeen
+abbrev pub as_device : ShownBlock → Device → ShownBlock
 as_device block after = record block { device = after }
 
-abbrev as_if : Device → Option BlockSeen → Option BlockSeen
+abbrev as_if : Device → Option ShownBlock → Option ShownBlock
 as_if after None = None
 as_if after (Some block) = Some (as_device block after)
 
-pub there_still : (blocks : List BlockSeen) (id : ℕ) (after : Device) (block : BlockSeen)
+pub there_still : (blocks : List ShownBlock) (id : ℕ) (after : Device) (block : ShownBlock)
     → block_with blocks id ≡ Some block → block_with (with_block blocks id after) id ≡ Some (as_device block after)
 there_still [] id after block there = ap (as_if after) there
 there_still (one ∷ others) id after block there = by (one.id == id) refl (there_still others id after block)
@@ -28,7 +28,7 @@ there_still (one ∷ others) id after block there = by (one.id == id) refl (ther
         ∙ ap (λ c. if c then Some one else block_with (with_block others id after) id) e
         ∙ more (sym (ap (λ c. if c then Some one else block_with others id) e) ∙ there)
 
-pub other_stays : (blocks : List BlockSeen) (id other : ℕ) (after : Device) → other ≢ id → block_with (with_block blocks other after) id ≡ block_with blocks id
+pub other_stays : (blocks : List ShownBlock) (id other : ℕ) (after : Device) → other ≢ id → block_with (with_block blocks other after) id ≡ block_with blocks id
 other_stays [] id other after differ = refl
 other_stays (one ∷ others) id other after differ = by (one.id == other) refl (other_stays others id other after differ)
   where
@@ -44,10 +44,10 @@ other_stays (one ∷ others) id other after differ = by (one.id == other) refl (
         ∙ ap (λ o. if one.id == id then Some one else o) more
 
 -- one that was there is there still behind which others come
-pub there_before : (blocks more : List BlockSeen) (id : ℕ) (block : BlockSeen) → block_with blocks id ≡ Some block → block_with (blocks ++ more) id ≡ Some block
+pub there_before : (blocks more : List ShownBlock) (id : ℕ) (block : ShownBlock) → block_with blocks id ≡ Some block → block_with (blocks ++ more) id ≡ Some block
 there_before [] more id block there = absurd (apart there)
   where
-    IsNone : Option BlockSeen → Type 0
+    IsNone : Option ShownBlock → Type 0
     IsNone None = Unit {0}
     IsNone (Some b) = ⊥
 
@@ -64,18 +64,18 @@ there_before (one ∷ others) more id block there = by (one.id == id) refl (ther
         ∙ later (sym (ap (λ c. if c then Some one else block_with others id) e) ∙ there)
 
 -- this one changed, or it is as it was
-pub record IsChanged (How : Device → Device → Type 0) (new : List BlockSeen) (id other : ℕ) (block : BlockSeen) : Type 0 where
+pub record IsChanged (How : Device → Device → Type 0) (new : List ShownBlock) (id other : ℕ) (block : ShownBlock) : Type 0 where
   pub same : other ≡ id
   pub after : Device
   pub changed : How block.device after
   pub there : block_with new id ≡ Some (as_device block after)
 
-pub one_changes : (How : Device → Device → Type 0) (old new : List BlockSeen) (id other : ℕ) (block : BlockSeen)
+pub one_changes : (How : Device → Device → Type 0) (old new : List ShownBlock) (id other : ℕ) (block : ShownBlock)
     → block_with old id ≡ Some block → ChangesOne How old other new
     → ((other ≢ id) × (block_with new id ≡ Some block)) ⊎ IsChanged How new id other block
 one_changes How old new id other block there changes = by (cases_eq other id)
   where
-    at_other : (o : Option BlockSeen) → other ≢ id → ChangesIfThere o How old other new → block_with new id ≡ Some block
+    at_other : (o : Option ShownBlock) → other ≢ id → ChangesIfThere o How old other new → block_with new id ≡ Some block
     at_other None differ same = ap (λ blocks. block_with blocks id) same ∙ there
     at_other (Some found) differ (after, how, is) = ap (λ blocks. block_with blocks id) is ∙ other_stays old id other after differ ∙ there
 
@@ -85,5 +85,5 @@ one_changes How old new id other block there changes = by (cases_eq other id)
 
     by : (other ≡ id) ⊎ (other ≡ id → ⊥) → ((other ≢ id) × (block_with new id ≡ Some block)) ⊎ IsChanged How new id other block
     by (inl same) =
-        inr (here (subst (λ (o : Option BlockSeen). ChangesIfThere o How old id new) there (subst (λ (n : ℕ). ChangesOne How old n new) same changes)) same)
+        inr (here (subst (λ (o : Option ShownBlock). ChangesIfThere o How old id new) there (subst (λ (n : ℕ). ChangesOne How old n new) same changes)) same)
     by (inr differ) = inl (differ, at_other (block_with old other) differ changes)

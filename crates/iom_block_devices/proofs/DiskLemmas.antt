@@ -10,15 +10,15 @@ use Rattle.iom_virtio_blk.specs.DiskStates.{DiskState}
 use Rattle.iom_block_devices.specs.declared.block.DiskAtHand.{DiskAtHand}
 use Rattle.iom_block_devices.specs.Entries.{numbers_of}
 use Rattle.iom_block_devices.specs.Places.{IsDiskAt, TakesOut, others_than}
-use Rattle.iom_block_devices.specs.Seen.{disk_seen, disks_seen}
-use Rattle.iom_block_devices.specs.Numbered.{DiskSeen}
+use Rattle.iom_block_devices.specs.Shown.{shown_disk, shown_disks}
+use Rattle.iom_block_devices.specs.Numbered.{ShownDisk}
 
 -- the first disk with the number
-pub disk_is : {D : Type 0} (seen : D → DiskState) (at_hand : List (DiskAtHand D)) (number place : ℕ) (one : DiskAtHand D)
+pub disk_is : {D : Type 0} (shown : D → DiskState) (at_hand : List (DiskAtHand D)) (number place : ℕ) (one : DiskAtHand D)
     → slice_get at_hand place ≡ Some one → one.number ≡ number → ((k : ℕ) (other : DiskAtHand D) → k < place → slice_get at_hand k ≡ Some other → other.number ≢ number)
-    → IsDiskAt seen at_hand number place
-disk_is seen [] number place one at own none = cc
-disk_is {D = D} seen (first ∷ others) number zero one at own none =
+    → IsDiskAt shown at_hand number place
+disk_is shown [] number place one at own none = cc
+disk_is {D = D} shown (first ∷ others) number zero one at own none =
     let same : first ≡ one = cc in
     let is = eq-eqb first.number number (ap (λ (o : DiskAtHand D). o.number) same ∙ own) in
     record {
@@ -28,9 +28,9 @@ disk_is {D = D} seen (first ∷ others) number zero one at own none =
       found = rw is refl;
       rest = rw is refl;
     }
-disk_is {D = D} seen (first ∷ others) number (suc place) one at own none =
+disk_is {D = D} shown (first ∷ others) number (suc place) one at own none =
     let is = differs first.number number (none 0 first (omega arith) refl) in
-    let rest = disk_is seen others number place one at own (λ k o lt there. none (suc k) o (omega arith) there) in
+    let rest = disk_is shown others number place one at own (λ k o lt there. none (suc k) o (omega arith) there) in
     record {
       one = rest.one;
       there = rest.there;
@@ -39,13 +39,13 @@ disk_is {D = D} seen (first ∷ others) number (suc place) one at own none =
       rest = rw is (ap (λ (l : List (DiskAtHand D)). first ∷ l) rest.rest);
     }
 
-pub disk_at : {D : Type 0} (seen : D → DiskState) (at_hand : List (DiskAtHand D)) (number place : ℕ) (default : DiskAtHand D)
+pub disk_at : {D : Type 0} (shown : D → DiskState) (at_hand : List (DiskAtHand D)) (number place : ℕ) (default : DiskAtHand D)
     → place < length at_hand → (get_or at_hand place default).number ≡ number
-    → ((k : ℕ) (other : DiskAtHand D) → k < place → slice_get at_hand k ≡ Some other → other.number ≢ number) → IsDiskAt seen at_hand number place
-disk_at {D = D} seen at_hand number place default lt own none =
+    → ((k : ℕ) (other : DiskAtHand D) → k < place → slice_get at_hand k ≡ Some other → other.number ≢ number) → IsDiskAt shown at_hand number place
+disk_at {D = D} shown at_hand number place default lt own none =
     let found = get_there at_hand place lt in
     let read = get_or_from_slice_get at_hand place found.0 default found.1 in
-    disk_is seen at_hand number place found.0 found.1 (ap (λ (o : DiskAtHand D). o.number) (sym read) ∙ own) none
+    disk_is shown at_hand number place found.0 found.1 (ap (λ (o : DiskAtHand D). o.number) (sym read) ∙ own) none
 
 pub none_later : {D : Type 0} (at_hand : List (DiskAtHand D)) (number place : ℕ) (default : DiskAtHand D) → (get_or at_hand place default).number ≢ number
     → ((k : ℕ) (other : DiskAtHand D) → k < place → slice_get at_hand k ≡ Some other → other.number ≢ number)
@@ -66,17 +66,17 @@ no_disk (first ∷ others) number none =
     rw (differs first.number number (none 0 first (omega arith) refl)) (no_disk others number (λ k other lt at. none (suc k) other (omega arith) at))
 
 -- what is left is the same, seen from outside and by the numbers
-pub left_seen : {D : Type 0} (seen : D → DiskState) (at_hand : List (DiskAtHand D)) (number : ℕ)
-    → disks_seen seen (others_than number at_hand) ≡ filter (λ (one : DiskSeen). not (one.number == number)) (disks_seen seen at_hand)
-left_seen seen [] number = refl
-left_seen {D = D} seen (first ∷ others) number = by (first.number == number) (left_seen seen others number)
+pub left_seen : {D : Type 0} (shown : D → DiskState) (at_hand : List (DiskAtHand D)) (number : ℕ)
+    → shown_disks shown (others_than number at_hand) ≡ filter (λ (one : ShownDisk). not (one.number == number)) (shown_disks shown at_hand)
+left_seen shown [] number = refl
+left_seen {D = D} shown (first ∷ others) number = by (first.number == number) (left_seen shown others number)
   where
-    by : (b : Bool) → disks_seen seen (others_than number others) ≡ filter (λ (one : DiskSeen). not (one.number == number)) (disks_seen seen others)
-        → disks_seen seen (if not b then first ∷ others_than number others else others_than number others)
-        ≡ (if not b then disk_seen seen first ∷ filter (λ (one : DiskSeen). not (one.number == number)) (disks_seen seen others)
-        else filter (λ (one : DiskSeen). not (one.number == number)) (disks_seen seen others))
+    by : (b : Bool) → shown_disks shown (others_than number others) ≡ filter (λ (one : ShownDisk). not (one.number == number)) (shown_disks shown others)
+        → shown_disks shown (if not b then first ∷ others_than number others else others_than number others)
+        ≡ (if not b then shown_disk shown first ∷ filter (λ (one : ShownDisk). not (one.number == number)) (shown_disks shown others)
+        else filter (λ (one : ShownDisk). not (one.number == number)) (shown_disks shown others))
     by true rest = rest
-    by false rest = ap (λ (l : List DiskSeen). disk_seen seen first ∷ l) rest
+    by false rest = ap (λ (l : List ShownDisk). shown_disk shown first ∷ l) rest
 
 pub left_numbers : {D : Type 0} (at_hand : List (DiskAtHand D)) (number : ℕ) → numbers_of (others_than number at_hand) ≡ without_disk (Some number) (numbers_of at_hand)
 left_numbers [] number = refl
@@ -88,18 +88,18 @@ left_numbers {D = D} (first ∷ others) number = by (first.number == number) (le
     by true rest = rest
     by false rest = ap (λ (l : List ℕ). first.number ∷ l) rest
 
-abbrev some : ℕ → DiskState → Option DiskSeen
+abbrev some : ℕ → DiskState → Option ShownDisk
 some n disk = Some (record { number = n; disk = disk })
 
 -- it is taken out
-pub takes_out : {D : Type 0} (seen : D → DiskState) (old new : List (DiskAtHand D)) (number place : ℕ) (taken : DiskAtHand D)
-    → (is : IsDiskAt seen old number place) → taken ≡ is.one → new ≡ others_than number (remove old place) → TakesOut seen number old new taken.disk
-takes_out {D = D} seen old new number place taken is same left =
+pub takes_out : {D : Type 0} (shown : D → DiskState) (old new : List (DiskAtHand D)) (number place : ℕ) (taken : DiskAtHand D)
+    → (is : IsDiskAt shown old number place) → taken ≡ is.one → new ≡ others_than number (remove old place) → TakesOut shown number old new taken.disk
+takes_out {D = D} shown old new number place taken is same left =
     let all : new ≡ others_than number old = left ∙ is.rest in
     record {
       taken = record {
-        held = is.found ∙ ap (λ (n : ℕ). some n (seen is.one.disk)) is.own ∙ ap (λ (o : DiskAtHand D). some number (seen o.disk)) (sym same);
-        left = ap (disks_seen seen) all ∙ left_seen seen old number;
+        held = is.found ∙ ap (λ (n : ℕ). some n (shown is.one.disk)) is.own ∙ ap (λ (o : DiskAtHand D). some number (shown o.disk)) (sym same);
+        left = ap (shown_disks shown) all ∙ left_seen shown old number;
       };
       numbers = ap numbers_of all ∙ left_numbers old number;
     }

@@ -7,35 +7,35 @@ use Rattle.iom_virtio_blk.specs.DiskStates.{DiskState}
 use Rattle.iom_virtio_blk.specs.Features.{offered, flush_of}
 use Rattle.iom_virtio_blk.specs.Steps.{Device, device}
 use Rattle.iom_virtqueue.specs.declared.layout.Layout.{Layout}
-use Rattle.iom_block_devices.specs.Numbered.{DiskSeen}
-use Rattle.iom_block_devices.specs.Seen.{BlockSeen, BlocksSeen}
+use Rattle.iom_block_devices.specs.Numbered.{ShownDisk}
+use Rattle.iom_block_devices.specs.Shown.{ShownBlock, ShownBlocks}
 
 -- the block device with this id
-abbrev pub block_with : List BlockSeen → ℕ → Option BlockSeen
-block_with blocks id = find (λ (block : BlockSeen). block.id == id) blocks
+abbrev pub block_with : List ShownBlock → ℕ → Option ShownBlock
+block_with blocks id = find (λ (block : ShownBlock). block.id == id) blocks
 
 -- the block devices, where the one with this id has become this
-abbrev pub with_block : List BlockSeen → ℕ → Device → List BlockSeen
+abbrev pub with_block : List ShownBlock → ℕ → Device → List ShownBlock
 with_block [] id after = []
 with_block (block ∷ others) id after = if block.id == id then (record block { device = after }) ∷ others else block ∷ with_block others id after
 
 -- so one block device changes, if it is there, and no other
-abbrev pub ChangesIfThere : Option BlockSeen → (Device → Device → Type 0) → List BlockSeen → ℕ → List BlockSeen → Type 0
+abbrev pub ChangesIfThere : Option ShownBlock → (Device → Device → Type 0) → List ShownBlock → ℕ → List ShownBlock → Type 0
 ChangesIfThere None How old id new = new ≡ old
 ChangesIfThere (Some block) How old id new = (after : Device) × How block.device after × (new ≡ with_block old id after)
 
 -- so the one with this id does
-abbrev pub ChangesOne : (Device → Device → Type 0) → List BlockSeen → ℕ → List BlockSeen → Type 0
+abbrev pub ChangesOne : (Device → Device → Type 0) → List ShownBlock → ℕ → List ShownBlock → Type 0
 ChangesOne How old id new = ChangesIfThere (block_with old id) How old id new
 
 -- THE BLOCK DEVICE with this id changes so, if there is one. All others stay, and so do the disks at hand
-abbrev pub Changes : (Device → Device → Type 0) → BlocksSeen → ℕ → BlocksSeen → Type 0
+abbrev pub Changes : (Device → Device → Type 0) → ShownBlocks → ℕ → ShownBlocks → Type 0
 Changes How old id new = ChangesOne How old.blocks id new.blocks × (new.at_hand ≡ old.at_hand)
 
 -- THE DISK with this number is taken: it was at hand, and isn't any more
-pub record IsDiskTaken (number : ℕ) (old : List DiskSeen) (disk : DiskState) (new : List DiskSeen) : Type 0 where
-  pub held : find (λ (one : DiskSeen). one.number == number) old ≡ Some (record { number = number; disk = disk })
-  pub left : new ≡ filter (λ (one : DiskSeen). not (one.number == number)) old
+pub record IsDiskTaken (number : ℕ) (old : List ShownDisk) (disk : DiskState) (new : List ShownDisk) : Type 0 where
+  pub held : find (λ (one : ShownDisk). one.number == number) old ≡ Some (record { number = number; disk = disk })
+  pub left : new ≡ filter (λ (one : ShownDisk). not (one.number == number)) old
 
 -- a block device that was just plugged in, with this disk: it is reset, and nothing is under way
 pub record IsNew (disk : DiskState) (new : Device) : Type 0 where
@@ -44,7 +44,7 @@ pub record IsNew (disk : DiskState) (new : Device) : Type 0 where
   pub has : new.disk ≡ Some disk
 
 -- it stands behind the others, with the disk of this number
-pub record IsPluggedIn (number id : ℕ) (old : List BlockSeen) (old_disks : List DiskSeen) (new : List BlockSeen) (new_disks : List DiskSeen) : Type 0 where
+pub record IsPluggedIn (number id : ℕ) (old : List ShownBlock) (old_disks : List ShownDisk) (new : List ShownBlock) (new_disks : List ShownDisk) : Type 0 where
   pub disk : DiskState
   pub taken : IsDiskTaken number old_disks disk new_disks
   pub after : Device
@@ -56,8 +56,8 @@ abbrev pub HasDisk : DiskState → Device → Device → Type 0
 HasDisk disk old new = (old.disk ≡ None) × (new ≡ device old.front (Some disk))
 
 -- the disk of this number goes into the block device with the id, which is there
-pub record IsPutIn (number id : ℕ) (old : List BlockSeen) (old_disks : List DiskSeen) (new : List BlockSeen) (new_disks : List DiskSeen) : Type 0 where
-  pub block : BlockSeen
+pub record IsPutIn (number id : ℕ) (old : List ShownBlock) (old_disks : List ShownDisk) (new : List ShownBlock) (new_disks : List ShownDisk) : Type 0 where
+  pub block : ShownBlock
   pub there : block_with old id ≡ Some block
   pub disk : DiskState
   pub taken : IsDiskTaken number old_disks disk new_disks

@@ -1,5 +1,5 @@
 pub mod Numbered
-pub mod Seen
+pub mod Shown
 pub mod Entries
 pub mod Changes
 pub mod Places

@@ -8,8 +8,8 @@ use Rattle.iom_block_devices.specs.declared.block.Block.{Block}
 use Rattle.iom_block_devices.specs.declared.block.DiskAtHand.{DiskAtHand}
 use Rattle.iom_block_devices.specs.Entries.{DiskEntry, disk_entries_of, numbers_of}
 use Rattle.iom_block_devices.specs.Changes.{block_with, with_block, IsDiskTaken}
-use Rattle.iom_block_devices.specs.Seen.{block_seen, blocks_seen, disk_seen, disks_seen}
-use Rattle.iom_block_devices.specs.Numbered.{DiskSeen}
+use Rattle.iom_block_devices.specs.Shown.{shown_block, shown_blocks, shown_disk, shown_disks}
+use Rattle.iom_block_devices.specs.Numbered.{ShownDisk}
 
 -- whether the block device with this id has a disk, if it is there
 abbrev pub has_in : List DiskEntry → ℕ → Option Bool
@@ -22,13 +22,13 @@ with_has [] id has = []
 with_has (entry ∷ others) id has = if entry.0 == id then (entry.0, has) ∷ others else entry ∷ with_has others id has
 
 -- the block device that stands there is the one with the id, and where it changes that is all that changes
-pub record IsBlockPlace {D : Type 0} {d : Ghosts D} (seen : D → DiskState) (blocks : List (Block D d)) (id place : ℕ) : Type 0 where
+pub record IsBlockPlace {D : Type 0} {d : Ghosts D} (shown : D → DiskState) (blocks : List (Block D d)) (id place : ℕ) : Type 0 where
   pub block : Block D d
   pub there : slice_get blocks place ≡ Some block
-  pub found : block_with (blocks_seen seen blocks) id ≡ Some (block_seen seen block)
+  pub found : block_with (shown_blocks shown blocks) id ≡ Some (shown_block shown block)
   pub has : has_in (disk_entries_of blocks) id ≡ Some (is_some block.blk.drive.disk)
   pub changed : (other : Block D d) → other.id ≡ block.id
-      → blocks_seen seen (slice_set blocks place other) ≡ with_block (blocks_seen seen blocks) id (block_seen seen other).device
+      → shown_blocks shown (slice_set blocks place other) ≡ with_block (shown_blocks shown blocks) id (shown_block shown other).device
   pub entries : (other : Block D d) → other.id ≡ block.id → disk_entries_of (slice_set blocks place other) ≡ with_has (disk_entries_of blocks) id (is_some other.blk.drive.disk)
   pub kept : (other : Block D d) → other.id ≡ block.id → other.blk.drive ≡ block.blk.drive → disk_entries_of (slice_set blocks place other) ≡ disk_entries_of blocks
 
@@ -37,14 +37,14 @@ abbrev pub others_than : {D : Type 0} → ℕ → List (DiskAtHand D) → List (
 others_than {D = D} number at_hand = filter (λ (it : DiskAtHand D). not (it.number == number)) at_hand
 
 -- the disk that stands there is the first with the number
-pub record IsDiskAt {D : Type 0} (seen : D → DiskState) (at_hand : List (DiskAtHand D)) (number place : ℕ) : Type 0 where
+pub record IsDiskAt {D : Type 0} (shown : D → DiskState) (at_hand : List (DiskAtHand D)) (number place : ℕ) : Type 0 where
   pub one : DiskAtHand D
   pub there : slice_get at_hand place ≡ Some one
   pub own : one.number ≡ number
-  pub found : find (λ (it : DiskSeen). it.number == number) (disks_seen seen at_hand) ≡ Some (disk_seen seen one)
+  pub found : find (λ (it : ShownDisk). it.number == number) (shown_disks shown at_hand) ≡ Some (shown_disk shown one)
   pub rest : others_than number (remove at_hand place) ≡ others_than number at_hand
 
 -- this disk is taken out, which has the number
-pub record TakesOut {D : Type 0} (seen : D → DiskState) (number : ℕ) (old new : List (DiskAtHand D)) (disk : D) : Type 0 where
-  pub taken : IsDiskTaken number (disks_seen seen old) (seen disk) (disks_seen seen new)
+pub record TakesOut {D : Type 0} (shown : D → DiskState) (number : ℕ) (old new : List (DiskAtHand D)) (disk : D) : Type 0 where
+  pub taken : IsDiskTaken number (shown_disks shown old) (shown disk) (shown_disks shown new)
   pub numbers : numbers_of new ≡ without_disk (Some number) (numbers_of old)

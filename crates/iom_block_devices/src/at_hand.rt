@@ -5,7 +5,7 @@ ghost use Rattle.iom_base.specs.Disks.{is_among, without_disk};
 ghost use Rattle.iom_block_devices.specs.Entries.{disk_entries_of, numbers_of};
 ghost use Rattle.iom_block_devices.specs.Changes.{IsPluggedIn, IsPutIn};
 ghost use Rattle.iom_block_devices.specs.Places.{IsDiskAt, TakesOut, has_in, others_than, with_has};
-ghost use Rattle.iom_block_devices.specs.Seen.{blocks_seen, disks_seen};
+ghost use Rattle.iom_block_devices.specs.Shown.{shown_blocks, shown_disks};
 
 use crate::block::{Block, DiskAtHand};
 use crate::blocks::insert;
@@ -14,7 +14,7 @@ use iom_virtio_blk::{Blk, Disk};
 
 /// Where the disk with this number stands.
 fn place_of_disk<D: Disk>(at_hand: &[DiskAtHand<D>], number: u64) -> Option<usize>
-    ensures { MatchOption result (is_among (numbers_of at_hand.now) number ≡ false) (IsDiskAt D.seen at_hand.now number) }
+    ensures { MatchOption result (is_among (numbers_of at_hand.now) number ≡ false) (IsDiskAt D.shown at_hand.now number) }
 {
     for place in 0..at_hand.len() {
         if at_hand[place].number == number {
@@ -34,7 +34,7 @@ fn leave_out<D: Disk>(at_hand: &mut Vec<DiskAtHand<D>>, number: u64)
 /// The disk with this number is taken out, if it is there.
 fn take_disk<D: Disk>(at_hand: &mut Vec<DiskAtHand<D>>, number: u64) -> Option<D>
     ensures { MatchOption result (is_among (numbers_of at_hand.old.items) number ≡ false)
-        (TakesOut D.seen number at_hand.old.items at_hand.new.items) }
+        (TakesOut D.shown number at_hand.old.items at_hand.new.items) }
 {
     let Some(place) = place_of_disk(at_hand, number) else {
         return None;
@@ -55,8 +55,8 @@ pub fn plug_in<D: Disk>(
     requires among { is_among (numbers_of at_hand.old.items) number ≡ true }
     requires few { length blocks.old.items < device_limit }
     requires room { device_limit ≤ vec_capacity blocks.old }
-    ensures seen { IsPluggedIn number id (blocks_seen D.seen blocks.old.items) (disks_seen D.seen at_hand.old.items)
-        (blocks_seen D.seen blocks.new.items) (disks_seen D.seen at_hand.new.items) }
+    ensures shown { IsPluggedIn number id (shown_blocks D.shown blocks.old.items) (shown_disks D.shown at_hand.old.items)
+        (shown_blocks D.shown blocks.new.items) (shown_disks D.shown at_hand.new.items) }
     ensures entries { disk_entries_of blocks.new.items ≡ disk_entries_of blocks.old.items ++ (id, true) ∷ [] }
     ensures numbers { numbers_of at_hand.new.items ≡ without_disk (Some number) (numbers_of at_hand.old.items) }
     ensures room { device_limit ≤ vec_capacity blocks.new }
@@ -77,8 +77,8 @@ pub fn put_in<D: Disk>(
 )
     requires among { is_among (numbers_of at_hand.old.items) number ≡ true }
     requires empty { has_in (disk_entries_of blocks.old.items) id ≡ Some false }
-    ensures seen { IsPutIn number id (blocks_seen D.seen blocks.old.items) (disks_seen D.seen at_hand.old.items)
-        (blocks_seen D.seen blocks.new.items) (disks_seen D.seen at_hand.new.items) }
+    ensures shown { IsPutIn number id (shown_blocks D.shown blocks.old.items) (shown_disks D.shown at_hand.old.items)
+        (shown_blocks D.shown blocks.new.items) (shown_disks D.shown at_hand.new.items) }
     ensures entries { disk_entries_of blocks.new.items ≡ with_has (disk_entries_of blocks.old.items) id true }
     ensures numbers { numbers_of at_hand.new.items ≡ without_disk (Some number) (numbers_of at_hand.old.items) }
     ensures room { vec_capacity blocks.new ≡ vec_capacity blocks.old }

@@ -4,7 +4,7 @@ ghost use Rattle.iom_virtqueue.specs.Layouts.{IsLayout};
 ghost use Rattle.iom_block_devices.specs.Entries.{disk_entries_of};
 ghost use Rattle.iom_block_devices.specs.Changes.{block_with, ChangesOne, HasDisk, IsGivenUp, IsReset, SetsUp, HearsMade, HearsRefusal};
 ghost use Rattle.iom_block_devices.specs.Places.{IsBlockPlace, has_in, with_has};
-ghost use Rattle.iom_block_devices.specs.Seen.{blocks_seen};
+ghost use Rattle.iom_block_devices.specs.Shown.{shown_blocks};
 
 use crate::block::Block;
 use iom_base::DeviceId;
@@ -13,7 +13,7 @@ use iom_virtqueue::Layout;
 
 /// Where the block device with this id stands.
 pub fn place_of<D: Disk>(blocks: &[Block<D>], id: DeviceId) -> Option<usize>
-    ensures { MatchOption result (block_with (blocks_seen D.seen blocks.now) id ≡ None) (IsBlockPlace D.seen blocks.now id) }
+    ensures { MatchOption result (block_with (shown_blocks D.shown blocks.now) id ≡ None) (IsBlockPlace D.shown blocks.now id) }
 {
     for place in 0..blocks.len() {
         if blocks[place].id == id {
@@ -25,7 +25,7 @@ pub fn place_of<D: Disk>(blocks: &[Block<D>], id: DeviceId) -> Option<usize>
 
 /// It is reset, and its disk stays.
 pub fn reset<D: Disk>(blocks: &mut Vec<Block<D>>, id: DeviceId)
-    ensures seen { ChangesOne IsReset (blocks_seen D.seen blocks.old.items) id (blocks_seen D.seen blocks.new.items) }
+    ensures shown { ChangesOne IsReset (shown_blocks D.shown blocks.old.items) id (shown_blocks D.shown blocks.new.items) }
     ensures entries { disk_entries_of blocks.new.items ≡ disk_entries_of blocks.old.items }
     ensures room { vec_capacity blocks.new ≡ vec_capacity blocks.old }
 {
@@ -36,7 +36,7 @@ pub fn reset<D: Disk>(blocks: &mut Vec<Block<D>>, id: DeviceId)
 
 /// It is reset, and its disk dropped.
 pub fn leave<D: Disk>(blocks: &mut Vec<Block<D>>, id: DeviceId)
-    ensures seen { ChangesOne IsGivenUp (blocks_seen D.seen blocks.old.items) id (blocks_seen D.seen blocks.new.items) }
+    ensures shown { ChangesOne IsGivenUp (shown_blocks D.shown blocks.old.items) id (shown_blocks D.shown blocks.new.items) }
     ensures entries { disk_entries_of blocks.new.items ≡ with_has (disk_entries_of blocks.old.items) id false }
     ensures room { vec_capacity blocks.new ≡ vec_capacity blocks.old }
 {
@@ -50,8 +50,8 @@ pub fn leave<D: Disk>(blocks: &mut Vec<Block<D>>, id: DeviceId)
 /// The disk goes into it, which is there and has none.
 pub(crate) fn insert<D: Disk>(blocks: &mut Vec<Block<D>>, id: DeviceId, disk: D)
     requires { has_in (disk_entries_of blocks.old.items) id ≡ Some false }
-    ensures seen { ChangesOne (HasDisk (D.seen disk)) (blocks_seen D.seen blocks.old.items) id
-        (blocks_seen D.seen blocks.new.items) }
+    ensures shown { ChangesOne (HasDisk (D.shown disk)) (shown_blocks D.shown blocks.old.items) id
+        (shown_blocks D.shown blocks.new.items) }
     ensures entries { disk_entries_of blocks.new.items ≡ with_has (disk_entries_of blocks.old.items) id true }
     ensures room { vec_capacity blocks.new ≡ vec_capacity blocks.old }
 {
@@ -63,7 +63,7 @@ pub(crate) fn insert<D: Disk>(blocks: &mut Vec<Block<D>>, id: DeviceId, disk: D)
 /// Its queue is set: it is reset, takes what it offers, and works.
 pub fn set_up<D: Disk>(blocks: &mut Vec<Block<D>>, id: DeviceId, layout: Layout)
     requires { IsLayout layout }
-    ensures seen { ChangesOne (SetsUp layout) (blocks_seen D.seen blocks.old.items) id (blocks_seen D.seen blocks.new.items) }
+    ensures shown { ChangesOne (SetsUp layout) (shown_blocks D.shown blocks.old.items) id (shown_blocks D.shown blocks.new.items) }
     ensures entries { disk_entries_of blocks.new.items ≡ disk_entries_of blocks.old.items }
     ensures room { vec_capacity blocks.new ≡ vec_capacity blocks.old }
 {
@@ -80,8 +80,8 @@ pub fn set_up<D: Disk>(blocks: &mut Vec<Block<D>>, id: DeviceId, layout: Layout)
 // On its own: a commit without block devices doesn't pay for what this keeps in registers.
 #[inline(never)]
 pub fn hear_made<D: Disk>(blocks: &mut Vec<Block<D>>, id: DeviceId, number: u64, bytes: &[u8])
-    ensures seen { ChangesOne (HearsMade number bytes.now) (blocks_seen D.seen blocks.old.items) id
-        (blocks_seen D.seen blocks.new.items) }
+    ensures shown { ChangesOne (HearsMade number bytes.now) (shown_blocks D.shown blocks.old.items) id
+        (shown_blocks D.shown blocks.new.items) }
     ensures entries { disk_entries_of blocks.new.items ≡ disk_entries_of blocks.old.items }
     ensures room { vec_capacity blocks.new ≡ vec_capacity blocks.old }
 {
@@ -92,7 +92,7 @@ pub fn hear_made<D: Disk>(blocks: &mut Vec<Block<D>>, id: DeviceId, number: u64,
 
 /// It hears that the translation of a page is refused.
 pub fn hear_refusal<D: Disk>(blocks: &mut Vec<Block<D>>, id: DeviceId, page: u64)
-    ensures seen { ChangesOne (HearsRefusal page) (blocks_seen D.seen blocks.old.items) id (blocks_seen D.seen blocks.new.items) }
+    ensures shown { ChangesOne (HearsRefusal page) (shown_blocks D.shown blocks.old.items) id (shown_blocks D.shown blocks.new.items) }
     ensures entries { disk_entries_of blocks.new.items ≡ disk_entries_of blocks.old.items }
     ensures room { vec_capacity blocks.new ≡ vec_capacity blocks.old }
 {

@@ -2,7 +2,7 @@
 ghost use Rattle.std.specs.Prelude.{◌≡◌, ◌++◌, [], IfOk};
 ghost use Rattle.iom_block_devices.specs.Entries.{numbers_of};
 ghost use Rattle.iom_block_devices.specs.Numbered.{numbered};
-ghost use Rattle.iom_block_devices.specs.Seen.{disks_seen, states_of};
+ghost use Rattle.iom_block_devices.specs.Shown.{shown_disks, states_of};
 
 use crate::block::DiskAtHand;
 use iom_virtio_blk::Disk;
@@ -10,7 +10,7 @@ use std::alloc::{AllocError, Global};
 
 /// The disks with their numbers, which are their places.
 pub fn number_disks<D: Disk>(alloc: Global, disks: Vec<D>) -> Result<Vec<DiskAtHand<D>>, AllocError>
-    ensures { IfOk result (λ at_hand. disks_seen D.seen at_hand.items ≡ numbered 0 (states_of D.seen disks.items)) }
+    ensures { IfOk result (λ at_hand. shown_disks D.shown at_hand.items ≡ numbered 0 (states_of D.shown disks.items)) }
 {
     let mut rest = disks;
     let mut at_hand = Vec::new(alloc);

@@ -4,7 +4,7 @@ ghost use Rattle.iom_base.specs.Accesses.{write_of};
 ghost use Rattle.iom_virtio_blk.specs.Blocks.{wanted_by};
 ghost use Rattle.iom_block_devices.specs.Changes.{block_with};
 ghost use Rattle.iom_block_devices.specs.Wanted.{wanted_of, wanted_access};
-ghost use Rattle.iom_block_devices.specs.Seen.{blocks_seen};
+ghost use Rattle.iom_block_devices.specs.Shown.{shown_blocks};
 
 use crate::block::Block;
 use crate::blocks::place_of;
@@ -55,7 +55,7 @@ pub fn wanted<D: Disk>(
     blocks: &[Block<D>],
     id: DeviceId,
 ) -> Result<Option<Access>, AllocError>
-    ensures { IfOk result (λ access. access ≡ wanted_of (block_with (blocks_seen D.seen blocks.now) id)) }
+    ensures { IfOk result (λ access. access ≡ wanted_of (block_with (shown_blocks D.shown blocks.now) id)) }
 {
     match place_of(blocks, id) {
         Some(place) => wanted_by(alloc, &blocks[place].blk),

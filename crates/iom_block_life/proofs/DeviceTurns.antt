@@ -20,7 +20,7 @@ use Rattle.iom_virtio_blk.specs.Blocks.{IsTaking, EndsWaiting, TakesBytes, wants
 use Rattle.iom_virtio_blk.specs.Steps.{Device, BlockDeviceSteps, GoesOnIn, UsesIn, TakesQueue, ServesWithDisk}
 use Rattle.iom_block_life.specs.Lives.{Turn, Turns, Taken, entry_in, taken_at, finished_at}
 use Rattle.iom_block_life.specs.Lives.{TakesStep, HearsMade, HearsReply, HearsRefusal, ChangesDisk}
-use Rattle.iom_block_life.proofs.QueueTurns.{in_work, in_work_in, sound, GoesOn, stays, takes, finishes}
+use Rattle.iom_block_life.proofs.QueueTurns.{in_work, in_work_in, invariants, GoesOn, unchanged, takes, finishes}
 
 -- a device whose queue lies so works, and counts modulo 2^16
 pub record Works (layout : Layout) (d : Device) : Type 0 where
@@ -28,7 +28,7 @@ pub record Works (layout : Layout) (d : Device) : Type 0 where
   pub lies : d.front.queue.layout ≡ layout
   pub power : 256 % layout.size ≡ 0
   pub small : d.front.queue.finished < 65536
-  pub sound : d.front.queue.phase ≢ Faulted
+  pub invariants : d.front.queue.phase ≢ Faulted
 
 -- it is to be reset, and takes and finishes nothing
 pub record Stops (old new : Device) (taken : List Taken) (finished : List ℕ) : Type 0 where
@@ -53,7 +53,7 @@ not_both stage works stops = subst IsWorking (sym works ∙ stops) tt
 -- the queue is as it was, and the device still works
 pub stands : (layout : Layout) (old new : Device) → Works layout old → new.front.queue ≡ old.front.queue → new.front.stage ≡ old.front.stage → Follows layout old new [] []
 stands layout old new works queue stage =
-    inl (stays layout old.front.queue new.front.queue works.lies works.small (ap (λ q. q.layout) queue) (ap (λ q. q.finished) queue) (ap in_work queue) (λ fault. works.sound (sym (ap (λ q. q.phase) queue) ∙ fault)), stage ∙ works.stage)
+    inl (unchanged layout old.front.queue new.front.queue works.lies works.small (ap (λ q. q.layout) queue) (ap (λ q. q.finished) queue) (ap in_work queue) (λ fault. works.invariants (sym (ap (λ q. q.phase) queue) ∙ fault)), stage ∙ works.stage)
 
 -- what the bytes of an access make of the queue, by what it does
 abbrev OnTaking : Layout → Front → QueueState → Phase → Type 0
@@ -78,16 +78,16 @@ one_still true done head = refl
 one_still false done head = refl
 
 none_sound : (c : Bool) → (if c then AvailableIndex else RingEntry) ≢ Faulted
-none_sound true = sound AvailableIndex tt
-none_sound false = sound RingEntry tt
+none_sound true = invariants AvailableIndex tt
+none_sound false = invariants RingEntry tt
 
 one_sound : (next : Option ℕ) → goes_on_at next ≢ Faulted
-one_sound None = sound Served tt
-one_sound (Some index) = sound (Table index) tt
+one_sound None = invariants Served tt
+one_sound (Some index) = invariants (Table index) tt
 
 still_sound : (c : Bool) (done : ℕ) → (if c then UsedIndex else UsedElement done) ≢ Faulted
-still_sound true done = sound UsedIndex tt
-still_sound false done = sound (UsedElement done) tt
+still_sound true done = invariants UsedIndex tt
+still_sound false done = invariants (UsedElement done) tt
 
 work_at : (q : QueueState) (phase : Phase) → q.phase ≡ phase → in_work q ≡ in_work_in phase q.head
 work_at q phase is = ap (λ p. in_work_in p q.head) is
@@ -100,24 +100,24 @@ taking : (layout : Layout) (d : Device) → Works layout d → (phase : Phase) �
     → OnTaking layout d.front (after_in phase d.front.queue d.front.got.items) phase
 taking layout d works AvailableIndex is =
     let q = d.front.queue in
-    stays layout q _ works.lies works.small refl refl
+    unchanged layout q _ works.lies works.small refl refl
     (none_there (new_requests (number_at 2 0 d.front.got.items) q.finished == 0) q.head ∙ sym (work_at q AvailableIndex is))
     (none_sound (new_requests (number_at 2 0 d.front.got.items) q.finished == 0))
 taking layout d works RingEntry is =
-    takes layout d.front.queue _ (number_at 2 0 d.front.got.items) (wanted_by d.front) works.lies works.small refl refl (work_at d.front.queue RingEntry is) refl (sound _ tt)
+    takes layout d.front.queue _ (number_at 2 0 d.front.got.items) (wanted_by d.front) works.lies works.small refl refl (work_at d.front.queue RingEntry is) refl (invariants _ tt)
     (wanted_is d.front is)
 taking layout d works (Table index) is =
     let q = d.front.queue in
-    stays layout q _ works.lies works.small refl refl (one_there (next_of (descriptor_of d.front.got.items)) q.head ∙ sym (work_at q (Table index) is))
+    unchanged layout q _ works.lies works.small refl refl (one_there (next_of (descriptor_of d.front.got.items)) q.head ∙ sym (work_at q (Table index) is))
     (one_sound (next_of (descriptor_of d.front.got.items)))
 taking layout d works Served is = tt
 taking layout d works (UsedElement done) is =
     let q = d.front.queue in
-    stays layout q _ works.lies works.small refl refl
+    unchanged layout q _ works.lies works.small refl refl
     (one_still (done + element_piece q done == 8) (done + element_piece q done) q.head ∙ sym (work_at q (UsedElement done) is))
     (still_sound (done + element_piece q done == 8) (done + element_piece q done))
 taking layout d works UsedIndex is =
-    finishes layout d.front.queue _ works.lies works.power works.small refl refl (work_at d.front.queue UsedIndex is) refl (sound _ tt)
+    finishes layout d.front.queue _ works.lies works.power works.small refl refl (work_at d.front.queue UsedIndex is) refl (invariants _ tt)
 taking layout d works Faulted is = tt
 
 -- the queue after its access, by what it did
@@ -151,7 +151,7 @@ served_sound : (job : Job) (b : Front) → b.queue.phase ≢ Faulted → (queue_
 served_sound Header b is = is
 served_sound Reading b is = is
 served_sound Writing b is = is
-served_sound (Ending end) b is = sound (UsedElement 0) tt
+served_sound (Ending end) b is = invariants (UsedElement 0) tt
 
 serves : (layout : Layout) (old new : Device) → Works layout old → old.front.queue.phase ≡ Served → ServesWithDisk old new → Follows layout old new [] []
 serves layout old new works is (done, called, front) =
@@ -159,9 +159,9 @@ serves layout old new works is (done, called, front) =
     let queue : new.front.queue ≡ queue_in job old.front = ap (λ b. b.queue) front in
     let same = served_layout job old.front in
     inl (
-      stays layout old.front.queue new.front.queue works.lies works.small (ap (λ q. q.layout) queue ∙ same.0) (ap (λ q. q.finished) queue ∙ same.1)
+      unchanged layout old.front.queue new.front.queue works.lies works.small (ap (λ q. q.layout) queue ∙ same.0) (ap (λ q. q.finished) queue ∙ same.1)
           (ap in_work queue ∙ served_work job old.front is)
-          (λ fault. served_sound job old.front works.sound (sym (ap (λ q. q.phase) queue) ∙ fault)),
+          (λ fault. served_sound job old.front works.invariants (sym (ap (λ q. q.phase) queue) ∙ fault)),
       ap (λ b. b.stage) front ∙ works.stage,
     )
 
@@ -174,7 +174,7 @@ uses layout old new works moved (Table index) is used = inl (moves layout old ne
 uses layout old new works moved Served is used = serves layout old new works is used
 uses layout old new works moved (UsedElement done) is used = inl (moves layout old new works (UsedElement done) is used, stage_then layout old new works used)
 uses layout old new works moved UsedIndex is used = absurd (moved (ap (λ q. q.phase) (queue_then old new UsedIndex is used)))
-uses layout old new works moved Faulted is used = absurd (works.sound is)
+uses layout old new works moved Faulted is used = absurd (works.invariants is)
 
 goes_on : (layout : Layout) (old new : Device) → Works layout old → (old.front.is_made ≡ true → new.front.queue.phase ≢ AvailableIndex)
     → (made : Bool) → old.front.is_made ≡ made → GoesOnIn made old new → Follows layout old new (entry_in made old.front.queue.phase old.front) []

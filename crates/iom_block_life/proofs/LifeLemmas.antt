@@ -9,7 +9,7 @@ use Rattle.iom_virtio_blk.specs.declared.stage.Stage.TheVariants.{NeedsReset}
 use Rattle.iom_virtqueue.specs.declared.phase.Phase.TheVariants.{AvailableIndex}
 use Rattle.iom_virtio_blk.specs.Steps.{Device}
 use Rattle.iom_block_life.specs.Lives.{Turn, Lives, Taken, taken_at, finished_at, head_of, reads_entry, HasFreshQueue, UsesEachOnce}
-use Rattle.iom_block_life.proofs.QueueTurns.{in_work, sound, at_most_one}
+use Rattle.iom_block_life.proofs.QueueTurns.{in_work, invariants, at_most_one}
 use Rattle.iom_block_life.proofs.DeviceTurns.{Works, Follows, turns_on, stopped_turns}
 
 -- the access that reads the entry at this place
@@ -78,7 +78,7 @@ joined : (layout : Layout) (old next new : Device) (first later : List Taken) (d
     → LivesOn layout old new (first ++ later) (done ++ ends)
 joined layout old next new first later done ends works (inl (goes, stage)) more rest =
     let counted = goes.counted in
-    let on = more (record { stage = stage; lies = goes.lies; power = works.power; small = omega (arith, counted); sound = goes.sound }) in
+    let on = more (record { stage = stage; lies = goes.lies; power = works.power; small = omega (arith, counted); invariants = goes.invariants }) in
     record {
       rest = on.rest;
       heads = ap (λ l. in_work old.front.queue ++ l) (map-append head_of first later)
@@ -119,7 +119,7 @@ uses_each_once layout old new turns taken finished fresh lives =
       lies = ap (λ q. q.layout) fresh.queue;
       power = fresh.lawful.power;
       small = omega (arith, none_finished);
-      sound = λ fault. sound AvailableIndex tt (sym (ap (λ q. q.phase) fresh.queue) ∙ fault);
+      invariants = λ fault. invariants AvailableIndex tt (sym (ap (λ q. q.phase) fresh.queue) ∙ fault);
     } in
     let on = lives_on layout old new turns taken finished works lives in
     record {

@@ -23,18 +23,18 @@ in_work_in Faulted head = []
 abbrev pub in_work : QueueState → List ℕ
 in_work q = in_work_in q.phase q.head
 
-abbrev IsSound : Phase → Type 0
-IsSound AvailableIndex = Unit {0}
-IsSound RingEntry = Unit {0}
-IsSound (Table index) = Unit {0}
-IsSound Served = Unit {0}
-IsSound (UsedElement done) = Unit {0}
-IsSound UsedIndex = Unit {0}
-IsSound Faulted = ⊥
+abbrev StateInvariant : Phase → Type 0
+StateInvariant AvailableIndex = Unit {0}
+StateInvariant RingEntry = Unit {0}
+StateInvariant (Table index) = Unit {0}
+StateInvariant Served = Unit {0}
+StateInvariant (UsedElement done) = Unit {0}
+StateInvariant UsedIndex = Unit {0}
+StateInvariant Faulted = ⊥
 
 -- a phase that isn't that of a fault
-pub sound : (phase : Phase) → IsSound phase → phase ≢ Faulted
-sound phase is same = subst IsSound same is
+pub invariants : (phase : Phase) → StateInvariant phase → phase ≢ Faulted
+invariants phase is same = subst StateInvariant same is
 
 pub at_most_one : (phase : Phase) (head : ℕ) → length (in_work_in phase head) ≤ 1
 at_most_one AvailableIndex head = omega arith
@@ -64,18 +64,18 @@ more_mod s n k power small = by (cases_lt (n + 1) 65536)
 -- taken was read where the counts say
 pub record GoesOn (layout : Layout) (q q' : QueueState) (taken : List Taken) (finished : List ℕ) : Type 0 where
   pub lies : q'.layout ≡ layout
-  pub sound : q'.phase ≢ Faulted
+  pub invariants : q'.phase ≢ Faulted
   pub heads : in_work q ++ map head_of taken ≡ finished ++ in_work q'
   pub begun : (k : ℕ) → (q'.finished + length (in_work q') + k) % layout.size ≡ (q.finished + length (in_work q) + length taken + k) % layout.size
   pub counted : q'.finished ≡ (q.finished + length finished) % 65536
   pub places : (k : ℕ) (entry : Taken) → slice_get taken k ≡ Some entry → entry.access ≡ reads_entry layout (q.finished + length (in_work q) + k)
 
 -- nothing is taken, and nothing finished
-pub stays : (layout : Layout) (q q' : QueueState) → q.layout ≡ layout → q.finished < 65536
+pub unchanged : (layout : Layout) (q q' : QueueState) → q.layout ≡ layout → q.finished < 65536
     → q'.layout ≡ q.layout → q'.finished ≡ q.finished → in_work q' ≡ in_work q → q'.phase ≢ Faulted → GoesOn layout q q' [] []
-stays layout q q' lies small kept finished work sound = record {
+unchanged layout q q' lies small kept finished work invariants = record {
   lies = kept ∙ lies;
-  sound = sound;
+  invariants = invariants;
   heads = append-nil (in_work q) ∙ sym work;
   begun = λ k. let long = ap length work in ap (λ n. n % layout.size) (omega (arith, finished, long));
   counted = finished ∙ omega (arith, small);
@@ -90,9 +90,9 @@ access_or (Some entry) = entry.access
 pub takes : (layout : Layout) (q q' : QueueState) (head : ℕ) (access : Access) → q.layout ≡ layout → q.finished < 65536
     → q'.layout ≡ q.layout → q'.finished ≡ q.finished → in_work q ≡ [] → in_work q' ≡ head ∷ [] → q'.phase ≢ Faulted → access ≡ reads (ring_entry q) 2
     → GoesOn layout q q' (record { access = access; head = head } ∷ []) []
-takes layout q q' head access lies small kept finished none some sound read = record {
+takes layout q q' head access lies small kept finished none some invariants read = record {
   lies = kept ∙ lies;
-  sound = sound;
+  invariants = invariants;
   heads = ap (λ work. work ++ head ∷ []) none ∙ sym some;
   begun = λ k. let short = ap length none in let long = ap length some in ap (λ n. n % layout.size) (omega (arith, finished, short, long));
   counted = finished ∙ omega (arith, small);
@@ -112,9 +112,9 @@ takes layout q q' head access lies small kept finished none some sound read = re
 pub finishes : (layout : Layout) (q q' : QueueState) → q.layout ≡ layout → 256 % layout.size ≡ 0 → q.finished < 65536
     → q'.layout ≡ q.layout → q'.finished ≡ more_finished q.finished → in_work q ≡ q.head ∷ [] → in_work q' ≡ [] → q'.phase ≢ Faulted
     → GoesOn layout q q' [] (q.head ∷ [])
-finishes layout q q' lies power small kept finished some none sound = record {
+finishes layout q q' lies power small kept finished some none invariants = record {
   lies = kept ∙ lies;
-  sound = sound;
+  invariants = invariants;
   heads = append-nil (in_work q) ∙ some ∙ sym (ap (λ work. (q.head ∷ []) ++ work) none);
   begun = λ k. let long = ap length some in let short = ap length none in
       ap (λ n. n % layout.size) (omega (arith, finished, short)) ∙ more_mod layout.size q.finished k power small ∙ ap (λ n. n % layout.size) (omega (arith, long));

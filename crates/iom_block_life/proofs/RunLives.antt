@@ -16,13 +16,13 @@ use Rattle.iom_virtio_blk.specs.declared.stage.Stage.{Stage}
 use Rattle.iom_virtio_blk.specs.declared.stage.Stage.TheVariants.{Reset, FeaturesOk}
 use Rattle.iom_virtio_blk.specs.Blocks.{with_queue}
 use Rattle.iom_block_devices.specs.Changes.{block_with, SetsUp}
-use Rattle.iom_block_devices.specs.Seen.{BlockSeen}
+use Rattle.iom_block_devices.specs.Shown.{ShownBlock}
 use Rattle.iom_block_devices.proofs.BlockChanges.{as_device, IsChanged, one_changes}
 use Rattle.iom_world_effects.specs.Parts.{Parts}
 use Rattle.iom_world_effects.specs.BlockDevices.{SetsBlockQueue}
 use Rattle.iom_world.specs.Happens.{Happens}
 use Rattle.iom_world.specs.Runs.{GoesThrough}
-use Rattle.iom_world.specs.Seen.{Seen}
+use Rattle.iom_world.specs.Shown.{Shown}
 use Rattle.iom_block_life.specs.Lives.{Turn, Taken, Lives, taken_at, finished_at, HasFreshQueue, UsesEachOnce}
 use Rattle.iom_block_life.specs.Runs.{LivesThrough, heads_in, entries_taken}
 use Rattle.iom_block_life.proofs.EventLives.{GoesOn, same_on, event_on}
@@ -44,17 +44,17 @@ lives_append (turn ∷ first) later old mid new taken more finished ends (next, 
   lives_append first later next mid new took more done ends rest lives,
 )
 
-runs_on : (events : List Event) (outcomes : List Outcome) (traces : List (Option Trace)) (state last : State) (run : Run state events outcomes last) (old new : Seen)
-    (id : ℕ) (block : BlockSeen) (through : GoesThrough state old events outcomes traces last run new) → block_with old.inside.blocks id ≡ Some block
+runs_on : (events : List Event) (outcomes : List Outcome) (traces : List (Option Trace)) (state last : State) (run : Run state events outcomes last) (old new : Shown)
+    (id : ℕ) (block : ShownBlock) (through : GoesThrough state old events outcomes traces last run new) → block_with old.inside.blocks id ≡ Some block
     → LivesThrough id events outcomes → GoesOn id block.device new.inside.blocks (entries_taken id state old events outcomes traces last run new through) (heads_in id events outcomes)
 runs_on [] [] [] state last run old new id block through there alive =
-    same_on id new.inside.blocks block (ap (λ seen. block_with seen.inside.blocks id) through.1 ∙ there)
+    same_on id new.inside.blocks block (ap (λ shown. block_with shown.inside.blocks id) through.1 ∙ there)
 runs_on [] [] (trace ∷ traces) state last run old new id block through there alive = absurd through
-runs_on [] (told ∷ outcomes) traces state last run old new id block through there alive = absurd through
+runs_on [] (reply ∷ outcomes) traces state last run old new id block through there alive = absurd through
 runs_on (event ∷ events) [] traces state last run old new id block through there alive = absurd through
-runs_on (event ∷ events) (told ∷ outcomes) [] state last run old new id block through there alive = absurd through
-runs_on (event ∷ events) (told ∷ outcomes) (trace ∷ traces) state last (next, step, rest) old new id block (shows, mid, happens, counts, later) there (lives, alive) =
-    let one = event_on id old mid event told block there lives happens.blocks in
+runs_on (event ∷ events) (reply ∷ outcomes) [] state last run old new id block through there alive = absurd through
+runs_on (event ∷ events) (reply ∷ outcomes) (trace ∷ traces) state last (next, step, rest) old new id block (shows, mid, happens, counts, later) there (lives, alive) =
+    let one = event_on id old mid event reply block there lives happens.blocks in
     let more = runs_on events outcomes traces next last rest mid new id one.block later one.there alive in
     record {
       block = more.block;
@@ -63,10 +63,10 @@ runs_on (event ∷ events) (told ∷ outcomes) (trace ∷ traces) state last (ne
       lives = lives_append one.turns more.turns block.device one.block.device more.block.device _ _ _ _ one.lives more.lives;
     }
 
-pub runs_use : (state last : State) (old new : Seen) (events : List Event) (outcomes : List Outcome) (traces : List (Option Trace)) (run : Run state events outcomes last)
-    (id : ℕ) (layout : Layout) (block : BlockSeen) (through : GoesThrough state old events outcomes traces last run new)
+pub runs_use : (state last : State) (old new : Shown) (events : List Event) (outcomes : List Outcome) (traces : List (Option Trace)) (run : Run state events outcomes last)
+    (id : ℕ) (layout : Layout) (block : ShownBlock) (through : GoesThrough state old events outcomes traces last run new)
     → block_with old.inside.blocks id ≡ Some block → HasFreshQueue layout block.device → LivesThrough id events outcomes
-    → (after : BlockSeen) × (block_with new.inside.blocks id ≡ Some after)
+    → (after : ShownBlock) × (block_with new.inside.blocks id ≡ Some after)
     × UsesEachOnce layout (entries_taken id state old events outcomes traces last run new through) (heads_in id events outcomes) after.device
 runs_use state last old new events outcomes traces run id layout block through there fresh alive =
     let on = runs_on events outcomes traces state last run old new id block through there alive in
@@ -95,17 +95,17 @@ set_fresh layout old new lawful set =
 -- what is done isn't refused
 abbrev IsDone : Outcome → Type 0
 IsDone outcome.Done = Unit {0}
-IsDone told = ⊥
+IsDone reply = ⊥
 
 lies_lawfully : (old new : Parts) (id : ℕ) (layout : Layout) → SetsBlockQueue old id layout outcome.Done new → IsLayout layout
-lies_lawfully old new id layout (inl unknown) = absurd (subst IsDone unknown.told_so tt)
-lies_lawfully old new id layout (inr (inl unable)) = absurd (subst IsDone unable.told_so tt)
+lies_lawfully old new id layout (inl unknown) = absurd (subst IsDone unknown.reply_is tt)
+lies_lawfully old new id layout (inr (inl unable)) = absurd (subst IsDone unable.reply_is tt)
 lies_lawfully old new id layout (inr (inr (able, inl lawful))) = lawful.0
 lies_lawfully old new id layout (inr (inr (able, inr refused))) = absurd (subst IsDone refused.1 tt)
 
-pub queues_begin : (old new : Seen) (id size descriptors available used : ℕ) (block : BlockSeen)
+pub queues_begin : (old new : Shown) (id size descriptors available used : ℕ) (block : ShownBlock)
     → Happens old (events.Queue id size descriptors available used) outcome.Done new → block_with old.inside.blocks id ≡ Some block
-    → (after : BlockSeen) × (block_with new.inside.blocks id ≡ Some after) × HasFreshQueue (layout_of size descriptors available used) after.device
+    → (after : ShownBlock) × (block_with new.inside.blocks id ≡ Some after) × HasFreshQueue (layout_of size descriptors available used) after.device
 queues_begin old new id size descriptors available used block happens there =
     by (one_changes (SetsUp layout) old.inside.blocks new.inside.blocks id id block there happens.blocks.0)
   where
@@ -113,11 +113,11 @@ queues_begin old new id size descriptors available used block happens there =
     layout = layout_of size descriptors available used
 
     by : ((id ≢ id) × (block_with new.inside.blocks id ≡ Some block)) ⊎ IsChanged (SetsUp layout) new.inside.blocks id id block
-        → (after : BlockSeen) × (block_with new.inside.blocks id ≡ Some after) × HasFreshQueue layout after.device
-    by (inl (differ, stays)) = absurd (differ refl)
+        → (after : ShownBlock) × (block_with new.inside.blocks id ≡ Some after) × HasFreshQueue layout after.device
+    by (inl (differ, unchanged)) = absurd (differ refl)
     by (inr changed) = (
       as_device block changed.after,
       changed.there,
       set_fresh layout block.device changed.after
-          (lies_lawfully old.parts new.parts id layout happens.does) changed.changed,
+          (lies_lawfully old.parts new.parts id layout happens.effect) changed.changed,
     )

@@ -16,7 +16,7 @@ use Rattle.iom_virtio_blk.specs.declared.step.Step.TheVariants as step
 use Rattle.iom_virtio_blk.specs.Blocks.{EndsWaiting, TakesBytes, down, replied}
 use Rattle.iom_virtio_blk.specs.Disks.{name_in}
 use Rattle.iom_virtio_blk.specs.DiskStates.{DiskState}
-use Rattle.iom_virtio_blk.specs.Histories.{Entry, IsMap, TellsDisk, told, told_in, history_after}
+use Rattle.iom_virtio_blk.specs.Histories.{Entry, IsMap, TellsDisk, recorded, recorded_in, history_after}
 use Rattle.iom_virtio_blk.specs.Steps.{Device, device}
 use Rattle.iom_virtio_blk.proofs.DiskStays.{name_stays}
 use Rattle.iom_virtio_blk.proofs.StepLemmas.{tells_inserted, tells_kept}
@@ -38,23 +38,23 @@ down_rests stage is works = by (sym is ∙ works) where
   by e = cc
 
 -- what of a device its story looks at stays
-pub record Stays (old new : Device) : Type 0 where
+pub record Unchanged (old new : Device) : Type 0 where
   pub queue : new.front.queue ≡ old.front.queue
   pub serving : new.front.serving ≡ old.front.serving
   pub buffer : new.front.buffer ≡ old.front.buffer
   pub stage : new.front.stage ≡ DriverOk → old.front.stage ≡ DriverOk
   pub disk : new.disk ≡ old.disk
 
-history_stays : (history : List Entry) (old new : Device) → Stays old new → TellsDisk history old → TellsDisk history new
-history_stays history old new stays tells =
-    subst (λ (disk : Option DiskState). TellsDisk history (device new.front disk)) (sym stays.disk)
-    (tells_kept history old.front new.front old.disk stays.queue stays.serving stays.buffer stays.stage tells)
+history_stays : (history : List Entry) (old new : Device) → Unchanged old new → TellsDisk history old → TellsDisk history new
+history_stays history old new unchanged tells =
+    subst (λ (disk : Option DiskState). TellsDisk history (device new.front disk)) (sym unchanged.disk)
+    (tells_kept history old.front new.front old.disk unchanged.queue unchanged.serving unchanged.buffer unchanged.stage tells)
 
-pub tells_still : (story : Story) (old new : Device) → Stays old new → Tells story old → Tells story new
-tells_still story old new stays tells =
-    record { disk = ap name_in stays.disk ∙ tells.disk; history = history_stays story.history old new stays tells.history }
+pub tells_still : (story : Story) (old new : Device) → Unchanged old new → Tells story old → Tells story new
+tells_still story old new unchanged tells =
+    record { disk = ap name_in unchanged.disk ∙ tells.disk; history = history_stays story.history old new unchanged tells.history }
 
-same_device : (old new : Device) → new ≡ old → Stays old new
+same_device : (old new : Device) → new ≡ old → Unchanged old new
 same_device old new same = record {
   queue = ap (λ (d : Device). d.front.queue) same;
   serving = ap (λ (d : Device). d.front.serving) same;
@@ -63,7 +63,7 @@ same_device old new same = record {
   disk = ap (λ (d : Device). d.disk) same;
 }
 
-stopped : (old new : Device) → new.front ≡ down old.front → new.disk ≡ old.disk → Stays old new
+stopped : (old new : Device) → new.front ≡ down old.front → new.disk ≡ old.disk → Unchanged old new
 stopped old new is disk = record {
   queue = ap (λ (f : Front). f.queue) is;
   serving = ap (λ (f : Front). f.serving) is;
@@ -102,7 +102,7 @@ sets_up layout story old new set tells = record {
   reads_index : AvailableIndex ≡ Served → ⊥
   reads_index e = cc
 
-took : (old new : Device) (bytes : List ℕ) → TakesBytes old.front bytes new.front → new.disk ≡ old.disk → Stays old new
+took : (old new : Device) (bytes : List ℕ) → TakesBytes old.front bytes new.front → new.disk ≡ old.disk → Unchanged old new
 took old new bytes is disk = record {
   queue = ap (λ (f : Front). f.queue) is.rest;
   serving = ap (λ (f : Front). f.serving) is.rest;
@@ -111,15 +111,15 @@ took old new bytes is disk = record {
   disk = disk;
 }
 
-ends_waiting : (old new : Device) (bytes : List ℕ) → EndsWaiting old.front bytes new.front → new.disk ≡ old.disk → Stays old new
+ends_waiting : (old new : Device) (bytes : List ℕ) → EndsWaiting old.front bytes new.front → new.disk ≡ old.disk → Unchanged old new
 ends_waiting old new bytes (inl is) disk = took old new bytes is.1 disk
 ends_waiting old new bytes (inr lost) disk = stopped old new lost.1 disk
 
-pub hears_made : (number : ℕ) (bytes : List ℕ) (old new : Device) → HearsMade number bytes old new → Stays old new
+pub hears_made : (number : ℕ) (bytes : List ℕ) (old new : Device) → HearsMade number bytes old new → Unchanged old new
 hears_made number bytes old new (inl own) = ends_waiting old new bytes own.1 own.2
 hears_made number bytes old new (inr other) = same_device old new other.1
 
-pub hears_refusal : (page : ℕ) (old new : Device) → HearsRefusal page old new → Stays old new
+pub hears_refusal : (page : ℕ) (old new : Device) → HearsRefusal page old new → Unchanged old new
 hears_refusal page old new (inl own) = stopped old new (ap (λ (d : Device). d.front) own.1) (ap (λ (d : Device). d.disk) own.1)
 hears_refusal page old new (inr other) = same_device old new other.1
 
@@ -141,7 +141,7 @@ is_new disk new is = record {
 
 -- a step, and what the device is told of the access that it wants
 
-told_reply : (reply : Reply) (old new : Device) → new ≡ device (replied reply old.front) old.disk → Stays old new
+told_reply : (reply : Reply) (old new : Device) → new ≡ device (replied reply old.front) old.disk → Unchanged old new
 told_reply (Accepted number) old new is = record {
   queue = ap (λ (d : Device). d.front.queue) is;
   serving = ap (λ (d : Device). d.front.serving) is;
@@ -159,22 +159,22 @@ told_reply (Asked page) old new is = record {
 }
 told_reply Fault old new is = stopped old new (ap (λ (d : Device). d.front) is) (ap (λ (d : Device). d.disk) is)
 
-pub ends : (taken : Step) (old new : Parts) (id : ℕ) (told : Outcome) (between after : Device) → EndsStep taken old id between told new after → Stays between after
-ends step.Idle old new id told between after end = same_device between after end.2
-ends step.Waiting old new id told between after end = same_device between after end.2
-ends step.Down old new id told between after end = same_device between after end.2
-ends (step.Chain fault) old new id told between after end = same_device between after end.2
-ends (step.Finished head len) old new id told between after end = same_device between after end.2
-ends (step.Wants want) old new id told between after begun = told_reply _ between after begun.hears
+pub ends : (taken : Step) (old new : Parts) (id : ℕ) (recorded : Outcome) (between after : Device) → EndsStep taken old id between recorded new after → Unchanged between after
+ends step.Idle old new id recorded between after end = same_device between after end.2
+ends step.Waiting old new id recorded between after end = same_device between after end.2
+ends step.Down old new id recorded between after end = same_device between after end.2
+ends (step.Chain fault) old new id recorded between after end = same_device between after end.2
+ends (step.Finished head len) old new id recorded between after end = same_device between after end.2
+ends (step.Wants want) old new id recorded between after begun = told_reply _ between after begun.hears
 
 -- the history looks at what is served alone
 same_told : (phase : Phase) (old between after : Device) (history : List Entry) → after.front.serving ≡ between.front.serving
-    → told_in phase old between history ≡ told_in phase old after history
+    → recorded_in phase old between history ≡ recorded_in phase old after history
 same_told AvailableIndex old between after history same = refl
 same_told RingEntry old between after history same = refl
 same_told (Table index) old between after history same = refl
 same_told Served old between after history same =
-    ap (λ (s : Serving). told old.front.serving.job s.job s.sector old.front.got.items history) (sym same)
+    ap (λ (s : Serving). recorded old.front.serving.job s.job s.sector old.front.got.items history) (sym same)
 same_told (UsedElement done) old between after history same = refl
 same_told UsedIndex old between after history same = refl
 same_told Faulted old between after history same = refl
@@ -184,13 +184,13 @@ same_history : (made : Bool) (old between after : Device) (history : List Entry)
 same_history false old between after history same = refl
 same_history true old between after history same = same_told old.front.queue.phase old between after history same
 
-pub steps_once : (story : Story) (old new : Parts) (id : ℕ) (told : Outcome) (before after : Device) → StepsOnce old id told new before after → Tells story before
+pub steps_once : (story : Story) (old new : Parts) (id : ℕ) (recorded : Outcome) (before after : Device) → StepsOnce old id recorded new before after → Tells story before
     → Tells (record { disk = story.disk; history = history_after before.front.is_made before after story.history }) after
-steps_once story old new id told before after once tells =
-    let stays = ends once.taken old new id told once.between after once.ends in
+steps_once story old new id recorded before after once tells =
+    let unchanged = ends once.taken old new id recorded once.between after once.ends in
     record {
-      disk = ap name_in stays.disk ∙ name_stays once.taken before once.between once.steps ∙ tells.disk;
+      disk = ap name_in unchanged.disk ∙ name_stays once.taken before once.between once.steps ∙ tells.disk;
       history =
-          subst (λ (h : List Entry). TellsDisk h after) (same_history before.front.is_made before once.between after story.history stays.serving)
-          (history_stays (history_after before.front.is_made before once.between story.history) once.between after stays (once.tells story.history tells.history));
+          subst (λ (h : List Entry). TellsDisk h after) (same_history before.front.is_made before once.between after story.history unchanged.serving)
+          (history_stays (history_after before.front.is_made before once.between story.history) once.between after unchanged (once.tells story.history tells.history));
     }

@@ -26,12 +26,12 @@ use Rattle.iom_virtqueue.specs.declared.layout.Layout.{Layout}
 use Rattle.iom_virtqueue.specs.Layouts.{layout_of}
 use Rattle.iom_virtqueue.specs.Queues.{QueueState, more_finished}
 use Rattle.iom_block_devices.specs.Changes.{block_with, Changes, HasDisk, HearsMade, HearsRefusal, IsGivenUp, IsReset, SetsUp}
-use Rattle.iom_block_devices.specs.Seen.{BlockSeen, BlocksSeen}
+use Rattle.iom_block_devices.specs.Shown.{ShownBlock, ShownBlocks}
 use Rattle.iom_block_devices.proofs.BlockChanges.{as_device, there_before, IsChanged, one_changes}
-use Rattle.iom_hardware.specs.Blocks.{BringsRefusal, HearsAnswer, HearsOldest, Stay, oldest_number, refused_page}
-use Rattle.iom_world.specs.Blocks.{CommitsOf, DeliversTo, DoesToBlocks, EndsStep, InsertsIntoBlock, LeavesBlock, PlugsBlock, ResetsBlock, SetsQueueOf, StepsOnce}
+use Rattle.iom_hardware.specs.Blocks.{BringsRefusal, HearsAnswer, HearsOldest, BlocksUnchanged, oldest_number, refused_page}
+use Rattle.iom_world.specs.Blocks.{CommitsOf, DeliversTo, EffectOnBlocks, EndsStep, InsertsIntoBlock, LeavesBlock, PlugsBlock, ResetsBlock, SetsQueueOf, StepsOnce}
 use Rattle.iom_world.specs.Runs.{GoesThrough}
-use Rattle.iom_world.specs.Seen.{Seen}
+use Rattle.iom_world.specs.Shown.{Shown}
 use Rattle.iom_block_life.specs.Lives.{HasFreshQueue}
 use Rattle.iom_block_life.specs.Runs.{LivesThrough, ends_life, went_on}
 use Rattle.iom_block_life.specs.UsedRings.{bytes_by, bytes_in, done_by_device, done_in, requests_in, wrote_when}
@@ -75,36 +75,36 @@ kept old new same within = subst (λ (q : QueueState). Writes old q [] []) (sym 
     (record { layout = refl; count = refl; bytes = append-nil (begun old); within = within })
 
 -- the device with the id is there, and wrote this meanwhile
-pub record WritesOn (id : ℕ) (old : QueueState) (new : List BlockSeen) (wrote : List Byte) (done : List Done) : Type 0 where
-  pub block : BlockSeen
+pub record WritesOn (id : ℕ) (old : QueueState) (new : List ShownBlock) (wrote : List Byte) (done : List Done) : Type 0 where
+  pub block : ShownBlock
   pub there : block_with new id ≡ Some block
   pub writes : Writes old block.device.front.queue wrote done
 
 -- a device that is there
-record Has (id : ℕ) (old : BlocksSeen) (block : BlockSeen) : Type 0 where
+record Has (id : ℕ) (old : ShownBlocks) (block : ShownBlock) : Type 0 where
   there : block_with old.blocks id ≡ Some block
   within : IsWithin block.device.front.queue
 
-same_on : (id : ℕ) (old : BlocksSeen) (new : List BlockSeen) (block : BlockSeen) → Has id old block → block_with new id ≡ Some block
+same_on : (id : ℕ) (old : ShownBlocks) (new : List ShownBlock) (block : ShownBlock) → Has id old block → block_with new id ≡ Some block
     → WritesOn id block.device.front.queue new [] []
 same_on id old new block has there =
     record { block = block; there = there; writes = kept block.device.front.queue block.device.front.queue refl has.within }
 
-stay_on : (id : ℕ) (old new : BlocksSeen) (block : BlockSeen) → Has id old block → Stay old new → WritesOn id block.device.front.queue new.blocks [] []
-stay_on id old new block has same = same_on id old new.blocks block has (ap (λ (inside : BlocksSeen). block_with inside.blocks id) same ∙ has.there)
+stay_on : (id : ℕ) (old new : ShownBlocks) (block : ShownBlock) → Has id old block → BlocksUnchanged old new → WritesOn id block.device.front.queue new.blocks [] []
+stay_on id old new block has same = same_on id old new.blocks block has (ap (λ (inside : ShownBlocks). block_with inside.blocks id) same ∙ has.there)
 
 -- one of the devices changes, and this one's queue stays, or is that of another life
-changes_on : (How : Device → Device → Type 0) (id other : ℕ) (old new : BlocksSeen) (block : BlockSeen) → Has id old block
+changes_on : (How : Device → Device → Type 0) (id other : ℕ) (old new : ShownBlocks) (block : ShownBlock) → Has id old block
     → (id ≡ other → (after : Device) → How block.device after → after.front.queue ≡ block.device.front.queue) → Changes How old other new
     → WritesOn id block.device.front.queue new.blocks [] []
-changes_on How id other old new block has stays changes = by (one_changes How old.blocks new.blocks id other block has.there changes.0)
+changes_on How id other old new block has unchanged changes = by (one_changes How old.blocks new.blocks id other block has.there changes.0)
   where
     by : ((other ≢ id) × (block_with new.blocks id ≡ Some block)) ⊎ IsChanged How new.blocks id other block → WritesOn id block.device.front.queue new.blocks [] []
     by (inl same) = same_on id old new.blocks block has same.1
     by (inr changed) = record {
       block = as_device block changed.after;
       there = changed.there;
-      writes = kept block.device.front.queue changed.after.front.queue (stays (sym changed.same) changed.after changed.changed) has.within;
+      writes = kept block.device.front.queue changed.after.front.queue (unchanged (sym changed.same) changed.after changed.changed) has.within;
     }
 
 -- an event that would end the life of this device is one of another
@@ -123,84 +123,84 @@ as_told old between after wrote told_wrote done told_done writes same is ended =
     subst (λ (q : QueueState). Writes old q told_wrote told_done) (sym same)
     (subst (λ (w : List Byte). Writes old between w told_done) (sym is) (subst (λ (d : List Done). Writes old between wrote d) (sym ended) writes))
 
-went_not : (told shown : Outcome) (before : Device) → told ≡ shown → went_on shown ≡ false → wrote_if (went_on told) before ≡ []
-went_not told shown before is none = ap (λ (c : Bool). wrote_if c before) (ap went_on is ∙ none)
+went_not : (reply shown : Outcome) (before : Device) → reply ≡ shown → went_on shown ≡ false → wrote_if (went_on reply) before ≡ []
+went_not reply shown before is none = ap (λ (c : Bool). wrote_if c before) (ap went_on is ∙ none)
 
 -- one that went on finished nothing
-none_done : (told : Outcome) → went_on told ≡ true → done_in told ≡ []
+none_done : (reply : Outcome) → went_on reply ≡ true → done_in reply ≡ []
 none_done (outcome.Stepped rest.Idle) goes = refl
 none_done (outcome.Stepped rest.Waiting) goes = refl
 none_done (outcome.Stepped rest.Asked) goes = refl
 none_done (outcome.Stepped (rest.Chain fault)) goes = refl
 none_done (outcome.Stepped (rest.Finished head len)) goes = absurd (true≢false (sym goes))
 none_done (outcome.Stepped rest.Down) goes = refl
-none_done told goes = refl
+none_done reply goes = refl
 
-step_writes : (old new : Parts) (id : ℕ) (told : Outcome) (before after : Device) → StepsOnce old id told new before after → IsWithin before.front.queue
-    → Writes before.front.queue after.front.queue (wrote_if (went_on told) before) (done_in told)
-step_writes old new id told before after once within = by once.taken once.steps once.ends
+step_writes : (old new : Parts) (id : ℕ) (reply : Outcome) (before after : Device) → StepsOnce old id reply new before after → IsWithin before.front.queue
+    → Writes before.front.queue after.front.queue (wrote_if (went_on reply) before) (done_in reply)
+step_writes old new id reply before after once within = by once.taken once.steps once.ends
   where
-    as_shown : (taken : Step) (shown : Outcome) → BlockDeviceSteps before taken once.between → EndsStep taken old id once.between told new after → told ≡ shown
+    as_shown : (taken : Step) (shown : Outcome) → BlockDeviceSteps before taken once.between → EndsStep taken old id once.between reply new after → reply ≡ shown
         → went_on shown ≡ false → wrote_at before taken ≡ [] → done_in shown ≡ done_at taken
-        → Writes before.front.queue after.front.queue (wrote_if (went_on told) before) (done_in told)
+        → Writes before.front.queue after.front.queue (wrote_if (went_on reply) before) (done_in reply)
     as_shown taken shown steps end is none wrote done =
-        as_told before.front.queue once.between.front.queue after.front.queue (wrote_at before taken) (wrote_if (went_on told) before) (done_at taken) (done_in told)
-        (steps_write before once.between taken steps within) (ends taken old new id told once.between after end).queue
-        (went_not told shown before is none ∙ sym wrote) (ap done_in is ∙ done)
+        as_told before.front.queue once.between.front.queue after.front.queue (wrote_at before taken) (wrote_if (went_on reply) before) (done_at taken) (done_in reply)
+        (steps_write before once.between taken steps within) (ends taken old new id reply once.between after end).queue
+        (went_not reply shown before is none ∙ sym wrote) (ap done_in is ∙ done)
 
-    by : (taken : Step) → BlockDeviceSteps before taken once.between → EndsStep taken old id once.between told new after
-        → Writes before.front.queue after.front.queue (wrote_if (went_on told) before) (done_in told)
+    by : (taken : Step) → BlockDeviceSteps before taken once.between → EndsStep taken old id once.between reply new after
+        → Writes before.front.queue after.front.queue (wrote_if (went_on reply) before) (done_in reply)
     by step.Idle steps end = as_shown step.Idle (outcome.Stepped rest.Idle) steps end end.0 refl refl refl
     by step.Waiting steps end = as_shown step.Waiting (outcome.Stepped rest.Waiting) steps end end.0 refl refl refl
     by step.Down steps end = as_shown step.Down (outcome.Stepped rest.Down) steps end end.0 refl refl refl
     by (step.Chain fault) steps end = as_shown (step.Chain fault) (outcome.Stepped (rest.Chain fault)) steps end end.0 refl refl refl
     by (step.Finished head len) steps end = as_shown (step.Finished head len) (outcome.Stepped (rest.Finished head len)) steps end end.0 refl refl refl
     by (step.Wants want) steps begins =
-        let goes = to_memory (caches_translations (kind_in old.devices id)) old id begins.access told new begins.begun in
-        as_told before.front.queue once.between.front.queue after.front.queue (wrote_at before (step.Wants want)) (wrote_if (went_on told) before) [] (done_in told)
-        (steps_write before once.between (step.Wants want) steps within) (ends (step.Wants want) old new id told once.between after begins).queue
-        (ap (λ (c : Bool). wrote_if c before) goes) (none_done told goes)
+        let goes = to_memory (caches_translations (kind_in old.devices id)) old id begins.access reply new begins.begun in
+        as_told before.front.queue once.between.front.queue after.front.queue (wrote_at before (step.Wants want)) (wrote_if (went_on reply) before) [] (done_in reply)
+        (steps_write before once.between (step.Wants want) steps within) (ends (step.Wants want) old new id reply once.between after begins).queue
+        (ap (λ (c : Bool). wrote_if c before) goes) (none_done reply goes)
 
-steps_on : (id other : ℕ) (old new : Seen) (told : Outcome) (block : BlockSeen) → Has id old.inside block
-    → Changes (StepsOnce old.parts other told new.parts) old.inside other new.inside
-    → WritesOn id block.device.front.queue new.inside.blocks (bytes_by id old (events.Step other) told) (done_by_device id (events.Step other) told)
-steps_on id other old new told block has changes =
-    by (one_changes (StepsOnce old.parts other told new.parts) old.inside.blocks new.inside.blocks id other block has.there changes.0)
+steps_on : (id other : ℕ) (old new : Shown) (reply : Outcome) (block : ShownBlock) → Has id old.inside block
+    → Changes (StepsOnce old.parts other reply new.parts) old.inside other new.inside
+    → WritesOn id block.device.front.queue new.inside.blocks (bytes_by id old (events.Step other) reply) (done_by_device id (events.Step other) reply)
+steps_on id other old new reply block has changes =
+    by (one_changes (StepsOnce old.parts other reply new.parts) old.inside.blocks new.inside.blocks id other block has.there changes.0)
   where
     wrote : List Byte
-    wrote = wrote_when (went_on told) (block_with old.inside.blocks id)
+    wrote = wrote_when (went_on reply) (block_with old.inside.blocks id)
 
-    as_is : (c : Bool) → (id == other) ≡ c → WritesOn id block.device.front.queue new.inside.blocks (if c then wrote else []) (if c then done_in told else [])
-        → WritesOn id block.device.front.queue new.inside.blocks (bytes_by id old (events.Step other) told) (done_by_device id (events.Step other) told)
-    as_is c is on = subst (λ (b : Bool). WritesOn id block.device.front.queue new.inside.blocks (if b then wrote else []) (if b then done_in told else [])) (sym is) on
+    as_is : (c : Bool) → (id == other) ≡ c → WritesOn id block.device.front.queue new.inside.blocks (if c then wrote else []) (if c then done_in reply else [])
+        → WritesOn id block.device.front.queue new.inside.blocks (bytes_by id old (events.Step other) reply) (done_by_device id (events.Step other) reply)
+    as_is c is on = subst (λ (b : Bool). WritesOn id block.device.front.queue new.inside.blocks (if b then wrote else []) (if b then done_in reply else [])) (sym is) on
 
     same_bytes : (c : Bool) → wrote_when c (Some block) ≡ wrote_if c block.device
     same_bytes true = refl
     same_bytes false = refl
 
-    by : ((other ≢ id) × (block_with new.inside.blocks id ≡ Some block)) ⊎ IsChanged (StepsOnce old.parts other told new.parts) new.inside.blocks id other block
-        → WritesOn id block.device.front.queue new.inside.blocks (bytes_by id old (events.Step other) told) (done_by_device id (events.Step other) told)
-    by (inl (differ, stays)) = as_is false (ne_eqb id other (λ same. differ (sym same))) (same_on id old.inside new.inside.blocks block has stays)
+    by : ((other ≢ id) × (block_with new.inside.blocks id ≡ Some block)) ⊎ IsChanged (StepsOnce old.parts other reply new.parts) new.inside.blocks id other block
+        → WritesOn id block.device.front.queue new.inside.blocks (bytes_by id old (events.Step other) reply) (done_by_device id (events.Step other) reply)
+    by (inl (differ, unchanged)) = as_is false (ne_eqb id other (λ same. differ (sym same))) (same_on id old.inside new.inside.blocks block has unchanged)
     by (inr changed) = as_is true (eq-eqb id other (sym changed.same))
         (record {
           block = as_device block changed.after;
           there = changed.there;
           writes =
-              subst (λ (w : List Byte). Writes block.device.front.queue changed.after.front.queue w (done_in told))
-              (sym (ap (λ (o : Option BlockSeen). wrote_when (went_on told) o) has.there ∙ same_bytes (went_on told)))
-              (step_writes old.parts new.parts other told block.device changed.after changed.changed has.within);
+              subst (λ (w : List Byte). Writes block.device.front.queue changed.after.front.queue w (done_in reply))
+              (sym (ap (λ (o : Option ShownBlock). wrote_when (went_on reply) o) has.there ∙ same_bytes (went_on reply)))
+              (step_writes old.parts new.parts other reply block.device changed.after changed.changed has.within);
         })
 
 -- the other events
 
-plugs : (number : Option ℕ) (id other : ℕ) (old new : BlocksSeen) (told : Outcome) (block : BlockSeen) → Has id old block → PlugsBlock number old other told new
+plugs : (number : Option ℕ) (id other : ℕ) (old new : ShownBlocks) (reply : Outcome) (block : ShownBlock) → Has id old block → PlugsBlock number old other reply new
     → WritesOn id block.device.front.queue new.blocks [] []
-plugs None id other old new told block has same = stay_on id old new block has same
+plugs None id other old new reply block has same = stay_on id old new block has same
 plugs (Some number) id other old new outcome.Done block has plugged =
     same_on id old new.blocks block has (ap (λ blocks. block_with blocks id) plugged.behind ∙ there_before old.blocks _ id block has.there)
-plugs (Some number) id other old new told block has same = stay_on id old new block has same
+plugs (Some number) id other old new reply block has same = stay_on id old new block has same
 
-inserts : (number id other : ℕ) (old new : BlocksSeen) (told : Outcome) (block : BlockSeen) → Has id old block → InsertsIntoBlock number old other told new
+inserts : (number id other : ℕ) (old new : ShownBlocks) (reply : Outcome) (block : ShownBlock) → Has id old block → InsertsIntoBlock number old other reply new
     → WritesOn id block.device.front.queue new.blocks [] []
 inserts number id other old new outcome.Done block has put = by (one_changes (HasDisk put.disk) old.blocks new.blocks id other block has.there put.changed)
   where
@@ -212,95 +212,95 @@ inserts number id other old new outcome.Done block has put = by (one_changes (Ha
       there = changed.there;
       writes = kept block.device.front.queue changed.after.front.queue (ap (λ (d : Device). d.front.queue) changed.changed.1) has.within;
     }
-inserts number id other old new told block has same = stay_on id old new block has same
+inserts number id other old new reply block has same = stay_on id old new block has same
 
-leaves : (id other : ℕ) (old new : BlocksSeen) (told : Outcome) (block : BlockSeen) → Has id old block → ends_life id (events.Detach other) told ≡ false
-    → LeavesBlock old other told new → WritesOn id block.device.front.queue new.blocks [] []
+leaves : (id other : ℕ) (old new : ShownBlocks) (reply : Outcome) (block : ShownBlock) → Has id old block → ends_life id (events.Detach other) reply ≡ false
+    → LeavesBlock old other reply new → WritesOn id block.device.front.queue new.blocks [] []
 leaves id other old new (outcome.Ticket ticket) block has lives changes =
     changes_on IsGivenUp id other old new block has (λ same after how. alive id other lives same) changes
-leaves id other old new told block has lives same = stay_on id old new block has same
+leaves id other old new reply block has lives same = stay_on id old new block has same
 
-resets : (id other : ℕ) (old new : BlocksSeen) (told : Outcome) (block : BlockSeen) → Has id old block → ends_life id (events.Reset other) told ≡ false
-    → ResetsBlock old other told new → WritesOn id block.device.front.queue new.blocks [] []
+resets : (id other : ℕ) (old new : ShownBlocks) (reply : Outcome) (block : ShownBlock) → Has id old block → ends_life id (events.Reset other) reply ≡ false
+    → ResetsBlock old other reply new → WritesOn id block.device.front.queue new.blocks [] []
 resets id other old new outcome.Done block has lives changes =
     changes_on IsReset id other old new block has (λ same after how. alive id other lives same) changes
-resets id other old new told block has lives same = stay_on id old new block has same
+resets id other old new reply block has lives same = stay_on id old new block has same
 
-queues : (layout : Layout) (id other : ℕ) (old new : BlocksSeen) (told : Outcome) (block : BlockSeen) → Has id old block → ends_life id (events.Reset other) told ≡ false
-    → SetsQueueOf layout old other told new → WritesOn id block.device.front.queue new.blocks [] []
+queues : (layout : Layout) (id other : ℕ) (old new : ShownBlocks) (reply : Outcome) (block : ShownBlock) → Has id old block → ends_life id (events.Reset other) reply ≡ false
+    → SetsQueueOf layout old other reply new → WritesOn id block.device.front.queue new.blocks [] []
 queues layout id other old new outcome.Done block has lives changes =
     changes_on (SetsUp layout) id other old new block has (λ same after how. alive id other lives same) changes
-queues layout id other old new told block has lives same = stay_on id old new block has same
+queues layout id other old new reply block has lives same = stay_on id old new block has same
 
-hears_oldest : (number : Option ℕ) (bytes : List ℕ) (id other : ℕ) (old new : BlocksSeen) (block : BlockSeen) → Has id old block → HearsOldest number bytes old other new
+hears_oldest : (number : Option ℕ) (bytes : List ℕ) (id other : ℕ) (old new : ShownBlocks) (block : ShownBlock) → Has id old block → HearsOldest number bytes old other new
     → WritesOn id block.device.front.queue new.blocks [] []
 hears_oldest None bytes id other old new block has same = stay_on id old new block has same
 hears_oldest (Some number) bytes id other old new block has changes =
     changes_on (HearsMade number bytes) id other old new block has (λ same after how. (hears_made number bytes block.device after how).queue) changes
 
-commits : (number : Option ℕ) (id other : ℕ) (old new : BlocksSeen) (told : Outcome) (block : BlockSeen) → Has id old block → CommitsOf number old other told new
+commits : (number : Option ℕ) (id other : ℕ) (old new : ShownBlocks) (reply : Outcome) (block : ShownBlock) → Has id old block → CommitsOf number old other reply new
     → WritesOn id block.device.front.queue new.blocks [] []
 commits number id other old new (outcome.Read bytes) block has changes = hears_oldest number bytes.items id other old new block has changes
 commits number id other old new (outcome.Wrote count) block has changes = hears_oldest number [] id other old new block has changes
-commits number id other old new told block has same = stay_on id old new block has same
+commits number id other old new reply block has same = stay_on id old new block has same
 
-hears_answer : (page : Option ℕ) (id other : ℕ) (old new : BlocksSeen) (block : BlockSeen) → Has id old block → HearsAnswer page old other new
+hears_answer : (page : Option ℕ) (id other : ℕ) (old new : ShownBlocks) (block : ShownBlock) → Has id old block → HearsAnswer page old other new
     → WritesOn id block.device.front.queue new.blocks [] []
 hears_answer None id other old new block has same = stay_on id old new block has same
 hears_answer (Some page) id other old new block has changes =
     changes_on (HearsRefusal page) id other old new block has (λ same after how. (hears_refusal page block.device after how).queue) changes
 
-brings : (on : Option OnLink) (id : ℕ) (old new : BlocksSeen) (block : BlockSeen) → Has id old block → BringsRefusal on old new
+brings : (on : Option OnLink) (id : ℕ) (old new : ShownBlocks) (block : ShownBlock) → Has id old block → BringsRefusal on old new
     → WritesOn id block.device.front.queue new.blocks [] []
 brings None id old new block has same = stay_on id old new block has same
 brings (Some on) id old new block has heard = hears_answer (refused_page on.message) id on.device old new block has heard
 
-delivers : (on : Option OnLink) (id : ℕ) (old new : BlocksSeen) (told : Outcome) (block : BlockSeen) → Has id old block → DeliversTo on old told new
+delivers : (on : Option OnLink) (id : ℕ) (old new : ShownBlocks) (reply : Outcome) (block : ShownBlock) → Has id old block → DeliversTo on old reply new
     → WritesOn id block.device.front.queue new.blocks [] []
 delivers on id old new outcome.AnswerRefused block has brought = brings on id old new block has brought
-delivers on id old new told block has same = stay_on id old new block has same
+delivers on id old new reply block has same = stay_on id old new block has same
 
 -- any event
-event_on : (id : ℕ) (old new : Seen) (event : Event) (told : Outcome) (block : BlockSeen) → Has id old.inside block → ends_life id event told ≡ false
-    → DoesToBlocks old event told new → WritesOn id block.device.front.queue new.inside.blocks (bytes_by id old event told) (done_by_device id event told)
-event_on id old new (events.Plug other what) told block has lives does = plugs (disk_of what) id other old.inside new.inside told block has does
-event_on id old new (events.Medium other number) told block has lives does = inserts number id other old.inside new.inside told block has does
-event_on id old new (events.Detach other) told block has lives does = leaves id other old.inside new.inside told block has lives does
-event_on id old new (events.Revive other) told block has lives does = resets id other old.inside new.inside told block has lives does
-event_on id old new (events.Reset other) told block has lives does = resets id other old.inside new.inside told block has lives does
-event_on id old new (events.Queue other size descriptors available used) told block has lives does =
-    queues (layout_of size descriptors available used) id other old.inside new.inside told block has lives does
-event_on id old new (events.Commit other) told block has lives does = commits (oldest_number (row_of (flights_of old.parts.iommu).rows other)) id other old.inside new.inside told block has does
-event_on id old new (events.Deliver place) told block has lives does = delivers (slice_get old.parts.fabric place) id old.inside new.inside told block has does
-event_on id old new (events.Step other) told block has lives does = steps_on id other old new told block has does.1
-event_on id old new (events.Status other) told block has lives does = stay_on id old.inside new.inside block has does.2
-event_on id old new event told block has lives does = stay_on id old.inside new.inside block has does
+event_on : (id : ℕ) (old new : Shown) (event : Event) (reply : Outcome) (block : ShownBlock) → Has id old.inside block → ends_life id event reply ≡ false
+    → EffectOnBlocks old event reply new → WritesOn id block.device.front.queue new.inside.blocks (bytes_by id old event reply) (done_by_device id event reply)
+event_on id old new (events.Plug other what) reply block has lives effect = plugs (disk_of what) id other old.inside new.inside reply block has effect
+event_on id old new (events.Medium other number) reply block has lives effect = inserts number id other old.inside new.inside reply block has effect
+event_on id old new (events.Detach other) reply block has lives effect = leaves id other old.inside new.inside reply block has lives effect
+event_on id old new (events.Revive other) reply block has lives effect = resets id other old.inside new.inside reply block has lives effect
+event_on id old new (events.Reset other) reply block has lives effect = resets id other old.inside new.inside reply block has lives effect
+event_on id old new (events.Queue other size descriptors available used) reply block has lives effect =
+    queues (layout_of size descriptors available used) id other old.inside new.inside reply block has lives effect
+event_on id old new (events.Commit other) reply block has lives effect = commits (oldest_number (row_of (flights_of old.parts.iommu).rows other)) id other old.inside new.inside reply block has effect
+event_on id old new (events.Deliver place) reply block has lives effect = delivers (slice_get old.parts.fabric place) id old.inside new.inside reply block has effect
+event_on id old new (events.Step other) reply block has lives effect = steps_on id other old new reply block has effect.1
+event_on id old new (events.Status other) reply block has lives effect = stay_on id old.inside new.inside block has effect.2
+event_on id old new event reply block has lives effect = stay_on id old.inside new.inside block has effect
 
 -- all events, one after another
-runs_on : (events : List Event) (outcomes : List Outcome) (traces : List (Option Trace)) (state last : State) (run : Run state events outcomes last) (old new : Seen)
-    (id : ℕ) (block : BlockSeen) (through : GoesThrough state old events outcomes traces last run new) → Has id old.inside block → LivesThrough id events outcomes
+runs_on : (events : List Event) (outcomes : List Outcome) (traces : List (Option Trace)) (state last : State) (run : Run state events outcomes last) (old new : Shown)
+    (id : ℕ) (block : ShownBlock) (through : GoesThrough state old events outcomes traces last run new) → Has id old.inside block → LivesThrough id events outcomes
     → WritesOn id block.device.front.queue new.inside.blocks (bytes_in id state old events outcomes traces last run new through) (requests_in id events outcomes)
 runs_on [] [] [] state last run old new id block through has lives =
-    same_on id old.inside new.inside.blocks block has (ap (λ seen. block_with seen.inside.blocks id) through.1 ∙ has.there)
+    same_on id old.inside new.inside.blocks block has (ap (λ shown. block_with shown.inside.blocks id) through.1 ∙ has.there)
 runs_on [] [] (trace ∷ traces) state last run old new id block through has lives = absurd through
-runs_on [] (told ∷ outcomes) traces state last run old new id block through has lives = absurd through
+runs_on [] (reply ∷ outcomes) traces state last run old new id block through has lives = absurd through
 runs_on (event ∷ events) [] traces state last run old new id block through has lives = absurd through
-runs_on (event ∷ events) (told ∷ outcomes) [] state last run old new id block through has lives = absurd through
-runs_on (event ∷ events) (told ∷ outcomes) (trace ∷ traces) state last (next, step, rest) old new id block (shows, mid, happens, counts, later) has (lives, others) =
-    let one = event_on id old mid event told block has lives happens.blocks in
+runs_on (event ∷ events) (reply ∷ outcomes) [] state last run old new id block through has lives = absurd through
+runs_on (event ∷ events) (reply ∷ outcomes) (trace ∷ traces) state last (next, step, rest) old new id block (shows, mid, happens, counts, later) has (lives, others) =
+    let one = event_on id old mid event reply block has lives happens.blocks in
     let more = runs_on events outcomes traces next last rest mid new id one.block later (record { there = one.there; within = one.writes.within }) others in
     record {
       block = more.block;
       there = more.there;
       writes =
-          joined block.device.front.queue one.block.device.front.queue more.block.device.front.queue (bytes_by id old event told)
-          (bytes_in id next mid events outcomes traces last rest new later) (done_by_device id event told) (requests_in id events outcomes) one.writes more.writes;
+          joined block.device.front.queue one.block.device.front.queue more.block.device.front.queue (bytes_by id old event reply)
+          (bytes_in id next mid events outcomes traces last rest new later) (done_by_device id event reply) (requests_in id events outcomes) one.writes more.writes;
     }
 
-pub runs_write : (state last : State) (old new : Seen) (events : List Event) (outcomes : List Outcome) (traces : List (Option Trace)) (run : Run state events outcomes last)
-    (id : ℕ) (layout : Layout) (block : BlockSeen) (through : GoesThrough state old events outcomes traces last run new)
+pub runs_write : (state last : State) (old new : Shown) (events : List Event) (outcomes : List Outcome) (traces : List (Option Trace)) (run : Run state events outcomes last)
+    (id : ℕ) (layout : Layout) (block : ShownBlock) (through : GoesThrough state old events outcomes traces last run new)
     → block_with old.inside.blocks id ≡ Some block → HasFreshQueue layout block.device → LivesThrough id events outcomes
-    → (after : BlockSeen) × (block_with new.inside.blocks id ≡ Some after)
+    → (after : ShownBlock) × (block_with new.inside.blocks id ≡ Some after)
     × (bytes_in id state old events outcomes traces last run new through ≡ elements_from layout 0 (requests_in id events outcomes) ++ begun after.device.front.queue)
 runs_write state last old new events outcomes traces run id layout block through there fresh lives =
     let within : IsWithin block.device.front.queue = subst (λ (q : QueueState). IsWithin q) (sym fresh.queue) tt in

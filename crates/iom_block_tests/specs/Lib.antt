@@ -1,1 +1,1 @@
-pub mod SoundIsFact
+pub mod InvariantIsFact

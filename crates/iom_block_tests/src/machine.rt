@@ -3,14 +3,14 @@
 // A test is a table of acts, which one function takes: what a test owns, and what it compares in place, each later
 // proof would carry.
 ghost use Rattle.std.specs.Prelude.{◌+◌, ◌<◌, ◌^◌};
-ghost use Rattle.iom_block_tests.specs.SoundIsFact.{sound_hardware_prop};
-ghost use Rattle.iom_hardware.specs.Sound.{IsSoundHardware};
+ghost use Rattle.iom_block_tests.specs.InvariantIsFact.{hardware_invariant_prop};
+ghost use Rattle.iom_hardware.specs.Invariant.{HardwareInvariant};
 
 use crate::expect::expect;
 use crate::setup::{DDTP, FRAMES, ONE_LEVEL, QUEUE};
 use iom_base::{NewDevice, Refusal};
 use iom_board::Delivered;
-use iom_board::laws::software_keeps_sound;
+use iom_board::laws::software_keeps_invariant;
 use iom_hardware::{Hardware, Stepped};
 use iom_iommu::Reply;
 use iom_registers::Mmio;
@@ -50,7 +50,7 @@ pub(crate) enum Act {
 pub(crate) struct Machine {
     hardware: Hardware<MemoryDisk>,
     alloc: Global,
-    ghost sound: { IsSoundHardware hardware } by { sound_hardware_prop hardware },
+    ghost invariants: { HardwareInvariant hardware } by { hardware_invariant_prop hardware },
 }
 
 impl Machine {
@@ -74,7 +74,7 @@ impl Machine {
     }
 
     fn turn_on(&mut self, rt: &impl Abort) {
-        software_keeps_sound();
+        software_keeps_invariant();
         let written = self.hardware.board.iommu.write(DDTP, 8, ONE_LEVEL);
         expect(rt, written.is_ok());
     }

@@ -12,7 +12,7 @@ use Rattle.iom_device.specs.declared.device.Device.{Device}
 use Rattle.iom_device.specs.Caches.{device_with, cache_in, cache_of, epoch_of, epoch_in, with_cache, with_has_disk, HasItsCache, HaveTheirCaches}
 use Rattle.iom_device.specs.Calls.{reset_of, with_reset}
 use Rattle.iom_fabric.specs.declared.fabric.OnLink.{OnLink}
-use Rattle.iom_board.specs.Sound.{device_ids, AreOfOneId, IsOfPlugged, IsMessageOf}
+use Rattle.iom_board.specs.Invariant.{device_ids, AreOfOneId, IsOfPlugged, IsMessageOf}
 
 -- WHAT IS READ OFF THE IDS
 

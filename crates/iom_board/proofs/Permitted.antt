@@ -10,7 +10,7 @@ use Rattle.iom_inflight.specs.Flights.{FlightRow, row_of}
 use Rattle.iom_board.specs.ByDevice.{ByDevice}
 use Rattle.iom_board.specs.BoardParts.{BoardParts}
 use Rattle.iom_board.specs.Permits.{IsPermitted}
-use Rattle.iom_board.specs.Sound.{device_ids, flight_ids}
+use Rattle.iom_board.specs.Invariant.{device_ids, flight_ids}
 
 -- a refusal, for the first that applies
 pub refused : {A : Type 0} (can : DeviceKind → Bool) (Call : BoardParts → A → BoardParts → Type 0) (old : BoardParts) (id : ℕ) (answer : Option Refusal) (why : Refusal)

@@ -14,7 +14,7 @@ use Rattle.iom_fabric.specs.Messages.{repeated}
 use Rattle.iom_iommu.specs.declared.fetched.Fetched.{Fetched}
 use Rattle.iom_iommu.specs.declared.fetched.Fetched.TheVariants.{Did, Waiting, Empty, Stopped}
 use Rattle.iom_board.specs.Messages.{with_message, with_opened, named_range}
-use Rattle.iom_board.specs.Sound.{IsOfPlugged, IsMessageOf}
+use Rattle.iom_board.specs.Invariant.{IsOfPlugged, IsMessageOf}
 
 -- what a fabric sends
 pub sent_as : (fabric after : List OnLink) (device : ℕ) (message : Message) (result : Bool) → result ≡ nat_lt (length fabric) 64

@@ -8,19 +8,19 @@ use Rattle.iom_inflight.specs.Flights.{Flights}
 use Rattle.iom_iommu.specs.Parts.{registers_of, slots_of}
 use Rattle.iom_registers.specs.Queues.{is_command_queue_on}
 use Rattle.iom_registers.specs.Table.{written}
-use Rattle.iom_board.specs.Software.{SoftwareKeepsSound, WritesAreSoftware}
-use Rattle.iom_board.specs.Sound.{device_ids, flight_ids, AreOfOneId, IsMessageOf}
+use Rattle.iom_board.specs.Software.{SoftwareKeepsInvariant, WritesAreSoftware}
+use Rattle.iom_board.specs.Invariant.{device_ids, flight_ids, AreOfOneId, IsMessageOf}
 
-pub software_keeps : SoftwareKeepsSound
-software_keeps old new events sound changes = record {
-  size = changes.frames ∙ sound.size ∙ sym changes.size;
-  own_ids = subst AreOfOneId (sym changes.devices) sound.own_ids;
-  rows = ap (λ (f : Flights). flight_ids f.rows) changes.flights ∙ sound.rows ∙ sym (ap device_ids changes.devices);
-  caches = subst HaveTheirCaches (sym changes.devices) sound.caches;
-  askers = subst (λ (ds : List Device). All (IsMessageOf ds) new.fabric) (sym changes.devices) (subst (λ (f : List OnLink). All (IsMessageOf old.devices) f) (sym changes.fabric) sound.askers);
-  accepted = subst (λ (f : Flights). f.so_far ≤ events) (sym changes.flights) sound.accepted;
-  serials = subst (λ n. n ≤ events) (sym changes.last) sound.serials;
-  epochs = λ id. subst (λ (ds : List Device). epoch_in ds id ≤ events) (sym changes.devices) (sound.epochs id);
+pub software_keeps : SoftwareKeepsInvariant
+software_keeps old new events invariants changes = record {
+  size = changes.frames ∙ invariants.size ∙ sym changes.size;
+  own_ids = subst AreOfOneId (sym changes.devices) invariants.own_ids;
+  rows = ap (λ (f : Flights). flight_ids f.rows) changes.flights ∙ invariants.rows ∙ sym (ap device_ids changes.devices);
+  caches = subst HaveTheirCaches (sym changes.devices) invariants.caches;
+  askers = subst (λ (ds : List Device). All (IsMessageOf ds) new.fabric) (sym changes.devices) (subst (λ (f : List OnLink). All (IsMessageOf old.devices) f) (sym changes.fabric) invariants.askers);
+  accepted = subst (λ (f : Flights). f.so_far ≤ events) (sym changes.flights) invariants.accepted;
+  serials = subst (λ n. n ≤ events) (sym changes.last) invariants.serials;
+  epochs = λ id. subst (λ (ds : List Device). epoch_in ds id ≤ events) (sym changes.devices) (invariants.epochs id);
 }
 
 pub writes_are : WritesAreSoftware

@@ -25,7 +25,7 @@ use Rattle.iom_iommu.specs.Parts.{flights_of, AddsDevice}
 use Rattle.iom_board.specs.BoardParts.{BoardParts}
 use Rattle.iom_iommu.specs.OwnIommu.{Iommu}
 use Rattle.iom_board.specs.Plugging.{StandsBehindOthers, newly_plugged, why_not_plugged}
-use Rattle.iom_board.specs.Sound.{device_ids, flight_ids, AreOfOneId, IsOfPlugged, IsMessageOf, IsSoundBoard}
+use Rattle.iom_board.specs.Invariant.{device_ids, flight_ids, AreOfOneId, IsOfPlugged, IsMessageOf, BoardInvariant}
 use Rattle.iom_board.proofs.DeviceLists.{ids_set, ids_has, epoch_has, caches_has, caches_reset, epochs_reset}
 use Rattle.iom_board.proofs.SoundThen.{KeepsDevices}
 
@@ -65,20 +65,20 @@ length_rows : (rows : List FlightRow) (devices : List Device) → flight_ids row
 length_rows rows devices same = sym (length-map rows (λ (row : FlightRow). row.device)) ∙ ap (λ (ids : List ℕ). length ids) same ∙ length-map devices (λ (device : Device). device.id)
 
 -- so the IOMMU adds it
-pub added_new : (disks : List ℕ) (old : BoardParts) (events id : ℕ) (what : NewDevice) (added : Bool) (new : Iommu) → IsSoundBoard old events → NoneApplies (why_not_plugged disks old id what)
+pub added_new : (disks : List ℕ) (old : BoardParts) (events id : ℕ) (what : NewDevice) (added : Bool) (new : Iommu) → BoardInvariant old events → NoneApplies (why_not_plugged disks old id what)
     → AddsDevice old.iommu id added new → AddsDevice old.iommu id true new
-added_new disks old events id what true new sound none adds = adds
-added_new disks old events id what false new sound none adds = absurd (by adds.flights.0)
+added_new disks old events id what true new invariants none adds = adds
+added_new disks old events id what false new invariants none adds = absurd (by adds.flights.0)
   where
     row : row_of (flights_of old.iommu).rows id ≡ None
-    row = no_row (flights_of old.iommu).rows old.devices id sound.rows (absent_of disks old id what none)
+    row = no_row (flights_of old.iommu).rows old.devices id invariants.rows (absent_of disks old id what none)
 
     few : length old.devices < 16
     few = few_of disks old id what none
 
     by : IsSome (row_of (flights_of old.iommu).rows id) ⊎ (16 ≤ length (flights_of old.iommu).rows) → ⊥
     by (inl some) = (let is : IsSome {T = FlightRow} None = subst (λ (o : Option FlightRow). IsSome o) row some in cc)
-    by (inr many) = (let long = length_rows (flights_of old.iommu).rows old.devices sound.rows in omega (arith, many, long, few))
+    by (inr many) = (let long = length_rows (flights_of old.iommu).rows old.devices invariants.rows in omega (arith, many, long, few))
 
 -- THE DEVICES, where one more is plugged in
 
@@ -166,56 +166,56 @@ its_cache id what = by (has_cache (kind_of what))
     by false = refl
 
 -- A DEVICE IS PLUGGED IN
-pub adds_sound : (disks : List ℕ) (old new : BoardParts) (events id : ℕ) (what : NewDevice) (left : List ℕ) → IsSoundBoard old events → StandsBehindOthers disks old id what new left
-    → IsSoundBoard new (events + 1)
-adds_sound disks old new events id what left sound adds =
+pub adds_sound : (disks : List ℕ) (old new : BoardParts) (events id : ℕ) (what : NewDevice) (left : List ℕ) → BoardInvariant old events → StandsBehindOthers disks old id what new left
+    → BoardInvariant new (events + 1)
+adds_sound disks old new events id what left invariants adds =
     let one : Device = newly_plugged id what in
     let few : length old.devices < 16 = few_of disks old id what adds.admitted in
     let long : length (old.devices ++ one ∷ []) ≡ length old.devices + 1 = length_pushed old.devices one in
     let rows_now : (flights_of new.iommu).rows ≡ (flights_of old.iommu).rows ++ new_row id ∷ [] = ap (λ (f : Flights). f.rows) adds.row.flights.2 in
     record {
-      size = adds.row.frames ∙ sound.size ∙ sym (ap (λ m. length m) adds.memory);
-      own_ids = subst AreOfOneId (sym adds.devices) (own_ids_new old.devices one sound.own_ids (none_at old.devices id (absent_of disks old id what adds.admitted)));
+      size = adds.row.frames ∙ invariants.size ∙ sym (ap (λ m. length m) adds.memory);
+      own_ids = subst AreOfOneId (sym adds.devices) (own_ids_new old.devices one invariants.own_ids (none_at old.devices id (absent_of disks old id what adds.admitted)));
       rows = ap flight_ids rows_now ∙ map_pushed (λ (r : FlightRow). r.device) (flights_of old.iommu).rows (new_row id)
-          ∙ ap (λ ids. ids ++ id ∷ []) sound.rows ∙ sym (ap device_ids adds.devices ∙ map_pushed (λ (d : Device). d.id) old.devices one);
-      caches = subst HaveTheirCaches (sym adds.devices) (All-push HasItsCache old.devices one sound.caches (its_cache id what));
+          ∙ ap (λ ids. ids ++ id ∷ []) invariants.rows ∙ sym (ap device_ids adds.devices ∙ map_pushed (λ (d : Device). d.id) old.devices one);
+      caches = subst HaveTheirCaches (sym adds.devices) (All-push HasItsCache old.devices one invariants.caches (its_cache id what));
       askers = subst (λ (ds : List Device). All (IsMessageOf ds) new.fabric) (sym adds.devices)
-          (subst (λ (f : List OnLink). All (IsMessageOf (old.devices ++ one ∷ [])) f) (sym adds.fabric) (λ k d lt. message_pushed old.devices one (get_or old.fabric k d) (sound.askers k d lt)));
-      accepted = subst (λ (f : Flights). f.so_far ≤ events + 1) (sym adds.row.flights.2) (let low = sound.accepted in omega (arith, low));
-      serials = subst (λ (s : OpenSlots). s.last ≤ events + 1) (sym adds.row.slots) (let low = sound.serials in omega (arith, low));
+          (subst (λ (f : List OnLink). All (IsMessageOf (old.devices ++ one ∷ [])) f) (sym adds.fabric) (λ k d lt. message_pushed old.devices one (get_or old.fabric k d) (invariants.askers k d lt)));
+      accepted = subst (λ (f : Flights). f.so_far ≤ events + 1) (sym adds.row.flights.2) (let low = invariants.accepted in omega (arith, low));
+      serials = subst (λ (s : OpenSlots). s.last ≤ events + 1) (sym adds.row.slots) (let low = invariants.serials in omega (arith, low));
       epochs = λ d. subst (λ (ds : List Device). epoch_in ds d ≤ events + 1) (sym adds.devices)
-          (epochs_pushed old.devices one (events + 1) d (new_epoch (kind_of what) (events + 1)) (let low = sound.epochs d in omega (arith, low)));
+          (epochs_pushed old.devices one (events + 1) d (new_epoch (kind_of what) (events + 1)) (let low = invariants.epochs d in omega (arith, low)));
     }
 
 -- A DEVICE IS RESET
-pub reset_keeps : (old : BoardParts) (events id : ℕ) → IsSoundBoard old events → KeepsDevices old.devices (with_reset old.devices id) events
-reset_keeps old events id sound = record {
+pub reset_keeps : (old : BoardParts) (events id : ℕ) → BoardInvariant old events → KeepsDevices old.devices (with_reset old.devices id) events
+reset_keeps old events id invariants = record {
   ids = ids_set old.devices id (reset_of (cache_of old.devices id));
-  caches = caches_reset old.devices id sound.caches;
-  epochs = epochs_reset old.devices id events sound.epochs;
+  caches = caches_reset old.devices id invariants.caches;
+  epochs = epochs_reset old.devices id events invariants.epochs;
 }
 
 -- A DISK IS PUT IN, OR GOES
-pub has_keeps : (old : BoardParts) (events id : ℕ) (has : Bool) → IsSoundBoard old events → KeepsDevices old.devices (with_has_disk old.devices id has) events
-has_keeps old events id has sound = record {
+pub has_keeps : (old : BoardParts) (events id : ℕ) (has : Bool) → BoardInvariant old events → KeepsDevices old.devices (with_has_disk old.devices id has) events
+has_keeps old events id has invariants = record {
   ids = ids_has old.devices id has;
-  caches = caches_has old.devices id has sound.caches;
-  epochs = λ d. subst (λ n. n ≤ events + 1) (sym (epoch_has old.devices id has d)) (let low = sound.epochs d in omega (arith, low));
+  caches = caches_has old.devices id has invariants.caches;
+  epochs = λ d. subst (λ n. n ≤ events + 1) (sym (epoch_has old.devices id has d)) (let low = invariants.epochs d in omega (arith, low));
 }
 
-pub gone_keeps : (old : BoardParts) (events id : ℕ) → IsSoundBoard old events → KeepsDevices old.devices (with_block_reset (with_has_disk old.devices id false) id) events
-gone_keeps old events id sound = by (option_map_or is_block_device (kind_in (with_has_disk old.devices id false) id) false)
+pub gone_keeps : (old : BoardParts) (events id : ℕ) → BoardInvariant old events → KeepsDevices old.devices (with_block_reset (with_has_disk old.devices id false) id) events
+gone_keeps old events id invariants = by (option_map_or is_block_device (kind_in (with_has_disk old.devices id false) id) false)
   where
     without : List Device
     without = with_has_disk old.devices id false
 
     low : (d : ℕ) → epoch_in without d ≤ events
-    low d = subst (λ n. n ≤ events) (sym (epoch_has old.devices id false d)) (sound.epochs d)
+    low d = subst (λ n. n ≤ events) (sym (epoch_has old.devices id false d)) (invariants.epochs d)
 
     by : (b : Bool) → KeepsDevices old.devices (if b then with_reset without id else without) events
     by true = record {
       ids = ids_set without id (reset_of (cache_of without id)) ∙ ids_has old.devices id false;
-      caches = caches_reset without id (caches_has old.devices id false sound.caches);
+      caches = caches_reset without id (caches_has old.devices id false invariants.caches);
       epochs = epochs_reset without id events low;
     }
-    by false = has_keeps old events id false sound
+    by false = has_keeps old events id false invariants

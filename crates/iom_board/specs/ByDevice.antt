@@ -21,7 +21,7 @@ pub record FindsWrongKind {A : Type 0} (can : DeviceKind → Bool) (old : BoardP
   pub same : new ≡ old
 
 -- the device does it, and this comes of it
-pub record DoesSo {A : Type 0} (can : DeviceKind → Bool) (Call : BoardParts → A → BoardParts → Type 0) (old : BoardParts) (id : ℕ)
+pub record HasEffect {A : Type 0} (can : DeviceKind → Bool) (Call : BoardParts → A → BoardParts → Type 0) (old : BoardParts) (id : ℕ)
     (answer : Result A Refusal) (new : BoardParts) : Type 0 where
   pub able : IsAble can old.devices id
   pub given : A
@@ -31,4 +31,4 @@ pub record DoesSo {A : Type 0} (can : DeviceKind → Bool) (Call : BoardParts �
 -- A CALL OF A DEVICE that is of a kind that can
 abbrev pub ByDevice : {A : Type 0} → (DeviceKind → Bool) → (BoardParts → A → BoardParts → Type 0) → BoardParts → ℕ → Result A Refusal → BoardParts → Type 0
 ByDevice can Call old id answer new =
-    FindsNoDevice old id answer new ⊎ FindsWrongKind can old id answer new ⊎ DoesSo can Call old id answer new
+    FindsNoDevice old id answer new ⊎ FindsWrongKind can old id answer new ⊎ HasEffect can Call old id answer new

@@ -8,11 +8,11 @@ pub mod Deliveries
 pub mod Commits
 pub mod Processor
 pub mod Plugging
-pub mod Sound
+pub mod Invariant
 pub mod Senders
 pub mod PowerOn
 pub mod Counted
 pub mod Looks
-pub mod SoundIsFact
+pub mod InvariantIsFact
 pub mod Software
 pub mod Same

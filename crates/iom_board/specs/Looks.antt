@@ -8,13 +8,13 @@ use Rattle.iom_iommu.specs.Fetches.{IsAtCommand}
 use Rattle.iom_board.specs.BoardParts.{board_parts}
 use Rattle.iom_board.specs.Commits.{TakesCommand}
 use Rattle.iom_board.specs.Counted.{IsCounted}
-use Rattle.iom_board.specs.Sound.{IsSoundBoard}
+use Rattle.iom_board.specs.Invariant.{BoardInvariant}
 use Rattle.iom_board.specs.declared.board.Board.{Board}
 
--- a whole fetch, with its answer: the board stays sound, and the event is counted
+-- a whole fetch, with its answer: the board keeps its invariant, and the event is counted
 pub record FetchesOnce (old : Board) (fetched : Fetched) (new : Board) : Type 0 where
   pub effect : TakesCommand (board_parts old) fetched (board_parts new)
-  pub sound : IsSoundBoard (board_parts new) new.events
+  pub invariants : BoardInvariant (board_parts new) new.events
   pub counted : IsCounted old new
 
 -- A LOOK: of a queue that is stopped or empty it is a whole fetch; before a command nothing changes, and nothing is counted yet

@@ -3,7 +3,7 @@ use Rattle.std.specs.Prelude.{◌≡◌, ℕ, length}
 use Rattle.iom_iommu.specs.Parts.{after_write, flights_of, frames_of, slots_of}
 use Rattle.iom_registers.specs.declared.register.Register.{Register}
 use Rattle.iom_board.specs.BoardParts.{BoardParts}
-use Rattle.iom_board.specs.Sound.{IsSoundBoard}
+use Rattle.iom_board.specs.Invariant.{BoardInvariant}
 
 -- memory has as many frames, no access in flight changes and no serial is given, and devices and messages stay
 pub record ChangesAsSoftware (old new : BoardParts) : Type 0 where
@@ -14,9 +14,9 @@ pub record ChangesAsSoftware (old new : BoardParts) : Type 0 where
   pub devices : new.devices ≡ old.devices
   pub fabric : new.fabric ≡ old.fabric
 
--- WHATEVER SOFTWARE DOES, a board stays sound
-abbrev pub SoftwareKeepsSound : Type 0
-SoftwareKeepsSound = (old new : BoardParts) (events : ℕ) → IsSoundBoard old events → ChangesAsSoftware old new → IsSoundBoard new events
+-- WHATEVER SOFTWARE DOES, a board keeps its invariant
+abbrev pub SoftwareKeepsInvariant : Type 0
+SoftwareKeepsInvariant = (old new : BoardParts) (events : ℕ) → BoardInvariant old events → ChangesAsSoftware old new → BoardInvariant new events
 
 -- a write of a register is such a change
 abbrev pub WritesAreSoftware : Type 0

@@ -6,7 +6,7 @@ ghost use Rattle.iom_iommu.specs.Requests.{IsWithinFrame};
 ghost use Rattle.iom_board.specs.Commits.{CommitsOldestAccess, WouldMake, StandWhereMade};
 ghost use Rattle.iom_board.specs.Counted.{IsCounted};
 ghost use Rattle.iom_board.specs.BoardParts.{board_parts};
-ghost use Rattle.iom_board.specs.Sound.{IsSoundBoard};
+ghost use Rattle.iom_board.specs.Invariant.{BoardInvariant};
 
 use crate::board::Board;
 use crate::permits::Act;
@@ -19,11 +19,11 @@ impl Board {
     /// the id, `NoSuchDevice`.
     #[inline(always)]
     pub fn commit(&mut self, id: DeviceId) -> Result<Option<MadeAt>, Refusal>
-        requires sound { IsSoundBoard (board_parts self.old) self.old.events }
+        requires invariants { BoardInvariant (board_parts self.old) self.old.events }
         requires count { self.old.events + 1 < 2 ^ 64 }
         ensures effect { CommitsOldestAccess (board_parts self.old) id result (board_parts self.new) }
         ensures within { IfOk result (λ made. IfSome made (IsWithinFrame (length self.new.memory))) }
-        ensures sound { IsSoundBoard (board_parts self.new) self.new.events }
+        ensures invariants { BoardInvariant (board_parts self.new) self.new.events }
         ensures counted { IsCounted self.old self.new }
     {
         self.events += 1;

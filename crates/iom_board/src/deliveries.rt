@@ -9,7 +9,7 @@ ghost use Rattle.iom_iommu.specs.Parts.{frames_of};
 ghost use Rattle.iom_board.specs.Counted.{IsCounted};
 ghost use Rattle.iom_board.specs.Deliveries.{TakesReply, MessageArrives, DeliversAtPlace};
 ghost use Rattle.iom_board.specs.BoardParts.{board_parts};
-ghost use Rattle.iom_board.specs.Sound.{IsSoundBoard};
+ghost use Rattle.iom_board.specs.Invariant.{BoardInvariant};
 
 use crate::answers::Delivered;
 use crate::board::Board;
@@ -116,10 +116,10 @@ impl Board {
     /// invalidate `Invalidated`, with the device's word sent, or `Ignored` by a device without a cache. A word that such a
     /// request is completed is `Closed` where that is open for the device, and else `NotClosed`.
     pub fn deliver(&mut self, place: u64) -> Delivered
-        requires sound { IsSoundBoard (board_parts self.old) self.old.events }
+        requires invariants { BoardInvariant (board_parts self.old) self.old.events }
         requires count { self.old.events + 1 < 2 ^ 64 }
         ensures effect { DeliversAtPlace (board_parts self.old) place result (board_parts self.new) }
-        ensures sound { IsSoundBoard (board_parts self.new) self.new.events }
+        ensures invariants { BoardInvariant (board_parts self.new) self.new.events }
         ensures counted { IsCounted self.old self.new }
     {
         self.events += 1;

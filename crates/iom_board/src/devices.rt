@@ -2,7 +2,7 @@
 ghost use Rattle.std.specs.Prelude.{◌≡◌, ◌==◌, ◌≤◌, length, option_map};
 ghost use Rattle.iom_device.specs.Caches.{kind_in, device_with, epoch_in};
 ghost use Rattle.iom_inflight.specs.Flights.{first_busy};
-ghost use Rattle.iom_inflight.specs.Sound.{AreFlights};
+ghost use Rattle.iom_inflight.specs.Invariant.{AreFlights};
 ghost use Rattle.iom_iommu.specs.Parts.{flights_of};
 
 use crate::board::Board;

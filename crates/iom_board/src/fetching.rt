@@ -5,7 +5,7 @@ ghost use Rattle.iom_board.specs.Commits.{TakesCommand};
 ghost use Rattle.iom_board.specs.Counted.{IsCounted};
 ghost use Rattle.iom_board.specs.BoardParts.{board_parts};
 ghost use Rattle.iom_board.specs.Looks.{LooksForCommand};
-ghost use Rattle.iom_board.specs.Sound.{IsSoundBoard};
+ghost use Rattle.iom_board.specs.Invariant.{BoardInvariant};
 
 use crate::board::Board;
 use crate::messages::send_opened;
@@ -16,10 +16,10 @@ impl Board {
     /// an invalidation of a device's own translations, the request to the device is sent.
     #[inline(always)]
     pub fn fetch(&mut self) -> Fetched
-        requires sound { IsSoundBoard (board_parts self.old) self.old.events }
+        requires invariants { BoardInvariant (board_parts self.old) self.old.events }
         requires count { self.old.events + 1 < 2 ^ 64 }
         ensures effect { TakesCommand (board_parts self.old) result (board_parts self.new) }
-        ensures sound { IsSoundBoard (board_parts self.new) self.new.events }
+        ensures invariants { BoardInvariant (board_parts self.new) self.new.events }
         ensures counted { IsCounted self.old self.new }
     {
         match self.look() {
@@ -34,7 +34,7 @@ impl Board {
     /// isn't counted yet: [`fetch_next`](Self::fetch_next) goes on.
     #[inline(always)]
     pub fn look(&mut self) -> Front
-        requires sound { IsSoundBoard (board_parts self.old) self.old.events }
+        requires invariants { BoardInvariant (board_parts self.old) self.old.events }
         requires count { self.old.events + 1 < 2 ^ 64 }
         ensures { LooksForCommand self.old result self.new }
     {
@@ -55,11 +55,11 @@ impl Board {
     /// [`fetch`](Self::fetch) says.
     #[inline(always)]
     pub fn fetch_next(&mut self) -> Fetched
-        requires sound { IsSoundBoard (board_parts self.old) self.old.events }
+        requires invariants { BoardInvariant (board_parts self.old) self.old.events }
         requires count { self.old.events + 1 < 2 ^ 64 }
         requires waits { IsAtCommand self.old.iommu }
         ensures effect { TakesCommand (board_parts self.old) result (board_parts self.new) }
-        ensures sound { IsSoundBoard (board_parts self.new) self.new.events }
+        ensures invariants { BoardInvariant (board_parts self.new) self.new.events }
         ensures counted { IsCounted self.old self.new }
     {
         self.events += 1;

@@ -1,8 +1,8 @@
 //! What follows from the definitions, for the layers above.
-ghost use Rattle.iom_board.specs.Software.{SoftwareKeepsSound, WritesAreSoftware};
+ghost use Rattle.iom_board.specs.Software.{SoftwareKeepsInvariant, WritesAreSoftware};
 
-/// A board stays sound whatever software does to its memory and registers. It does nothing.
-pub fn software_keeps_sound()
-    ensures keeps { SoftwareKeepsSound }
+/// A board keeps its invariant whatever software does to its memory and registers. It does nothing.
+pub fn software_keeps_invariant()
+    ensures keeps { SoftwareKeepsInvariant }
     ensures writes { WritesAreSoftware }
 {}

@@ -3,7 +3,7 @@
 //!
 //! It knows neither driver nor ledger nor ticket: whatever software there is writes registers and memory. The layers
 //! above may rely on each call doing what its relation in `specs/` says, and on what stays true of the parts
-//! (`specs/Sound.antt`), which each call asks for and gives back.
+//! (`specs/Invariant.antt`), which each call asks for and gives back.
 #![tactic(auto)]
 
 mod answers;

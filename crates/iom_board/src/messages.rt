@@ -4,7 +4,7 @@ ghost use Rattle.std.specs.Prelude.{◌≡◌, ◌+◌, ◌<◌, ◌^◌};
 ghost use Rattle.iom_board.specs.Counted.{IsCounted};
 ghost use Rattle.iom_board.specs.BoardParts.{board_parts};
 ghost use Rattle.iom_board.specs.Messages.{named_range, with_opened, AsksTranslation, ClaimsCompletion, LosesMessage, CopiesMessage};
-ghost use Rattle.iom_board.specs.Sound.{IsSoundBoard};
+ghost use Rattle.iom_board.specs.Invariant.{BoardInvariant};
 
 use crate::board::Board;
 use crate::permits::Act;
@@ -40,10 +40,10 @@ impl Board {
     /// where 64 messages are under way: then it is lost. `NoSuchDevice` where no device has the id, `WrongKind` for a block
     /// device; nothing changes then.
     pub fn ask(&mut self, id: DeviceId, page: PageNumber) -> Result<bool, Refusal>
-        requires sound { IsSoundBoard (board_parts self.old) self.old.events }
+        requires invariants { BoardInvariant (board_parts self.old) self.old.events }
         requires count { self.old.events + 1 < 2 ^ 64 }
         ensures effect { AsksTranslation (board_parts self.old) id page result (board_parts self.new) }
-        ensures sound { IsSoundBoard (board_parts self.new) self.new.events }
+        ensures invariants { BoardInvariant (board_parts self.new) self.new.events }
         ensures counted { IsCounted self.old self.new }
     {
         self.events += 1;
@@ -59,10 +59,10 @@ impl Board {
     /// A raw device says that it completed the request with this number, whether it was asked or not (Invalidate Completion,
     /// section 10.3.2): answered as a question is, and `WrongKind` where it isn't a raw device.
     pub fn forge(&mut self, id: DeviceId, serial: u64) -> Result<bool, Refusal>
-        requires sound { IsSoundBoard (board_parts self.old) self.old.events }
+        requires invariants { BoardInvariant (board_parts self.old) self.old.events }
         requires count { self.old.events + 1 < 2 ^ 64 }
         ensures effect { ClaimsCompletion (board_parts self.old) id serial result (board_parts self.new) }
-        ensures sound { IsSoundBoard (board_parts self.new) self.new.events }
+        ensures invariants { BoardInvariant (board_parts self.new) self.new.events }
         ensures counted { IsCounted self.old self.new }
     {
         self.events += 1;
@@ -74,10 +74,10 @@ impl Board {
 
     /// The message at the place, counted from 0, is lost. False exactly where there is none, and then nothing changes.
     pub fn drop_message(&mut self, place: u64) -> bool
-        requires sound { IsSoundBoard (board_parts self.old) self.old.events }
+        requires invariants { BoardInvariant (board_parts self.old) self.old.events }
         requires count { self.old.events + 1 < 2 ^ 64 }
         ensures effect { LosesMessage (board_parts self.old) place result (board_parts self.new) }
-        ensures sound { IsSoundBoard (board_parts self.new) self.new.events }
+        ensures invariants { BoardInvariant (board_parts self.new) self.new.events }
         ensures counted { IsCounted self.old self.new }
     {
         self.events += 1;
@@ -87,10 +87,10 @@ impl Board {
     /// A copy of the message at the place is sent: it goes last, and is lost where 64 are under way. Nothing changes where
     /// it is lost, or there is none.
     pub fn repeat(&mut self, place: u64) -> Repeat
-        requires sound { IsSoundBoard (board_parts self.old) self.old.events }
+        requires invariants { BoardInvariant (board_parts self.old) self.old.events }
         requires count { self.old.events + 1 < 2 ^ 64 }
         ensures effect { CopiesMessage (board_parts self.old) place result (board_parts self.new) }
-        ensures sound { IsSoundBoard (board_parts self.new) self.new.events }
+        ensures invariants { BoardInvariant (board_parts self.new) self.new.events }
         ensures counted { IsCounted self.old self.new }
     {
         self.events += 1;

@@ -9,7 +9,7 @@ ghost use Rattle.iom_board.specs.Counted.{IsCounted};
 ghost use Rattle.iom_board.specs.BoardParts.{board_parts, disks_at_hand};
 ghost use Rattle.iom_board.specs.Plugging.{why_not_plugged, has_disk_in, PlugsNewDevice, PutsDiskIntoDevice, LosesDisk, CanTake};
 ghost use Rattle.iom_device.specs.Calls.{with_block_reset};
-ghost use Rattle.iom_board.specs.Sound.{IsSoundBoard};
+ghost use Rattle.iom_board.specs.Invariant.{BoardInvariant};
 
 use crate::board::Board;
 use crate::disks::{is_among, is_missing, take_out};
@@ -70,12 +70,12 @@ impl Board {
     /// `BadMedium`, where the disk isn't at hand; else `Memory`, where an allocation is refused, and never where the list of devices
     /// has room for one more. Nothing changes then.
     pub fn plug(&mut self, id: DeviceId, what: NewDevice) -> Result<(), Refusal>
-        requires sound { IsSoundBoard (board_parts self.old) self.old.events }
+        requires invariants { BoardInvariant (board_parts self.old) self.old.events }
         requires count { self.old.events + 1 < 2 ^ 64 }
         ensures effect { PlugsNewDevice (disks_at_hand self.old) (board_parts self.old) id what result
             (board_parts self.new) (disks_at_hand self.new) }
         ensures room { length (board_parts self.old).devices < vec_capacity self.old.devices → result ≢ Err Memory }
-        ensures sound { IsSoundBoard (board_parts self.new) self.new.events }
+        ensures invariants { BoardInvariant (board_parts self.new) self.new.events }
         ensures events { self.new.events ≡ self.old.events + 1 }
     {
         self.events += 1;
@@ -116,11 +116,11 @@ impl Board {
     /// The disk is put into the block device, and isn't at hand any more. `NoSuchDevice` where no device has the id, `WrongKind`
     /// where it is no block device, `BadMedium` where it has a disk or the disk isn't at hand: then nothing changes.
     pub fn medium(&mut self, id: DeviceId, disk: u64) -> Result<(), Refusal>
-        requires sound { IsSoundBoard (board_parts self.old) self.old.events }
+        requires invariants { BoardInvariant (board_parts self.old) self.old.events }
         requires count { self.old.events + 1 < 2 ^ 64 }
         ensures effect { PutsDiskIntoDevice (disks_at_hand self.old) (board_parts self.old) id disk result
             (board_parts self.new) (disks_at_hand self.new) }
-        ensures sound { IsSoundBoard (board_parts self.new) self.new.events }
+        ensures invariants { BoardInvariant (board_parts self.new) self.new.events }
         ensures events { self.new.events ≡ self.old.events + 1 }
     {
         self.events += 1;
@@ -138,10 +138,10 @@ impl Board {
     /// The disk of the device goes, if it has one, and is never at hand again; a block device is reset. Nothing changes where no
     /// device has the id, `NoSuchDevice`.
     pub fn remove_disk(&mut self, id: DeviceId) -> Result<(), Refusal>
-        requires sound { IsSoundBoard (board_parts self.old) self.old.events }
+        requires invariants { BoardInvariant (board_parts self.old) self.old.events }
         requires count { self.old.events + 1 < 2 ^ 64 }
         ensures effect { LosesDisk (board_parts self.old) id result (board_parts self.new) }
-        ensures sound { IsSoundBoard (board_parts self.new) self.new.events }
+        ensures invariants { BoardInvariant (board_parts self.new) self.new.events }
         ensures counted { IsCounted self.old self.new }
     {
         self.events += 1;

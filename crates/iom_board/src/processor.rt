@@ -4,7 +4,7 @@ ghost use Rattle.iom_base.specs.Bytes.{with_bytes};
 ghost use Rattle.iom_board.specs.Counted.{IsCounted};
 ghost use Rattle.iom_board.specs.BoardParts.{board_parts};
 ghost use Rattle.iom_board.specs.Processor.{ProcessorWrites, BytesStandAt, HaveNoPlace};
-ghost use Rattle.iom_board.specs.Sound.{IsSoundBoard};
+ghost use Rattle.iom_board.specs.Invariant.{BoardInvariant};
 
 use crate::answers::NoPlace;
 use crate::board::Board;
@@ -39,11 +39,11 @@ impl Board {
     /// The processor writes the bytes at the physical address, within one frame. `BadSpan`, where they are none or too many or
     /// leave their frame, and else `OutsideMemory`, where memory has no such frame: then nothing changes.
     pub fn store(&mut self, address: u64, bytes: &[u8]) -> Result<(), NoPlace>
-        requires sound { IsSoundBoard (board_parts self.old) self.old.events }
+        requires invariants { BoardInvariant (board_parts self.old) self.old.events }
         requires count { self.old.events + 1 < 2 ^ 64 }
         ensures effect { ProcessorWrites self.old.memory address bytes.now result self.new.memory }
         ensures rest { board_parts self.new ≡ record (board_parts self.old) { memory = self.new.memory } }
-        ensures sound { IsSoundBoard (board_parts self.new) self.new.events }
+        ensures invariants { BoardInvariant (board_parts self.new) self.new.events }
         ensures counted { IsCounted self.old self.new }
     {
         self.events += 1;

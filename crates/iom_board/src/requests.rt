@@ -1,12 +1,12 @@
 // What a device asks of memory, and what it is answered (IOMMU specification, section 2.3).
 ghost use Rattle.std.specs.Prelude.{◌+◌, ◌<◌, ◌^◌};
-ghost use Rattle.iom_inflight.specs.Sound.{CarriesBytes};
+ghost use Rattle.iom_inflight.specs.Invariant.{CarriesBytes};
 ghost use Rattle.iom_iommu.specs.Requests.{access_of};
 ghost use Rattle.iom_board.specs.Counted.{IsCounted};
 ghost use Rattle.iom_board.specs.BoardParts.{board_parts};
 ghost use Rattle.iom_board.specs.Requests.{RequestsAccess, RequestsTranslatedAccess};
 ghost use Rattle.iom_board.specs.Senders.{untranslated_by};
-ghost use Rattle.iom_board.specs.Sound.{IsSoundBoard};
+ghost use Rattle.iom_board.specs.Invariant.{BoardInvariant};
 
 use crate::board::Board;
 use crate::permits::Act;
@@ -29,12 +29,12 @@ impl Board {
         kind: AccessKind,
         bytes: &[u8],
     ) -> Result<Reply, Refusal>
-        requires sound { IsSoundBoard (board_parts self.old) self.old.events }
+        requires invariants { BoardInvariant (board_parts self.old) self.old.events }
         requires count { self.old.events + 1 < 2 ^ 64 }
         requires carries { CarriesBytes kind len bytes.now }
         ensures effect { RequestsAccess (untranslated_by sender) (board_parts self.old) id
             (access_of address len kind bytes.now) result (board_parts self.new) }
-        ensures sound { IsSoundBoard (board_parts self.new) self.new.events }
+        ensures invariants { BoardInvariant (board_parts self.new) self.new.events }
         ensures counted { IsCounted self.old self.new }
     {
         self.events += 1;
@@ -57,12 +57,12 @@ impl Board {
         kind: AccessKind,
         bytes: &[u8],
     ) -> Result<Reply, Refusal>
-        requires sound { IsSoundBoard (board_parts self.old) self.old.events }
+        requires invariants { BoardInvariant (board_parts self.old) self.old.events }
         requires count { self.old.events + 1 < 2 ^ 64 }
         requires carries { CarriesBytes kind len bytes.now }
         ensures effect { RequestsTranslatedAccess (board_parts self.old) id
             (access_of address len kind bytes.now) result (board_parts self.new) }
-        ensures sound { IsSoundBoard (board_parts self.new) self.new.events }
+        ensures invariants { BoardInvariant (board_parts self.new) self.new.events }
         ensures counted { IsCounted self.old self.new }
     {
         self.events += 1;

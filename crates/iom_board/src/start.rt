@@ -5,7 +5,7 @@ ghost use Rattle.iom_phys_mem.specs.Sizes.{IsMemorySize};
 ghost use Rattle.iom_phys_mem.specs.declared.memory.MemError.TheVariants.{BadSize};
 ghost use Rattle.iom_board.specs.BoardParts.{board_parts};
 ghost use Rattle.iom_board.specs.PowerOn.{IsBoardAtPowerOn};
-ghost use Rattle.iom_board.specs.Sound.{IsSoundBoard};
+ghost use Rattle.iom_board.specs.Invariant.{BoardInvariant};
 
 use crate::board::Board;
 use iom_base::MAX_DEVICES;
@@ -37,7 +37,7 @@ impl Board {
     /// else `OutOfMemory` where an allocation is refused.
     pub fn new(alloc: Global, frames: u32, disks: &[u64]) -> Result<Board, MemError>
         ensures power_on { IfOk result (IsBoardAtPowerOn frames disks.now) }
-        ensures sound { IfOk result (λ board. IsSoundBoard (board_parts board) board.events) }
+        ensures invariants { IfOk result (λ board. BoardInvariant (board_parts board) board.events) }
         ensures size { IfOk result (λ board. IsMemorySize frames) }
         ensures bad_size { (IsErrOf result BadSize) ↔ ¬ IsMemorySize frames }
     {

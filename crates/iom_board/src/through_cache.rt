@@ -5,13 +5,13 @@ ghost use Rattle.std.specs.Option.{option_and_then};
 ghost use Rattle.iom_ats_cache.specs.Cache.{Cache, frame_for};
 ghost use Rattle.iom_base.specs.Sizes.{page_size};
 ghost use Rattle.iom_device.specs.Caches.{cache_of};
-ghost use Rattle.iom_inflight.specs.Sound.{CarriesBytes};
+ghost use Rattle.iom_inflight.specs.Invariant.{CarriesBytes};
 ghost use Rattle.iom_iommu.specs.Parts.{IsAdded, flights_of, frames_of};
 ghost use Rattle.iom_iommu.specs.Requests.{access_of};
 ghost use Rattle.iom_board.specs.Counted.{IsCounted};
 ghost use Rattle.iom_board.specs.BoardParts.{board_parts, disks_at_hand};
 ghost use Rattle.iom_board.specs.Senders.{cached_by};
-ghost use Rattle.iom_board.specs.Sound.{IsSoundBoard};
+ghost use Rattle.iom_board.specs.Invariant.{BoardInvariant};
 ghost use Rattle.iom_board.specs.ThroughCache.{GoesByCache, RequestsAccessThroughCache};
 
 use crate::answers::CacheReply;
@@ -80,12 +80,12 @@ impl Board {
         kind: AccessKind,
         bytes: &[u8],
     ) -> Result<CacheReply, Refusal>
-        requires sound { IsSoundBoard (board_parts self.old) self.old.events }
+        requires invariants { BoardInvariant (board_parts self.old) self.old.events }
         requires count { self.old.events + 1 < 2 ^ 64 }
         requires carries { CarriesBytes kind len bytes.now }
         ensures effect { RequestsAccessThroughCache (cached_by sender) (board_parts self.old) id
             (access_of address len kind bytes.now) result (board_parts self.new) }
-        ensures sound { IsSoundBoard (board_parts self.new) self.new.events }
+        ensures invariants { BoardInvariant (board_parts self.new) self.new.events }
         ensures counted { IsCounted self.old self.new }
     {
         self.events += 1;

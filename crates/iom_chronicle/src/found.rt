@@ -2,7 +2,7 @@
 ghost use Rattle.std.specs.Prelude.{◌≢◌};
 
 use crate::levels::{Stage, Tables};
-use crate::told::ContextPlace;
+use crate::reply::ContextPlace;
 use iom_base::{DeviceId, DeviceKind};
 use iom_board::Board;
 use iom_device_dir::{Context, FirstStage, SecondStage, fits_directory, locate};

@@ -20,9 +20,9 @@ mod levels;
 mod messages;
 mod origin;
 mod queues;
+mod reply;
 mod sent;
 mod since;
-mod told;
 mod translations;
 mod uses;
 mod ways;
@@ -30,4 +30,4 @@ mod words;
 
 pub use chronicle::Chronicle;
 pub use origin::{Entrance, Origin, Through};
-pub use told::{ContextPlace, ReadAs, Use, WayFound};
+pub use reply::{ContextPlace, ReadAs, Use, WayFound};

@@ -3,7 +3,7 @@ use crate::chronicle::Chronicle;
 use crate::directory::path_reads;
 use crate::found::{context_at, has_directory, mode_of, tables_of};
 use crate::queues::{has_waiting, has_word, is_of_commands, is_of_faults};
-use crate::told::{ContextPlace, ReadAs, Use};
+use crate::reply::{ContextPlace, ReadAs, Use};
 use iom_base::DeviceId;
 use iom_board::Board;
 

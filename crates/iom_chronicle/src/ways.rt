@@ -6,8 +6,8 @@ use crate::found::{
     Contexts, context_at, forges, has_cache, lets_ats, mode_of, space_of, tables_of,
 };
 use crate::levels::Target;
+use crate::reply::{ContextPlace, WayFound};
 use crate::sent::{Said, Sent, sent_at};
-use crate::told::{ContextPlace, WayFound};
 use iom_base::{AccessKind, DeviceId, ENTRY_SIZE, MAX_IN_FLIGHT};
 use iom_board::Board;
 use iom_registers::DirectoryMode;

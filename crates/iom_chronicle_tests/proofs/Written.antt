@@ -6,12 +6,12 @@ use Rattle.iom_registers.specs.declared.register.RegFault.{RegFault}
 use Rattle.iom_registers.specs.declared.register.Register.{Register}
 use Rattle.iom_board.specs.BoardParts.{BoardParts}
 use Rattle.iom_iommu.specs.OwnIommu.{Iommu}
-use Rattle.iom_board.specs.Software.{SoftwareKeepsSound, WritesAreSoftware}
-use Rattle.iom_board.specs.Sound.{IsSoundBoard}
+use Rattle.iom_board.specs.Software.{SoftwareKeepsInvariant, WritesAreSoftware}
+use Rattle.iom_board.specs.Invariant.{BoardInvariant}
 
-pub written_sound : SoftwareKeepsSound → WritesAreSoftware → (old : BoardParts) (events value : ℕ) (register : Result Register RegFault) (new : Iommu) → IsSoundBoard old events
-    → new ≡ changed_by (after_write old.iommu) old.iommu value register → IsSoundBoard (record old { iommu = new }) events
-written_sound keeps writes old events value (Ok register) new sound is =
+pub written_sound : SoftwareKeepsInvariant → WritesAreSoftware → (old : BoardParts) (events value : ℕ) (register : Result Register RegFault) (new : Iommu) → BoardInvariant old events
+    → new ≡ changed_by (after_write old.iommu) old.iommu value register → BoardInvariant (record old { iommu = new }) events
+written_sound keeps writes old events value (Ok register) new invariants is =
     let after : BoardParts = record old { iommu = after_write old.iommu register value } in
-    subst (λ (i : Iommu). IsSoundBoard (record old { iommu = i }) events) (sym is) (keeps old after events sound (writes old register value))
-written_sound keeps writes old events value (Err fault) new sound is = subst (λ (i : Iommu). IsSoundBoard (record old { iommu = i }) events) (sym is) sound
+    subst (λ (i : Iommu). BoardInvariant (record old { iommu = i }) events) (sym is) (keeps old after events invariants (writes old register value))
+written_sound keeps writes old events value (Err fault) new invariants is = subst (λ (i : Iommu). BoardInvariant (record old { iommu = i }) events) (sym is) invariants

@@ -1,12 +1,12 @@
 // Hardware without a driver, and the chronicle that is told of it: each act is a line.
 ghost use Rattle.std.specs.Prelude.{◌+◌, ◌<◌, ◌^◌};
 ghost use Rattle.iom_board.specs.BoardParts.{board_parts};
-ghost use Rattle.iom_board.specs.Sound.{IsSoundBoard};
-ghost use Rattle.iom_board.specs.SoundIsFact.{sound_board_prop};
+ghost use Rattle.iom_board.specs.Invariant.{BoardInvariant};
+ghost use Rattle.iom_board.specs.InvariantIsFact.{board_invariant_prop};
 
 use crate::expect::expect;
 use iom_base::{AccessKind, NewDevice};
-use iom_board::laws::software_keeps_sound;
+use iom_board::laws::software_keeps_invariant;
 use iom_board::{Board, CacheReply, Sender};
 use iom_chronicle::{Chronicle, Entrance, Origin, WayFound};
 use iom_fabric::PageNumber;
@@ -52,7 +52,7 @@ pub(crate) enum Act<'a> {
 pub(crate) struct Machine {
     hardware: Board,
     chronicle: Box<Chronicle>,
-    ghost sound: { IsSoundBoard (board_parts hardware) hardware.events } by { sound_board_prop (board_parts hardware) hardware.events },
+    ghost invariants: { BoardInvariant (board_parts hardware) hardware.events } by { board_invariant_prop (board_parts hardware) hardware.events },
 }
 
 /// The memory of a test.
@@ -80,7 +80,7 @@ impl Machine {
     }
 
     fn write(&mut self, rt: &impl Abort, offset: u64, width: u32, value: u64) {
-        software_keeps_sound();
+        software_keeps_invariant();
         let written = self.hardware.iommu.write(offset, width, value);
         expect(rt, written.is_ok());
     }

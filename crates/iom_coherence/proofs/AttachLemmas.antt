@@ -68,11 +68,11 @@ faithful_attached_bare s device mode ats faithful bare caches = record {
         let is = other_attachment s.attachment_of device (Attached mode ats) copy.device e in
         backed-as (in_both_stages (New.attachment_of copy.device)) (in_both_stages (s.attachment_of copy.device)) s.history (TranslationGoes New copy.device copy.page) copy (ap in_both_stages is)
         (backed-still (in_both_stages (s.attachment_of copy.device)) s.history (TranslationGoes s copy.device copy.page) (TranslationGoes New copy.device copy.page) copy
-        (λ t goes. (goes.0, λ has. elim (goes.1 (sym (ap has_ats is) ∙ has)) [ inl told ↦ inl told | inr (q, cut) ↦ inr (subst IsQuarantined (sym is) q, cut) ]))
+        (λ t goes. (goes.0, λ has. elim (goes.1 (sym (ap has_ats is) ∙ has)) [ inl reply ↦ inl reply | inr (q, cut) ↦ inr (subst IsQuarantined (sym is) q, cut) ]))
         (faithful.translations copy there))
 
     goes_on : (d a t : ℕ) → attachments_with s.attachment_of device (Attached mode ats) d ≡ s.attachment_of d → EntryGoes s d a t → EntryGoes New d a t
-    goes_on d a t is (inl told) = inl told
+    goes_on d a t is (inl reply) = inl reply
     goes_on d a t is (inr (inl underway)) = inr (inl underway)
     goes_on d a t is (inr (inr (inl stopped))) = inr (inr (inl stopped))
     goes_on d a t is (inr (inr (inr (drop, q)))) = inr (inr (inr (drop, subst IsQuarantined (sym is) q)))
@@ -108,7 +108,7 @@ faithful_attached s device mode ats faithful at caches = faithful_attached_bare 
         let old = fact (λ q. absurd (false≢true (subst IsQuarantined is q))) in
         false≢true (sym (ap has_ats is) ∙ old.0)
 
--- A revive keeps all facts: it resets the device, so that nothing is left that was cut off.
+-- A revive keeps all facts: it resets the device, so that nothing is left that was quarantined.
 pub faithful_revived : (s : Scene) (device ticket : ℕ) (mode : Mode) (ats : Bool) (left : List Copy) → IsFaithful s → s.attachment_of device ≡ Quarantined ticket mode ats → ticket ≤ s.confirmed
     → ((copy : Copy) → Contains left copy → Contains s.entries copy × ((device == copy.device) ≡ false))
     → IsFaithful (record s { entries = left; epoch_of = raised s.kind_of s.epoch_of device; attachment_of = attachments_with s.attachment_of device (Attached mode ats) })

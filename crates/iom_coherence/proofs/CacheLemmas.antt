@@ -58,7 +58,7 @@ faithful_context_kept s device kept faithful attached among = record {
   numbers = faithful.numbers;
   translations = λ copy there.
       backed-still (in_both_stages (s.attachment_of copy.device)) s.history (TranslationGoes s copy.device copy.page) (TranslationGoes (record s { contexts = kept }) copy.device copy.page) copy
-      (λ t goes. (goes.0, λ has. elim (goes.1 has) [ inl told ↦ inl told | inr (q, cut) ↦ inr (q, λ c. cut (before copy.device q (among copy.device c))) ]))
+      (λ t goes. (goes.0, λ has. elim (goes.1 has) [ inl reply ↦ inl reply | inr (q, cut) ↦ inr (q, λ c. cut (before copy.device q (among copy.device c))) ]))
       (faithful.translations copy there);
   accesses = faithful.accesses;
   contexts = λ d there. context d (s.attachment_of d) refl (among d there);
@@ -134,7 +134,7 @@ faithful_messages s messages faithful from = record {
     )
 
     goes_on : (d a t : ℕ) → may_forge (s.kind_of d) ≡ false → EntryGoes s d a t → EntryGoes (record s { messages = messages }) d a t
-    goes_on d a t honesty (inl told) = inl told
+    goes_on d a t honesty (inl reply) = inl reply
     goes_on d a t honesty (inr (inl (fence, on_its_way))) = inr (inl (fence, underway d a honesty on_its_way))
     goes_on d a t honesty (inr (inr (inl stopped))) = inr (inr (inl stopped))
     goes_on d a t honesty (inr (inr (inr cut))) = inr (inr (inr cut))
@@ -270,7 +270,7 @@ faithful_invalidated s slot extent left messages faithful sent kept from = recor
     )
 
     goes_on : (d a t : ℕ) → ((slot.device == d) && extent_covers extent a) ≡ false → EntryGoes s d a t → EntryGoes New d a t
-    goes_on d a t uncovered (inl told) = inl told
+    goes_on d a t uncovered (inl reply) = inl reply
     goes_on d a t uncovered (inr (inl (fence, on_its_way))) = inr (inl (fence, underway d a uncovered on_its_way))
     goes_on d a t uncovered (inr (inr (inl stopped))) = inr (inr (inl stopped))
     goes_on d a t uncovered (inr (inr (inr cut))) = inr (inr (inr cut))

@@ -127,7 +127,7 @@ faithful_confirmed s ticket fence later faithful oldest done = record {
           (
             first.1,
             λ has. elim (goes (ats_before ticket (s.attachment_of d) has)) [
-              | inl told ↦ inl (still_to_come t (drops_translation d a ∷ invalidates d a ∷ []) told).1
+              | inl reply ↦ inl (still_to_come t (drops_translation d a ∷ invalidates d a ∷ []) reply).1
               | inr (q, cut) ↦ inr (quarantined_after ticket (s.attachment_of d) q, λ c. (still_to_come t (drops_context d ∷ []) (cut c)).1)
             ],
           ),
@@ -149,7 +149,7 @@ faithful_confirmed s ticket fence later faithful oldest done = record {
         by false e = (still_to_come x (drops_context d ∷ []) fits).1
 
     entry_goes : (d a t : ℕ) → EntryGoes s d a t → (ticket ≢ t) × EntryGoes (ConfirmedScene s ticket later) d a t
-    entry_goes d a t (inl told) = let next = still_to_come t (invalidates d a ∷ []) told in (next.0, inl next.1)
+    entry_goes d a t (inl reply) = let next = still_to_come t (invalidates d a ∷ []) reply in (next.0, inl next.1)
     entry_goes d a t (inr (inl (f, underway))) = let next = still_to_come t [] f in (next.0, inr (inl (next.1, underway)))
     entry_goes d a t (inr (inr (inl (f, stopped)))) = let next = still_to_come t [] f in (next.0, inr (inr (inl (next.1, stopped))))
     entry_goes d a t (inr (inr (inr (drop, q)))) =

@@ -150,7 +150,7 @@ faithful_quarantined s device mode ats faithful at = record {
     own_translation a t (drop, goes) = (
       to_come-ticket s (leave_commands device) H Of t (drops_translation device a ∷ []) drop,
       λ has. elim (goes (sym own_has ∙ has)) [
-        | inl told ↦ inl (to_come-ticket s (leave_commands device) H Of t (drops_translation device a ∷ invalidates device a ∷ []) told)
+        | inl reply ↦ inl (to_come-ticket s (leave_commands device) H Of t (drops_translation device a ∷ invalidates device a ∷ []) reply)
         | inr (q, cut) ↦ absurd (not_quarantined q)
       ],
     )
@@ -172,7 +172,7 @@ faithful_quarantined s device mode ats faithful at = record {
         old
 
     own_entry : (a t : ℕ) → EntryGoes s device a t → EntryGoes New device a t
-    own_entry a t (inl told) = inl (to_come-ticket s (leave_commands device) H Of t (invalidates device a ∷ []) told)
+    own_entry a t (inl reply) = inl (to_come-ticket s (leave_commands device) H Of t (invalidates device a ∷ []) reply)
     own_entry a t (inr (inl (fence, underway))) = inr (inl (to_come-ticket s (leave_commands device) H Of t [] fence, underway))
     own_entry a t (inr (inr (inl (fence, stopped)))) = inr (inr (inl (to_come-ticket s (leave_commands device) H Of t [] fence, stopped)))
     own_entry a t (inr (inr (inr (drop, q)))) = absurd (not_quarantined q)

@@ -8,12 +8,12 @@ use Rattle.iom_coherence.specs.Attachments.{IsQuarantined, in_both_stages, may_f
 use Rattle.iom_coherence.specs.Copies.{AccessGoes, ContextFits, EntryGoes, IsFaithfulEntry, IsUnderway, TranslationGoes}
 use Rattle.iom_coherence.specs.Faithful.{IsFaithful, IsOrdered}
 use Rattle.iom_coherence.specs.Queue.{DropContext, DropTranslations, Extent, Fence, Invalidate, QueuedCommand, extent_covers}
-use Rattle.iom_coherence.specs.Scene.{AccessInFlight, Answer, AtsMessage, Copy, InvalidateCompletion, InvalidateRequest, Invalidation, Question, Scene, Stock}
+use Rattle.iom_coherence.specs.Scene.{AccessInFlight, Answer, AtsMessage, Copy, InvalidateCompletion, InvalidateRequest, Invalidation, Question, Scene, FenceSnapshot}
 use Rattle.iom_coherence.specs.ToCome.{AreToCome, FencesRise, InOrder, QueuedStep, drops_context, drops_translation, invalidates, is_fence}
 use Rattle.iom_machine.specs.declared.state.Attachment.{Attachment}
 use Rattle.iom_machine.specs.declared.state.Attachment.TheVariants.{Attached, Detached, Leaving, Quarantined}
 use Rattle.iom_coherence.proofs.KindLemmas.{honest}
-use Rattle.iom_coherence.proofs.ToComeLemmas.{in_order-fetched, Stocked}
+use Rattle.iom_coherence.proofs.ToComeLemmas.{in_order-fetched, Snapshotted}
 use Rattle.iom_coherence.proofs.LedgerLemmas.{backed-still, still}
 use Rattle.iom_coherence.proofs.TicketLemmas.{same_number}
 
@@ -37,7 +37,7 @@ pub translation-fetched : (s : Scene) (command : QueuedCommand) (later : List Qu
 translation-fetched s command later contexts head among d a t not_it not_context (drop, goes) = (
   to_come-fetched s command later head t (drops_translation d a) [] not_it drop,
   λ ats. elim (goes ats) [
-    | inl told ↦ inl (to_come-fetched s command later head t (drops_translation d a) (invalidates d a ∷ []) not_it told)
+    | inl reply ↦ inl (to_come-fetched s command later head t (drops_translation d a) (invalidates d a ∷ []) not_it reply)
     | inr (quarantined, cut) ↦ inr (quarantined, λ c. to_come-fetched s command later head t (drops_context d) [] (not_context c) (cut (among d c)))
   ],
 )
@@ -57,7 +57,7 @@ context-fetched s command later head d (Leaving t mode ats) not_it fits = to_com
 pub entry-fetched : (s : Scene) (command : QueuedCommand) (later : List QueuedCommand) → s.waiting ≡ command ∷ later → (d a t : ℕ) → invalidates d a command ≡ false
     → ((fence : ℕ) → is_fence fence command ≡ false) → (IsQuarantined (s.attachment_of d) → drops_context d command ≡ false)
     → EntryGoes s d a t → EntryGoes (record s { waiting = later }) d a t
-entry-fetched s command later head d a t not_it no_fence no_drop (inl told) = inl (to_come-fetched s command later head t (invalidates d a) [] not_it told)
+entry-fetched s command later head d a t not_it no_fence no_drop (inl reply) = inl (to_come-fetched s command later head t (invalidates d a) [] not_it reply)
 entry-fetched s command later head d a t not_it no_fence no_drop (inr (inl (fence, underway))) = inr (inl (fence-fetched s command later head t no_fence fence, underway))
 entry-fetched s command later head d a t not_it no_fence no_drop (inr (inr (inl (fence, stopped)))) = inr (inr (inl (fence-fetched s command later head t no_fence fence, stopped)))
 entry-fetched s command later head d a t not_it no_fence no_drop (inr (inr (inr (drop, quarantined)))) =
@@ -65,7 +65,7 @@ entry-fetched s command later head d a t not_it no_fence no_drop (inr (inr (inr 
 
 -- no snapshot is taken where the head is no fence
 no_snapshot : (s : Scene) (command : QueuedCommand) (later : List QueuedCommand) → IsOrdered s → s.waiting ≡ command ∷ later → ((fence : ℕ) → is_fence fence command ≡ false)
-    → (fence fence_snapshot : ℕ) → s.fence_snapshot ≡ Some (Stocked fence fence_snapshot) → ⊥
+    → (fence fence_snapshot : ℕ) → s.fence_snapshot ≡ Some (Snapshotted fence fence_snapshot) → ⊥
 no_snapshot s command later ordered head no_fence fence fence_snapshot is =
     let first = (ordered.snapshot_taken fence fence_snapshot is).head in
     let both : ◌≡◌ {A = List QueuedCommand} (Fence fence ∷ first.0) (command ∷ later) = sym first.1 ∙ head in
@@ -121,7 +121,7 @@ faithful_translations_dropped s device extent later left faithful head dropped =
     )
 
 -- A fence that has taken its snapshot is done.
-pub faithful_fence_done : (s : Scene) (own fence_snapshot : ℕ) (later : List QueuedCommand) → IsFaithful s → s.waiting ≡ Fence own ∷ later → s.fence_snapshot ≡ Some (Stocked own fence_snapshot)
+pub faithful_fence_done : (s : Scene) (own fence_snapshot : ℕ) (later : List QueuedCommand) → IsFaithful s → s.waiting ≡ Fence own ∷ later → s.fence_snapshot ≡ Some (Snapshotted own fence_snapshot)
     → ((flight : AccessInFlight) → Contains s.in_flight flight → fence_snapshot < flight.number)
     → IsFaithful (record s { waiting = later; completed = own; fence_snapshot = None })
 faithful_fence_done s own fence_snapshot later faithful head taken made = record {
@@ -132,7 +132,7 @@ faithful_fence_done s own fence_snapshot later faithful head taken made = record
     lingering = faithful.order.lingering;
     apart = faithful.order.apart;
     counted = faithful.order.counted;
-    snapshot_taken = λ fence n is. let none : ◌≡◌ {A = Option Stock} None (Some (Stocked fence n)) = is in cc;
+    snapshot_taken = λ fence n is. let none : ◌≡◌ {A = Option FenceSnapshot} None (Some (Snapshotted fence n)) = is in cc;
     grants = faithful.order.grants;
     cached = faithful.order.cached;
   };
@@ -160,11 +160,11 @@ faithful_fence_done s own fence_snapshot later faithful head taken made = record
     access n t after (fence, there, order, within) = by (subst (λ q. InOrder (is_fence fence ∷ []) q) head order)
       where
         by : ((own == fence) ≡ true) × ⊤ ⊎ InOrder (is_fence fence ∷ []) later → AccessGoes (record s { waiting = later; completed = own; fence_snapshot = None }) n t
-        by (inl (it, rest)) = let low = within fence_snapshot (taken ∙ ap (λ f. Some (Stocked f fence_snapshot)) (eqb-true own fence it)) in absurd (omega (arith, low, after))
-        by (inr next) = (fence, there, next, λ m is. let none : ◌≡◌ {A = Option Stock} None (Some (Stocked fence m)) = is in cc)
+        by (inl (it, rest)) = let low = within fence_snapshot (taken ∙ ap (λ f. Some (Snapshotted f fence_snapshot)) (eqb-true own fence it)) in absurd (omega (arith, low, after))
+        by (inr next) = (fence, there, next, λ m is. let none : ◌≡◌ {A = Option FenceSnapshot} None (Some (Snapshotted fence m)) = is in cc)
 
     goes_on : (d a t : ℕ) → EntryGoes s d a t → EntryGoes (record s { waiting = later; completed = own; fence_snapshot = None }) d a t
-    goes_on d a t (inl told) = inl (to_come-fetched s (Fence own) later head t (invalidates d a) [] refl told)
+    goes_on d a t (inl reply) = inl (to_come-fetched s (Fence own) later head t (invalidates d a) [] refl reply)
     goes_on d a t (inr (inl (fence, (serial, opened, undone, covered)))) = absurd ((faithful.order.snapshot_taken own fence_snapshot taken).closed (record { serial = serial; device = d }) opened)
     goes_on d a t (inr (inr (inl (fence, stopped)))) = absurd (false≢true (sym (faithful.order.snapshot_taken own fence_snapshot taken).goes_on ∙ stopped))
     goes_on d a t (inr (inr (inr (drop, quarantined)))) = inr (inr (inr (to_come-fetched s (Fence own) later head t (drops_context d) [] refl drop, quarantined)))
@@ -178,7 +178,7 @@ faithful_fence_done s own fence_snapshot later faithful head taken made = record
 
 -- A fence takes its snapshot.
 pub faithful_snapshot : (s : Scene) (own : ℕ) (later : List QueuedCommand) → IsFaithful s → s.waiting ≡ Fence own ∷ later → ((slot : Invalidation) → ¬ Contains s.slots slot) → s.is_stopped ≡ false
-    → IsFaithful (record s { fence_snapshot = Some (Stocked own s.accepted) })
+    → IsFaithful (record s { fence_snapshot = Some (Snapshotted own s.accepted) })
 faithful_snapshot s own later faithful head closed fetches = record {
   order = record {
     fences = faithful.order.fences;
@@ -188,9 +188,9 @@ faithful_snapshot s own later faithful head closed fetches = record {
     apart = faithful.order.apart;
     counted = faithful.order.counted;
     snapshot_taken = λ fence n is.
-        let both : ◌≡◌ {A = Option Stock} (Some (Stocked own s.accepted)) (Some (Stocked fence n)) = is in
-        let snapshots : Stocked own s.accepted ≡ Stocked fence n = cc in
-        let same : own ≡ fence = ap (λ (x : Stock). x.fence) snapshots in
+        let both : ◌≡◌ {A = Option FenceSnapshot} (Some (Snapshotted own s.accepted)) (Some (Snapshotted fence n)) = is in
+        let snapshots : Snapshotted own s.accepted ≡ Snapshotted fence n = cc in
+        let same : own ≡ fence = ap (λ (x : FenceSnapshot). x.fence) snapshots in
         record { head = (later, subst (λ f. s.waiting ≡ Fence f ∷ later) same head); closed = closed; goes_on = fetches };
     grants = faithful.order.grants;
     cached = faithful.order.cached;
@@ -200,7 +200,7 @@ faithful_snapshot s own later faithful head closed fetches = record {
   accesses = λ flight there. let old = faithful.accesses flight there in (
     old.0,
     old.1,
-    still s.history (AccessGoes s flight.number) (AccessGoes (record s { fence_snapshot = Some (Stocked own s.accepted) }) flight.number) flight.device old.0 (flight.frame, old.1)
+    still s.history (AccessGoes s flight.number) (AccessGoes (record s { fence_snapshot = Some (Snapshotted own s.accepted) }) flight.number) flight.device old.0 (flight.frame, old.1)
         (λ t goes. (goes.0, goes.1, goes.2, λ n is. within flight (faithful.order.counted flight there) goes.0 n is)) old.2,
     old.3,
   );
@@ -209,10 +209,10 @@ faithful_snapshot s own later faithful head closed fetches = record {
   answers = faithful.answers;
 }
   where
-    within : (flight : AccessInFlight) → flight.number ≤ s.accepted → (fence n : ℕ) → ◌≡◌ {A = Option Stock} (Some (Stocked own s.accepted)) (Some (Stocked fence n)) → flight.number ≤ n
+    within : (flight : AccessInFlight) → flight.number ≤ s.accepted → (fence n : ℕ) → ◌≡◌ {A = Option FenceSnapshot} (Some (Snapshotted own s.accepted)) (Some (Snapshotted fence n)) → flight.number ≤ n
     within flight low fence n is =
-        let both : Stocked own s.accepted ≡ Stocked fence n = cc in
-        let all : s.accepted ≡ n = ap (λ (x : Stock). x.accepted) both in omega (arith, low, all)
+        let both : Snapshotted own s.accepted ≡ Snapshotted fence n = cc in
+        let all : s.accepted ≡ n = ap (λ (x : FenceSnapshot). x.accepted) both in omega (arith, low, all)
 
 -- IODIR.
 pub faithful_context_dropped : (s : Scene) (device : ℕ) (later : List QueuedCommand) (left : List ℕ) → IsFaithful s → s.waiting ≡ DropContext device ∷ later
@@ -296,8 +296,8 @@ faithful_slot_opened s device extent later slots messages faithful head opens se
     New = record s { waiting = later; slots = slots; last_serial = s.last_serial + 1; messages = messages }
 
     -- a slot that is underway stays so
-    stays : (d a : ℕ) → may_forge (s.kind_of d) ≡ false → IsUnderway s d a → IsUnderway New d a
-    stays d a trusted (serial, opened, undone, covered) = (
+    unchanged : (d a : ℕ) → may_forge (s.kind_of d) ≡ false → IsUnderway s d a → IsUnderway New d a
+    unchanged d a trusted (serial, opened, undone, covered) = (
       serial,
       subst (λ l. Contains l (record { serial = serial; device = d })) (sym opens) (Contains-append_left s.slots (slot ∷ []) _ opened),
       (λ there. elim (sent (InvalidateCompletion (record { serial = serial; device = d })) there) [
@@ -337,7 +337,7 @@ faithful_slot_opened s device extent later slots messages faithful head opens se
             let parts = and_parts (device == d) (extent_covers extent a) it in
             inr (inl ((fence, there, rest), begins d a (eqb-true device d parts.0) parts.1 trusted))
         by (inr next) = inl (fence, there, next)
-    goes_on d a t trusted (inr (inl (fence, underway))) = inr (inl (fence-fetched s (Invalidate device extent) later head t (λ f. refl) fence, stays d a trusted underway))
+    goes_on d a t trusted (inr (inl (fence, underway))) = inr (inl (fence-fetched s (Invalidate device extent) later head t (λ f. refl) fence, unchanged d a trusted underway))
     goes_on d a t trusted (inr (inr (inl (fence, stopped)))) = inr (inr (inl (fence-fetched s (Invalidate device extent) later head t (λ f. refl) fence, stopped)))
     goes_on d a t trusted (inr (inr (inr (drop, quarantined)))) = inr (inr (inr (to_come-fetched s (Invalidate device extent) later head t (drops_context d) [] refl drop, quarantined)))
 

@@ -10,12 +10,12 @@ use Rattle.iom_coherence.specs.DriverCalls.{all_queued_again, queued_again, rest
 use Rattle.iom_coherence.specs.Faithful.{GrantsFit, IsFaithful, IsOrdered}
 use Rattle.iom_coherence.specs.Holdings.{HoldsNoPage, LingersOnNothing}
 use Rattle.iom_coherence.specs.Queue.{Fence, QueuedCommand}
-use Rattle.iom_coherence.specs.Scene.{Answer, AtsMessage, Copy, InvalidateCompletion, InvalidateRequest, Invalidation, Question, Scene, PendingTicket, Stock}
+use Rattle.iom_coherence.specs.Scene.{Answer, AtsMessage, Copy, InvalidateCompletion, InvalidateRequest, Invalidation, Question, Scene, PendingTicket, FenceSnapshot}
 use Rattle.iom_coherence.specs.ToCome.{AreToCome, FencesRise, InOrder, QueuedStep, drops_context, drops_translation, invalidates, is_fence, WaitsForFence}
 use Rattle.iom_machine.specs.declared.state.Attachment.{Attachment}
 use Rattle.iom_machine.specs.declared.state.Attachment.TheVariants.{Attached, Detached, Leaving, Quarantined}
 use Rattle.iom_coherence.proofs.ListLemmas.{in_none, cons_cases, contains_map}
-use Rattle.iom_coherence.proofs.ToComeLemmas.{in_order-more, in_order-last, in_order-rest, rise_le, rise-fence, tickets-waiting_for, Waits, Stocked}
+use Rattle.iom_coherence.proofs.ToComeLemmas.{in_order-more, in_order-last, in_order-rest, rise_le, rise-fence, tickets-waiting_for, Waits, Snapshotted}
 use Rattle.iom_coherence.proofs.LedgerLemmas.{backed-still, backed-never, still}
 use Rattle.iom_coherence.proofs.TicketLemmas.{same_number}
 
@@ -23,7 +23,7 @@ use Rattle.iom_coherence.proofs.TicketLemmas.{same_number}
 in_order-both : (first second : List QueuedStep) (commands more : List QueuedCommand) → InOrder first commands → InOrder second more → InOrder (first ++ second) (commands ++ more)
 in_order-both [] second commands more a b = in_order-last second commands more b
 in_order-both (step ∷ steps) second [] more a b = absurd a
-in_order-both (step ∷ steps) second (command ∷ later) more (inl (does, a)) b = inl (does, in_order-both steps second later more a b)
+in_order-both (step ∷ steps) second (command ∷ later) more (inl (effect, a)) b = inl (effect, in_order-both steps second later more a b)
 in_order-both (step ∷ steps) second (command ∷ later) more (inr a) b = inr (in_order-both (step ∷ steps) second later more a b)
 
 -- the commands for a device are among all
@@ -58,7 +58,7 @@ faithful_restarted s devices faithful known = record {
     lingering = faithful.order.lingering;
     apart = faithful.order.apart;
     counted = faithful.order.counted;
-    snapshot_taken = λ fence n is. let none : ◌≡◌ {A = Option Stock} None (Some (Stocked fence n)) = is in cc;
+    snapshot_taken = λ fence n is. let none : ◌≡◌ {A = Option FenceSnapshot} None (Some (Snapshotted fence n)) = is in cc;
     grants = faithful.order.grants;
     cached = faithful.order.cached;
   };
@@ -78,7 +78,7 @@ faithful_restarted s devices faithful known = record {
           s.last_fence + 1,
           contains_map (λ (p : PendingTicket). Waits p.ticket (s.last_fence + 1)) s.pending (Waits t goes.0) goes.1,
           in_order-last (is_fence (s.last_fence + 1) ∷ []) (all_queued_again s.attachment_of devices) (Fence (s.last_fence + 1) ∷ []) (inl (same_number (s.last_fence + 1), tt)),
-          (λ n is. let none : ◌≡◌ {A = Option Stock} None (Some (Stocked (s.last_fence + 1) n)) = is in cc),
+          (λ n is. let none : ◌≡◌ {A = Option FenceSnapshot} None (Some (Snapshotted (s.last_fence + 1) n)) = is in cc),
         )) old.2,
     old.3,
   );
@@ -200,12 +200,12 @@ faithful_closed s slot slots messages faithful sent among others fewer = record 
     New = record s { slots = slots; messages = messages }
 
     goes_on : (d a t : ℕ) → EntryGoes s d a t → EntryGoes New d a t
-    goes_on d a t (inl told) = inl told
+    goes_on d a t (inl reply) = inl reply
     goes_on d a t (inr (inl (fence, (serial, opened, undone, covered)))) = by (others (record { serial = serial; device = d }) opened)
       where
         by : (record { serial = serial; device = d } ≡ slot) ⊎ Contains slots (record { serial = serial; device = d }) → EntryGoes New d a t
         by (inl same) = absurd (undone (subst (λ x. Contains s.messages (InvalidateCompletion x)) (sym same) sent))
-        by (inr stays) = inr (inl (fence, (serial, stays, (λ there. undone (fewer (InvalidateCompletion (record { serial = serial; device = d })) there)), λ extent there. covered extent (fewer (InvalidateRequest (record { serial = serial; device = d }) extent) there))))
+        by (inr unchanged) = inr (inl (fence, (serial, unchanged, (λ there. undone (fewer (InvalidateCompletion (record { serial = serial; device = d })) there)), λ extent there. covered extent (fewer (InvalidateRequest (record { serial = serial; device = d }) extent) there))))
     goes_on d a t (inr (inr (inl stopped))) = inr (inr (inl stopped))
     goes_on d a t (inr (inr (inr cut))) = inr (inr (inr cut))
 
@@ -227,7 +227,7 @@ faithful_timed_out s faithful = record {
     lingering = faithful.order.lingering;
     apart = faithful.order.apart;
     counted = faithful.order.counted;
-    snapshot_taken = λ fence n is. let none : ◌≡◌ {A = Option Stock} None (Some (Stocked fence n)) = is in cc;
+    snapshot_taken = λ fence n is. let none : ◌≡◌ {A = Option FenceSnapshot} None (Some (Snapshotted fence n)) = is in cc;
     grants = faithful.order.grants;
     cached = faithful.order.cached;
   };
@@ -243,7 +243,7 @@ faithful_timed_out s faithful = record {
     old.0,
     old.1,
     still s.history (AccessGoes s flight.number) (AccessGoes New flight.number) flight.device old.0 (flight.frame, old.1)
-        (λ t goes. (goes.0, goes.1, goes.2, λ n is. let none : ◌≡◌ {A = Option Stock} None (Some (Stocked goes.0 n)) = is in cc)) old.2,
+        (λ t goes. (goes.0, goes.1, goes.2, λ n is. let none : ◌≡◌ {A = Option FenceSnapshot} None (Some (Snapshotted goes.0 n)) = is in cc)) old.2,
     old.3,
   );
   contexts = faithful.contexts;
@@ -255,7 +255,7 @@ faithful_timed_out s faithful = record {
     New = record s { slots = []; fence_snapshot = None; is_stopped = true }
 
     goes_on : (d a t : ℕ) → EntryGoes s d a t → EntryGoes New d a t
-    goes_on d a t (inl told) = inr (inr (inl ((told.0, told.1, in_order-rest (invalidates d a) (is_fence told.0 ∷ []) s.waiting told.2), refl)))
+    goes_on d a t (inl reply) = inr (inr (inl ((reply.0, reply.1, in_order-rest (invalidates d a) (is_fence reply.0 ∷ []) s.waiting reply.2), refl)))
     goes_on d a t (inr (inl (fence, underway))) = inr (inr (inl (fence, refl)))
     goes_on d a t (inr (inr (inl (fence, stopped)))) = inr (inr (inl (fence, refl)))
     goes_on d a t (inr (inr (inr cut))) = inr (inr (inr cut))

@@ -9,7 +9,7 @@ use Rattle.iom_coherence.specs.Deliveries.{raised}
 use Rattle.iom_coherence.specs.DriverCalls.{leave_commands, attachment_once_confirmed, queued_by_release, released_extent, restarted, attachments_with, with_kind, with_ticket}
 use Rattle.iom_coherence.specs.Fetches.{next_invalidation}
 use Rattle.iom_coherence.specs.Laws.{scene_at_power_on}
-use Rattle.iom_coherence.specs.Transitions.{CompleteFence, FetchIodir, FetchIotinval, OccurInTurn, Occurs, TakeStock}
+use Rattle.iom_coherence.specs.Transitions.{CompleteFence, FetchIodir, FetchIotinval, OccurInTurn, Occurs, TakeSnapshot}
 use Rattle.iom_coherence.specs.Queue.{DropContext, DropTranslations, Extent, Fence, Invalidate, QueuedCommand, WholeSpace}
 use Rattle.iom_coherence.specs.Scene.{PendingTicket, Scene}
 use Rattle.iom_coherence.specs.Worked.{RevivalsOccur, attach_and_detach, both_rights, cut_off, revival}
@@ -23,8 +23,8 @@ abbrev Fetched : Scene → List QueuedCommand → Scene
 Fetched s later = record s { waiting = later }
 
 -- a scene whose fence has taken its snapshot
-abbrev WithStock : Scene → ℕ → Scene
-WithStock s fence = record s { fence_snapshot = Some (record { fence = fence; accepted = s.accepted }) }
+abbrev WithSnapshot : Scene → ℕ → Scene
+WithSnapshot s fence = record s { fence_snapshot = Some (record { fence = fence; accepted = s.accepted }) }
 
 -- a scene whose only fence is done
 abbrev Done : Scene → ℕ → Scene
@@ -60,7 +60,7 @@ abbrev without_translations : Scene
 without_translations = Fetched without_context (Fence 1 ∷ [])
 
 abbrev counted : Scene
-counted = WithStock without_translations 1
+counted = WithSnapshot without_translations 1
 
 abbrev done : Scene
 done = Done counted 1
@@ -77,10 +77,10 @@ translations_go : (s : Scene) (device : ℕ) (extent : Extent) (later : List Que
 translations_go s device extent later head none = (later, s.translations, head, (λ copy there. absurd (in_none copy (subst (λ l. Contains l copy) none there))), refl)
 
 -- nothing is in flight, so the fence is done
-fence_is_done : (s : Scene) (fence : ℕ) → s.waiting ≡ Fence fence ∷ [] → s.in_flight ≡ [] → Occurs (CompleteFence fence) (WithStock s fence) (Done (WithStock s fence) fence)
+fence_is_done : (s : Scene) (fence : ℕ) → s.waiting ≡ Fence fence ∷ [] → s.in_flight ≡ [] → Occurs (CompleteFence fence) (WithSnapshot s fence) (Done (WithSnapshot s fence) fence)
 fence_is_done s fence head none = ([], s.accepted, head, refl, (λ access there. absurd (in_none access (subst (λ l. Contains l access) none there))), refl)
 
-snapshot_is_taken : (s : Scene) (fence : ℕ) → s.waiting ≡ Fence fence ∷ [] → s.slots ≡ [] → s.is_stopped ≡ false → Occurs (TakeStock fence) s (WithStock s fence)
+snapshot_is_taken : (s : Scene) (fence : ℕ) → s.waiting ≡ Fence fence ∷ [] → s.slots ≡ [] → s.is_stopped ≡ false → Occurs (TakeSnapshot fence) s (WithSnapshot s fence)
 snapshot_is_taken s fence head closed fetches = ([], head, (λ slot there. in_none slot (subst (λ l. Contains l slot) closed there)), fetches, refl)
 
 detach_occurs : OccurInTurn scene_at_power_on attach_and_detach gone
@@ -176,7 +176,7 @@ abbrev all_dropped : Scene
 all_dropped = Fetched context_dropped (Fence 4 ∷ [])
 
 abbrev all_done : Scene
-all_done = Done (WithStock all_dropped 4) 4
+all_done = Done (WithSnapshot all_dropped 4) 4
 
 abbrev first_over : Scene
 first_over = Over all_done 2 (Waits 3 4 ∷ [])
@@ -213,7 +213,7 @@ revival_occurs = (
         all_dropped,
         translations_go context_dropped 2 WholeSpace (Fence 4 ∷ []) refl refl,
         (
-          WithStock all_dropped 4,
+          WithSnapshot all_dropped 4,
           snapshot_is_taken all_dropped 4 refl refl refl,
           (
             all_done,

@@ -19,7 +19,7 @@ use Rattle.iom_coherence.specs.Scene.{AccessInFlight, Copy, Scene}
 use Rattle.iom_coherence.specs.ToCome.{AreToCome, FencesRise, InOrder, QueuedStep, drops_context, drops_translation, invalidates, is_fence}
 use Rattle.iom_machine.specs.declared.state.Attachment.{Attachment}
 use Rattle.iom_machine.specs.declared.state.Attachment.TheVariants.{Attached, Detached, Leaving, Quarantined}
-use Rattle.iom_coherence.proofs.ToComeLemmas.{in_order-rest, in_order-fetched, fence_above, Stocked}
+use Rattle.iom_coherence.proofs.ToComeLemmas.{in_order-rest, in_order-fetched, fence_above, Snapshotted}
 use Rattle.iom_coherence.proofs.LedgerLemmas.{backed, backed-still, granted, lingers_granted, apart-granted}
 
 -- The grant.
@@ -87,7 +87,7 @@ faithful_granted s device page frame rights faithful attached empty free = recor
 -- The acceptance.
 
 -- what is to come behind another step isn't the fence that has taken its snapshot
-no_snapshot_taken : (s : Scene) (step : QueuedStep) (fence fence_snapshot : ℕ) → IsOrdered s → step (Fence fence) ≡ false → InOrder (step ∷ is_fence fence ∷ []) s.waiting → s.fence_snapshot ≡ Some (Stocked fence fence_snapshot) → ⊥
+no_snapshot_taken : (s : Scene) (step : QueuedStep) (fence fence_snapshot : ℕ) → IsOrdered s → step (Fence fence) ≡ false → InOrder (step ∷ is_fence fence ∷ []) s.waiting → s.fence_snapshot ≡ Some (Snapshotted fence fence_snapshot) → ⊥
 no_snapshot_taken s step fence fence_snapshot ordered not_it order is =
     let head = (ordered.snapshot_taken fence fence_snapshot is).head in
     let later = in_order-fetched step (is_fence fence ∷ []) (Fence fence) head.0 not_it (subst (λ q. InOrder (step ∷ is_fence fence ∷ []) q) head.1 order) in
@@ -104,7 +104,7 @@ access-translation : (s : Scene) (n d a t : ℕ) → IsOrdered s → Translation
 access-translation s n d a t ordered (drop, goes) = behind s (drops_translation d a) n t ordered (λ fence. refl) drop
 
 access-entry : (s : Scene) (n d a t : ℕ) → IsOrdered s → EntryGoes s d a t → AccessGoes s n t
-access-entry s n d a t ordered (inl told) = behind s (invalidates d a) n t ordered (λ fence. refl) told
+access-entry s n d a t ordered (inl reply) = behind s (invalidates d a) n t ordered (λ fence. refl) reply
 access-entry s n d a t ordered (inr (inl ((fence, there, order), (serial, opened, undone, covered)))) =
     (fence, there, order, λ fence_snapshot is. absurd ((ordered.snapshot_taken fence fence_snapshot is).closed (record { serial = serial; device = d }) opened))
 access-entry s n d a t ordered (inr (inr (inl ((fence, there, order), stopped)))) =

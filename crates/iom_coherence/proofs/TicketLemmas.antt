@@ -49,7 +49,7 @@ pub translation-ticket : (s : Scene) (commands : List QueuedCommand) (h : Histor
 translation-ticket s commands h of d a t same (drop, goes) = (
   to_come-ticket s commands h of t (drops_translation d a ∷ []) drop,
   λ ats. elim (goes (ap has_ats (sym same) ∙ ats)) [
-    | inl told ↦ inl (to_come-ticket s commands h of t (drops_translation d a ∷ invalidates d a ∷ []) told)
+    | inl reply ↦ inl (to_come-ticket s commands h of t (drops_translation d a ∷ invalidates d a ∷ []) reply)
     | inr (quarantined, cut) ↦ inr (subst IsQuarantined (sym same) quarantined, λ c. to_come-ticket s commands h of t (drops_context d ∷ []) (cut c))
   ],
 )
@@ -79,7 +79,7 @@ context-ticket s commands h of d (Leaving t mode ats) fits = to_come-ticket s co
 
 pub entry-ticket : (s : Scene) (commands : List QueuedCommand) (h : History) (of : ℕ → Attachment) (d a t : ℕ) → of d ≡ s.attachment_of d
     → EntryGoes s d a t → EntryGoes (Ticketed s commands h of) d a t
-entry-ticket s commands h of d a t same (inl told) = inl (to_come-ticket s commands h of t (invalidates d a ∷ []) told)
+entry-ticket s commands h of d a t same (inl reply) = inl (to_come-ticket s commands h of t (invalidates d a ∷ []) reply)
 entry-ticket s commands h of d a t same (inr (inl (fence, underway))) = inr (inl (to_come-ticket s commands h of t [] fence, underway))
 entry-ticket s commands h of d a t same (inr (inr (inl (fence, stopped)))) = inr (inr (inl (to_come-ticket s commands h of t [] fence, stopped)))
 entry-ticket s commands h of d a t same (inr (inr (inr (drop, quarantined)))) =

@@ -2,7 +2,7 @@
 use Rattle.std.proofs.Common.{◌≡◌, ℕ, ◌+◌, ◌<◌, ◌≤◌, inl, inr, false, List, [], ◌∷◌, ◌++◌, Contains, sym, ◌∙◌, subst, arith}
 use Rattle.std.proofs.lemmas.Bool.{false≢true, eqb-true}
 use Rattle.iom_coherence.specs.Queue.{DropContext, DropTranslations, Fence, Invalidate, QueuedCommand}
-use Rattle.iom_coherence.specs.Scene.{PendingTicket, Stock}
+use Rattle.iom_coherence.specs.Scene.{PendingTicket, FenceSnapshot}
 use Rattle.iom_coherence.specs.DriverCalls.{waiting_for}
 use Rattle.iom_coherence.specs.ToCome.{FencesRise, InOrder, QueuedStep, TicketsRise, is_fence}
 use Rattle.iom_coherence.proofs.ListLemmas.{in_none, cons_cases}
@@ -11,7 +11,7 @@ use Rattle.iom_coherence.proofs.ListLemmas.{in_none, cons_cases}
 pub in_order-more : (steps : List QueuedStep) (commands more : List QueuedCommand) → InOrder steps commands → InOrder steps (commands ++ more)
 in_order-more [] commands more o = tt
 in_order-more (step ∷ steps) [] more o = absurd o
-in_order-more (step ∷ steps) (command ∷ later) more (inl (does, o)) = inl (does, in_order-more steps later more o)
+in_order-more (step ∷ steps) (command ∷ later) more (inl (effect, o)) = inl (effect, in_order-more steps later more o)
 in_order-more (step ∷ steps) (command ∷ later) more (inr o) = inr (in_order-more (step ∷ steps) later more o)
 
 -- the last of the commands
@@ -24,12 +24,12 @@ in_order-last (step ∷ steps) (command ∷ later) more o = inr (in_order-last (
 pub in_order-rest : (step : QueuedStep) (steps : List QueuedStep) (commands : List QueuedCommand) → InOrder (step ∷ steps) commands → InOrder steps commands
 in_order-rest step [] commands o = tt
 in_order-rest step (next ∷ steps) [] o = absurd o
-in_order-rest step (next ∷ steps) (command ∷ later) (inl (does, o)) = inr o
+in_order-rest step (next ∷ steps) (command ∷ later) (inl (effect, o)) = inr o
 in_order-rest step (next ∷ steps) (command ∷ later) (inr o) = inr (in_order-rest step (next ∷ steps) later o)
 
 -- the head isn't the first step
 pub in_order-fetched : (step : QueuedStep) (steps : List QueuedStep) (command : QueuedCommand) (later : List QueuedCommand) → step command ≡ false → InOrder (step ∷ steps) (command ∷ later) → InOrder (step ∷ steps) later
-in_order-fetched step steps command later not_it (inl (does, o)) = absurd (false≢true (sym not_it ∙ does))
+in_order-fetched step steps command later not_it (inl (effect, o)) = absurd (false≢true (sym not_it ∙ effect))
 in_order-fetched step steps command later not_it (inr o) = o
 
 -- the last fence isn't before the number that they follow
@@ -43,13 +43,13 @@ rise_le low (Fence number ∷ later) high r = let rest = rise_le number later hi
 -- a fence in the queue is above the last that is done
 pub fence_above : (fence low : ℕ) (commands : List QueuedCommand) (high : ℕ) → FencesRise low commands high → InOrder (is_fence fence ∷ []) commands → low < fence
 fence_above fence low [] high r o = absurd o
-fence_above fence low (DropTranslations d extent ∷ later) high r (inl (does, o)) = absurd (false≢true does)
+fence_above fence low (DropTranslations d extent ∷ later) high r (inl (effect, o)) = absurd (false≢true effect)
 fence_above fence low (DropTranslations d extent ∷ later) high r (inr o) = fence_above fence low later high r o
-fence_above fence low (DropContext d ∷ later) high r (inl (does, o)) = absurd (false≢true does)
+fence_above fence low (DropContext d ∷ later) high r (inl (effect, o)) = absurd (false≢true effect)
 fence_above fence low (DropContext d ∷ later) high r (inr o) = fence_above fence low later high r o
-fence_above fence low (Invalidate d extent ∷ later) high r (inl (does, o)) = absurd (false≢true does)
+fence_above fence low (Invalidate d extent ∷ later) high r (inl (effect, o)) = absurd (false≢true effect)
 fence_above fence low (Invalidate d extent ∷ later) high r (inr o) = fence_above fence low later high r o
-fence_above fence low (Fence number ∷ later) high r (inl (does, o)) = subst (λ n. low < n) (eqb-true number fence does) r.0
+fence_above fence low (Fence number ∷ later) high r (inl (effect, o)) = subst (λ n. low < n) (eqb-true number fence effect) r.0
 fence_above fence low (Fence number ∷ later) high r (inr o) = let rest = fence_above fence number later high r.1 o in omega (arith, r.0, rest)
 
 -- one more fence at the end, behind commands that are none
@@ -96,5 +96,5 @@ tickets-waiting_for low [] high fence r = r
 tickets-waiting_for low (first ∷ later) high fence r = (r.0, tickets-waiting_for first.ticket later high fence r.1)
 
 -- the snapshot of the fence
-abbrev pub Stocked : ℕ → ℕ → Stock
-Stocked fence accepted = record { fence = fence; accepted = accepted }
+abbrev pub Snapshotted : ℕ → ℕ → FenceSnapshot
+Snapshotted fence accepted = record { fence = fence; accepted = accepted }

@@ -10,14 +10,14 @@ use Rattle.iom_coherence.proofs.QueueLemmas.{faithful_context_dropped, faithful_
 use Rattle.iom_coherence.proofs.RestartLemmas.{faithful_closed, faithful_restarted, faithful_timed_out}
 use Rattle.iom_coherence.proofs.SourceLemmas.{accesses_may, faithful_accepted, faithful_granted, faithful_made}
 use Rattle.iom_coherence.proofs.TicketLemmas.{faithful_released}
-use Rattle.iom_coherence.proofs.ToComeLemmas.{Stocked}
+use Rattle.iom_coherence.proofs.ToComeLemmas.{Snapshotted}
 use Rattle.iom_coherence.specs.Attachments.{caches_translations, may_forge}
 use Rattle.iom_coherence.specs.DriverCalls.{with_kind}
 use Rattle.iom_coherence.specs.Faithful.{IsFaithful}
 use Rattle.iom_coherence.specs.Fetches.{next_invalidation}
 use Rattle.iom_coherence.specs.Laws.{AccessesAlwaysMay, scene_after_fence}
-use Rattle.iom_coherence.specs.Transitions.{Accept, Attach, CarryMessages, CompleteFence, Confirm, DeliverAnswer, DeliverCompletion, DeliverRequest, Detach, FetchAtsInval, FetchIodir, FetchIotinval, Grant, KeepContext, KeepTranslation, Make, OccurInTurn, Transition, Occurs, Plug, Quarantine, Release, Reset, Restart, Revive, TakeStock, TimeOut}
-use Rattle.iom_coherence.specs.Scene.{Answer, InvalidateCompletion, InvalidateRequest, Question, Scene, Stock}
+use Rattle.iom_coherence.specs.Transitions.{Accept, Attach, CarryMessages, CompleteFence, Confirm, DeliverAnswer, DeliverCompletion, DeliverRequest, Detach, FetchAtsInval, FetchIodir, FetchIotinval, Grant, KeepContext, KeepTranslation, Make, OccurInTurn, Transition, Occurs, Plug, Quarantine, Release, Reset, Restart, Revive, TakeSnapshot, TimeOut}
+use Rattle.iom_coherence.specs.Scene.{Answer, InvalidateCompletion, InvalidateRequest, Question, Scene, FenceSnapshot}
 use Rattle.iom_base.specs.declared.device_kind.DeviceKind.{DeviceKind}
 
 -- power-on, with all numbers of fences up to one used up
@@ -30,7 +30,7 @@ faithful_after_fence number = record {
     lingering = λ device page ticket pair there. absurd (in_none (ticket, pair) there);
     apart = λ device page ticket held released holds there. in_none (ticket, released) there;
     counted = λ flight there. absurd (in_none flight there);
-    snapshot_taken = λ fence fence_snapshot is. let none : ◌≡◌ {A = Option Stock} None (Some (Stocked fence fence_snapshot)) = is in cc;
+    snapshot_taken = λ fence fence_snapshot is. let none : ◌≡◌ {A = Option FenceSnapshot} None (Some (Snapshotted fence fence_snapshot)) = is in cc;
     grants = λ device. ((λ page. refl), λ page ticket pair there. in_none (ticket, pair) there);
     cached = λ device has. absurd (false≢true has);
   };
@@ -111,7 +111,7 @@ transitions_keep_facts (FetchIotinval device extent) old new faithful (later, le
 transitions_keep_facts (FetchIodir device) old new faithful (later, left, head, dropped, is) = so new _ is (faithful_context_dropped old device later left faithful head dropped)
 transitions_keep_facts (FetchAtsInval device extent) old new faithful (later, messages, head, sent, is) =
     so new _ is (faithful_slot_opened old device extent later (old.slots ++ next_invalidation old device ∷ []) messages faithful head refl sent)
-transitions_keep_facts (TakeStock fence) old new faithful (later, head, closed, fetches, is) = so new _ is (faithful_snapshot old fence later faithful head closed fetches)
+transitions_keep_facts (TakeSnapshot fence) old new faithful (later, head, closed, fetches, is) = so new _ is (faithful_snapshot old fence later faithful head closed fetches)
 transitions_keep_facts (CompleteFence fence) old new faithful (later, accepted, head, taken, made, is) = so new _ is (faithful_fence_done old fence accepted later faithful head taken made)
 transitions_keep_facts TimeOut old new faithful is = so new _ is (faithful_timed_out old faithful)
 transitions_keep_facts CarryMessages old new faithful (messages, sent, is) = so new _ is (faithful_messages old messages faithful sent)

@@ -7,7 +7,7 @@ use Rattle.iom_coherence.specs.Deliveries.{MayBeSent, raised}
 use Rattle.iom_coherence.specs.DriverCalls.{attachment_once_confirmed, queued_by_release, released_extent, attachments_with, with_kind, with_ticket}
 use Rattle.iom_coherence.specs.Fetches.{next_invalidation}
 use Rattle.iom_coherence.specs.Laws.{scene_at_power_on}
-use Rattle.iom_coherence.specs.Transitions.{Accept, CarryMessages, CompleteFence, Confirm, DeliverAnswer, DeliverCompletion, DeliverRequest, FetchAtsInval, FetchIotinval, Grant, KeepContext, KeepTranslation, Make, OccurInTurn, Occurs, TakeStock}
+use Rattle.iom_coherence.specs.Transitions.{Accept, CarryMessages, CompleteFence, Confirm, DeliverAnswer, DeliverCompletion, DeliverRequest, FetchAtsInval, FetchIotinval, Grant, KeepContext, KeepTranslation, Make, OccurInTurn, Occurs, TakeSnapshot}
 use Rattle.iom_coherence.specs.Queue.{Fence, Invalidate, OnePage}
 use Rattle.iom_coherence.specs.Scene.{Answer, InvalidateCompletion, InvalidateRequest, Question, Scene}
 use Rattle.iom_coherence.specs.Worked.{StaleWritesOccur, both_rights, first_invalidation, first_write, its_end, remembered, stale_write}
@@ -191,7 +191,7 @@ completion_is_delivered = (
   refl,
 )
 
-snapshot_is_taken : Occurs (TakeStock 1) closed counted
+snapshot_is_taken : Occurs (TakeSnapshot 1) closed counted
 snapshot_is_taken = ([], refl, (λ slot there. in_none slot there), refl, refl)
 
 write_is_made : Occurs Make counted made

@@ -17,7 +17,7 @@ NamesGrant scene Still copy = IsBacked (in_both_stages (scene.attachment_of copy
 
 -- The context cache.
 
--- the cached context of a device that is attached so: where the device is cut off or leaves, it is dropped before the ticket is confirmed
+-- the cached context of a device that is attached so: where the device is quarantined or leaves, it is dropped before the ticket is confirmed
 abbrev pub ContextFits : Scene → ℕ → Attachment → Type 0
 ContextFits scene device Detached = ⊥
 ContextFits scene device (Attached mode ats) = ⊤
@@ -36,7 +36,7 @@ IsCutOff scene device ticket =
     IsQuarantined (scene.attachment_of device)
     × (Contains scene.contexts device → AreToCome scene ticket (drops_context device ∷ []))
 
--- Before the ticket is confirmed the cached translation is dropped. With ATS the device is asked to drop its entry only after that, or it is cut off: a
+-- Before the ticket is confirmed the cached translation is dropped. With ATS the device is asked to drop its entry only after that, or it is quarantined: a
 -- question may still be answered from the cached translation.
 abbrev pub TranslationGoes : Scene → ℕ → ℕ → ℕ → Type 0
 TranslationGoes scene device page ticket =

@@ -77,7 +77,7 @@ DeviceIsDetached old device new = (mode : Mode) × (ats : Bool) × (old.attachme
       attachment_of = attachments_with old.attachment_of device (Leaving (old.given + 1) mode ats);
     })
 
--- an attached device is cut off, and all that it holds is released
+-- an attached device is quarantined, and all that it holds is released
 abbrev pub DeviceIsQuarantined : Scene → ℕ → Scene → Type 0
 DeviceIsQuarantined old device new = (mode : Mode) × (ats : Bool) × (old.attachment_of device ≡ Attached mode ats)
     × (new ≡ record (with_ticket old (leave_commands device)) {

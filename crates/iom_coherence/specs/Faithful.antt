@@ -19,7 +19,7 @@ GrantsFit history device (Quarantined ticket mode ats) = HoldsNoPage history dev
 GrantsFit history device (Leaving ticket mode ats) = HoldsNoPage history device × LingersOnNothing history device
 
 -- the fence may have taken its snapshot: it is at the head, no slot is open, and commands are fetched
-pub record IsStocked (waiting : List QueuedCommand) (slots : List Invalidation) (is_stopped : Bool) (fence : ℕ) : Type 0 where
+pub record HasSnapshot (waiting : List QueuedCommand) (slots : List Invalidation) (is_stopped : Bool) (fence : ℕ) : Type 0 where
   -- the fence is what the next fetch finds
   pub head : (later : List QueuedCommand) × (waiting ≡ Fence fence ∷ later)
   -- no slot is open
@@ -43,7 +43,7 @@ pub record IsOrdered (scene : Scene) : Type 0 where
   pub counted : (access : AccessInFlight) → Contains scene.in_flight access → access.number ≤ scene.accepted
   -- a snapshot is that of the fence at the head, and was taken while no slot was open
   pub snapshot_taken : (fence accepted : ℕ) → scene.fence_snapshot ≡ Some (record { fence = fence; accepted = accepted })
-      → IsStocked scene.waiting scene.slots scene.is_stopped fence
+      → HasSnapshot scene.waiting scene.slots scene.is_stopped fence
   -- a device holds and lingers on no more than its attachment lets it
   pub grants : (device : ℕ) → GrantsFit scene.history device (scene.attachment_of device)
   -- a device that is attached with ATS has a cache of its own

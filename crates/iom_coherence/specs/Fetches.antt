@@ -40,8 +40,8 @@ SlotIsOpened old device extent new = (later : List QueuedCommand) × (messages :
     })
 
 -- a fence takes a snapshot of the accesses, where no slot is open and commands are fetched
-abbrev pub FenceTakesStock : Scene → ℕ → Scene → Type 0
-FenceTakesStock old fence new = (later : List QueuedCommand) × (old.waiting ≡ Fence fence ∷ later)
+abbrev pub FenceTakesSnapshot : Scene → ℕ → Scene → Type 0
+FenceTakesSnapshot old fence new = (later : List QueuedCommand) × (old.waiting ≡ Fence fence ∷ later)
     × ((slot : Invalidation) → ¬ Contains old.slots slot) × (old.is_stopped ≡ false)
     × (new ≡ record old { fence_snapshot = Some (record { fence = fence; accepted = old.accepted }) })
 

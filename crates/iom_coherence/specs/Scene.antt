@@ -34,7 +34,7 @@ pub record PendingTicket : Type 0 where
   pub fence : ℕ
 
 -- what the fence at the head of the queue found when no slot was open
-pub record Stock : Type 0 where
+pub record FenceSnapshot : Type 0 where
   -- the number of that fence
   pub fence : ℕ
   -- how many accesses were accepted by then; the fence waits for these
@@ -76,7 +76,7 @@ pub record Scene : Type 0 where
   -- the last ticket that was confirmed
   pub confirmed : ℕ
   -- what the fence at the head waits for, once it was fetched while no slot was open
-  pub fence_snapshot : Option Stock
+  pub fence_snapshot : Option FenceSnapshot
   -- a fence has timed out (cmd_to), and no command is fetched until a restart
   pub is_stopped : Bool
   -- how many accesses were accepted, over all devices

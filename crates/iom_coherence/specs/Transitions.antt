@@ -8,7 +8,7 @@ use Rattle.iom_coherence.specs.Queue.{Extent}
 use Rattle.iom_coherence.specs.Scene.{Copy, Invalidation, Scene}
 use Rattle.iom_coherence.specs.DriverCalls.{DeviceIsPlugged, DeviceIsAttached, PageIsGranted, PageIsReleased, DeviceIsDetached, DeviceIsQuarantined, DeviceIsRevived, QueueIsRestarted, TicketIsConfirmed}
 use Rattle.iom_coherence.specs.Requests.{ContextIsKept, TranslationIsKept, AccessIsAccepted, AccessIsMade}
-use Rattle.iom_coherence.specs.Fetches.{TranslationsAreDropped, ContextIsDropped, SlotIsOpened, FenceTakesStock, FenceIsDone, FenceTimesOut}
+use Rattle.iom_coherence.specs.Fetches.{TranslationsAreDropped, ContextIsDropped, SlotIsOpened, FenceTakesSnapshot, FenceIsDone, FenceTimesOut}
 use Rattle.iom_coherence.specs.Deliveries.{MessagesAreCarried, EntryIsKept, EntriesAreInvalidated, SlotIsClosed, DeviceIsReset}
 
 pub data Transition : Type 0 where
@@ -31,7 +31,7 @@ pub data Transition : Type 0 where
   FetchIotinval : (device : ℕ) (extent : Extent) → Transition
   FetchIodir : (device : ℕ) → Transition
   FetchAtsInval : (device : ℕ) (extent : Extent) → Transition
-  TakeStock : (fence : ℕ) → Transition
+  TakeSnapshot : (fence : ℕ) → Transition
   CompleteFence : (fence : ℕ) → Transition
   TimeOut : Transition
   -- messages, and caches of devices
@@ -59,7 +59,7 @@ Occurs Make old new = AccessIsMade old new
 Occurs (FetchIotinval device extent) old new = TranslationsAreDropped old device extent new
 Occurs (FetchIodir device) old new = ContextIsDropped old device new
 Occurs (FetchAtsInval device extent) old new = SlotIsOpened old device extent new
-Occurs (TakeStock fence) old new = FenceTakesStock old fence new
+Occurs (TakeSnapshot fence) old new = FenceTakesSnapshot old fence new
 Occurs (CompleteFence fence) old new = FenceIsDone old fence new
 Occurs TimeOut old new = FenceTimesOut old new
 Occurs CarryMessages old new = MessagesAreCarried old new

@@ -11,7 +11,7 @@ use Rattle.iom_base.specs.declared.mode.Mode.TheVariants.{First, Second, Both}
 use Rattle.iom_base.specs.declared.size.Size.TheVariants.{Sv39, Sv48}
 use Rattle.iom_coherence.specs.Queue.{OnePage, WholeSpace}
 use Rattle.iom_coherence.specs.Scene.{Copy, AccessInFlight, Invalidation, Scene}
-use Rattle.iom_coherence.specs.Transitions.{Transition, Plug, Attach, Grant, Release, Confirm, KeepContext, KeepTranslation, Accept, Make, FetchIotinval, FetchAtsInval, TakeStock, CompleteFence, CarryMessages, DeliverAnswer, DeliverRequest, DeliverCompletion, OccurInTurn, Detach, FetchIodir, Quarantine, TimeOut, Restart, Revive, Reset}
+use Rattle.iom_coherence.specs.Transitions.{Transition, Plug, Attach, Grant, Release, Confirm, KeepContext, KeepTranslation, Accept, Make, FetchIotinval, FetchAtsInval, TakeSnapshot, CompleteFence, CarryMessages, DeliverAnswer, DeliverRequest, DeliverCompletion, OccurInTurn, Detach, FetchIodir, Quarantine, TimeOut, Restart, Revive, Reset}
 use Rattle.iom_coherence.specs.Laws.{scene_at_power_on}
 
 -- A device with a cache of its own writes to a page that was released, and the ticket is confirmed once that write is made and all caches have forgotten the
@@ -45,7 +45,7 @@ stale_write =
 abbrev pub its_end : List Transition
 its_end =
     FetchIotinval 2 (OnePage 3) ∷ FetchAtsInval 2 (OnePage 3) ∷ DeliverRequest first_invalidation (OnePage 3) ∷ DeliverCompletion first_invalidation
-    ∷ TakeStock 1 ∷ Make ∷ CompleteFence 1 ∷ Confirm 1 ∷ []
+    ∷ TakeSnapshot 1 ∷ Make ∷ CompleteFence 1 ∷ Confirm 1 ∷ []
 
 -- the device holds nothing at the page, and its write is in flight
 abbrev pub IsStale : Scene → Type 0
@@ -62,9 +62,9 @@ StaleWritesOccur = (between after : Scene)
 -- The device is attached, detached and reset, and the detach is confirmed.
 abbrev pub attach_and_detach : List Transition
 attach_and_detach =
-    Plug 2 Ats ∷ Attach 2 (Second Sv39) false ∷ Detach 2 ∷ Reset 2 ∷ FetchIodir 2 ∷ FetchIotinval 2 WholeSpace ∷ TakeStock 1 ∷ CompleteFence 1 ∷ Confirm 1 ∷ []
+    Plug 2 Ats ∷ Attach 2 (Second Sv39) false ∷ Detach 2 ∷ Reset 2 ∷ FetchIodir 2 ∷ FetchIotinval 2 WholeSpace ∷ TakeSnapshot 1 ∷ CompleteFence 1 ∷ Confirm 1 ∷ []
 
--- It is attached in both stages with ATS, and granted a guest page, which is released; the invalidation is sent, or lost. The device is cut off.
+-- It is attached in both stages with ATS, and granted a guest page, which is released; the invalidation is sent, or lost. The device is quarantined.
 abbrev pub cut_off : List Transition
 cut_off =
     Attach 2 (Both Sv48) true ∷ Grant 2 3 5 both_rights ∷ Release 2 3 ∷ FetchIotinval 2 WholeSpace ∷ FetchAtsInval 2 WholeSpace ∷ Quarantine 2 ∷ []
@@ -72,7 +72,7 @@ cut_off =
 -- The fence of the release times out. After a restart one fence ends both tickets, and the device is revived.
 abbrev pub revival : List Transition
 revival =
-    TimeOut ∷ Restart (2 ∷ []) ∷ FetchIodir 2 ∷ FetchIotinval 2 WholeSpace ∷ TakeStock 4 ∷ CompleteFence 4 ∷ Confirm 2 ∷ Confirm 3 ∷ Revive 2 ∷ []
+    TimeOut ∷ Restart (2 ∷ []) ∷ FetchIodir 2 ∷ FetchIotinval 2 WholeSpace ∷ TakeSnapshot 4 ∷ CompleteFence 4 ∷ Confirm 2 ∷ Confirm 3 ∷ Revive 2 ∷ []
 
 -- this can occur, each in its turn, and leaves the device attached
 abbrev pub RevivalsOccur : Type 0

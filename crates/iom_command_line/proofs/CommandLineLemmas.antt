@@ -96,9 +96,9 @@ flag_found app words matches is lawful has =
     one_text-rows (found_of matches) (codes "trace") ∙ ap (one_of (codes "trace")) rows ∙ (finds words lawful).flag
 
 -- a flag is read as it stands
-pub flag_read : (text : Option (List ℕ)) (flag told : Bool) → text ≡ Some (flag_text flag) → (text ≡ Some (codes "true") → told ≡ true) → (text ≡ Some (codes "false") → told ≡ false) → told ≡ flag
-flag_read text true told is if_true if_false = if_true is
-flag_read text false told is if_true if_false = if_false is
+pub flag_read : (text : Option (List ℕ)) (flag reply : Bool) → text ≡ Some (flag_text flag) → (text ≡ Some (codes "true") → reply ≡ true) → (text ≡ Some (codes "false") → reply ≡ false) → reply ≡ flag
+flag_read text true reply is if_true if_false = if_true is
+flag_read text false reply is if_true if_false = if_false is
 
 -- the parser takes a lawful command line
 pub taken : (app : App) (words : List Text) → app ≡ program_command → is_command_line words ≡ true → takes app words ≡ true

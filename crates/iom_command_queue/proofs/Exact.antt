@@ -69,12 +69,12 @@ tells opcode func3 =
       ])
     ]
 
-told : (o : Operation) → operation_at (opcode_of o) (func3_of o) ≡ Ok o
-told is.IotinvalVma = refl
-told is.IotinvalGvma = refl
-told is.IofenceC = refl
-told is.IodirInvalDdt = refl
-told is.AtsInval = refl
+reply : (o : Operation) → operation_at (opcode_of o) (func3_of o) ≡ Ok o
+reply is.IotinvalVma = refl
+reply is.IotinvalGvma = refl
+reply is.IofenceC = refl
+reply is.IodirInvalDdt = refl
+reply is.AtsInval = refl
 
 -- the test of the reserved bits
 abbrev SaysZero : ℕ → List (ℕ × ℕ) → Bool → Type 0
@@ -193,7 +193,7 @@ unfolding decoded
 as_operation o first second operation =
     ap (λ n. decoded_by (operation_at n (bits_of first 9 7)) first second) operation.0
     ∙ ap (λ n. decoded_by (operation_at (opcode_of o) n) first second) operation.1
-    ∙ ap (λ r. decoded_by r first second) (told o)
+    ∙ ap (λ r. decoded_by r first second) (reply o)
 
 -- COMPLETE: what is so is what decoding answers
 pub found : (first second : ℕ) (c : Command) → AreWordsOf c first second → decoded first second ≡ Ok c

@@ -157,11 +157,11 @@ appends old new r c room alike there =
     ∙ ap (λ cs. cs ++ c ∷ []) (from_alike old new base s t lt alike h (distance s h t) lh refl)
 
 -- STAYS: two memories that are alike at all places
-pub stays : (old new : List (List ℕ)) (r : Registers)
+pub unchanged : (old new : List (List ℕ)) (r : Registers)
     → ((j : ℕ) → j < command_entries r → entry_at new (place_of r j) ≡ entry_at old (place_of r j))
     → commands_in new r ≡ commands_in old r
 unfolding commands_in
-stays old new r alike =
+unchanged old new r alike =
     from_alike old new (command_base r) (command_entries r) (command_tail r) (tail_below r) (λ j lt n. alike j lt) (command_head r) (how_many r) (head_below r) refl
 
 -- DROPS: the head moved on
@@ -215,7 +215,7 @@ appended old new r command room put =
 pub stays_by_frames : (old new : List (List ℕ)) (r : Registers)
     → ((j : ℕ) → j < command_entries r → slice_get new (place_of r j / 4096) ≡ slice_get old (place_of r j / 4096))
     → commands_in new r ≡ commands_in old r
-stays_by_frames old new r same = stays old new r (λ j lt. of_same_frame old new (place_of r j) (aligned r j) (same j lt))
+stays_by_frames old new r same = unchanged old new r (λ j lt. of_same_frame old new (place_of r j) (aligned r j) (same j lt))
 
 pub empty_iff : (m : List (List ℕ)) (r : Registers) → (commands_in m r ≡ []) ↔ (command_head r ≡ command_tail r)
 empty_iff m r = (

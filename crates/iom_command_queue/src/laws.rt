@@ -44,7 +44,7 @@ pub fn drops(memory: &Memory, registers: &Registers)
 {}
 
 /// A change of memory outside the ring's frames leaves the list.
-pub fn stays(old: &Memory, registers: &Registers, new: &Memory)
+pub fn unchanged(old: &Memory, registers: &Registers, new: &Memory)
     requires { (j : ℕ) → j < command_entries registers.now →
         slice_get new.now (place_of registers.now j / 4096) ≡ slice_get old.now (place_of registers.now j / 4096) }
     ensures { commands_in new.now registers.now ≡ commands_in old.now registers.now }

@@ -73,8 +73,8 @@ ends_below memory level page entry id loads (Err cause) h = inr (entry, loads, h
 
 ends_after : (memory : List (List ℕ)) (level page id : ℕ) (r : Result NonLeafEntry Cause) → TellsEntry (word_at 8 memory (entry_place page (ddi (suc level) id))) r
     → ((next : ℕ) → Ends memory level next id (path_end_from memory level next id)) → Ends memory (suc level) page id (follow_entry r (λ next. path_end_from memory level next id))
-ends_after memory level page id (Ok entry) told go = ends_below memory level page entry id told (path_end_from memory level entry.next.number id) (go entry.next.number)
-ends_after memory level page id (Err cause) told go = inl told
+ends_after memory level page id (Ok entry) reply go = ends_below memory level page entry id reply (path_end_from memory level entry.next.number id) (go entry.next.number)
+ends_after memory level page id (Err cause) reply go = inl reply
 
 ends : (memory : List (List ℕ)) (level page id : ℕ) → Ends memory level page id (path_end_from memory level page id)
 ends memory zero page id = ends_here memory page id (loaded_context (context_words_at memory (context_place page (ddi 0 id)))) (context_told (context_words_at memory (context_place page (ddi 0 id))))

@@ -78,8 +78,8 @@ no_first mode ppn bare none (first.Tables size root) h = none size h.0
 
 first_by_size : (mode : ℕ) (root : Ppn) → mode ≢ 0 → (found : Option Size) → TellsSize mode found
     → TellsFirst mode root.number (option_map (λ size. first.Tables size root) found)
-first_by_size mode root bare (Some size) told = (told, refl)
-first_by_size mode root bare None told = no_first mode root.number bare told
+first_by_size mode root bare (Some size) reply = (reply, refl)
+first_by_size mode root bare None reply = no_first mode root.number bare reply
 
 first_told : (mode : ℕ) (root : Ppn) → TellsFirst mode root.number (first_stage_at mode root)
 first_told mode root =
@@ -118,8 +118,8 @@ root_small word = omega arith
 
 second_by_size : (mode ppn : ℕ) → mode ≢ 0 → ppn < 2 ^ 44 → ppn % 4 ≡ 0 → (found : Option Size) → TellsSize mode found
     → TellsSecond mode ppn (option_map (λ size. second.Tables size (guest_root_from ppn)) found)
-second_by_size mode ppn bare small even (Some size) told = (told, root_number ppn small even)
-second_by_size mode ppn bare small even None told = no_second mode ppn bare told
+second_by_size mode ppn bare small even (Some size) reply = (reply, root_number ppn small even)
+second_by_size mode ppn bare small even None reply = no_second mode ppn bare reply
 
 second_told : (mode ppn : ℕ) → ppn < 2 ^ 44 → TellsSecond mode ppn (second_stage_at mode ppn)
 second_told mode ppn small =

@@ -33,7 +33,8 @@ fn load_words<B: Bytes>(memory: &B, address: u64) -> Option<ContextWords>
     })
 }
 
-/// The page that an entry of a directory page names.
+/// The page that an entry of a directory page names: steps 3 and 5 to 7 of section 2.3.1 of the IOMMU specification,
+/// "Process to locate the Device-context". Memory never gives corrupted data, so step 4 doesn't come.
 fn next_page<B: Bytes>(memory: &B, page: Ppn, index: u64) -> Result<NonLeafEntry, Cause>
     requires { index < 512 }
     ensures { result ≡ loaded_entry (word_at 8 (B.frames_of memory.now) (entry_place page.number index)) }
@@ -44,7 +45,7 @@ fn next_page<B: Bytes>(memory: &B, page: Ppn, index: u64) -> Result<NonLeafEntry
     }
 }
 
-/// From a page of contexts, by DDI[0].
+/// From a page of contexts, by DDI[0]: steps 8 to 11, of which 9 and 10 judge the words.
 fn from_contexts<B: Bytes>(memory: &B, page: Ppn, id: DeviceId) -> Result<Context, Cause>
     ensures { result ≡ path_end_from (B.frames_of memory.now) 0 page.number id }
 {
@@ -88,7 +89,7 @@ pub fn fits_directory(mode: DirectoryMode, id: DeviceId) -> bool
     }
 }
 
-/// Where the path of the id ends, by the levels that the mode gives the directory.
+/// Where the path of the id ends, by the levels that the mode gives the directory: steps 1 and 2.
 #[tactic(auto, unfolding(crate::specs::Located::located_by_mode))]
 fn follow<B: Bytes>(
     memory: &B,

@@ -5,5 +5,5 @@ pub mod Same
 pub mod Places
 pub mod Hangs
 pub mod Hanging
-pub mod Stays
+pub mod Unchanged
 pub mod Zeroed

@@ -1,7 +1,7 @@
 // What happens next in a drawn run.
 
 ghost use Rattle.std.specs.Prelude.{◌<◌, ◌≤◌, ◌^◌, IfOk};
-ghost use Rattle.iom_world_effects.specs.Stays.{IsNoChoice};
+ghost use Rattle.iom_world_effects.specs.Unchanged.{IsNoChoice};
 
 use iom_base::{DeviceId, GrantRights, Mode, NewDevice, Sequence, Size};
 use iom_fabric::PageNumber;

@@ -5,7 +5,7 @@
 //! written between any two events, by the device in both stages and by the processor. The second has address translation
 //! services (PCI Express Base Specification, chapter 10): two devices with a cache of translations of their own ask,
 //! keep, use and drop translations, while a raw device forges; messages are delivered in any order, lost and repeated.
-//! In the third the devices come and go as well: they are cut off, revived, detached, attached again and reset, fences
+//! In the third the devices come and go as well: they are quarantined, revived, detached, attached again and reset, fences
 //! that wait for them are given up, and the command queue is restarted. Tables of both sizes come in each mode.
 //!
 //! Three things the judge is asked that no line says. One is the frame on which an access was accepted: the runs let it

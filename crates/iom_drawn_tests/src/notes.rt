@@ -38,11 +38,11 @@ pub(crate) enum Note {
     Told,
     /// The command queue was emptied and filled anew.
     Restarted,
-    /// A device was cut off.
+    /// A device was quarantined.
     CutOff,
-    /// A device was attached again that was cut off.
+    /// A device was attached again that was quarantined.
     Revived,
-    /// A device that was cut off may still reach what it held.
+    /// A device that was quarantined may still reach what it held.
     NotYet,
     /// A device was detached.
     Detached,

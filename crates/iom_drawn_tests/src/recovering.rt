@@ -1,7 +1,7 @@
 // What happens in a run in which devices come and go, and don't always answer.
 
 ghost use Rattle.std.specs.Prelude.{IfSome};
-ghost use Rattle.iom_world_effects.specs.Stays.{IsNoChoice};
+ghost use Rattle.iom_world_effects.specs.Unchanged.{IsNoChoice};
 
 use crate::draw::{Draw, NAME_AT};
 use crate::run::Run;

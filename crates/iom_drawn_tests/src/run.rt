@@ -1,7 +1,7 @@
 // A run of the world, on which frame each access of it was, and which question each answer was to.
 
 ghost use Rattle.std.specs.Prelude.{◌≡◌, ◌<◌, ◌≤◌, true};
-ghost use Rattle.iom_world_effects.specs.Stays.{IsNoChoice};
+ghost use Rattle.iom_world_effects.specs.Unchanged.{IsNoChoice};
 
 use crate::draw::{
     Draw, FIRST_FRAME, FRAMES, GUEST_TABLES, Ids, LOW_PAGES, NAME_AT, OPEN_LEAF, bytes_of,

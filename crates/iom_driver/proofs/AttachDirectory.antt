@@ -6,7 +6,7 @@ use Rattle.iom_base.specs.declared.owner.Owner.{Owner}
 use Rattle.iom_base.specs.declared.owner.Owner.TheVariants.{System, OneDevice}
 use Rattle.iom_device_dir.specs.Located.{path_end_from}
 use Rattle.iom_device_dir.specs.Paths.{ids_below}
-use Rattle.iom_directory_build.proofs.Stays.{missing_stays}
+use Rattle.iom_directory_build.proofs.Unchanged.{missing_stays}
 use Rattle.iom_directory_build.specs.Changes.{KeepsOthers, KeepsOutsideDirectory}
 use Rattle.iom_directory_build.specs.Pages.{IsDirectory, HasPage, HasWholePath, AreFreshPages, root_level, missing_pages}
 use Rattle.iom_phys_mem.specs.Words.{zeroed}
@@ -19,12 +19,12 @@ use Rattle.iom_driver.specs.Devices.{attachment_by_id, stages_of}
 use Rattle.iom_driver.specs.Directory.{context_for, located_for, IsDirectoryFrame}
 use Rattle.iom_driver.specs.Layout.{IsLevels, AreFixed, directory_frame, fault_frame}
 use Rattle.iom_driver.specs.Ready.{TablesStand}
-use Rattle.iom_driver.specs.Sound.{IsSound}
+use Rattle.iom_driver.specs.Invariant.{StateInvariant}
 use Rattle.iom_driver.specs.State.{DriverState}
 use Rattle.iom_driver.proofs.AttachRoots.{taken_so}
 use Rattle.iom_driver.proofs.Directories.{DirectoryIn, directory_stay, directory_put, in_stands}
-use Rattle.iom_driver.proofs.Marks.{Among, NotAmong, among_get, among_not, among_left, among_right, apart_either, not_among_left, all_among, among_contained, not_contained, length-cleared, length-marked_for, mark_stays, bytes_stay, marked_among, zero_among}
-use Rattle.iom_driver.proofs.Taken.{unmarked, owned_differs, owned_not_taken, taken_marks, taken_stays, AreTaken, taken_inside, taken_free}
+use Rattle.iom_driver.proofs.Owners.{Among, NotAmong, among_get, among_not, among_left, among_right, apart_either, not_among_left, all_among, among_contained, not_contained, length-cleared, length-marked_for, mark_stays, bytes_stay, marked_among, zero_among}
+use Rattle.iom_driver.proofs.Taken.{unmarked, owned_differs, owned_not_taken, taken_owners, taken_stays, AreTaken, taken_inside, taken_free}
 
 -- what the call that puts a context leaves
 pub record IsPut (memory memory' : List (List ℕ)) (levels root id : ℕ) (stage : Stages) (pages : List ℕ) : Type 0 where
@@ -40,22 +40,22 @@ pub record IsPut (memory memory' : List (List ℕ)) (levels root id : ℕ) (stag
 pub record MayTake (d : DriverState) (frames : ℕ) (memory : List (List ℕ)) (count : ℕ) (pages roots : List ℕ) : Type 0 where
   pub range : IsLevels d.levels
   pub size : length memory ≡ frames
-  pub marked : length d.marks ≡ frames
-  pub fixed : AreFixed d.marks frames
-  pub stands : DirectoryIn frames memory d.marks d.devices d.levels
-  pub taken : AreTaken d.marks d.ledger frames count pages roots
+  pub marked : length d.owners ≡ frames
+  pub fixed : AreFixed d.owners frames
+  pub stands : DirectoryIn frames memory d.owners d.devices d.levels
+  pub taken : AreTaken d.owners d.ledger frames count pages roots
 
 pub may_take : (d : DriverState) (frames : ℕ) (memory : List (List ℕ)) (count : ℕ) (mode : Mode) (root : ℕ) (pages : List ℕ)
-    → IsSound d.ledger d.marks d.devices frames d.levels d.started d.given d.confirmed d.restarts d.restarted → TablesStand d memory → d.started ≡ true
-    → AreHighestFree d.marks d.ledger None frames count pages → IsRootBelow mode d (limit_below frames pages) root → MayTake d frames memory count pages (root_frames mode root)
-may_take d frames memory count mode root pages sound stand runs chose is =
-    let many : length memory ≡ frames = stand.size ∙ sound.sizes.marked in
+    → StateInvariant d.ledger d.owners d.devices frames d.levels d.started d.given d.confirmed d.restarts d.restarted → TablesStand d memory → d.started ≡ true
+    → AreHighestFree d.owners d.ledger None frames count pages → IsRootBelow mode d (limit_below frames pages) root → MayTake d frames memory count pages (root_frames mode root)
+may_take d frames memory count mode root pages invariants stand runs chose is =
+    let many : length memory ≡ frames = stand.size ∙ invariants.sizes.marked in
     record {
-      range = sound.sizes.in_range;
+      range = invariants.sizes.in_range;
       size = many;
-      marked = sound.sizes.marked;
-      fixed = sound.fixed;
-      stands = in_stands frames memory d.marks d.devices d.levels many (stand.directory runs);
+      marked = invariants.sizes.marked;
+      fixed = invariants.fixed;
+      stands = in_stands frames memory d.owners d.devices d.levels many (stand.directory runs);
       taken = taken_so mode d frames count pages root chose is;
     }
 
@@ -63,42 +63,42 @@ module _ (d : DriverState) (frames : ℕ) (memory : List (List ℕ)) (id count :
   abbrev between : List (List ℕ)
   between = cleared (pages ++ roots) memory
 
-  abbrev marks' : List (Option Owner)
-  marks' = taken_marks id pages roots d.marks
+  abbrev owners' : List (Option Owner)
+  owners' = taken_owners id pages roots d.owners
 
   -- a frame that is somebody's stays as it is
-  pub owned_apart : (n : ℕ) (owner : Owner) → slice_get d.marks n ≡ Some (Some owner) → NotAmong n (pages ++ roots)
-  owned_apart n owner own = owned_not_taken d.marks d.ledger frames count n pages roots owner may.marked may.taken own
+  pub owned_apart : (n : ℕ) (owner : Owner) → slice_get d.owners n ≡ Some (Some owner) → NotAmong n (pages ++ roots)
+  owned_apart n owner own = owned_not_taken d.owners d.ledger frames count n pages roots owner may.marked may.taken own
 
-  pub owned_kept : (n : ℕ) (owner : Owner) → slice_get d.marks n ≡ Some (Some owner) → (slice_get between n ≡ slice_get memory n) × (slice_get marks' n ≡ slice_get d.marks n)
-  owned_kept n owner own = (bytes_stay n (pages ++ roots) memory (owned_apart n owner own), taken_stays id n pages roots d.marks (owned_apart n owner own))
+  pub owned_kept : (n : ℕ) (owner : Owner) → slice_get d.owners n ≡ Some (Some owner) → (slice_get between n ≡ slice_get memory n) × (slice_get owners' n ≡ slice_get d.owners n)
+  owned_kept n owner own = (bytes_stay n (pages ++ roots) memory (owned_apart n owner own), taken_stays id n pages roots d.owners (owned_apart n owner own))
 
   -- a taken frame is nobody's
-  taken_unmarked : (n : ℕ) → Among n (pages ++ roots) → slice_get d.marks n ≡ Some None
+  taken_unmarked : (n : ℕ) → Among n (pages ++ roots) → slice_get d.owners n ≡ Some None
   taken_unmarked n here =
-      let inside : n < frames = taken_inside d.marks d.ledger frames count pages roots may.taken n here in
-      let free = taken_free d.marks d.ledger frames count pages roots may.taken n here in
-      unmarked d.marks n (omega (arith, inside, may.marked)) free.unmarked
+      let inside : n < frames = taken_inside d.owners d.ledger frames count pages roots may.taken n here in
+      let free = taken_free d.owners d.ledger frames count pages roots may.taken n here in
+      unmarked d.owners n (omega (arith, inside, may.marked)) free.unmarked
 
   -- the directory stands while the frames are cleared
-  pub stands_between : DirectoryIn frames between d.marks d.devices d.levels
-  stands_between = directory_stay frames memory between d.marks d.marks d.devices d.devices d.levels may.range (length-cleared (pages ++ roots) memory)
+  pub stands_between : DirectoryIn frames between d.owners d.devices d.levels
+  stands_between = directory_stay frames memory between d.owners d.owners d.devices d.devices d.levels may.range (length-cleared (pages ++ roots) memory)
       (λ n own. ((owned_kept n System own.system).0, refl)) (λ other. refl) (λ other s at. at) may.stands
 
-  stands_marked : DirectoryIn frames between marks' d.devices d.levels
-  stands_marked = directory_stay frames memory between d.marks marks' d.devices d.devices d.levels may.range (length-cleared (pages ++ roots) memory)
+  stands_marked : DirectoryIn frames between owners' d.devices d.levels
+  stands_marked = directory_stay frames memory between d.owners owners' d.devices d.devices d.levels may.range (length-cleared (pages ++ roots) memory)
       (λ n own. owned_kept n System own.system) (λ other. refl) (λ other s at. at) may.stands
 
   -- a page of the directory was not taken
-  page_owned : (f : ℕ) → HasPage between (root_level d.levels) (directory_frame frames) f → slice_get d.marks f ≡ Some (Some System)
+  page_owned : (f : ℕ) → HasPage between (root_level d.levels) (directory_frame frames) f → slice_get d.owners f ≡ Some (Some System)
   page_owned f at = (stands_between.own f at).system
 
   pub page_apart : (f : ℕ) → Among f (pages ++ roots) → HasPage between (root_level d.levels) (directory_frame frames) f → ⊥
-  page_apart f here at = owned_differs d.marks f f System (page_owned f at) (taken_unmarked f here) refl
+  page_apart f here at = owned_differs d.owners f f System (page_owned f at) (taken_unmarked f here) refl
 
   taken_zero : (f : ℕ) → Among f (pages ++ roots) → slice_get between f ≡ Some zeroed
   taken_zero f here = zero_among (pages ++ roots) memory
-      (all_among (λ n. n < length memory) (pages ++ roots) (λ n at. subst (λ m. n < m) (sym may.size) (taken_inside d.marks d.ledger frames count pages roots may.taken n at))) f here
+      (all_among (λ n. n < length memory) (pages ++ roots) (λ n at. subst (λ m. n < m) (sym may.size) (taken_inside d.owners d.ledger frames count pages roots may.taken n at))) f here
 
   pub roots_zero : (f : ℕ) → Among f roots → slice_get between f ≡ Some zeroed
   roots_zero f here = taken_zero f (among_right f pages roots here)
@@ -129,7 +129,7 @@ module _ (d : DriverState) (frames : ℕ) (memory : List (List ℕ)) (id count :
         by g no_page apart (inl was) = no_page was
         by g no_page apart (inr new) = among_not g pages apart (among_contained g pages new)
 
-    pub others_keep : (f : ℕ) → slice_get d.marks f ≢ Some (Some System) → (Contains (pages ++ roots) f → ⊥) → slice_get memory' f ≡ slice_get memory f
+    pub others_keep : (f : ℕ) → slice_get d.owners f ≢ Some (Some System) → (Contains (pages ++ roots) f → ⊥) → slice_get memory' f ≡ slice_get memory f
     others_keep f differs apart =
         let none = not_contained f (pages ++ roots) apart in
         put_keeps f (λ at. differs (page_owned f at)) (not_among_left f pages roots none) ∙ bytes_stay f (pages ++ roots) memory none
@@ -141,38 +141,38 @@ module _ (d : DriverState) (frames : ℕ) (memory : List (List ℕ)) (id count :
         let apart = not_among_left (fault_frame frames) pages roots (owned_apart (fault_frame frames) System may.fixed.fault) in
         put_keeps (fault_frame frames) (λ at. (stands_between.own (fault_frame frames) at).no_fault refl) apart ∙ kept.0
 
-    pub devices_keep : (n other : ℕ) → slice_get d.marks n ≡ Some (Some (OneDevice other)) → (slice_get memory' n ≡ slice_get memory n) × (slice_get marks' n ≡ slice_get d.marks n)
+    pub devices_keep : (n other : ℕ) → slice_get d.owners n ≡ Some (Some (OneDevice other)) → (slice_get memory' n ≡ slice_get memory n) × (slice_get owners' n ≡ slice_get d.owners n)
     devices_keep n other own =
         let kept = owned_kept n (OneDevice other) own in
         (put_keeps n (λ at. not_both (page_owned n at)) (not_among_left n pages roots (owned_apart n (OneDevice other) own)) ∙ kept.0, kept.1)
       where
-        not_both : slice_get d.marks n ≡ Some (Some System) → ⊥
+        not_both : slice_get d.owners n ≡ Some (Some System) → ⊥
         not_both system = let both : ◌≡◌ {A = Option (Option Owner)} (Some (Some System)) (Some (Some (OneDevice other))) = sym system ∙ own in cc
 
     -- the root's frames are zero, and the device's
-    pub roots_new : (f : ℕ) → Among f roots → (slice_get memory' f ≡ Some zeroed) × (slice_get marks' f ≡ Some (Some (OneDevice id)))
+    pub roots_new : (f : ℕ) → Among f roots → (slice_get memory' f ≡ Some zeroed) × (slice_get owners' f ≡ Some (Some (OneDevice id)))
     roots_new f here =
         let all = among_right f pages roots here in
-        let long : length (marked_for System pages d.marks) ≡ frames = length-marked_for System pages d.marks ∙ may.marked in (
+        let long : length (marked_for System pages d.owners) ≡ frames = length-marked_for System pages d.owners ∙ may.marked in (
           put_keeps f (page_apart f all) (may.taken.apart f here) ∙ taken_zero f all,
-          marked_among (OneDevice id) f roots (marked_for System pages d.marks)
-              (all_among (λ n. n < length (marked_for System pages d.marks)) roots (λ n at. subst (λ m. n < m) (sym long) (may.taken.inside n at))) here,
+          marked_among (OneDevice id) f roots (marked_for System pages d.owners)
+              (all_among (λ n. n < length (marked_for System pages d.owners)) roots (λ n at. subst (λ m. n < m) (sym long) (may.taken.inside n at))) here,
         )
 
     -- a new page is the system's
-    page_frame : (f : ℕ) → Contains pages f → IsDirectoryFrame marks' frames f
+    page_frame : (f : ℕ) → Contains pages f → IsDirectoryFrame owners' frames f
     page_frame f new =
         let here = among_contained f pages new in
         let free = taken_unmarked f (among_left f pages roots here) in
         record {
-          system = mark_stays (OneDevice id) f roots (marked_for System pages d.marks) (apart_either pages roots may.taken.apart f here)
-              ∙ marked_among System f pages d.marks (λ k d lt. subst (λ n. get_or pages k d < n) (sym may.marked) (may.taken.chosen.inside k d lt)) here;
-          no_command = λ same. owned_differs d.marks (frames - 1) f System may.fixed.command free (sym same);
-          no_fault = λ same. owned_differs d.marks (frames - 2) f System may.fixed.fault free (sym same);
-          no_completion = λ same. owned_differs d.marks (frames - 3) f System may.fixed.completion free (sym same);
+          system = mark_stays (OneDevice id) f roots (marked_for System pages d.owners) (apart_either pages roots may.taken.apart f here)
+              ∙ marked_among System f pages d.owners (λ k d lt. subst (λ n. get_or pages k d < n) (sym may.marked) (may.taken.chosen.inside k d lt)) here;
+          no_command = λ same. owned_differs d.owners (frames - 1) f System may.fixed.command free (sym same);
+          no_fault = λ same. owned_differs d.owners (frames - 2) f System may.fixed.fault free (sym same);
+          no_completion = λ same. owned_differs d.owners (frames - 3) f System may.fixed.completion free (sym same);
         }
 
     pub stands_after : (devices' : List Device) → attachment_by_id devices' id ≡ Attached stage → ((other : ℕ) → other ≢ id → attachment_by_id devices' other ≡ attachment_by_id d.devices other)
-        → DirectoryIn frames memory' marks' devices' d.levels
+        → DirectoryIn frames memory' owners' devices' d.levels
     stands_after devices' now same =
-        directory_put frames between memory' marks' d.devices devices' d.levels id stage pages stands_marked put.tree put.has page_frame put.here put.others put.path put.paths now same
+        directory_put frames between memory' owners' d.devices devices' d.levels id stage pages stands_marked put.tree put.has page_frame put.here put.others put.path put.paths now same

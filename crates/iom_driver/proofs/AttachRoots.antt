@@ -6,33 +6,33 @@ use Rattle.iom_base.specs.declared.owner.Owner.{Owner}
 use Rattle.iom_ledger.specs.declared.ledger.Ledger.{Ledger}
 use Rattle.iom_page_table.specs.SecondTables.{other_quarters}
 use Rattle.iom_table_frames.specs.Fours.{IsHighestFour}
-use Rattle.iom_table_frames.specs.Marks.{IsFreeForTable, IsHighestFree}
+use Rattle.iom_table_frames.specs.Owners.{IsFreeForTable, IsHighestFree}
 use Rattle.iom_driver.specs.Admitted.{IsAligned}
 use Rattle.iom_driver.specs.Attaching.{IsRootBelow, root_frames, limit_below}
 use Rattle.iom_driver.specs.Choices.{AreHighestFree}
 use Rattle.iom_driver.specs.State.{DriverState}
 use Rattle.iom_driver.proofs.Chosen.{are_chosen, last_low, below_apart}
-use Rattle.iom_driver.proofs.Marks.{Among}
+use Rattle.iom_driver.proofs.Owners.{Among}
 use Rattle.iom_driver.proofs.Taken.{AreTaken}
 
 -- a root below a limit: each of its frames is free and below it
-record AreBelow (marks : List (Option Owner)) (ledger : Ledger) (limit : ℕ) (roots : List ℕ) : Type 0 where
+record AreBelow (owners : List (Option Owner)) (ledger : Ledger) (limit : ℕ) (roots : List ℕ) : Type 0 where
   below : (f : ℕ) → Among f roots → f < limit
-  free : (f : ℕ) → Among f roots → IsFreeForTable marks ledger None f
+  free : (f : ℕ) → Among f roots → IsFreeForTable owners ledger None f
 
-one_below : (marks : List (Option Owner)) (ledger : Ledger) (limit root : ℕ) → IsHighestFree marks ledger None limit root → AreBelow marks ledger limit (root ∷ [])
-one_below marks ledger limit root is = record { below = low; free = free }
+one_below : (owners : List (Option Owner)) (ledger : Ledger) (limit root : ℕ) → IsHighestFree owners ledger None limit root → AreBelow owners ledger limit (root ∷ [])
+one_below owners ledger limit root is = record { below = low; free = free }
   where
     low : (f : ℕ) → Among f (root ∷ []) → f < limit
     low f (inl same) = subst (λ n. n < limit) (sym same) is.below
     low f (inr none) = absurd none
 
-    free : (f : ℕ) → Among f (root ∷ []) → IsFreeForTable marks ledger None f
-    free f (inl same) = subst (λ n. IsFreeForTable marks ledger None n) (sym same) is.free
+    free : (f : ℕ) → Among f (root ∷ []) → IsFreeForTable owners ledger None f
+    free f (inl same) = subst (λ n. IsFreeForTable owners ledger None n) (sym same) is.free
     free f (inr none) = absurd none
 
-four_below : (marks : List (Option Owner)) (ledger : Ledger) (limit root : ℕ) → IsHighestFour marks ledger limit root → AreBelow marks ledger limit (root ∷ other_quarters root)
-four_below marks ledger limit root is = record { below = low; free = free }
+four_below : (owners : List (Option Owner)) (ledger : Ledger) (limit root : ℕ) → IsHighestFour owners ledger limit root → AreBelow owners ledger limit (root ∷ other_quarters root)
+four_below owners ledger limit root is = record { below = low; free = free }
   where
     last : root + 4 ≤ limit
     last = is.below
@@ -44,17 +44,17 @@ four_below marks ledger limit root is = record { below = low; free = free }
     low f (inr (inr (inr (inl same)))) = omega (arith, last, same)
     low f (inr (inr (inr (inr none)))) = absurd none
 
-    free : (f : ℕ) → Among f (root ∷ other_quarters root) → IsFreeForTable marks ledger None f
-    free f (inl same) = subst (λ n. IsFreeForTable marks ledger None n) (sym same) is.free.one
-    free f (inr (inl same)) = subst (λ n. IsFreeForTable marks ledger None n) (sym same) is.free.two
-    free f (inr (inr (inl same))) = subst (λ n. IsFreeForTable marks ledger None n) (sym same) is.free.three
-    free f (inr (inr (inr (inl same)))) = subst (λ n. IsFreeForTable marks ledger None n) (sym same) is.free.four
+    free : (f : ℕ) → Among f (root ∷ other_quarters root) → IsFreeForTable owners ledger None f
+    free f (inl same) = subst (λ n. IsFreeForTable owners ledger None n) (sym same) is.free.one
+    free f (inr (inl same)) = subst (λ n. IsFreeForTable owners ledger None n) (sym same) is.free.two
+    free f (inr (inr (inl same))) = subst (λ n. IsFreeForTable owners ledger None n) (sym same) is.free.three
+    free f (inr (inr (inr (inl same)))) = subst (λ n. IsFreeForTable owners ledger None n) (sym same) is.free.four
     free f (inr (inr (inr (inr none)))) = absurd none
 
-root_below : (mode : Mode) (d : DriverState) (limit root : ℕ) → IsRootBelow mode d limit root → AreBelow d.marks d.ledger limit (root_frames mode root)
-root_below (First size) d limit root is = one_below d.marks d.ledger limit root is
-root_below (Second size) d limit root is = four_below d.marks d.ledger limit root is
-root_below (Both size) d limit root is = four_below d.marks d.ledger limit root is
+root_below : (mode : Mode) (d : DriverState) (limit root : ℕ) → IsRootBelow mode d limit root → AreBelow d.owners d.ledger limit (root_frames mode root)
+root_below (First size) d limit root is = one_below d.owners d.ledger limit root is
+root_below (Second size) d limit root is = four_below d.owners d.ledger limit root is
+root_below (Both size) d limit root is = four_below d.owners d.ledger limit root is
 
 -- a root of a second stage is aligned
 four_aligned : (root : ℕ) → (n : ℕ) × (root ≡ 4 * n) → root % 4 ≡ 0
@@ -66,14 +66,14 @@ root_aligned (Second size) d limit root is = four_aligned root is.aligned
 root_aligned (Both size) d limit root is = four_aligned root is.aligned
 
 -- the pages and the root
-pub taken_so : (mode : Mode) (d : DriverState) (frames count : ℕ) (pages : List ℕ) (root : ℕ) → AreHighestFree d.marks d.ledger None frames count pages
-    → IsRootBelow mode d (limit_below frames pages) root → AreTaken d.marks d.ledger frames count pages (root_frames mode root)
+pub taken_so : (mode : Mode) (d : DriverState) (frames count : ℕ) (pages : List ℕ) (root : ℕ) → AreHighestFree d.owners d.ledger None frames count pages
+    → IsRootBelow mode d (limit_below frames pages) root → AreTaken d.owners d.ledger frames count pages (root_frames mode root)
 taken_so mode d frames count pages root chose is =
     let below = root_below mode d (limit_below frames pages) root is in
-    let high = last_low d.marks d.ledger None frames count pages chose in
+    let high = last_low d.owners d.ledger None frames count pages chose in
     record {
-      chosen = are_chosen d.marks d.ledger None frames count pages chose;
+      chosen = are_chosen d.owners d.ledger None frames count pages chose;
       inside = λ f here. let low : f < limit_below frames pages = below.below f here in omega (arith, low, high);
       free = below.free;
-      apart = λ f here. below_apart d.marks d.ledger None frames count pages f chose (below.below f here);
+      apart = λ f here. below_apart d.owners d.ledger None frames count pages f chose (below.below f here);
     }

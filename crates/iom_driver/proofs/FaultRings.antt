@@ -2,7 +2,7 @@
 use Rattle.std.proofs.Common.{◌≡◌, ◌+◌, ◌*◌, ◌/◌, ◌%◌, ◌<◌, ◌∙◌, ℕ, List, length, slice_get, refl, sym, ap, subst, arith, All}
 use Rattle.iom_fault_queue.specs.declared.entry.Entry.{Entry}
 use Rattle.iom_fault_queue.specs.Ring.{records_in, record_place}
-use Rattle.iom_fault_queue.proofs.Lists.{stays}
+use Rattle.iom_fault_queue.proofs.Lists.{unchanged}
 use Rattle.iom_registers.specs.declared.registers.Registers.{Registers}
 use Rattle.iom_registers.specs.Queues.{fault_entries}
 use Rattle.iom_registers.specs.Fields.{entry_count, address}
@@ -24,7 +24,7 @@ pub same_records : (memory memory' : List (List ℕ)) (r s : Registers) → slic
     → records_in memory' s ≡ records_in memory r
 same_records memory memory' r s same keeps ring =
     let entries : fault_entries s ≡ fault_entries r = ap entry_count keeps.base in
-    stays memory memory' r s keeps.base (by_entries s.fqh r.fqh (fault_entries s) (fault_entries r) keeps.head entries) (by_entries s.fqt r.fqt (fault_entries s) (fault_entries r) keeps.tail entries)
+    unchanged memory memory' r s keeps.base (by_entries s.fqh r.fqh (fault_entries s) (fault_entries r) keeps.head entries) (by_entries s.fqt r.fqt (fault_entries s) (fault_entries r) keeps.tail entries)
     (λ j lt. rw (in_fault_ring memory r j ring lt) same)
   where
     by_entries : (a b m n : ℕ) → a ≡ b → m ≡ n → a % m ≡ b % n

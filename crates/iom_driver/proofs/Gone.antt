@@ -10,9 +10,9 @@ use Rattle.iom_driver.specs.declared.device.Attachment.{Attachment}
 use Rattle.iom_driver.specs.declared.device.Attachment.TheVariants.{Detached, Attached, Quarantined, Leaving}
 use Rattle.iom_driver.specs.declared.device.Device.{Device}
 use Rattle.iom_driver.specs.declared.device.Stages.{Stages}
-use Rattle.iom_driver.specs.Confirmed.{has_left_until, driven_once_confirmed, is_gone, mark_given_back}
+use Rattle.iom_driver.specs.Confirmed.{has_left_until, driven_once_confirmed, is_gone, owner_given_back}
 use Rattle.iom_driver.specs.Devices.{device_by_id, attachment_by_id, attached_stages, owned_stages, stages_of, owned_stages_of, HaveOwnIds}
-use Rattle.iom_driver.specs.Sound.{LeaveUnderTickets}
+use Rattle.iom_driver.specs.Invariant.{LeaveUnderTickets}
 
 -- how an attachment is afterwards
 abbrev pub after : ℕ → Attachment → Attachment
@@ -80,7 +80,7 @@ pub still_leaving : (done : ℕ) (devices : List Device) (id ticket : ℕ) (stag
     → (attachment_by_id devices id ≡ Leaving ticket stage) × (done < ticket)
 still_leaving done devices id ticket stage at = leaving_after done ticket stage (attachment_by_id devices id) (sym (attachment_confirmed done devices id) ∙ at)
 
--- one that is still cut off was so
+-- one that is still quarantined was so
 quarantined_after : (done ticket : ℕ) (stage : Stages) (a : Attachment) → after done a ≡ Quarantined ticket stage → a ≡ Quarantined ticket stage
 quarantined_after done ticket stage Detached at = cc
 quarantined_after done ticket stage (Attached own) at = cc
@@ -103,12 +103,12 @@ ids_confirmed done [] own = own
 ids_confirmed done (device ∷ others) own = (device_confirmed done others device.id ∙ ap (option_map (driven_once_confirmed done)) own.0, ids_confirmed done others own.1)
 
 -- marks: nobody's stays nobody's, the system's the system's, and that of a device that hasn't left its own
-pub unmarked_back : (done : ℕ) (devices : List Device) (marks : List (Option Owner)) (n : ℕ) → slice_get marks n ≡ Some None → slice_get (map (mark_given_back done devices) marks) n ≡ Some None
-unmarked_back done devices marks n at = slice_get-map (mark_given_back done devices) marks n ∙ ap (option_map (mark_given_back done devices)) at
+pub unmarked_back : (done : ℕ) (devices : List Device) (owners : List (Option Owner)) (n : ℕ) → slice_get owners n ≡ Some None → slice_get (map (owner_given_back done devices) owners) n ≡ Some None
+unmarked_back done devices owners n at = slice_get-map (owner_given_back done devices) owners n ∙ ap (option_map (owner_given_back done devices)) at
 
-pub marked_back : (done : ℕ) (devices : List Device) (marks : List (Option Owner)) (n : ℕ) (owner : Owner) → slice_get marks n ≡ Some (Some owner) → is_gone done devices owner ≡ false
-    → slice_get (map (mark_given_back done devices) marks) n ≡ Some (Some owner)
-marked_back done devices marks n owner at stays = slice_get-map (mark_given_back done devices) marks n ∙ ap (option_map (mark_given_back done devices)) at ∙ rw stays refl
+pub marked_back : (done : ℕ) (devices : List Device) (owners : List (Option Owner)) (n : ℕ) (owner : Owner) → slice_get owners n ≡ Some (Some owner) → is_gone done devices owner ≡ false
+    → slice_get (map (owner_given_back done devices) owners) n ≡ Some (Some owner)
+marked_back done devices owners n owner at unchanged = slice_get-map (owner_given_back done devices) owners n ∙ ap (option_map (owner_given_back done devices)) at ∙ rw unchanged refl
 
 -- where no ticket of a leaving device is confirmed, nothing changes
 stays_so : (done : ℕ) (a : Attachment) → ((ticket : ℕ) (stage : Stages) → a ≡ Leaving ticket stage → done < ticket) → has_left_until done a ≡ false
@@ -124,10 +124,10 @@ pub nobody_gone : (devices : List Device) (done : ℕ) → ((id : ℕ) → has_l
 nobody_gone devices done stay System = refl
 nobody_gone devices done stay (OneDevice id) = stay id
 
-pub marks_same : (done : ℕ) (devices : List Device) (marks : List (Option Owner)) → ((owner : Owner) → is_gone done devices owner ≡ false) → map (mark_given_back done devices) marks ≡ marks
+pub marks_same : (done : ℕ) (devices : List Device) (owners : List (Option Owner)) → ((owner : Owner) → is_gone done devices owner ≡ false) → map (owner_given_back done devices) owners ≡ owners
 marks_same done devices [] stay = refl
-marks_same done devices (None ∷ marks) stay = ap (λ (ms : List (Option Owner)). None ∷ ms) (marks_same done devices marks stay)
-marks_same done devices (Some owner ∷ marks) stay = rw (stay owner) (ap (λ (ms : List (Option Owner)). Some owner ∷ ms) (marks_same done devices marks stay))
+marks_same done devices (None ∷ owners) stay = ap (λ (ms : List (Option Owner)). None ∷ ms) (marks_same done devices owners stay)
+marks_same done devices (Some owner ∷ owners) stay = rw (stay owner) (ap (λ (ms : List (Option Owner)). Some owner ∷ ms) (marks_same done devices owners stay))
 
 -- devices at places: none of them has left
 pub devices_same : (done : ℕ) (devices : List Device) → ((k : ℕ) (device : Device) → slice_get devices k ≡ Some device → has_left_until done device.attachment ≡ false) → map (driven_once_confirmed done) devices ≡ devices

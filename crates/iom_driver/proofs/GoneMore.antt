@@ -6,11 +6,11 @@ use Rattle.std.proofs.lemmas.Bool.{false≢true, eq-eqb}
 use Rattle.std.proofs.lemmas.Option.{slice_get-map}
 use Rattle.iom_base.specs.declared.owner.Owner.{Owner}
 use Rattle.iom_base.specs.declared.owner.Owner.TheVariants.{System, OneDevice}
-use Rattle.iom_table_frames.specs.Marks.{GivesBack}
+use Rattle.iom_table_frames.specs.Owners.{GivesBack}
 use Rattle.iom_driver.specs.declared.device.Attachment.{Attachment}
 use Rattle.iom_driver.specs.declared.device.Attachment.TheVariants.{Detached}
 use Rattle.iom_driver.specs.declared.device.Device.{Device}
-use Rattle.iom_driver.specs.Confirmed.{has_left_until, is_gone, mark_given_back, ClearsGone}
+use Rattle.iom_driver.specs.Confirmed.{has_left_until, is_gone, owner_given_back, ClearsGone}
 use Rattle.iom_driver.specs.Devices.{device_by_id, attachment_by_id, HaveOwnIds}
 use Rattle.iom_driver.proofs.Ids.{none_of_all, none_at}
 use Rattle.iom_driver.proofs.Lists.{differs, same_items}
@@ -67,35 +67,35 @@ gone_other done devices device (OneDevice id) none other =
 
 gone_same : (done : ℕ) (devices : List Device) (device : Device) → device_by_id devices device.id ≡ None → has_left_until done device.attachment ≡ false → (owner : Owner)
     → is_gone done (devices ++ device ∷ []) owner ≡ is_gone done devices owner
-gone_same done devices device none stays owner = elim (owner_case owner device.id) [
-  | inl e ↦ ap (is_gone done (devices ++ device ∷ [])) e ∙ gone_own done devices device none ∙ stays ∙ sym (ap (is_gone done devices) e ∙ gone_before done devices device none)
+gone_same done devices device none unchanged owner = elim (owner_case owner device.id) [
+  | inl e ↦ ap (is_gone done (devices ++ device ∷ [])) e ∙ gone_own done devices device none ∙ unchanged ∙ sym (ap (is_gone done devices) e ∙ gone_before done devices device none)
   | inr other ↦ gone_other done devices device owner none other
 ]
 
-maps_same : (done : ℕ) (one other : List Device) → ((owner : Owner) → is_gone done one owner ≡ is_gone done other owner) → (marks : List (Option Owner))
-    → map (mark_given_back done one) marks ≡ map (mark_given_back done other) marks
+maps_same : (done : ℕ) (one other : List Device) → ((owner : Owner) → is_gone done one owner ≡ is_gone done other owner) → (owners : List (Option Owner))
+    → map (owner_given_back done one) owners ≡ map (owner_given_back done other) owners
 maps_same done one other same [] = refl
-maps_same done one other same (None ∷ marks) = ap (λ (ms : List (Option Owner)). None ∷ ms) (maps_same done one other same marks)
-maps_same done one other same (Some owner ∷ marks) =
-    rw (same owner) (ap (λ (ms : List (Option Owner)). (if is_gone done other owner then None else Some owner) ∷ ms) (maps_same done one other same marks))
+maps_same done one other same (None ∷ owners) = ap (λ (ms : List (Option Owner)). None ∷ ms) (maps_same done one other same owners)
+maps_same done one other same (Some owner ∷ owners) =
+    rw (same owner) (ap (λ (ms : List (Option Owner)). (if is_gone done other owner then None else Some owner) ∷ ms) (maps_same done one other same owners))
 
-pub marks_stay : (done : ℕ) (devices : List Device) (device : Device) (marks old : List (Option Owner)) → device_by_id devices device.id ≡ None → has_left_until done device.attachment ≡ false
-    → marks ≡ map (mark_given_back done devices) old → marks ≡ map (mark_given_back done (devices ++ device ∷ [])) old
-marks_stay done devices device marks old none stays is =
-    is ∙ sym (maps_same done (devices ++ device ∷ []) devices (gone_same done devices device none stays) old)
+pub owners_unchanged : (done : ℕ) (devices : List Device) (device : Device) (owners old : List (Option Owner)) → device_by_id devices device.id ≡ None → has_left_until done device.attachment ≡ false
+    → owners ≡ map (owner_given_back done devices) old → owners ≡ map (owner_given_back done (devices ++ device ∷ [])) old
+owners_unchanged done devices device owners old none unchanged is =
+    is ∙ sym (maps_same done (devices ++ device ∷ []) devices (gone_same done devices device none unchanged) old)
 
-pub clears_stay : (done : ℕ) (devices : List Device) (device : Device) (marks : List (Option Owner)) (old new : List (List ℕ)) → device_by_id devices device.id ≡ None
-    → has_left_until done device.attachment ≡ false → ClearsGone done devices marks old new → ClearsGone done (devices ++ device ∷ []) marks old new
-clears_stay done devices device marks old new none stays clears = record {
+pub clears_stay : (done : ℕ) (devices : List Device) (device : Device) (owners : List (Option Owner)) (old new : List (List ℕ)) → device_by_id devices device.id ≡ None
+    → has_left_until done device.attachment ≡ false → ClearsGone done devices owners old new → ClearsGone done (devices ++ device ∷ []) owners old new
+clears_stay done devices device owners old new none unchanged clears = record {
   size = clears.size;
-  own = λ f owner at gone. clears.own f owner at (sym (gone_same done devices device none stays owner) ∙ gone);
-  others = λ f stay. clears.others f (λ owner at. sym (gone_same done devices device none stays owner) ∙ stay owner at);
+  own = λ f owner at gone. clears.own f owner at (sym (gone_same done devices device none unchanged owner) ∙ gone);
+  others = λ f stay. clears.others f (λ owner at. sym (gone_same done devices device none unchanged owner) ∙ stay owner at);
 }
 
 -- THE DEVICE HAS LEFT
 
 -- a mark that is somebody's was that one's
-back_from : (done : ℕ) (devices : List Device) (mark : Option (Option Owner)) (owner : Owner) → option_map (mark_given_back done devices) mark ≡ Some (Some owner) → mark ≡ Some (Some owner)
+back_from : (done : ℕ) (devices : List Device) (mark : Option (Option Owner)) (owner : Owner) → option_map (owner_given_back done devices) mark ≡ Some (Some owner) → mark ≡ Some (Some owner)
 back_from done devices None owner is = cc
 back_from done devices (Some None) owner is = cc
 back_from done devices (Some (Some own)) owner is = by (is_gone done devices own) is
@@ -104,42 +104,42 @@ back_from done devices (Some (Some own)) owner is = by (is_gone done devices own
     by true is = cc
     by false is = is
 
-pub marks_back : (done : ℕ) (devices : List Device) (device : Device) (marks marks' old : List (Option Owner)) (before after : List (List ℕ)) → device_by_id devices device.id ≡ None
-    → has_left_until done device.attachment ≡ true → marks ≡ map (mark_given_back done devices) old → GivesBack (OneDevice device.id) marks marks' before after
-    → marks' ≡ map (mark_given_back done (devices ++ device ∷ [])) old
-marks_back done devices device marks marks' old before after none left is gives =
-    same_items marks' (map (mark_given_back done (devices ++ device ∷ [])) old) (λ f. by f (slice_get old f) refl ∙ sym (slice_get-map (mark_given_back done (devices ++ device ∷ [])) old f))
+pub marks_back : (done : ℕ) (devices : List Device) (device : Device) (owners owners' old : List (Option Owner)) (before after : List (List ℕ)) → device_by_id devices device.id ≡ None
+    → has_left_until done device.attachment ≡ true → owners ≡ map (owner_given_back done devices) old → GivesBack (OneDevice device.id) owners owners' before after
+    → owners' ≡ map (owner_given_back done (devices ++ device ∷ [])) old
+marks_back done devices device owners owners' old before after none left is gives =
+    same_items owners' (map (owner_given_back done (devices ++ device ∷ [])) old) (λ f. by f (slice_get old f) refl ∙ sym (slice_get-map (owner_given_back done (devices ++ device ∷ [])) old f))
   where
-    was : (f : ℕ) → slice_get marks f ≡ option_map (mark_given_back done devices) (slice_get old f)
-    was f = ap (λ (ms : List (Option Owner)). slice_get ms f) is ∙ slice_get-map (mark_given_back done devices) old f
+    was : (f : ℕ) → slice_get owners f ≡ option_map (owner_given_back done devices) (slice_get old f)
+    was f = ap (λ (ms : List (Option Owner)). slice_get ms f) is ∙ slice_get-map (owner_given_back done devices) old f
 
-    stays : (f : ℕ) (mark : Option (Option Owner)) → slice_get old f ≡ mark → mark ≢ Some (Some (OneDevice device.id)) → slice_get marks' f ≡ option_map (mark_given_back done devices) mark
-    stays f mark at other =
+    unchanged : (f : ℕ) (mark : Option (Option Owner)) → slice_get old f ≡ mark → mark ≢ Some (Some (OneDevice device.id)) → slice_get owners' f ≡ option_map (owner_given_back done devices) mark
+    unchanged f mark at other =
         (gives.others f (λ own. other (sym at ∙ back_from done devices (slice_get old f) (OneDevice device.id) (sym (was f) ∙ own)))).0
-        ∙ was f ∙ ap (option_map (mark_given_back done devices)) at
+        ∙ was f ∙ ap (option_map (owner_given_back done devices)) at
 
-    by : (f : ℕ) (mark : Option (Option Owner)) → slice_get old f ≡ mark → slice_get marks' f ≡ option_map (mark_given_back done (devices ++ device ∷ [])) mark
-    by f None at = stays f None at (λ same. cc)
-    by f (Some None) at = stays f (Some None) at (λ same. cc)
+    by : (f : ℕ) (mark : Option (Option Owner)) → slice_get old f ≡ mark → slice_get owners' f ≡ option_map (owner_given_back done (devices ++ device ∷ [])) mark
+    by f None at = unchanged f None at (λ same. cc)
+    by f (Some None) at = unchanged f (Some None) at (λ same. cc)
     by f (Some (Some owner)) at = elim (owner_case owner device.id) [
       | inl e ↦
           let free : is_gone done devices owner ≡ false = ap (is_gone done devices) e ∙ gone_before done devices device none in
           let gone : is_gone done (devices ++ device ∷ []) owner ≡ true = ap (is_gone done (devices ++ device ∷ [])) e ∙ gone_own done devices device none ∙ left in
-          let kept : option_map (mark_given_back done devices) (Some (Some owner)) ≡ Some (Some owner) = rw free refl in
-          let own : slice_get marks f ≡ Some (Some (OneDevice device.id)) = was f ∙ ap (option_map (mark_given_back done devices)) at ∙ kept ∙ ap (λ (o : Owner). Some (Some o)) e in
+          let kept : option_map (owner_given_back done devices) (Some (Some owner)) ≡ Some (Some owner) = rw free refl in
+          let own : slice_get owners f ≡ Some (Some (OneDevice device.id)) = was f ∙ ap (option_map (owner_given_back done devices)) at ∙ kept ∙ ap (λ (o : Owner). Some (Some o)) e in
           rw gone (gives.own f own).0
       | inr other ↦
-          stays f (Some (Some owner)) at (λ same. other (one_owner owner same))
+          unchanged f (Some (Some owner)) at (λ same. other (one_owner owner same))
           ∙ rw (gone_other done devices device owner none other) refl
     ]
       where
         one_owner : (o : Owner) → ◌≡◌ {A = Option (Option Owner)} (Some (Some o)) (Some (Some (OneDevice device.id))) → o ≡ OneDevice device.id
         one_owner o same = cc
 
-pub clears_back : (done : ℕ) (devices : List Device) (device : Device) (marks marks' old : List (Option Owner)) (memory before after : List (List ℕ)) → device_by_id devices device.id ≡ None
-    → has_left_until done device.attachment ≡ true → marks ≡ map (mark_given_back done devices) old → GivesBack (OneDevice device.id) marks marks' before after
+pub clears_back : (done : ℕ) (devices : List Device) (device : Device) (owners owners' old : List (Option Owner)) (memory before after : List (List ℕ)) → device_by_id devices device.id ≡ None
+    → has_left_until done device.attachment ≡ true → owners ≡ map (owner_given_back done devices) old → GivesBack (OneDevice device.id) owners owners' before after
     → ClearsGone done devices old memory before → ClearsGone done (devices ++ device ∷ []) old memory after
-clears_back done devices device marks marks' old memory before after none left is gives clears = record {
+clears_back done devices device owners owners' old memory before after none left is gives clears = record {
   size = gives.memory_size ∙ clears.size;
   own = λ f owner at gone. elim (owner_case owner device.id) [
     | inl e ↦
@@ -160,27 +160,27 @@ clears_back done devices device marks marks' old memory before after none left i
       ]);
 }
   where
-    was : (f : ℕ) → slice_get marks f ≡ option_map (mark_given_back done devices) (slice_get old f)
-    was f = ap (λ (ms : List (Option Owner)). slice_get ms f) is ∙ slice_get-map (mark_given_back done devices) old f
+    was : (f : ℕ) → slice_get owners f ≡ option_map (owner_given_back done devices) (slice_get old f)
+    was f = ap (λ (ms : List (Option Owner)). slice_get ms f) is ∙ slice_get-map (owner_given_back done devices) old f
 
     one_owner : (o : Owner) → ◌≡◌ {A = Option (Option Owner)} (Some (Some o)) (Some (Some (OneDevice device.id))) → o ≡ OneDevice device.id
     one_owner o same = cc
 
-    mark_kept : (f : ℕ) (owner : Owner) → slice_get old f ≡ Some (Some owner) → is_gone done devices owner ≡ false → slice_get marks f ≡ Some (Some owner)
-    mark_kept f owner at free = was f ∙ ap (option_map (mark_given_back done devices)) at ∙ rw free refl
+    mark_kept : (f : ℕ) (owner : Owner) → slice_get old f ≡ Some (Some owner) → is_gone done devices owner ≡ false → slice_get owners f ≡ Some (Some owner)
+    mark_kept f owner at free = was f ∙ ap (option_map (owner_given_back done devices)) at ∙ rw free refl
 
 -- nothing is given back where there are no devices
 none_gone : (done : ℕ) (owner : Owner) → is_gone done [] owner ≡ false
 none_gone done System = refl
 none_gone done (OneDevice id) = refl
 
-pub marks_at_first : (done : ℕ) (marks : List (Option Owner)) → marks ≡ map (mark_given_back done []) marks
+pub marks_at_first : (done : ℕ) (owners : List (Option Owner)) → owners ≡ map (owner_given_back done []) owners
 marks_at_first done [] = refl
-marks_at_first done (None ∷ marks) = ap (λ (ms : List (Option Owner)). None ∷ ms) (marks_at_first done marks)
-marks_at_first done (Some owner ∷ marks) = rw (none_gone done owner) (ap (λ (ms : List (Option Owner)). Some owner ∷ ms) (marks_at_first done marks))
+marks_at_first done (None ∷ owners) = ap (λ (ms : List (Option Owner)). None ∷ ms) (marks_at_first done owners)
+marks_at_first done (Some owner ∷ owners) = rw (none_gone done owner) (ap (λ (ms : List (Option Owner)). Some owner ∷ ms) (marks_at_first done owners))
 
-pub clears_at_first : (done : ℕ) (marks : List (Option Owner)) (memory : List (List ℕ)) → ClearsGone done [] marks memory memory
-clears_at_first done marks memory = record {
+pub clears_at_first : (done : ℕ) (owners : List (Option Owner)) (memory : List (List ℕ)) → ClearsGone done [] owners memory memory
+clears_at_first done owners memory = record {
   size = refl;
   own = λ f owner at gone. absurd (false≢true (sym (none_gone done owner) ∙ gone));
   others = λ f stay. refl;

@@ -18,7 +18,7 @@ use Rattle.iom_page_table.specs.Leaves.{leaf_of}
 use Rattle.iom_page_table.specs.FirstTables.{IsRoot, HasTable, ChangesLeaf, KeepsOutside, missing_for, mapped}
 use Rattle.iom_page_table.specs.Trees.{shape_of, IsFrameOf, AreFresh, missing_under, missing_here}
 use Rattle.iom_page_table.proofs.Pages.{path_shaped}
-use Rattle.iom_page_table.proofs.Stays.{stays}
+use Rattle.iom_page_table.proofs.Unchanged.{unchanged}
 use Rattle.iom_page_table.proofs.Trees.{AlikeOn, alike_in}
 use Rattle.iom_base.specs.declared.mode.Mode.{Mode}
 use Rattle.iom_base.specs.Modes.{size_in}
@@ -27,7 +27,7 @@ use Rattle.iom_base.specs.declared.size.Size.TheVariants.{Sv39, Sv48}
 use Rattle.iom_base.specs.Sizes.{levels_of, page_limit_of, table_limit_of}
 use Rattle.iom_base.specs.declared.owner.Owner.{Owner}
 use Rattle.iom_base.specs.declared.owner.Owner.TheVariants.{OneDevice}
-use Rattle.iom_table_frames.specs.Marks.{IsFreeForTable, is_marked}
+use Rattle.iom_table_frames.specs.Owners.{IsFreeForTable, is_marked}
 use Rattle.iom_driver.specs.declared.device.Device.{Device}
 use Rattle.iom_driver.specs.declared.device.Stages.{Stages}
 use Rattle.iom_driver.specs.Calls.{KeepsOtherFrames}
@@ -38,9 +38,9 @@ use Rattle.iom_driver.proofs.Chosen.{AreChosen}
 use Rattle.iom_driver.proofs.Keeps.{here_or_there}
 use Rattle.iom_driver.proofs.Limits.{low_page}
 use Rattle.iom_driver.proofs.Taken.{unmarked, owned_differs}
-use Rattle.iom_driver.proofs.Marks.{Among, NotAmong, not_among, among_not, among_contained, among_get, mark_stays, bytes_stay, marked_still, marked_among, zero_among}
+use Rattle.iom_driver.proofs.Owners.{Among, NotAmong, not_among, among_not, among_contained, among_get, mark_stays, bytes_stay, marked_still, marked_among, zero_among}
 use Rattle.iom_driver.proofs.Modes.{rest, rooted, root_in, table_of, table_in}
-use Rattle.iom_driver.proofs.Stays.{tables_stay}
+use Rattle.iom_driver.proofs.Unchanged.{tables_stay}
 
 -- as many tables are missing on a path whose entries are alike
 missing_at : (old new : Entries) (x : Entry) (below : List ℕ) → ((next : ℕ) → x ≡ Pointer next → missing_under new next below ≡ missing_under old next below)
@@ -82,18 +82,18 @@ missing_few Sv39 memory root page = let few : missing_for Sv39 memory root page 
 missing_few Sv48 memory root page = missing_limit Sv48 memory root page
 
 -- a frame that is free for a table is none of a device's tables
-not_a_table : (memory : List (List ℕ)) (marks : List (Option Owner)) (ledger : Ledger) (id : ℕ) (mode : Mode) (root f : ℕ) → AreTablesOf memory marks ledger id mode root → is_marked marks f ≡ false → IsFrameOf (shape_of (size_in mode)) (entries memory) root f → ⊥
-not_a_table memory marks ledger id mode root f tables free at =
+not_a_table : (memory : List (List ℕ)) (owners : List (Option Owner)) (ledger : Ledger) (id : ℕ) (mode : Mode) (root f : ℕ) → AreTablesOf memory owners ledger id mode root → is_marked owners f ≡ false → IsFrameOf (shape_of (size_in mode)) (entries memory) root f → ⊥
+not_a_table memory owners ledger id mode root f tables free at =
     contra (sym (ap (λ (o : Option (Option Owner)). option_map_or (λ m. is_some m) o false) (tables.own f (table_in mode memory root f (inl at)))) ∙ free)
   where
     contra : true ≡ false → ⊥
     contra e = cc
 
 -- the tables' frames keep their bytes while free frames are cleared
-table_bytes : (memory : List (List ℕ)) (marks : List (Option Owner)) (ledger : Ledger) (id : ℕ) (mode : Mode) (root named : ℕ) (chosen : List ℕ) → AreTablesOf memory marks ledger id mode root
-    → All (λ f. IsFreeForTable marks ledger (Some named) f) chosen → (f : ℕ) → IsFrameOf (shape_of (size_in mode)) (entries memory) root f → slice_get (cleared chosen memory) f ≡ slice_get memory f
-table_bytes memory marks ledger id mode root named chosen tables free f at =
-    bytes_stay f chosen memory (not_among (λ t. IsFreeForTable marks ledger (Some named) t) f chosen free (λ is_free. not_a_table memory marks ledger id mode root f tables is_free.unmarked at))
+table_bytes : (memory : List (List ℕ)) (owners : List (Option Owner)) (ledger : Ledger) (id : ℕ) (mode : Mode) (root named : ℕ) (chosen : List ℕ) → AreTablesOf memory owners ledger id mode root
+    → All (λ f. IsFreeForTable owners ledger (Some named) f) chosen → (f : ℕ) → IsFrameOf (shape_of (size_in mode)) (entries memory) root f → slice_get (cleared chosen memory) f ≡ slice_get memory f
+table_bytes memory owners ledger id mode root named chosen tables free f at =
+    bytes_stay f chosen memory (not_among (λ t. IsFreeForTable owners ledger (Some named) t) f chosen free (λ is_free. not_a_table memory owners ledger id mode root f tables is_free.unmarked at))
 
 -- what a map of the page asks, once the free frames are cleared
 pub record MayBeMapped (size : Size) (memory : List (List ℕ)) (root page : ℕ) (chosen : List ℕ) : Type 0 where
@@ -102,19 +102,19 @@ pub record MayBeMapped (size : Size) (memory : List (List ℕ)) (root page : ℕ
   pub count : length chosen ≡ missing_for size memory root page
   pub fresh : AreFresh (shape_of size) memory root chosen
 
-pub may_be_mapped : (memory : List (List ℕ)) (marks : List (Option Owner)) (ledger : Ledger) (id : ℕ) (mode : Mode) (root page named count : ℕ) (chosen : List ℕ) → AreTablesOf memory marks ledger id mode root
-    → page < page_limit_of (size_in mode) → held_in ledger id page ≡ None → count ≡ missing_for (size_in mode) memory root page → AreChosen marks ledger (Some named) (length memory) count chosen
+pub may_be_mapped : (memory : List (List ℕ)) (owners : List (Option Owner)) (ledger : Ledger) (id : ℕ) (mode : Mode) (root page named count : ℕ) (chosen : List ℕ) → AreTablesOf memory owners ledger id mode root
+    → page < page_limit_of (size_in mode) → held_in ledger id page ≡ None → count ≡ missing_for (size_in mode) memory root page → AreChosen owners ledger (Some named) (length memory) count chosen
     → MayBeMapped (size_in mode) (cleared chosen memory) root page chosen
-may_be_mapped memory marks ledger id mode root page named count chosen tables low none counted chose =
-    let same = table_bytes memory marks ledger id mode root named chosen tables chose.free in
-    let stay = stays (size_in mode) memory (cleared chosen memory) root (rooted mode memory root tables.tree).tree same in
+may_be_mapped memory owners ledger id mode root page named count chosen tables low none counted chose =
+    let same = table_bytes memory owners ledger id mode root named chosen tables chose.free in
+    let stay = unchanged (size_in mode) memory (cleared chosen memory) root (rooted mode memory root tables.tree).tree same in
     record {
       tree = stay.tree;
       free = stay.leaves page ∙ tables.leaves page (low_page (size_in mode) page low) ∙ ap (option_map leaf_for) none;
       count = chose.many ∙ counted ∙ sym (missing_stays (size_in mode) memory (cleared chosen memory) root page same);
       fresh = record {
         zero = λ k d lt. zero_among chosen memory chose.inside (get_or chosen k d) (among_get chosen k d lt);
-        outside = λ k d lt at. not_a_table memory marks ledger id mode root (get_or chosen k d) tables (chose.free k d lt).unmarked ((stay.tables (get_or chosen k d)).0 at);
+        outside = λ k d lt at. not_a_table memory owners ledger id mode root (get_or chosen k d) tables (chose.free k d lt).unmarked ((stay.tables (get_or chosen k d)).0 at);
         distinct = chose.distinct;
       };
     }
@@ -128,50 +128,50 @@ pub record IsMapped (size : Size) (memory memory' : List (List ℕ)) (root page 
   pub long : length memory' ≡ length memory
 
 -- each frame of the mapped tables is the device's
-mapped_own : (memory memory' : List (List ℕ)) (marks : List (Option Owner)) (ledger : Ledger) (id : ℕ) (mode : Mode) (root page named count : ℕ) (leaf : PageLeaf) (chosen : List ℕ) → length marks ≡ length memory
-    → AreTablesOf memory marks ledger id mode root
-    → AreChosen marks ledger (Some named) (length memory) count chosen → IsMapped (size_in mode) (cleared chosen memory) memory' root page leaf chosen → (f : ℕ) → HasTable (size_in mode) memory' root f → slice_get (marked_for (OneDevice id) chosen marks) f ≡ Some (Some (OneDevice id))
-mapped_own memory memory' marks ledger id mode root page named count leaf chosen long tables chose mapped f at = by ((mapped.tables f).0 at)
+mapped_own : (memory memory' : List (List ℕ)) (owners : List (Option Owner)) (ledger : Ledger) (id : ℕ) (mode : Mode) (root page named count : ℕ) (leaf : PageLeaf) (chosen : List ℕ) → length owners ≡ length memory
+    → AreTablesOf memory owners ledger id mode root
+    → AreChosen owners ledger (Some named) (length memory) count chosen → IsMapped (size_in mode) (cleared chosen memory) memory' root page leaf chosen → (f : ℕ) → HasTable (size_in mode) memory' root f → slice_get (marked_for (OneDevice id) chosen owners) f ≡ Some (Some (OneDevice id))
+mapped_own memory memory' owners ledger id mode root page named count leaf chosen long tables chose mapped f at = by ((mapped.tables f).0 at)
   where
-    by : HasTable (size_in mode) (cleared chosen memory) root f ⊎ Contains chosen f → slice_get (marked_for (OneDevice id) chosen marks) f ≡ Some (Some (OneDevice id))
-    by (inl was) = marked_still (OneDevice id) f chosen marks
-        (tables.own f (table_in mode memory root f (inl (((stays (size_in mode) memory (cleared chosen memory) root (rooted mode memory root tables.tree).tree (table_bytes memory marks ledger id mode root named chosen tables chose.free)).tables f).0 was))))
-    by (inr new) = marked_among (OneDevice id) f chosen marks (λ k d lt. subst (λ n. get_or chosen k d < n) (sym long) (chose.inside k d lt)) (among_contained f chosen new)
+    by : HasTable (size_in mode) (cleared chosen memory) root f ⊎ Contains chosen f → slice_get (marked_for (OneDevice id) chosen owners) f ≡ Some (Some (OneDevice id))
+    by (inl was) = marked_still (OneDevice id) f chosen owners
+        (tables.own f (table_in mode memory root f (inl (((unchanged (size_in mode) memory (cleared chosen memory) root (rooted mode memory root tables.tree).tree (table_bytes memory owners ledger id mode root named chosen tables chose.free)).tables f).0 was))))
+    by (inr new) = marked_among (OneDevice id) f chosen owners (λ k d lt. subst (λ n. get_or chosen k d < n) (sym long) (chose.inside k d lt)) (among_contained f chosen new)
 
 -- a frame that is another's, or nobody's, keeps its bytes
-pub mapped_others : (memory memory' : List (List ℕ)) (marks : List (Option Owner)) (ledger : Ledger) (id : ℕ) (mode : Mode) (root page named count n : ℕ) (leaf : PageLeaf) (chosen : List ℕ) → length marks ≡ length memory
-    → AreTablesOf memory marks ledger id mode root
-    → AreChosen marks ledger (Some named) (length memory) count chosen → IsMapped (size_in mode) (cleared chosen memory) memory' root page leaf chosen
-    → (slice_get (marked_for (OneDevice id) chosen marks) n ≡ Some (Some (OneDevice id)) → ⊥) → slice_get memory' n ≡ slice_get (cleared chosen memory) n
-mapped_others memory memory' marks ledger id mode root page named count n leaf chosen long tables chose mapped differs =
-    mapped.outside n (λ at. differs (mapped_own memory memory' marks ledger id mode root page named count leaf chosen long tables chose mapped n at))
+pub mapped_others : (memory memory' : List (List ℕ)) (owners : List (Option Owner)) (ledger : Ledger) (id : ℕ) (mode : Mode) (root page named count n : ℕ) (leaf : PageLeaf) (chosen : List ℕ) → length owners ≡ length memory
+    → AreTablesOf memory owners ledger id mode root
+    → AreChosen owners ledger (Some named) (length memory) count chosen → IsMapped (size_in mode) (cleared chosen memory) memory' root page leaf chosen
+    → (slice_get (marked_for (OneDevice id) chosen owners) n ≡ Some (Some (OneDevice id)) → ⊥) → slice_get memory' n ≡ slice_get (cleared chosen memory) n
+mapped_others memory memory' owners ledger id mode root page named count n leaf chosen long tables chose mapped differs =
+    mapped.outside n (λ at. differs (mapped_own memory memory' owners ledger id mode root page named count leaf chosen long tables chose mapped n at))
 
 -- each frame that isn't the device's afterwards keeps its bytes
-pub others_kept : (memory memory' : List (List ℕ)) (marks : List (Option Owner)) (ledger : Ledger) (id : ℕ) (mode : Mode) (root page named count : ℕ) (leaf : PageLeaf) (chosen : List ℕ) → length marks ≡ length memory
-    → AreTablesOf memory marks ledger id mode root
-    → AreChosen marks ledger (Some named) (length memory) count chosen → IsMapped (size_in mode) (cleared chosen memory) memory' root page leaf chosen
-    → KeepsOtherFrames (marked_for (OneDevice id) chosen marks) id memory memory'
-others_kept memory memory' marks ledger id mode root page named count leaf chosen long tables chose mapped f differs =
-    let inside : All (λ n. n < length marks) chosen = λ k d lt. subst (λ n. get_or chosen k d < n) (sym long) (chose.inside k d lt) in
-    mapped_others memory memory' marks ledger id mode root page named count f leaf chosen long tables chose mapped differs
-    ∙ bytes_stay f chosen memory (not_among (λ n. slice_get (marked_for (OneDevice id) chosen marks) n ≡ Some (Some (OneDevice id))) f chosen
-    (λ k d lt. marked_among (OneDevice id) (get_or chosen k d) chosen marks inside (among_get chosen k d lt)) differs)
+pub others_kept : (memory memory' : List (List ℕ)) (owners : List (Option Owner)) (ledger : Ledger) (id : ℕ) (mode : Mode) (root page named count : ℕ) (leaf : PageLeaf) (chosen : List ℕ) → length owners ≡ length memory
+    → AreTablesOf memory owners ledger id mode root
+    → AreChosen owners ledger (Some named) (length memory) count chosen → IsMapped (size_in mode) (cleared chosen memory) memory' root page leaf chosen
+    → KeepsOtherFrames (marked_for (OneDevice id) chosen owners) id memory memory'
+others_kept memory memory' owners ledger id mode root page named count leaf chosen long tables chose mapped f differs =
+    let inside : All (λ n. n < length owners) chosen = λ k d lt. subst (λ n. get_or chosen k d < n) (sym long) (chose.inside k d lt) in
+    mapped_others memory memory' owners ledger id mode root page named count f leaf chosen long tables chose mapped differs
+    ∙ bytes_stay f chosen memory (not_among (λ n. slice_get (marked_for (OneDevice id) chosen owners) n ≡ Some (Some (OneDevice id))) f chosen
+    (λ k d lt. marked_among (OneDevice id) (get_or chosen k d) chosen owners inside (among_get chosen k d lt)) differs)
 
 -- a frame that is somebody's isn't chosen
-not_chosen : (memory : List (List ℕ)) (marks : List (Option Owner)) (ledger : Ledger) (named count n : ℕ) (chosen : List ℕ) (owner : Owner) → length marks ≡ length memory
-    → AreChosen marks ledger (Some named) (length memory) count chosen → slice_get marks n ≡ Some (Some owner) → NotAmong n chosen
-not_chosen memory marks ledger named count n chosen owner long chose mark =
-    not_among (λ t. (t < length memory) × IsFreeForTable marks ledger (Some named) t) n chosen (λ k d lt. (chose.inside k d lt, chose.free k d lt))
-    (λ is_free. owned_differs marks n n owner mark (unmarked marks n (subst (λ m. n < m) (sym long) is_free.0) is_free.1.unmarked) refl)
+not_chosen : (memory : List (List ℕ)) (owners : List (Option Owner)) (ledger : Ledger) (named count n : ℕ) (chosen : List ℕ) (owner : Owner) → length owners ≡ length memory
+    → AreChosen owners ledger (Some named) (length memory) count chosen → slice_get owners n ≡ Some (Some owner) → NotAmong n chosen
+not_chosen memory owners ledger named count n chosen owner long chose mark =
+    not_among (λ t. (t < length memory) × IsFreeForTable owners ledger (Some named) t) n chosen (λ k d lt. (chose.inside k d lt, chose.free k d lt))
+    (λ is_free. owned_differs owners n n owner mark (unmarked owners n (subst (λ m. n < m) (sym long) is_free.0) is_free.1.unmarked) refl)
 
 -- a frame that is somebody else's keeps its bytes
-pub kept_others : (memory memory' : List (List ℕ)) (marks : List (Option Owner)) (ledger : Ledger) (id : ℕ) (mode : Mode) (root page named count n : ℕ) (leaf : PageLeaf) (chosen : List ℕ) (owner : Owner)
-    → length marks ≡ length memory → AreTablesOf memory marks ledger id mode root → AreChosen marks ledger (Some named) (length memory) count chosen → IsMapped (size_in mode) (cleared chosen memory) memory' root page leaf chosen
-    → slice_get marks n ≡ Some (Some owner) → owner ≢ OneDevice id → slice_get memory' n ≡ slice_get memory n
-kept_others memory memory' marks ledger id mode root page named count n leaf chosen owner long tables chose mapped mark other =
-    let apart = not_chosen memory marks ledger named count n chosen owner long chose mark in
-    mapped_others memory memory' marks ledger id mode root page named count n leaf chosen long tables chose mapped
-    (λ now. let both : ◌≡◌ {A = Option (Option Owner)} (Some (Some owner)) (Some (Some (OneDevice id))) = sym mark ∙ sym (mark_stays (OneDevice id) n chosen marks apart) ∙ now in other cc)
+pub kept_others : (memory memory' : List (List ℕ)) (owners : List (Option Owner)) (ledger : Ledger) (id : ℕ) (mode : Mode) (root page named count n : ℕ) (leaf : PageLeaf) (chosen : List ℕ) (owner : Owner)
+    → length owners ≡ length memory → AreTablesOf memory owners ledger id mode root → AreChosen owners ledger (Some named) (length memory) count chosen → IsMapped (size_in mode) (cleared chosen memory) memory' root page leaf chosen
+    → slice_get owners n ≡ Some (Some owner) → owner ≢ OneDevice id → slice_get memory' n ≡ slice_get memory n
+kept_others memory memory' owners ledger id mode root page named count n leaf chosen owner long tables chose mapped mark other =
+    let apart = not_chosen memory owners ledger named count n chosen owner long chose mark in
+    mapped_others memory memory' owners ledger id mode root page named count n leaf chosen long tables chose mapped
+    (λ now. let both : ◌≡◌ {A = Option (Option Owner)} (Some (Some owner)) (Some (Some (OneDevice id))) = sym mark ∙ sym (mark_stays (OneDevice id) n chosen owners apart) ∙ now in other cc)
     ∙ bytes_stay n chosen memory apart
 
 -- what the map of the page writes, where the frames are cleared first
@@ -182,21 +182,21 @@ mapped_is size memory before after root page leaf granted clears maps chosen who
     ∙ ap (λ l. mapped size (cleared chosen memory) root page l chosen) leaf_is
 
 -- the tables of all devices
-pub tables_granted : (memory memory' : List (List ℕ)) (marks : List (Option Owner)) (old new : Ledger) (devices : List Device) (id page frame count : ℕ) (rights : Rights) (stage : Stages) (chosen : List ℕ)
-    → length marks ≡ length memory → HaveTables memory marks old devices → owned_stages_of devices id ≡ Some stage → page < page_limit_of (size_in stage.mode)
-    → changes.ShowsGrant old new id page (frame, rights) → AreChosen marks old (Some frame) (length memory) count chosen
-    → IsMapped (size_in stage.mode) (cleared chosen memory) memory' stage.root page (record { frame = frame; rights = rights }) chosen → HaveTables memory' (marked_for (OneDevice id) chosen marks) new devices
-tables_granted memory memory' marks old new devices id page frame count rights stage chosen long tables attached low granted chose mapped other found at =
+pub tables_granted : (memory memory' : List (List ℕ)) (owners : List (Option Owner)) (old new : Ledger) (devices : List Device) (id page frame count : ℕ) (rights : Rights) (stage : Stages) (chosen : List ℕ)
+    → length owners ≡ length memory → HaveTables memory owners old devices → owned_stages_of devices id ≡ Some stage → page < page_limit_of (size_in stage.mode)
+    → changes.ShowsGrant old new id page (frame, rights) → AreChosen owners old (Some frame) (length memory) count chosen
+    → IsMapped (size_in stage.mode) (cleared chosen memory) memory' stage.root page (record { frame = frame; rights = rights }) chosen → HaveTables memory' (marked_for (OneDevice id) chosen owners) new devices
+tables_granted memory memory' owners old new devices id page frame count rights stage chosen long tables attached low granted chose mapped other found at =
     elim (eqb_tells other id) [
       | inl e ↦
           let both : Some stage ≡ Some found = sym attached ∙ ap (λ i. owned_stages_of devices i) (sym e.1) ∙ at in
           let same : stage ≡ found = cc in
-          subst (λ i. AreTablesOf memory' (marked_for (OneDevice id) chosen marks) new i found.mode found.root) (sym e.1)
-          (subst (λ (s : Stages). AreTablesOf memory' (marked_for (OneDevice id) chosen marks) new id s.mode s.root) same own_tables)
-      | inr ne ↦ tables_stay memory memory' marks (marked_for (OneDevice id) chosen marks) old new other found.mode found.root (tables other found at)
+          subst (λ i. AreTablesOf memory' (marked_for (OneDevice id) chosen owners) new i found.mode found.root) (sym e.1)
+          (subst (λ (s : Stages). AreTablesOf memory' (marked_for (OneDevice id) chosen owners) new id s.mode s.root) same own_tables)
+      | inr ne ↦ tables_stay memory memory' owners (marked_for (OneDevice id) chosen owners) old new other found.mode found.root (tables other found at)
           (λ n mark. (
-            kept_others memory memory' marks old id stage.mode stage.root page frame count n (record { frame = frame; rights = rights }) chosen (OneDevice other) long before chose mapped mark (λ same. ne.1 (one_id other same)),
-            mark_stays (OneDevice id) n chosen marks (not_chosen memory marks old frame count n chosen (OneDevice other) long chose mark),
+            kept_others memory memory' owners old id stage.mode stage.root page frame count n (record { frame = frame; rights = rights }) chosen (OneDevice other) long before chose mapped mark (λ same. ne.1 (one_id other same)),
+            mark_stays (OneDevice id) n chosen owners (not_chosen memory owners old frame count n chosen (OneDevice other) long chose mark),
           ))
           (λ p. elim (here_or_there id page other p (frame, rights) (held_in old other p) (held_in new other p) (granted.held other p)) [ inl now ↦ absurd (ne.1 (sym now.0)) | inr still ↦ still.1 ])
     ]
@@ -204,7 +204,7 @@ tables_granted memory memory' marks old new devices id page frame count rights s
     one_id : (i : ℕ) → ◌≡◌ {A = Owner} (OneDevice i) (OneDevice id) → i ≡ id
     one_id i same = cc
 
-    before : AreTablesOf memory marks old id stage.mode stage.root
+    before : AreTablesOf memory owners old id stage.mode stage.root
     before = tables id stage attached
 
     leaf_by : (p : ℕ) → leaf_of (levels_of (size_in stage.mode)) (cleared chosen memory) stage.root p ≡ option_map leaf_for (held_in old id p)
@@ -219,12 +219,12 @@ tables_granted memory memory' marks old new devices id page frame count rights s
 
     -- the root's other frames are none of the chosen ones, and no tables
     unchosen : (f : ℕ) → Among f (rest stage.mode stage.root) → NotAmong f chosen
-    unchosen f here = not_chosen memory marks old frame count f chosen (OneDevice id) long chose (before.own f (table_in stage.mode memory stage.root f (inr here)))
+    unchosen f here = not_chosen memory owners old frame count f chosen (OneDevice id) long chose (before.own f (table_in stage.mode memory stage.root f (inr here)))
 
-    own_tables : AreTablesOf memory' (marked_for (OneDevice id) chosen marks) new id stage.mode stage.root
+    own_tables : AreTablesOf memory' (marked_for (OneDevice id) chosen owners) new id stage.mode stage.root
     own_tables =
         let was = rooted stage.mode memory stage.root before.tree in
-        let stay = stays (size_in stage.mode) memory (cleared chosen memory) stage.root was.tree (table_bytes memory marks old id stage.mode stage.root frame chosen before chose.free) in
+        let stay = unchanged (size_in stage.mode) memory (cleared chosen memory) stage.root was.tree (table_bytes memory owners old id stage.mode stage.root frame chosen before chose.free) in
         let apart : (f : ℕ) → HasTable (size_in stage.mode) memory' stage.root f → Among f (rest stage.mode stage.root) → ⊥ =
         λ f at here. elim ((mapped.tables f).0 at) [
           | inl still ↦ was.apart f ((stay.tables f).0 still) here
@@ -238,8 +238,8 @@ tables_granted memory memory' marks old new devices id page frame count rights s
             aligned = was.aligned;
           };
           own = λ f at. elim (table_of stage.mode memory' stage.root f at) [
-            | inl now ↦ mapped_own memory memory' marks old id stage.mode stage.root page frame count (record { frame = frame; rights = rights }) chosen long before chose mapped f now
-            | inr here ↦ marked_still (OneDevice id) f chosen marks (before.own f (table_in stage.mode memory stage.root f (inr here)))
+            | inl now ↦ mapped_own memory memory' owners old id stage.mode stage.root page frame count (record { frame = frame; rights = rights }) chosen long before chose mapped f now
+            | inr here ↦ marked_still (OneDevice id) f chosen owners (before.own f (table_in stage.mode memory stage.root f (inr here)))
           ];
           low = λ p high. elim (here_or_there id page id p (frame, rights) (held_in old id p) (held_in new id p) (granted.held id p)) [
             | inl now ↦ absurd (omega (arith, low, now.1, high))

@@ -1,5 +1,5 @@
 pub mod Lists
-pub mod Told
+pub mod FirstRefusals
 pub mod Places
 pub mod Ids
 pub mod Numbers
@@ -11,12 +11,12 @@ pub mod GoneMore
 pub mod Openings
 pub mod Ring
 pub mod Appended
-pub mod Marks
+pub mod Owners
 pub mod Directories
 pub mod Modes
 pub mod FaultRings
 pub mod Limits
-pub mod Stays
+pub mod Unchanged
 pub mod Reported
 pub mod Taking
 pub mod Chosen
@@ -32,6 +32,6 @@ pub mod PollTables
 pub mod Again
 pub mod AppendLists
 pub mod Unmaps
-pub mod CuttingOff
+pub mod QuarantineLemmas
 pub mod Orders
 pub mod SameLemmas

@@ -23,9 +23,9 @@ low_page Sv39 page low = omega arith
 low_page Sv48 page low = omega arith
 
 -- what a device holds is below the limit of its tables' size
-pub held_low : (memory : List (List ℕ)) (marks : List (Option Owner)) (ledger : Ledger) (id : ℕ) (mode : Mode) (root page : ℕ) → AreTablesOf memory marks ledger id mode root
+pub held_low : (memory : List (List ℕ)) (owners : List (Option Owner)) (ledger : Ledger) (id : ℕ) (mode : Mode) (root page : ℕ) → AreTablesOf memory owners ledger id mode root
     → IsSome (held_in ledger id page) → page < page_limit_of (size_in mode)
-held_low memory marks ledger id mode root page tables held = elim (cases_lt page (page_limit_of (size_in mode))) [
+held_low memory owners ledger id mode root page tables held = elim (cases_lt page (page_limit_of (size_in mode))) [
   | inl low ↦ low
   | inr high ↦ absurd (not_there (held_in ledger id page) (tables.low page high) held)
 ]

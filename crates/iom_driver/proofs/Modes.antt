@@ -11,7 +11,7 @@ use Rattle.iom_phys_mem.specs.Words.{zeroed}
 use Rattle.iom_driver.specs.Admitted.{IsAligned}
 use Rattle.iom_driver.specs.Attaching.{root_frames}
 use Rattle.iom_driver.specs.Tables.{IsRootIn, HasTableIn}
-use Rattle.iom_driver.proofs.Marks.{Among, among_all, among_contained, contained_among, all_among}
+use Rattle.iom_driver.proofs.Owners.{Among, among_all, among_contained, contained_among, all_among}
 
 -- the frames of the root but the first
 abbrev pub rest : Mode → ℕ → List ℕ

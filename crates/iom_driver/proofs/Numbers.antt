@@ -8,7 +8,7 @@ use Rattle.std.proofs.lemmas.Map.Steps.{le-length_from_below}
 use Rattle.iom_driver.specs.declared.device.Device.{Device}
 use Rattle.iom_driver.specs.declared.device.Stages.{Stages}
 use Rattle.iom_driver.specs.Devices.{owned_stages_of, owned_stages, with_attachment, has_device, is_used, has_number, IsLowestNumber}
-use Rattle.iom_driver.specs.Sound.{HaveNumbers}
+use Rattle.iom_driver.specs.Invariant.{HaveNumbers}
 use Rattle.iom_driver.specs.declared.device.Attachment.TheVariants.{Attached}
 use Rattle.iom_driver.proofs.Places.{attachment_set, attachment_other}
 

@@ -9,7 +9,7 @@ use Rattle.iom_ledger.specs.declared.ledger.Ledger.{Ledger}
 use Rattle.iom_ledger.specs.History.{Pair}
 use Rattle.iom_ledger.specs.Shown.{Agrees, held_in, lingering_in, released_in}
 use Rattle.iom_phys_mem.specs.Sizes.{IsMemorySize}
-use Rattle.iom_table_frames.specs.Marks.{opening_marks}
+use Rattle.iom_table_frames.specs.Owners.{opening_owners}
 use Rattle.iom_driver.specs.declared.device.Device.{Device}
 use Rattle.iom_driver.specs.declared.device.Stages.{Stages}
 use Rattle.iom_driver.specs.Devices.{owned_stages_of}
@@ -17,7 +17,7 @@ use Rattle.iom_driver.specs.Layout.{IsLevels, AreFixed}
 use Rattle.iom_driver.specs.Ready.{IsReady}
 use Rattle.iom_driver.specs.State.{DriverState}
 use Rattle.iom_registers.specs.declared.registers.Registers.{Registers}
-use Rattle.iom_driver.specs.Sound.{IsSound, RiseBetween}
+use Rattle.iom_driver.specs.Invariant.{StateInvariant, RiseBetween}
 
 -- an option that lists nothing is none
 none_listed : {X : Type 0} (o : Option X) → [] ≡ option_to_list o → o ≡ None
@@ -41,14 +41,14 @@ get_behind [] ys i k e = let same : i ≡ k = omega arith in ap (λ n. slice_get
 get_behind (x ∷ xs) ys zero k e = absurd (omega arith)
 get_behind (x ∷ xs) ys (suc i) k e = get_behind xs ys i k (omega arith)
 
-marked : (n : ℕ) → 64 ≤ n → length (opening_marks n) ≡ n
+marked : (n : ℕ) → 64 ≤ n → length (opening_owners n) ≡ n
 marked n le =
     let bare : List (Option Owner) = replicate (n - 4) None in
     let long : length bare ≡ n - 4 = length-replicate {A = Option Owner} (n - 4) None in
     let behind : length bare + 4 ≡ n = omega arith in
     length-append bare (replicate 4 (Some System)) ∙ behind
 
-fixed : (n : ℕ) → 64 ≤ n → AreFixed (opening_marks n) n
+fixed : (n : ℕ) → 64 ≤ n → AreFixed (opening_owners n) n
 fixed n le =
     let bare : List (Option Owner) = replicate (n - 4) None in
     let long : length bare ≡ n - 4 = length-replicate {A = Option Owner} (n - 4) None in
@@ -59,7 +59,7 @@ fixed n le =
       directory = get_behind bare (replicate 4 (Some System)) (n - 4) 0 (omega arith);
     }
 
-sound_at_start : (ledger : Ledger) (n levels : ℕ) → IsMemorySize n → IsLevels levels → Agrees ledger [] → IsSound ledger (opening_marks n) [] n levels false 0 0 0 0
+sound_at_start : (ledger : Ledger) (n levels : ℕ) → IsMemorySize n → IsLevels levels → Agrees ledger [] → StateInvariant ledger (opening_owners n) [] n levels false 0 0 0 0
 sound_at_start ledger n levels size range agrees = record {
   sizes = record { marked = marked n size.0; size = size; in_range = range };
   fixed = fixed n size.0;
@@ -79,12 +79,12 @@ sound_at_start ledger n levels size range agrees = record {
   idle = λ stopped id. refl;
 }
 
-pub sound_opening : (ledger : Ledger) (marks : List (Option Owner)) (devices : List Device) (n levels : ℕ) → marks ≡ opening_marks n → devices ≡ [] → IsMemorySize n → IsLevels levels → Agrees ledger []
-    → IsSound ledger marks devices n levels false 0 0 0 0
-sound_opening ledger marks devices n levels opens none size range agrees = rw (opens, none) (sound_at_start ledger n levels size range agrees)
+pub sound_opening : (ledger : Ledger) (owners : List (Option Owner)) (devices : List Device) (n levels : ℕ) → owners ≡ opening_owners n → devices ≡ [] → IsMemorySize n → IsLevels levels → Agrees ledger []
+    → StateInvariant ledger owners devices n levels false 0 0 0 0
+sound_opening ledger owners devices n levels opens none size range agrees = rw (opens, none) (sound_at_start ledger n levels size range agrees)
 
 -- and it is ready for a memory of its size, whatever the registers are
-pub ready_opening : (d : DriverState) (frames : ℕ) (memory : List (List ℕ)) (r : Registers) → length d.marks ≡ frames → length memory ≡ frames → d.devices ≡ [] → d.started ≡ false → IsReady d memory r
+pub ready_opening : (d : DriverState) (frames : ℕ) (memory : List (List ℕ)) (r : Registers) → length d.owners ≡ frames → length memory ≡ frames → d.devices ≡ [] → d.started ≡ false → IsReady d memory r
 ready_opening d frames memory r marked size none stopped = record {
   stand = record {
     size = size ∙ sym marked;

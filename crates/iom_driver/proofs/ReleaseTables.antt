@@ -21,7 +21,7 @@ use Rattle.iom_driver.specs.Devices.{owned_stages_of}
 use Rattle.iom_driver.specs.Tables.{AreTablesOf, HaveTables, leaf_for}
 use Rattle.iom_driver.proofs.Lists.{differs}
 use Rattle.iom_driver.proofs.Modes.{IsRooted, rooted, root_in, table_of, table_in}
-use Rattle.iom_driver.proofs.Stays.{tables_kept}
+use Rattle.iom_driver.proofs.Unchanged.{tables_kept}
 
 -- the leaf of a page of the root's tables is cleared, and no other, and no frame but theirs changes
 pub record IsUnmapped (size : Size) (memory memory' : List (List ℕ)) (root page : ℕ) : Type 0 where
@@ -36,9 +36,9 @@ pub other_frame : (size : Size) (memory memory' : List (List ℕ)) (root page f 
 other_frame size memory memory' root page f unmapped other = unmapped.outside f (λ at. other ((unmapped.tables f).0 at))
 
 -- the tables of the device
-own_tables : (memory memory' : List (List ℕ)) (marks : List (Option Owner)) (ledger ledger' : Ledger) (id : ℕ) (mode : Mode) (root page ticket : ℕ)
-    → AreTablesOf memory marks ledger id mode root → IsUnmapped (size_in mode) memory memory' root page → ShowsRelease ledger ledger' id page ticket → AreTablesOf memory' marks ledger' id mode root
-own_tables memory memory' marks ledger ledger' id mode root page ticket tables unmapped released = record {
+own_tables : (memory memory' : List (List ℕ)) (owners : List (Option Owner)) (ledger ledger' : Ledger) (id : ℕ) (mode : Mode) (root page ticket : ℕ)
+    → AreTablesOf memory owners ledger id mode root → IsUnmapped (size_in mode) memory memory' root page → ShowsRelease ledger ledger' id page ticket → AreTablesOf memory' owners ledger' id mode root
+own_tables memory memory' owners ledger ledger' id mode root page ticket tables unmapped released = record {
   tree = root_in mode memory' root record {
     tree = unmapped.tree;
     others = λ f here. other_frame (size_in mode) memory memory' root page f unmapped (λ at. was.apart f at here) ∙ was.others f here;
@@ -79,11 +79,11 @@ own_tables memory memory' marks ledger ledger' id mode root page ticket tables u
         ∙ ap (option_map leaf_for) (sym (released.held id p))
 
 -- the tables of another device
-other_tables : (memory memory' : List (List ℕ)) (marks : List (Option Owner)) (ledger ledger' : Ledger) (id : ℕ) (mode : Mode) (root page ticket other : ℕ) (other_mode : Mode) (other_root : ℕ) → other ≢ id
-    → AreTablesOf memory marks ledger id mode root → AreTablesOf memory marks ledger other other_mode other_root → IsUnmapped (size_in mode) memory memory' root page → ShowsRelease ledger ledger' id page ticket
-    → AreTablesOf memory' marks ledger' other other_mode other_root
-other_tables memory memory' marks ledger ledger' id mode root page ticket other other_mode other_root apart tables others unmapped released =
-    let kept = tables_kept memory memory' marks ledger other other_mode other_root others
+other_tables : (memory memory' : List (List ℕ)) (owners : List (Option Owner)) (ledger ledger' : Ledger) (id : ℕ) (mode : Mode) (root page ticket other : ℕ) (other_mode : Mode) (other_root : ℕ) → other ≢ id
+    → AreTablesOf memory owners ledger id mode root → AreTablesOf memory owners ledger other other_mode other_root → IsUnmapped (size_in mode) memory memory' root page → ShowsRelease ledger ledger' id page ticket
+    → AreTablesOf memory' owners ledger' other other_mode other_root
+other_tables memory memory' owners ledger ledger' id mode root page ticket other other_mode other_root apart tables others unmapped released =
+    let kept = tables_kept memory memory' owners ledger other other_mode other_root others
     (λ n marked. other_frame (size_in mode) memory memory' root page n unmapped (λ at. absurd (apart (one_owner n marked (tables.own n (table_in mode memory root n (inl at))))))) unmapped.long in
     record {
       tree = kept.tree;
@@ -95,20 +95,20 @@ other_tables memory memory' marks ledger ledger' id mode root page ticket other 
     same_held : (p : ℕ) → held_in ledger' other p ≡ held_in ledger other p
     same_held p = released.held other p ∙ rw (differs id other (λ same. apart (sym same))) refl
 
-    one_owner : (n : ℕ) → slice_get marks n ≡ Some (Some (OneDevice other)) → slice_get marks n ≡ Some (Some (OneDevice id)) → other ≡ id
+    one_owner : (n : ℕ) → slice_get owners n ≡ Some (Some (OneDevice other)) → slice_get owners n ≡ Some (Some (OneDevice id)) → other ≡ id
     one_owner n a b = cc
 
 -- the tables of all devices
-pub tables_released : (memory memory' : List (List ℕ)) (marks : List (Option Owner)) (ledger ledger' : Ledger) (devices : List Device) (id page ticket : ℕ) (stage : Stages)
-    → HaveTables memory marks ledger devices → owned_stages_of devices id ≡ Some stage → IsUnmapped (size_in stage.mode) memory memory' stage.root page → ShowsRelease ledger ledger' id page ticket
-    → HaveTables memory' marks ledger' devices
-tables_released memory memory' marks ledger ledger' devices id page ticket stage tables attached unmapped released other found at =
+pub tables_released : (memory memory' : List (List ℕ)) (owners : List (Option Owner)) (ledger ledger' : Ledger) (devices : List Device) (id page ticket : ℕ) (stage : Stages)
+    → HaveTables memory owners ledger devices → owned_stages_of devices id ≡ Some stage → IsUnmapped (size_in stage.mode) memory memory' stage.root page → ShowsRelease ledger ledger' id page ticket
+    → HaveTables memory' owners ledger' devices
+tables_released memory memory' owners ledger ledger' devices id page ticket stage tables attached unmapped released other found at =
     elim (eqb_tells other id) [
       | inl e ↦
           let both : Some stage ≡ Some found = sym attached ∙ ap (λ i. owned_stages_of devices i) (sym e.1) ∙ at in
           let same : stage ≡ found = cc in
-          subst (λ i. AreTablesOf memory' marks ledger' i found.mode found.root) (sym e.1)
-          (subst (λ (s : Stages). AreTablesOf memory' marks ledger' id s.mode s.root) same
-          (own_tables memory memory' marks ledger ledger' id stage.mode stage.root page ticket (tables id stage attached) unmapped released))
-      | inr ne ↦ other_tables memory memory' marks ledger ledger' id stage.mode stage.root page ticket other found.mode found.root ne.1 (tables id stage attached) (tables other found at) unmapped released
+          subst (λ i. AreTablesOf memory' owners ledger' i found.mode found.root) (sym e.1)
+          (subst (λ (s : Stages). AreTablesOf memory' owners ledger' id s.mode s.root) same
+          (own_tables memory memory' owners ledger ledger' id stage.mode stage.root page ticket (tables id stage attached) unmapped released))
+      | inr ne ↦ other_tables memory memory' owners ledger ledger' id stage.mode stage.root page ticket other found.mode found.root ne.1 (tables id stage attached) (tables other found at) unmapped released
     ]

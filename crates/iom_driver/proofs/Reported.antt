@@ -23,7 +23,7 @@ use Rattle.iom_driver.specs.State.{DriverState}
 use Rattle.iom_driver.proofs.Directories.{directory_stay, stands_in, in_stands}
 use Rattle.iom_driver.proofs.FaultRings.{in_fault_ring}
 use Rattle.iom_driver.proofs.Lists.{get_set_other}
-use Rattle.iom_driver.proofs.Stays.{all_stay, of_one}
+use Rattle.iom_driver.proofs.Unchanged.{all_stay, of_one}
 
 -- the registers that a report leaves
 record Leaves (r s : Registers) : Type 0 where
@@ -82,7 +82,7 @@ reports_more Written f es all = All-push IsReport es (entry.Record f) all tt
 reports_more Overflow f es all = all
 reports_more Off f es all = all
 
-pub ready_reported : (d : DriverState) (old new : List (List ℕ)) (r s : Registers) (f : Fields) (put : Put) → AreFixed d.marks (length old) → IsLevels d.levels → d.started ≡ true
+pub ready_reported : (d : DriverState) (old new : List (List ℕ)) (r s : Registers) (f : Fields) (put : Put) → AreFixed d.owners (length old) → IsLevels d.levels → d.started ≡ true
     → IsReady d old r → PutsRecord old r f put new s → IsReady d new s × LeavesAllElse old new r s
 ready_reported d old new r s f put fixed range runs ready puts =
     let was = ready.faults runs in
@@ -92,13 +92,13 @@ ready_reported d old new r s f put fixed range runs ready puts =
       record {
         stand = record {
           size = size ∙ ready.stand.size;
-          tables = all_stay old new d.marks d.ledger d.ledger d.devices ready.stand.tables
-              (λ n id own. frames n (of_one d.marks (fault_frame (length old)) n id fixed.fault own)) (λ id page. refl);
+          tables = all_stay old new d.owners d.ledger d.ledger d.devices ready.stand.tables
+              (λ n id own. frames n (of_one d.owners (fault_frame (length old)) n id fixed.fault own)) (λ id page. refl);
           directory = λ started.
-              stands_in (length old) new d.marks d.devices d.levels size
-              (directory_stay (length old) old new d.marks d.marks d.devices d.devices d.levels range size
+              stands_in (length old) new d.owners d.devices d.levels size
+              (directory_stay (length old) old new d.owners d.owners d.devices d.devices d.levels range size
               (λ n own. (frames n own.no_fault, refl)) (λ id. refl) (λ id stage at. at)
-              (in_stands (length old) old d.marks d.devices d.levels refl (ready.stand.directory started)));
+              (in_stands (length old) old d.owners d.devices d.levels refl (ready.stand.directory started)));
         };
         ring = λ started.
             let ring = ready.ring started in

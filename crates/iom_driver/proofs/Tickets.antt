@@ -2,7 +2,7 @@
 use Rattle.std.proofs.Common.{◌≡◌, ◌+◌, ◌<◌, ◌≤◌, ◌++◌, inl, inr, ℕ, not, List, [], ◌∷◌, length, filter, refl, ap, arith}
 use Rattle.std.proofs.lemmas.Bool.{cases_lt}
 use Rattle.iom_ledger.specs.Confirmations.{is_among_next}
-use Rattle.iom_driver.specs.Sound.{RiseBetween}
+use Rattle.iom_driver.specs.Invariant.{RiseBetween}
 use Rattle.iom_driver.proofs.Confirms.{among_yes, among_above}
 
 -- they are no more than the numbers between

@@ -22,10 +22,10 @@ use Rattle.iom_driver.specs.Devices.{owned_stages_of}
 use Rattle.iom_driver.specs.Quarantines.{all_unmapped, held_pages, LosesHeldLeaves}
 use Rattle.iom_driver.specs.Tables.{AreTablesOf, HaveTables, leaf_for}
 use Rattle.iom_driver.proofs.Lists.{differs, take_more}
-use Rattle.iom_driver.proofs.Marks.{Among, among_contained, contained_among}
+use Rattle.iom_driver.proofs.Owners.{Among, among_contained, contained_among}
 use Rattle.iom_driver.proofs.Modes.{IsRooted, rooted, root_in, table_of, table_in}
 use Rattle.iom_driver.proofs.ReleaseTables.{IsUnmapped, other_frame}
-use Rattle.iom_driver.proofs.Stays.{tables_kept}
+use Rattle.iom_driver.proofs.Unchanged.{tables_kept}
 
 -- of the pages up to a place, those that the device holds have no leaf any more; each page that it doesn't hold has what it had
 pub record UnmapsTo (size : Size) (ledger : Ledger) (id root : ℕ) (old new : List (List ℕ)) (place : ℕ) : Type 0 where
@@ -214,9 +214,9 @@ pub frame_stays : (size : Size) (ledger : Ledger) (id root : ℕ) (memory memory
 frame_stays size ledger id root memory memory' f unmapped other = unmapped.outside f (λ at. other ((unmapped.tables f).0 at))
 
 -- the tables of the device map nothing
-own_tables : (memory memory' : List (List ℕ)) (marks : List (Option Owner)) (ledger ledger' : Ledger) (id ticket : ℕ) (mode : Mode) (root : ℕ)
-    → AreTablesOf memory marks ledger id mode root → AreUnmapped (size_in mode) ledger id root memory memory' → ShowsReleaseOfAll ledger ledger' id ticket → AreTablesOf memory' marks ledger' id mode root
-own_tables memory memory' marks ledger ledger' id ticket mode root tables unmapped released = record {
+own_tables : (memory memory' : List (List ℕ)) (owners : List (Option Owner)) (ledger ledger' : Ledger) (id ticket : ℕ) (mode : Mode) (root : ℕ)
+    → AreTablesOf memory owners ledger id mode root → AreUnmapped (size_in mode) ledger id root memory memory' → ShowsReleaseOfAll ledger ledger' id ticket → AreTablesOf memory' owners ledger' id mode root
+own_tables memory memory' owners ledger ledger' id ticket mode root tables unmapped released = record {
   tree = root_in mode memory' root record {
     tree = unmapped.tree;
     others = λ f here. frame_stays (size_in mode) ledger id root memory memory' f unmapped (λ at. was.apart f at here) ∙ was.others f here;
@@ -245,11 +245,11 @@ own_tables memory memory' marks ledger ledger' id ticket mode root tables unmapp
     none (Some pair) leaf shows = refl
 
 -- the tables of another device
-other_tables : (memory memory' : List (List ℕ)) (marks : List (Option Owner)) (ledger ledger' : Ledger) (id ticket : ℕ) (mode : Mode) (root other : ℕ) (other_mode : Mode) (other_root : ℕ) → other ≢ id
-    → AreTablesOf memory marks ledger id mode root → AreTablesOf memory marks ledger other other_mode other_root → AreUnmapped (size_in mode) ledger id root memory memory' → ShowsReleaseOfAll ledger ledger' id ticket
-    → AreTablesOf memory' marks ledger' other other_mode other_root
-other_tables memory memory' marks ledger ledger' id ticket mode root other other_mode other_root apart tables others unmapped released =
-    let kept = tables_kept memory memory' marks ledger other other_mode other_root others
+other_tables : (memory memory' : List (List ℕ)) (owners : List (Option Owner)) (ledger ledger' : Ledger) (id ticket : ℕ) (mode : Mode) (root other : ℕ) (other_mode : Mode) (other_root : ℕ) → other ≢ id
+    → AreTablesOf memory owners ledger id mode root → AreTablesOf memory owners ledger other other_mode other_root → AreUnmapped (size_in mode) ledger id root memory memory' → ShowsReleaseOfAll ledger ledger' id ticket
+    → AreTablesOf memory' owners ledger' other other_mode other_root
+other_tables memory memory' owners ledger ledger' id ticket mode root other other_mode other_root apart tables others unmapped released =
+    let kept = tables_kept memory memory' owners ledger other other_mode other_root others
     (λ n marked. frame_stays (size_in mode) ledger id root memory memory' n unmapped (λ at. absurd (apart (one_owner n marked (tables.own n (table_in mode memory root n (inl at))))))) unmapped.long in
     record {
       tree = kept.tree;
@@ -261,19 +261,19 @@ other_tables memory memory' marks ledger ledger' id ticket mode root other other
     same_held : (p : ℕ) → held_in ledger' other p ≡ held_in ledger other p
     same_held p = released.held other p ∙ rw (differs id other (λ same. apart (sym same))) refl
 
-    one_owner : (n : ℕ) → slice_get marks n ≡ Some (Some (OneDevice other)) → slice_get marks n ≡ Some (Some (OneDevice id)) → other ≡ id
+    one_owner : (n : ℕ) → slice_get owners n ≡ Some (Some (OneDevice other)) → slice_get owners n ≡ Some (Some (OneDevice id)) → other ≡ id
     one_owner n a b = cc
 
 -- the tables of all devices
-pub tables_unmapped : (memory memory' : List (List ℕ)) (marks : List (Option Owner)) (ledger ledger' : Ledger) (devices : List Device) (id ticket : ℕ) (stage : Stages)
-    → HaveTables memory marks ledger devices → owned_stages_of devices id ≡ Some stage → AreUnmapped (size_in stage.mode) ledger id stage.root memory memory' → ShowsReleaseOfAll ledger ledger' id ticket
-    → HaveTables memory' marks ledger' devices
-tables_unmapped memory memory' marks ledger ledger' devices id ticket stage tables owned unmapped released other found at =
+pub tables_unmapped : (memory memory' : List (List ℕ)) (owners : List (Option Owner)) (ledger ledger' : Ledger) (devices : List Device) (id ticket : ℕ) (stage : Stages)
+    → HaveTables memory owners ledger devices → owned_stages_of devices id ≡ Some stage → AreUnmapped (size_in stage.mode) ledger id stage.root memory memory' → ShowsReleaseOfAll ledger ledger' id ticket
+    → HaveTables memory' owners ledger' devices
+tables_unmapped memory memory' owners ledger ledger' devices id ticket stage tables owned unmapped released other found at =
     elim (eqb_tells other id) [
       | inl e ↦
           let both : Some stage ≡ Some found = sym owned ∙ ap (λ i. owned_stages_of devices i) (sym e.1) ∙ at in
           let same : stage ≡ found = cc in
-          subst (λ i. AreTablesOf memory' marks ledger' i found.mode found.root) (sym e.1)
-          (subst (λ (s : Stages). AreTablesOf memory' marks ledger' id s.mode s.root) same (own_tables memory memory' marks ledger ledger' id ticket stage.mode stage.root (tables id stage owned) unmapped released))
-      | inr ne ↦ other_tables memory memory' marks ledger ledger' id ticket stage.mode stage.root other found.mode found.root ne.1 (tables id stage owned) (tables other found at) unmapped released
+          subst (λ i. AreTablesOf memory' owners ledger' i found.mode found.root) (sym e.1)
+          (subst (λ (s : Stages). AreTablesOf memory' owners ledger' id s.mode s.root) same (own_tables memory memory' owners ledger ledger' id ticket stage.mode stage.root (tables id stage owned) unmapped released))
+      | inr ne ↦ other_tables memory memory' owners ledger ledger' id ticket stage.mode stage.root other found.mode found.root ne.1 (tables id stage owned) (tables other found at) unmapped released
     ]

@@ -10,7 +10,7 @@ use Rattle.iom_base.specs.declared.refusal.Refusal.TheVariants.{NoFrames}
 use Rattle.iom_base.specs.Refusals.{NoneApplies, IsRefusedBy}
 use Rattle.iom_page_table.specs.SecondTables.{other_quarters}
 use Rattle.iom_table_frames.specs.Fours.{IsHighestFour, NoFourAreFree}
-use Rattle.iom_table_frames.specs.Marks.{HasFree, IsHighestFree, NoneIsFree}
+use Rattle.iom_table_frames.specs.Owners.{HasFree, IsHighestFree, NoneIsFree}
 use Rattle.iom_driver.specs.declared.device.Attachment.TheVariants.{Attached}
 use Rattle.iom_driver.specs.declared.device.Stages.{Stages}
 use Rattle.iom_driver.specs.Choices.{AreHighestFree, marked_for, cleared}
@@ -26,7 +26,7 @@ lacking_pages d memory id = missing_pages memory (root_level d.levels) (director
 
 -- these are the highest free frames, as many as the directory lacks pages
 abbrev pub AreDirectoryPages : DriverState → List (List ℕ) → ℕ → List ℕ → Type 0
-AreDirectoryPages d memory id pages = AreHighestFree d.marks d.ledger None (length memory) (lacking_pages d memory id) pages
+AreDirectoryPages d memory id pages = AreHighestFree d.owners d.ledger None (length memory) (lacking_pages d memory id) pages
 
 -- what is free once these pages, the highest free frames, are taken, lies below the last of them
 abbrev pub limit_below : ℕ → List ℕ → ℕ
@@ -35,15 +35,15 @@ limit_below limit (page ∷ pages) = limit_below page pages
 
 -- a root of a first stage takes the highest free frame below the limit; one of a second stage the highest four, the first a multiple of four
 abbrev pub IsRootBelow : Mode → DriverState → ℕ → ℕ → Type 0
-IsRootBelow (First size) d limit root = IsHighestFree d.marks d.ledger None limit root
-IsRootBelow (Second size) d limit root = IsHighestFour d.marks d.ledger limit root
-IsRootBelow (Both size) d limit root = IsHighestFour d.marks d.ledger limit root
+IsRootBelow (First size) d limit root = IsHighestFree d.owners d.ledger None limit root
+IsRootBelow (Second size) d limit root = IsHighestFour d.owners d.ledger limit root
+IsRootBelow (Both size) d limit root = IsHighestFour d.owners d.ledger limit root
 
 -- there is no place for it
 abbrev pub NoRootBelow : Mode → DriverState → ℕ → Type 0
-NoRootBelow (First size) d limit = NoneIsFree d.marks d.ledger None 0 limit
-NoRootBelow (Second size) d limit = NoFourAreFree d.marks d.ledger 0 limit
-NoRootBelow (Both size) d limit = NoFourAreFree d.marks d.ledger 0 limit
+NoRootBelow (First size) d limit = NoneIsFree d.owners d.ledger None 0 limit
+NoRootBelow (Second size) d limit = NoFourAreFree d.owners d.ledger 0 limit
+NoRootBelow (Both size) d limit = NoFourAreFree d.owners d.ledger 0 limit
 
 -- the frames that the root fills
 abbrev pub root_frames : Mode → ℕ → List ℕ
@@ -63,16 +63,16 @@ pub record TakesRoot (d : DriverState) (memory : List (List ℕ)) (id : ℕ) (mo
   pub root : IsRootBelow mode d (limit_below (length memory) pages) stage.root
   pub lowest : IsLowestNumber d.devices stage.number
   pub driver : d' ≡ record d {
-    marks = marked_for (OneDevice id) (root_frames mode stage.root) (marked_for System pages d.marks);
+    owners = marked_for (OneDevice id) (root_frames mode stage.root) (marked_for System pages d.owners);
     devices = with_attachment d.devices id (Attached stage);
   }
   pub bytes : memory' ≡ hung (cleared (pages ++ root_frames mode stage.root) memory) (root_level d.levels) (directory_frame (length memory)) id pages (context_for stage)
-  pub others : (f : ℕ) → slice_get d.marks f ≢ Some (Some System) → ¬ Contains (pages ++ root_frames mode stage.root) f → slice_get memory' f ≡ slice_get memory f
+  pub others : (f : ℕ) → slice_get d.owners f ≢ Some (Some System) → ¬ Contains (pages ++ root_frames mode stage.root) f → slice_get memory' f ≡ slice_get memory f
 
 -- an attach finds too few free frames: for the pages, or, once these are taken, for the root
 abbrev pub LacksRoot : DriverState → List (List ℕ) → ℕ → Mode → Refusal → Type 0
 LacksRoot d memory id mode NoFrames =
-    (¬ HasFree d.marks d.ledger None (lacking_pages d memory id) (length memory))
+    (¬ HasFree d.owners d.ledger None (lacking_pages d memory id) (length memory))
     ⊎ ((pages : List ℕ) × AreDirectoryPages d memory id pages × NoRootBelow mode d (limit_below (length memory) pages))
 LacksRoot d memory id mode _ = ⊥
 

@@ -22,7 +22,7 @@ use Rattle.iom_registers.specs.declared.mmio.Mmio.{Ghosts}
 use Rattle.iom_registers.specs.declared.register.Register.TheVariants.{Ddtp, Cqb, Cqcsr, Fqb, Fqcsr}
 use Rattle.iom_registers.specs.declared.registers.Registers.{Registers}
 use Rattle.iom_registers.specs.Queues.{is_command_queue_on, is_fault_queue_on}
-use Rattle.iom_table_frames.specs.Marks.{HasFree, opening_marks, is_marked}
+use Rattle.iom_table_frames.specs.Owners.{HasFree, opening_owners, is_marked}
 use Rattle.iom_ledger.specs.Shown.{Agrees, IsFreeIn}
 use Rattle.iom_driver.specs.declared.answers.Ticket.{Ticket}
 use Rattle.iom_driver.specs.declared.device.Stages.{Stages}
@@ -37,7 +37,7 @@ use Rattle.iom_driver.specs.State.{DriverState}
 -- NEW: nothing is held or waits, the last four frames are the system's, there is no device, and it isn't started
 pub record IsOpening (frames levels : ℕ) (d : DriverState) : Type 0 where
   pub ledger : Agrees d.ledger []
-  pub rest : d ≡ record d { marks = opening_marks frames; devices = []; levels = levels; started = false; given = 0; confirmed = 0; restarts = 0; restarted = 0 }
+  pub rest : d ≡ record d { owners = opening_owners frames; devices = []; levels = levels; started = false; given = 0; confirmed = 0; restarts = 0; restarted = 0 }
 
 -- both queues are off, and the indices that software writes are 0: at power-on it is so
 pub record IsOff (r : Registers) : Type 0 where
@@ -80,7 +80,7 @@ granted_leaf frame rights = record { frame = frame; rights = rights_of rights }
 
 -- each frame that isn't the device's has the bytes that it had
 abbrev pub KeepsOtherFrames : List (Option Owner) → ℕ → List (List ℕ) → List (List ℕ) → Type 0
-KeepsOtherFrames marks id memory memory' = (f : ℕ) → slice_get marks f ≢ Some (Some (OneDevice id)) → slice_get memory' f ≡ slice_get memory f
+KeepsOtherFrames owners id memory memory' = (f : ℕ) → slice_get owners f ≢ Some (Some (OneDevice id)) → slice_get memory' f ≡ slice_get memory f
 
 -- The tables that the page lacks take the highest free frames, the granted one passed over, and they are the device's; memory is what it was, but that
 -- these frames are zero, and then hang on the page's path, from the root down, with the page's leaf: no frame but the device's changes. The ledger has
@@ -89,18 +89,18 @@ pub record TakesTables (d : DriverState) (memory : List (List ℕ)) (id page fra
   pub stage : Stages
   pub attached : stages_of d.devices id ≡ Some stage
   pub tables : List ℕ
-  pub chosen : AreHighestFree d.marks d.ledger (Some frame) (length memory) (missing_for (size_in stage.mode) memory stage.root page) tables
+  pub chosen : AreHighestFree d.owners d.ledger (Some frame) (length memory) (missing_for (size_in stage.mode) memory stage.root page) tables
   pub shown : ShowsGrant d.ledger d'.ledger id page (frame, rights_of rights)
   pub agrees : (h : History) → Agrees d.ledger h → Agrees d'.ledger (entry.Granted id page frame (rights_of rights) ∷ h)
-  pub driver : d' ≡ record d { ledger = d'.ledger; marks = marked_for (OneDevice id) tables d.marks }
+  pub driver : d' ≡ record d { ledger = d'.ledger; owners = marked_for (OneDevice id) tables d.owners }
   pub bytes : memory' ≡ mapped (size_in stage.mode) (cleared tables memory) stage.root page (granted_leaf frame rights) tables
-  pub others : KeepsOtherFrames d'.marks id memory memory'
+  pub others : KeepsOtherFrames d'.owners id memory memory'
 
 -- the frames that are free besides the granted one are enough for the tables that the page lacks
 pub record HasFrames (d : DriverState) (memory : List (List ℕ)) (id page frame : ℕ) : Type 0 where
   pub stage : Stages
   pub attached : stages_of d.devices id ≡ Some stage
-  pub enough : HasFree d.marks d.ledger (Some frame) (missing_for (size_in stage.mode) memory stage.root page) (length memory)
+  pub enough : HasFree d.owners d.ledger (Some frame) (missing_for (size_in stage.mode) memory stage.root page) (length memory)
 
 -- a grant finds too few free frames, or else no memory for its row
 abbrev pub LacksTables : DriverState → List (List ℕ) → ℕ → ℕ → ℕ → Refusal → Type 0
@@ -126,7 +126,7 @@ pub record QueuesRelease {M : Type 0} (g : Ghosts M) (d : DriverState) (memory :
   pub queued : AppendsAll g (unmapped (size_in stage.mode) memory stage.root page) io (release_commands id stage page (completion_address (length memory)) (last_fence d + 1)) memory' io'
   pub list : commands_in memory' (g.registers io') ≡ commands_in memory (g.registers io)
       ++ map stands.Command (release_commands id stage page (completion_address (length memory)) (last_fence d + 1))
-  pub others : (f : ℕ) → slice_get d.marks f ≢ Some (Some (OneDevice id)) → f ≢ command_frame (length memory) → slice_get memory' f ≡ slice_get memory f
+  pub others : (f : ℕ) → slice_get d.owners f ≢ Some (Some (OneDevice id)) → f ≢ command_frame (length memory) → slice_get memory' f ≡ slice_get memory f
 
 -- RELEASE
 abbrev pub AnswersRelease : {M : Type 0} → Ghosts M → DriverState → List (List ℕ) → M → ℕ → ℕ → Result Ticket Refusal → DriverState → List (List ℕ) → M → Type 0
@@ -137,6 +137,6 @@ AnswersRelease g d memory io id page (Err why) d' memory' io' =
 
 -- FREE: the frame is one of memory, isn't reserved, and no device holds or lingers on it
 pub record IsFreeFrame (d : DriverState) (frame : ℕ) : Type 0 where
-  pub inside : frame < length d.marks
-  pub unreserved : is_marked d.marks frame ≡ false
+  pub inside : frame < length d.owners
+  pub unreserved : is_marked d.owners frame ≡ false
   pub ungranted : IsFreeIn d.ledger frame

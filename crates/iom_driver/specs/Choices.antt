@@ -3,20 +3,20 @@ use Rattle.std.specs.Prelude.{ℕ, zero, suc, ⊤, List, [], ◌∷◌, Option, 
 use Rattle.iom_base.specs.declared.owner.Owner.{Owner}
 use Rattle.iom_ledger.specs.declared.ledger.Ledger.{Ledger}
 use Rattle.iom_phys_mem.specs.Words.{zeroed}
-use Rattle.iom_table_frames.specs.Marks.{IsHighestFree}
+use Rattle.iom_table_frames.specs.Owners.{IsHighestFree}
 
 -- so many frames below the limit, the named one passed over: each is the highest free one below that before it
 abbrev pub AreHighestFree : List (Option Owner) → Ledger → Option ℕ → ℕ → ℕ → List ℕ → Type 0
-AreHighestFree marks ledger named limit zero [] = ⊤
-AreHighestFree marks ledger named limit zero (frame ∷ frames) = ⊥
-AreHighestFree marks ledger named limit (suc count) [] = ⊥
-AreHighestFree marks ledger named limit (suc count) (frame ∷ frames) =
-    IsHighestFree marks ledger named limit frame × AreHighestFree marks ledger named frame count frames
+AreHighestFree owners ledger named limit zero [] = ⊤
+AreHighestFree owners ledger named limit zero (frame ∷ frames) = ⊥
+AreHighestFree owners ledger named limit (suc count) [] = ⊥
+AreHighestFree owners ledger named limit (suc count) (frame ∷ frames) =
+    IsHighestFree owners ledger named limit frame × AreHighestFree owners ledger named frame count frames
 
--- the marks, where the frames are the owner's
+-- the owners, where the frames are the owner's
 abbrev pub marked_for : Owner → List ℕ → List (Option Owner) → List (Option Owner)
-marked_for owner [] marks = marks
-marked_for owner (frame ∷ frames) marks = marked_for owner frames (slice_set marks frame (Some owner))
+marked_for owner [] owners = owners
+marked_for owner (frame ∷ frames) owners = marked_for owner frames (slice_set owners frame (Some owner))
 
 -- the memory, where the frames are zero
 abbrev pub cleared : List ℕ → List (List ℕ) → List (List ℕ)

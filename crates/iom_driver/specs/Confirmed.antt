@@ -25,13 +25,13 @@ abbrev pub is_gone : ℕ → List Device → Owner → Bool
 is_gone done devices System = false
 is_gone done devices (OneDevice id) = has_left_until done (attachment_by_id devices id)
 
--- the mark of a frame then: what such a device owned has no owner any more
-abbrev pub mark_given_back : ℕ → List Device → Option Owner → Option Owner
-mark_given_back done devices None = None
-mark_given_back done devices (Some owner) = if is_gone done devices owner then None else Some owner
+-- the owner of a frame then: what such a device owned has no owner any more
+abbrev pub owner_given_back : ℕ → List Device → Option Owner → Option Owner
+owner_given_back done devices None = None
+owner_given_back done devices (Some owner) = if is_gone done devices owner then None else Some owner
 
 -- and memory: each frame of such a device is zero, and no other changes
-pub record ClearsGone (done : ℕ) (devices : List Device) (marks : List (Option Owner)) (old new : List (List ℕ)) : Type 0 where
+pub record ClearsGone (done : ℕ) (devices : List Device) (owners : List (Option Owner)) (old new : List (List ℕ)) : Type 0 where
   pub size : length new ≡ length old
-  pub own : (frame : ℕ) (owner : Owner) → slice_get marks frame ≡ Some (Some owner) → is_gone done devices owner ≡ true → slice_get new frame ≡ Some zeroed
-  pub others : (frame : ℕ) → ((owner : Owner) → slice_get marks frame ≡ Some (Some owner) → is_gone done devices owner ≡ false) → slice_get new frame ≡ slice_get old frame
+  pub own : (frame : ℕ) (owner : Owner) → slice_get owners frame ≡ Some (Some owner) → is_gone done devices owner ≡ true → slice_get new frame ≡ Some zeroed
+  pub others : (frame : ℕ) → ((owner : Owner) → slice_get owners frame ≡ Some (Some owner) → is_gone done devices owner ≡ false) → slice_get new frame ≡ slice_get old frame

@@ -52,12 +52,12 @@ is_away (Attached stage) = false
 is_away (Quarantined ticket stage) = false
 is_away (Leaving ticket stage) = true
 
--- whether it is cut off
-abbrev pub is_cut_off : Attachment → Bool
-is_cut_off Detached = false
-is_cut_off (Attached stage) = false
-is_cut_off (Quarantined ticket stage) = true
-is_cut_off (Leaving ticket stage) = false
+-- whether it is quarantined
+abbrev pub is_quarantined : Attachment → Bool
+is_quarantined Detached = false
+is_quarantined (Attached stage) = false
+is_quarantined (Quarantined ticket stage) = true
+is_quarantined (Leaving ticket stage) = false
 
 -- the stages of the device with this id, where it is attached
 abbrev pub stages_of : List Device → ℕ → Option Stages

@@ -58,17 +58,17 @@ located_for None = Err DirectoryEntryNotValid
 located_for (Some stage) = Ok (context_for stage)
 
 -- a page of the directory lies in a frame of the system's that is none of the queues' and not the completion word's
-pub record IsDirectoryFrame (marks : List (Option Owner)) (frames page : ℕ) : Type 0 where
-  pub system : slice_get marks page ≡ Some (Some System)
+pub record IsDirectoryFrame (owners : List (Option Owner)) (frames page : ℕ) : Type 0 where
+  pub system : slice_get owners page ≡ Some (Some System)
   pub no_command : page ≢ command_frame frames
   pub no_fault : page ≢ fault_frame frames
   pub no_completion : page ≢ completion_frame frames
 
 -- the directory is a tree from its root down, in frames of its own, and has a context exactly for each attached device; and a place for that of each device
 -- that is attached, quarantined or leaving
-pub record DirectoryStands (memory : List (List ℕ)) (marks : List (Option Owner)) (devices : List Device) (levels : ℕ) : Type 0 where
+pub record DirectoryStands (memory : List (List ℕ)) (owners : List (Option Owner)) (devices : List Device) (levels : ℕ) : Type 0 where
   pub tree : IsDirectory memory (root_level levels) (directory_frame (length memory))
-  pub own : (page : ℕ) → HasPage memory (root_level levels) (directory_frame (length memory)) page → IsDirectoryFrame marks (length memory) page
+  pub own : (page : ℕ) → HasPage memory (root_level levels) (directory_frame (length memory)) page → IsDirectoryFrame owners (length memory) page
   pub contexts : (id : ℕ) → id < ids_below (root_level levels)
       → path_end_from memory (root_level levels) (directory_frame (length memory)) id ≡ located_for (stages_of devices id)
   pub places : (id : ℕ) (stage : Stages) → owned_stages_of devices id ≡ Some stage → id < ids_below (root_level levels)

@@ -9,13 +9,13 @@ use Rattle.iom_fault_queue.specs.Fields.{Fields}
 use Rattle.iom_driver.specs.declared.driver.Driver.{Driver}
 use Rattle.iom_driver.specs.Layout.{completion_frame, fault_frame}
 use Rattle.iom_driver.specs.Ready.{IsReady}
-use Rattle.iom_driver.specs.Seen.{state_of}
+use Rattle.iom_driver.specs.StateOf.{state_of}
 use Rattle.iom_driver.specs.State.{DriverState}
 
 -- each reserved frame but that of the completion word has the bytes that it had
 pub record KeepsReserved (d : DriverState) (old new : List (List ℕ)) : Type 0 where
   pub size : length new ≡ length old
-  pub bytes : (frame : ℕ) (owner : Owner) → slice_get d.marks frame ≡ Some (Some owner) → frame ≢ completion_frame (length old) → slice_get new frame ≡ slice_get old frame
+  pub bytes : (frame : ℕ) (owner : Owner) → slice_get d.owners frame ≡ Some (Some owner) → frame ≢ completion_frame (length old) → slice_get new frame ≡ slice_get old frame
 
 -- the queues and the directory are where they were, and the queues on as they were; head and tail of the command queue and whatever is wrong may be others
 pub record KeepsRing (old new : Registers) : Type 0 where

@@ -45,8 +45,8 @@ abbrev pub IsLevels : ℕ → Type 0
 IsLevels levels = (1 ≤ levels) × (levels ≤ 3)
 
 -- the fixed frames are the system's
-pub record AreFixed (marks : List (Option Owner)) (frames : ℕ) : Type 0 where
-  pub command : slice_get marks (command_frame frames) ≡ Some (Some System)
-  pub fault : slice_get marks (fault_frame frames) ≡ Some (Some System)
-  pub completion : slice_get marks (completion_frame frames) ≡ Some (Some System)
-  pub directory : slice_get marks (directory_frame frames) ≡ Some (Some System)
+pub record AreFixed (owners : List (Option Owner)) (frames : ℕ) : Type 0 where
+  pub command : slice_get owners (command_frame frames) ≡ Some (Some System)
+  pub fault : slice_get owners (fault_frame frames) ≡ Some (Some System)
+  pub completion : slice_get owners (completion_frame frames) ≡ Some (Some System)
+  pub directory : slice_get owners (directory_frame frames) ≡ Some (Some System)

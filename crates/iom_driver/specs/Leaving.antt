@@ -32,17 +32,17 @@ pub record QueuesDetach {M : Type 0} (g : Ghosts M) (d : DriverState) (memory : 
   pub others : (f : ℕ) → ¬ HasPage memory (root_level d.levels) (directory_frame (length memory)) f → f ≢ command_frame (length memory) → slice_get memory' f ≡ slice_get memory f
 
 -- why it is refused, or that it isn't, where the device holds or lingers on something or not
-abbrev pub IsToldOfDetach : DriverState → Registers → Bool → ℕ → Result Ticket Refusal → Type 0
-IsToldOfDetach d r granted id (Ok ticket) = NoneApplies (why_not_detach d r granted id)
-IsToldOfDetach d r granted id (Err why) = first_that_applies (why_not_detach d r granted id) ≡ Some why
+abbrev pub IsReplyToDetach : DriverState → Registers → Bool → ℕ → Result Ticket Refusal → Type 0
+IsReplyToDetach d r granted id (Ok ticket) = NoneApplies (why_not_detach d r granted id)
+IsReplyToDetach d r granted id (Err why) = first_that_applies (why_not_detach d r granted id) ≡ Some why
 
 -- what it does; a refusal changes nothing
-abbrev pub DoesDetach : {M : Type 0} → Ghosts M → DriverState → List (List ℕ) → M → ℕ → Result Ticket Refusal → DriverState → List (List ℕ) → M → Type 0
-DoesDetach g d memory io id (Ok ticket) d' memory' io' = QueuesDetach g d memory io id ticket.0 d' memory' io'
-DoesDetach g d memory io id (Err why) d' memory' io' = (d' ≡ d) × (memory' ≡ memory) × (io' ≡ io)
+abbrev pub DetachEffect : {M : Type 0} → Ghosts M → DriverState → List (List ℕ) → M → ℕ → Result Ticket Refusal → DriverState → List (List ℕ) → M → Type 0
+DetachEffect g d memory io id (Ok ticket) d' memory' io' = QueuesDetach g d memory io id ticket.0 d' memory' io'
+DetachEffect g d memory io id (Err why) d' memory' io' = (d' ≡ d) × (memory' ≡ memory) × (io' ≡ io)
 
 -- DETACH. `granted` is any test that tells whether the device holds or lingers on something
 pub record AnswersDetach {M : Type 0} (g : Ghosts M) (d : DriverState) (memory : List (List ℕ)) (io : M) (id : ℕ) (answer : Result Ticket Refusal)
     (d' : DriverState) (memory' : List (List ℕ)) (io' : M) : Type 0 where
-  pub told : (granted : Bool) → (IsTrue granted ↔ HasGrants d.ledger id) → IsToldOfDetach d (g.registers io) granted id answer
-  pub effect : DoesDetach g d memory io id answer d' memory' io'
+  pub reply : (granted : Bool) → (IsTrue granted ↔ HasGrants d.ledger id) → IsReplyToDetach d (g.registers io) granted id answer
+  pub effect : DetachEffect g d memory io id answer d' memory' io'

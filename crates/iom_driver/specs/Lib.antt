@@ -3,8 +3,8 @@ pub mod Places
 pub mod State
 pub mod Fences
 pub mod Layout
-pub mod Sound
-pub mod Seen
+pub mod Invariant
+pub mod StateOf
 pub mod Tables
 pub mod Directory
 pub mod Orders

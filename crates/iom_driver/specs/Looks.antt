@@ -13,7 +13,7 @@ awaited_fence d ticket = if nat_lt d.confirmed ticket && nat_le ticket d.given t
 abbrev pub oldest_pending : DriverState → Option ℕ
 oldest_pending d = if nat_lt d.confirmed d.given then Some (d.confirmed + 1) else None
 
--- the ticket under which a device that is attached so was cut off, or leaves
+-- the ticket under which a device that is attached so was quarantined, or leaves
 abbrev pub parting_ticket : Attachment → Option ℕ
 parting_ticket Detached = None
 parting_ticket (Attached stage) = None

@@ -16,6 +16,6 @@ pub record MapsNothing (mode : Mode) (memory : List (List ℕ)) (root : ℕ) : T
   pub leaves : (page : ℕ) → page < 2 ^ 52 → leaf_of (levels_of (size_in mode)) memory root page ≡ None
 
 -- the path of the id leads to no context, and the tables of these stages map nothing
-pub record IsCutOffInMemory (memory : List (List ℕ)) (levels directory id : ℕ) (stage : Stages) : Type 0 where
+pub record IsQuarantinedInMemory (memory : List (List ℕ)) (levels directory id : ℕ) (stage : Stages) : Type 0 where
   pub context : path_end_from memory (root_level levels) directory id ≡ Err DirectoryEntryNotValid
   pub tables : MapsNothing stage.mode memory stage.root

@@ -9,7 +9,7 @@ use Rattle.iom_phys_mem.specs.Words.{word_at}
 use Rattle.iom_registers.specs.declared.registers.Registers.{Registers}
 use Rattle.iom_registers.specs.Queues.{command_status}
 use Rattle.iom_driver.specs.declared.answers.Polled.{Polled}
-use Rattle.iom_driver.specs.Confirmed.{driven_once_confirmed, mark_given_back, ClearsGone}
+use Rattle.iom_driver.specs.Confirmed.{driven_once_confirmed, owner_given_back, ClearsGone}
 use Rattle.iom_driver.specs.Fences.{fence_of, done_by}
 use Rattle.iom_driver.specs.Layout.{completion_address}
 use Rattle.iom_driver.specs.Reasons.{why_not_poll}
@@ -32,11 +32,11 @@ pub record ConfirmsDone (r : Registers) (d : DriverState) (memory : List (List �
   pub agrees : (h : History) → Agrees d.ledger h → Agrees d'.ledger (confirmed_from (d.confirmed + 1) polled.count h)
   pub driver : d' ≡ record d {
     ledger = d'.ledger;
-    marks = map (mark_given_back (done_after d polled) d.devices) d.marks;
+    owners = map (owner_given_back (done_after d polled) d.devices) d.owners;
     devices = map (driven_once_confirmed (done_after d polled)) d.devices;
     confirmed = done_after d polled;
   }
-  pub cleared : ClearsGone (done_after d polled) d.devices d.marks memory memory'
+  pub cleared : ClearsGone (done_after d polled) d.devices d.owners memory memory'
 
 -- POLL, which leaves the registers
 abbrev pub AnswersPoll : Registers → DriverState → List (List ℕ) → Result Polled Refusal → DriverState → List (List ℕ) → Type 0

@@ -42,7 +42,7 @@ abbrev pub LosesHeldLeaves : Size → Ledger → ℕ → ℕ → List (List ℕ)
 LosesHeldLeaves size ledger id root old new = (page : ℕ) → page < 2 ^ 52
     → leaf_of (levels_of size) new root page ≡ (if is_some (held_in ledger id page) then None else leaf_of (levels_of size) old root page)
 
--- The next ticket is given, and the device is cut off under it, with its stages. Its context's bytes are zero, and then the leaves of these pages are cleared,
+-- The next ticket is given, and the device is quarantined under it, with its stages. Its context's bytes are zero, and then the leaves of these pages are cleared,
 -- which are those that it holds. All of these are released. Then the commands of a detach are appended. No frame but the device's, the directory's pages
 -- and the ring's changes.
 pub record QueuesQuarantine {M : Type 0} (g : Ghosts M) (d : DriverState) (memory : List (List ℕ)) (io : M) (id ticket : ℕ) (d' : DriverState) (memory' : List (List ℕ)) (io' : M) : Type 0 where
@@ -58,7 +58,7 @@ pub record QueuesQuarantine {M : Type 0} (g : Ghosts M) (d : DriverState) (memor
       (detach_commands id stage (completion_address (length memory)) (last_fence d + 1)) memory' io'
   pub list : commands_in memory' (g.registers io') ≡ commands_in memory (g.registers io)
       ++ map stands.Command (detach_commands id stage (completion_address (length memory)) (last_fence d + 1))
-  pub others : (f : ℕ) → slice_get d.marks f ≢ Some (Some (OneDevice id)) → ¬ HasPage memory (root_level d.levels) (directory_frame (length memory)) f
+  pub others : (f : ℕ) → slice_get d.owners f ≢ Some (Some (OneDevice id)) → ¬ HasPage memory (root_level d.levels) (directory_frame (length memory)) f
       → f ≢ command_frame (length memory) → slice_get memory' f ≡ slice_get memory f
 
 -- QUARANTINE

@@ -11,11 +11,11 @@ use Rattle.iom_driver.specs.Layout.{command_frame, queue_entries, fault_frame, r
 use Rattle.iom_driver.specs.State.{DriverState}
 use Rattle.iom_driver.specs.Tables.{HaveTables}
 
--- memory has a frame for each mark; the tables of each attached, quarantined or leaving device stand in it, and once the driver was started its directory
+-- memory has a frame for each of the owners; the tables of each attached, quarantined or leaving device stand in it, and once the driver was started its directory
 pub record TablesStand (d : DriverState) (memory : List (List ℕ)) : Type 0 where
-  pub size : length memory ≡ length d.marks
-  pub tables : HaveTables memory d.marks d.ledger d.devices
-  pub directory : d.started ≡ true → DirectoryStands memory d.marks d.devices d.levels
+  pub size : length memory ≡ length d.owners
+  pub tables : HaveTables memory d.owners d.ledger d.devices
+  pub directory : d.started ≡ true → DirectoryStands memory d.owners d.devices d.levels
 
 -- the command queue is on, and its ring fills the last frame of memory
 pub record IsRing (frames : ℕ) (r : Registers) : Type 0 where

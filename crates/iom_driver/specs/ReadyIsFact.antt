@@ -1,4 +1,4 @@
--- That a driver is sound, or ready, is a fact: it has one proof at most.
+-- That a driver keeps its invariant, or is ready, is a fact: it has one proof at most.
 use Rattle.std.specs.Prelude.{◌≡◌, ℕ, Bool, Option, Some, List, [], ◌∷◌, Result, Ok, Err}
 use Rattle.std.specs.Coded.{Unit-prop, Coded-set, coded_ℕ, coded_option}
 use Rattle.std.proofs.Common.{sym, ◌∙◌}
@@ -21,7 +21,7 @@ use Rattle.iom_stage_walk.specs.declared.entry.Entry.TheVariants.{Outside, Inval
 use Rattle.iom_driver.specs.declared.device.Device.{Device}
 use Rattle.iom_driver.specs.Devices.{HaveOwnIds}
 use Rattle.iom_driver.specs.Ready.{TablesStand, IsReport, IsReady}
-use Rattle.iom_driver.specs.Sound.{RiseBetween, IsSound}
+use Rattle.iom_driver.specs.Invariant.{RiseBetween, StateInvariant}
 use Rattle.iom_driver.specs.State.{DriverState}
 use Rattle.iom_driver.specs.Tables.{IsRootIn}
 
@@ -49,9 +49,9 @@ pub own_ids_prop : (devices : List Device) → IsProp (HaveOwnIds devices)
 own_ids_prop [] = hlevel props
 own_ids_prop (device ∷ others) = let rest = own_ids_prop others in hlevel (props, rest)
 
-pub sound_driver_prop : (ledger : Ledger) (marks : List (Option Owner)) (devices : List Device) (frames levels : ℕ) (started : Bool) (given confirmed restarts restarted : ℕ)
-    → IsProp (IsSound ledger marks devices frames levels started given confirmed restarts restarted)
-sound_driver_prop ledger marks devices frames levels started given confirmed restarts restarted = hlevel (props, rise_prop, own_ids_prop)
+pub driver_invariant_prop : (ledger : Ledger) (owners : List (Option Owner)) (devices : List Device) (frames levels : ℕ) (started : Bool) (given confirmed restarts restarted : ℕ)
+    → IsProp (StateInvariant ledger owners devices frames levels started given confirmed restarts restarted)
+driver_invariant_prop ledger owners devices frames levels started given confirmed restarts restarted = hlevel (props, rise_prop, own_ids_prop)
 
 pub root_prop : (mode : Mode) (memory : List (List ℕ)) (root : ℕ) → IsProp (IsRootIn mode memory root)
 root_prop (First size) memory root = hlevel (props, upper_prop, lowest_prop)

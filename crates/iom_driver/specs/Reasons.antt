@@ -11,11 +11,11 @@ use Rattle.iom_ledger.specs.History.{pending_limit}
 use Rattle.iom_ledger.specs.Shown.{held_in, lingering_in}
 use Rattle.iom_registers.specs.declared.registers.Registers.{Registers}
 use Rattle.iom_registers.specs.Queues.{command_entries}
-use Rattle.iom_table_frames.specs.Marks.{is_marked}
+use Rattle.iom_table_frames.specs.Owners.{is_marked}
 use Rattle.iom_driver.specs.declared.device.Stages.{Stages}
 use Rattle.iom_driver.specs.declared.device.Attachment.{Attachment}
 use Rattle.iom_driver.specs.declared.device.Attachment.TheVariants as attachment
-use Rattle.iom_driver.specs.Devices.{has_device, has_trusted_cache, is_away, is_cut_off, attachment_by_id, stages_of, owned_stages_of}
+use Rattle.iom_driver.specs.Devices.{has_device, has_trusted_cache, is_away, is_quarantined, attachment_by_id, stages_of, owned_stages_of}
 use Rattle.iom_driver.specs.Fences.{last_fence}
 use Rattle.iom_base.specs.DeviceIds.{id_limit}
 use Rattle.iom_driver.specs.State.{DriverState}
@@ -56,7 +56,7 @@ why_not_attached d id later =
     (not d.started, NotStarted)
     ∷ (not (has_device d.devices id), NoSuchDevice)
     ∷ (is_away (attachment_by_id d.devices id), NotAttached)
-    ∷ (is_cut_off (attachment_by_id d.devices id), Quarantined)
+    ∷ (is_quarantined (attachment_by_id d.devices id), Quarantined)
     ∷ later
 
 -- the pages that may be granted are below this, by the stages of the device
@@ -67,8 +67,8 @@ page_limit_in (Some stage) = page_limit_of (size_in stage.mode)
 -- beyond that: a frame is granted at a page
 abbrev pub granting_reasons : DriverState → ℕ → ℕ → ℕ → List (Bool × Refusal)
 granting_reasons d id page frame =
-    (nat_le (length d.marks) frame, FrameOutOfRange)
-    ∷ (is_marked d.marks frame, FrameReserved)
+    (nat_le (length d.owners) frame, FrameOutOfRange)
+    ∷ (is_marked d.owners frame, FrameReserved)
     ∷ (nat_le (page_limit_in (stages_of d.devices id)) page, IovaOutOfRange)
     ∷ (is_busy d id page, IovaBusy)
     ∷ []
@@ -111,7 +111,7 @@ quarantining_reasons d r =
 abbrev pub why_not_quarantine : DriverState → Registers → ℕ → List (Bool × Refusal)
 why_not_quarantine d r id = why_not_attached d id (quarantining_reasons d r)
 
--- whether a device that is attached so is cut off under a ticket that isn't confirmed
+-- whether a device that is attached so is quarantined under a ticket that isn't confirmed
 abbrev pub waits_for_its_ticket : ℕ → Attachment → Bool
 waits_for_its_ticket confirmed attachment.Detached = false
 waits_for_its_ticket confirmed (attachment.Attached stage) = false

@@ -13,7 +13,7 @@ use Rattle.iom_driver.specs.Layout.{directory_frame}
 use Rattle.iom_driver.specs.Reasons.{why_not_revive}
 use Rattle.iom_driver.specs.State.{DriverState}
 
--- A device that was cut off is attached in the stages that it had, and its context stands in the directory as before. No frame changes but the system's, of
+-- A device that was quarantined is attached in the stages that it had, and its context stands in the directory as before. No frame changes but the system's, of
 -- which the directory's pages are some.
 pub record WritesContextAgain (d : DriverState) (memory : List (List ℕ)) (id : ℕ) (d' : DriverState) (memory' : List (List ℕ)) : Type 0 where
   pub ticket : ℕ
@@ -21,7 +21,7 @@ pub record WritesContextAgain (d : DriverState) (memory : List (List ℕ)) (id :
   pub cut_off : attachment_by_id d.devices id ≡ Quarantined ticket stage
   pub driver : d' ≡ record d { devices = with_attachment d.devices id (Attached stage) }
   pub bytes : memory' ≡ hung memory (root_level d.levels) (directory_frame (length memory)) id [] (context_for stage)
-  pub others : (f : ℕ) → slice_get d.marks f ≢ Some (Some System) → slice_get memory' f ≡ slice_get memory f
+  pub others : (f : ℕ) → slice_get d.owners f ≢ Some (Some System) → slice_get memory' f ≡ slice_get memory f
 
 -- REVIVE
 abbrev pub AnswersRevive : DriverState → List (List ℕ) → ℕ → Result (Unit {0}) Refusal → DriverState → List (List ℕ) → Type 0

@@ -16,6 +16,6 @@ pub record HasSameNumbers (one other : Driver) : Type 0 where
 -- all that the two keep is equal
 pub record IsSameDriver (one other : Driver) : Type 0 where
   pub ledger : IsSameLedger one.ledger other.ledger
-  pub marks : one.marks ≡ other.marks
+  pub owners : one.owners ≡ other.owners
   pub devices : one.devices.items ≡ other.devices.items
   pub numbers : HasSameNumbers one other

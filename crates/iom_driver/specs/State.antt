@@ -9,7 +9,7 @@ use Rattle.iom_driver.specs.declared.device.Device.{Device}
 -- the last ticket that was given when it restarted last
 pub record DriverState : Type 0 where
   pub ledger : Ledger
-  pub marks : List (Option Owner)
+  pub owners : List (Option Owner)
   pub devices : List Device
   pub levels : ℕ
   pub started : Bool

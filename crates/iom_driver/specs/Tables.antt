@@ -35,13 +35,13 @@ HasTableIn (Second size) memory root f = HasGuestTable size memory root f
 HasTableIn (Both size) memory root f = HasGuestTable size memory root f
 
 -- the tables of the root are a tree, in frames that are reserved for the device alone, and map exactly what the device holds, which is on pages of their lower half
-pub record AreTablesOf (memory : List (List ℕ)) (marks : List (Option Owner)) (ledger : Ledger) (id : ℕ) (mode : Mode) (root : ℕ) : Type 0 where
+pub record AreTablesOf (memory : List (List ℕ)) (owners : List (Option Owner)) (ledger : Ledger) (id : ℕ) (mode : Mode) (root : ℕ) : Type 0 where
   pub tree : IsRootIn mode memory root
-  pub own : (f : ℕ) → HasTableIn mode memory root f → slice_get marks f ≡ Some (Some (OneDevice id))
+  pub own : (f : ℕ) → HasTableIn mode memory root f → slice_get owners f ≡ Some (Some (OneDevice id))
   pub low : (page : ℕ) → page_limit_of (size_in mode) ≤ page → held_in ledger id page ≡ None
   pub leaves : (page : ℕ) → page < 2 ^ 52 → leaf_of (levels_of (size_in mode)) memory root page ≡ option_map leaf_for (held_in ledger id page)
 
 -- each attached, quarantined or leaving device has such tables
 abbrev pub HaveTables : List (List ℕ) → List (Option Owner) → Ledger → List Device → Type 0
-HaveTables memory marks ledger devices =
-    (id : ℕ) (stage : Stages) → owned_stages_of devices id ≡ Some stage → AreTablesOf memory marks ledger id stage.mode stage.root
+HaveTables memory owners ledger devices =
+    (id : ℕ) (stage : Stages) → owned_stages_of devices id ≡ Some stage → AreTablesOf memory owners ledger id stage.mode stage.root

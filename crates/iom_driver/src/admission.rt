@@ -8,7 +8,7 @@ ghost use Rattle.iom_driver.specs.Devices.{device_by_id, stages_of};
 ghost use Rattle.iom_driver.specs.Layout.{queue_entries};
 ghost use Rattle.iom_driver.specs.Places.{IsAttachmentPlace};
 ghost use Rattle.iom_driver.specs.Reasons.{release_places, why_not_attach, why_not_attached, why_not_grant, why_not_release, why_not_detach, why_not_quarantine, why_not_revive, HasGrants};
-ghost use Rattle.iom_driver.specs.Seen.{state_of};
+ghost use Rattle.iom_driver.specs.StateOf.{state_of};
 
 use crate::device::{Attachment, Stages};
 use crate::driver::Driver;
@@ -87,7 +87,7 @@ impl Driver {
         if mapping.frame >= u64::from(self.frames) {
             return Err(Refusal::FrameOutOfRange);
         }
-        if self.marks.is_reserved(mapping.frame as u32) {
+        if self.owners.is_reserved(mapping.frame as u32) {
             return Err(Refusal::FrameReserved);
         }
         if mapping.page >= stage.mode.size().page_limit() {

@@ -10,7 +10,7 @@ ghost use Rattle.iom_driver.specs.Appends.{invalidation_of, invalidation, space_
 ghost use Rattle.iom_driver.specs.Appends.{release_commands, detach_commands, Appends, AppendsAll};
 ghost use Rattle.iom_driver.specs.Restarts.{device_reset, requeued, IsNamable};
 ghost use Rattle.iom_driver.specs.Layout.{command_frame, completion_address, directory_frame, queue_entries};
-ghost use Rattle.iom_driver.specs.Orders.{IsCutOffInMemory};
+ghost use Rattle.iom_driver.specs.Orders.{IsQuarantinedInMemory};
 ghost use Rattle.iom_driver.specs.Directory.{KeepsDirectory};
 ghost use Rattle.iom_driver.specs.Ready.{IsRing, KeepsFaults};
 ghost use Rattle.iom_driver.specs.Reasons.{release_places};
@@ -210,7 +210,7 @@ impl Driver {
         requires room { how_many (M.registers io.old) + 3 < queue_entries }
         requires id { id < 2 ^ 24 }
         requires number { stage.number < 2 ^ 16 }
-        requires cut_off { IsCutOffInMemory memory.old self.now.levels (directory_frame self.now.frames) id stage }
+        requires cut_off { IsQuarantinedInMemory memory.old self.now.levels (directory_frame self.now.frames) id stage }
         ensures appended { let commands = detach_commands id stage (completion_address self.now.frames) number in
             AppendsAll M.Mmio memory.old io.old commands memory.new io.new }
         ensures ring { IsRing self.now.frames (M.registers io.new) }

@@ -7,8 +7,8 @@ ghost use Rattle.iom_driver.specs.Devices.{is_used, IsLowestNumber};
 ghost use Rattle.iom_driver.specs.Entering.{MayEnter};
 ghost use Rattle.iom_driver.specs.Places.{IsAttachmentPlace};
 ghost use Rattle.iom_driver.specs.Ready.{TablesStand, IsReady};
-ghost use Rattle.iom_driver.specs.Seen.{state_of};
-ghost use Rattle.iom_table_frames.specs.Marks.{HasFree};
+ghost use Rattle.iom_driver.specs.StateOf.{state_of};
+ghost use Rattle.iom_table_frames.specs.Owners.{HasFree};
 
 use crate::choosing::{reserve_all, reserve_root};
 use crate::contexts::context_for;
@@ -62,8 +62,8 @@ impl Driver {
         ensures { MatchOption result (NoRootBelow mode (state_of self.now) limit) (IsRootBelow mode (state_of self.now) limit) }
     {
         match mode {
-            Mode::First(_) => self.marks.highest_free(&self.ledger, limit, None),
-            Mode::Second(_) | Mode::Both(_) => self.marks.highest_four(&self.ledger, limit),
+            Mode::First(_) => self.owners.highest_free(&self.ledger, limit, None),
+            Mode::Second(_) | Mode::Both(_) => self.owners.highest_four(&self.ledger, limit),
         }
     }
 
@@ -71,11 +71,11 @@ impl Driver {
     fn choose_with_root(&self, mode: Mode, pages: usize) -> Option<Taken>
         requires { pages ≤ 2 }
         ensures chosen { IfSome result (λ taken.
-            AreHighestFree self.now.marks self.now.ledger None self.now.frames pages taken.pages.items) }
+            AreHighestFree self.now.owners self.now.ledger None self.now.frames pages taken.pages.items) }
         ensures root { IfSome result (λ taken.
             IsRootBelow mode (state_of self.now) (limit_below self.now.frames taken.pages.items) taken.root) }
-        ensures none { IfNone result ((¬ HasFree self.now.marks self.now.ledger None pages self.now.frames)
-            ⊎ ((few : List ℕ) × AreHighestFree self.now.marks self.now.ledger None self.now.frames pages few
+        ensures none { IfNone result ((¬ HasFree self.now.owners self.now.ledger None pages self.now.frames)
+            ⊎ ((few : List ℕ) × AreHighestFree self.now.owners self.now.ledger None self.now.frames pages few
             × NoRootBelow mode (state_of self.now) (limit_below self.now.frames few))) }
     {
         let pages = self.choose(pages, None)?;
@@ -103,8 +103,8 @@ impl Driver {
     {
         let directory = directory_frame(self.frames);
         let owner = Owner::OneDevice(id);
-        reserve_all(&mut self.marks, memory, pages, Owner::System);
-        reserve_root(&mut self.marks, memory, stages.mode, stages.root, owner);
+        reserve_all(&mut self.owners, memory, pages, Owner::System);
+        reserve_root(&mut self.owners, memory, stages.mode, stages.root, owner);
         let context = context_for(memory, stages);
         put_context(memory, self.levels, directory, id, context, pages);
         self.devices[place].attachment = Attachment::Attached(stages);

@@ -6,7 +6,7 @@ ghost use Rattle.iom_registers.specs.declared.registers.Registers.{Registers};
 ghost use Rattle.iom_driver.specs.Calls.{IsOpening};
 ghost use Rattle.iom_driver.specs.Layout.{IsLevels};
 ghost use Rattle.iom_driver.specs.Ready.{IsReady};
-ghost use Rattle.iom_driver.specs.Seen.{state_of};
+ghost use Rattle.iom_driver.specs.StateOf.{state_of};
 
 use crate::driver::Driver;
 use crate::layout::MAX_DEVICES;
@@ -28,11 +28,11 @@ fn opening(alloc: Global, frames: u32, levels: u8) -> Result<Driver, AllocError>
 {
     // The ledger comes last, so that none is ever dropped here.
     let devices = Vec::with_capacity(alloc, MAX_DEVICES)?;
-    let marks = TableFrames::new(alloc, frames)?;
+    let owners = TableFrames::new(alloc, frames)?;
     let ledger = Ledger::new(alloc, frames)?;
     Ok(Driver {
         ledger,
-        marks,
+        owners,
         devices,
         frames,
         levels,
@@ -47,7 +47,7 @@ fn opening(alloc: Global, frames: u32, levels: u8) -> Result<Driver, AllocError>
 impl Driver {
     /// A driver for so many frames of memory and levels of the device directory. Nothing is granted, no
     /// device is plugged in, the last four frames are the system's, and it isn't started. Makes the room of
-    /// the marks, the tickets and the devices. `BadSize` exactly where the frames aren't 64 to 4,096 or the
+    /// the owners of frames, the tickets and the devices. `BadSize` exactly where the frames aren't 64 to 4,096 or the
     /// levels aren't 1 to 3; else `OutOfMemory` where an allocation is refused.
     pub fn new(alloc: Global, frames: u32, levels: u8) -> Result<Driver, MemError>
         ensures opening { IfOk result (λ driver. IsOpening frames levels (state_of driver)) }

@@ -35,7 +35,7 @@ impl Driver {
         if !self.has_same_numbers(other) || !self.has_same_devices(other) {
             return false;
         }
-        if !self.marks.is_same(&other.marks) {
+        if !self.owners.is_same(&other.owners) {
             return false;
         }
         self.ledger.is_same(&other.ledger)

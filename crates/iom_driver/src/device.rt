@@ -21,7 +21,7 @@ pub enum Attachment {
     Detached,
     /// In these stages.
     Attached(Stages),
-    /// It was cut off under the ticket. Its tables and its number stay its own.
+    /// It was quarantined under the ticket. Its tables and its number stay its own.
     Quarantined { ticket: u32, stage: Stages },
     /// It was detached under the ticket. Until that is confirmed, its tables and its number are still its own.
     Leaving { ticket: u32, stage: Stages },

@@ -1,5 +1,5 @@
-ghost use Rattle.iom_driver.specs.ReadyIsFact.{sound_driver_prop};
-ghost use Rattle.iom_driver.specs.Sound.{IsSound};
+ghost use Rattle.iom_driver.specs.ReadyIsFact.{driver_invariant_prop};
+ghost use Rattle.iom_driver.specs.Invariant.{StateInvariant};
 
 use crate::device::Device;
 use iom_ledger::Ledger;
@@ -12,7 +12,7 @@ use iom_table_frames::TableFrames;
 pub struct Driver {
     pub(crate) ledger: Ledger,
     /// Which frames are reserved for tables and queues.
-    pub(crate) marks: TableFrames,
+    pub(crate) owners: TableFrames,
     /// In the order of plugging, at most 16.
     pub(crate) devices: Vec<Device>,
     /// How many frames memory has.
@@ -29,5 +29,5 @@ pub struct Driver {
     pub(crate) restarts: u32,
     /// The last ticket that was given when it restarted last: the ones up to it wait for the fence of that restart.
     pub(crate) restarted: u32,
-    ghost sound: { IsSound ledger marks devices.items frames levels started given confirmed restarts restarted } by { sound_driver_prop ledger marks devices.items frames levels started given confirmed restarts restarted },
+    ghost invariants: { StateInvariant ledger owners devices.items frames levels started given confirmed restarts restarted } by { driver_invariant_prop ledger owners devices.items frames levels started given confirmed restarts restarted },
 }

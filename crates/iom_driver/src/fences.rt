@@ -2,7 +2,7 @@
 // for that aren't confirmed then.
 ghost use Rattle.std.specs.Prelude.{◌≡◌, ◌+◌, ◌-◌};
 ghost use Rattle.iom_driver.specs.Fences.{last_fence, done_by};
-ghost use Rattle.iom_driver.specs.Seen.{state_of};
+ghost use Rattle.iom_driver.specs.StateOf.{state_of};
 
 use crate::driver::Driver;
 

@@ -2,7 +2,7 @@
 ghost use Rattle.iom_registers.specs.declared.registers.Registers.{Registers};
 ghost use Rattle.iom_driver.specs.Calls.{AnswersGrant};
 ghost use Rattle.iom_driver.specs.Ready.{TablesStand, IsReady};
-ghost use Rattle.iom_driver.specs.Seen.{state_of};
+ghost use Rattle.iom_driver.specs.StateOf.{state_of};
 
 use crate::choosing::reserve_all;
 use crate::driver::Driver;
@@ -45,7 +45,7 @@ impl Driver {
             return Err(Refusal::Memory);
         }
         let owner = Owner::OneDevice(id);
-        reserve_all(&mut self.marks, memory, tables.as_slice(), owner);
+        reserve_all(&mut self.owners, memory, tables.as_slice(), owner);
         let leaf = PageLeaf { frame, rights };
         map(memory, size, root, page, leaf, tables.as_slice());
         Ok(())

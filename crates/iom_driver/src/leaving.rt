@@ -1,7 +1,7 @@
 // A device is detached: it leaves under a ticket.
 ghost use Rattle.iom_driver.specs.Leaving.{AnswersDetach};
 ghost use Rattle.iom_driver.specs.Ready.{IsReady};
-ghost use Rattle.iom_driver.specs.Seen.{state_of};
+ghost use Rattle.iom_driver.specs.StateOf.{state_of};
 
 use crate::answers::Ticket;
 use crate::attachments::set_attachment;

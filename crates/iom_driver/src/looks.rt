@@ -1,11 +1,11 @@
 // What is looked at of a driver by somebody who explains its answers. No call of the driver uses these.
 ghost use Rattle.std.specs.Prelude.{◌≡◌};
 ghost use Rattle.iom_phys_mem.specs.Words.{word_at};
-ghost use Rattle.iom_table_frames.specs.Marks.{owner_at};
+ghost use Rattle.iom_table_frames.specs.Owners.{owner_at};
 ghost use Rattle.iom_driver.specs.Layout.{completion_address};
 ghost use Rattle.iom_driver.specs.Looks.{awaited_fence, oldest_pending, parting_ticket};
 ghost use Rattle.iom_driver.specs.Devices.{attachment_by_id};
-ghost use Rattle.iom_driver.specs.Seen.{state_of};
+ghost use Rattle.iom_driver.specs.StateOf.{state_of};
 
 use crate::device::Attachment;
 use crate::driver::Driver;
@@ -25,9 +25,9 @@ impl Driver {
 
     /// Whom the frame is reserved for: the system, or a device whose table it is. None where it isn't reserved, or outside memory.
     pub fn owner_of(&self, frame: u32) -> Option<Owner>
-        ensures { result ≡ owner_at (state_of self.now).marks frame }
+        ensures { result ≡ owner_at (state_of self.now).owners frame }
     {
-        self.marks.owner_of(frame)
+        self.owners.owner_of(frame)
     }
 
     /// The oldest ticket that isn't confirmed: the next that a poll confirms. None where all are.
@@ -56,7 +56,7 @@ impl Driver {
         Some(last_queued_with + self.restarts)
     }
 
-    /// The ticket under which the device was cut off, or leaves. None where neither is so.
+    /// The ticket under which the device was quarantined, or leaves. None where neither is so.
     pub fn parting_ticket(&self, id: DeviceId) -> Option<u32>
         ensures { result ≡ parting_ticket (attachment_by_id (state_of self.now).devices id) }
     {

@@ -1,11 +1,11 @@
 // What the driver tells of itself.
 ghost use Rattle.std.specs.Prelude.{◌≡◌, ◌↔◌, ◌-◌, IsTrue, MatchOption, nat_lt, nat_le};
-ghost use Rattle.iom_table_frames.specs.Marks.{is_marked, AreSoMany};
+ghost use Rattle.iom_table_frames.specs.Owners.{is_marked, AreSoMany};
 ghost use Rattle.iom_driver.specs.Calls.{IsFreeFrame};
 ghost use Rattle.iom_driver.specs.Devices.{device_by_id};
 ghost use Rattle.iom_driver.specs.Fences.{last_fence};
 ghost use Rattle.iom_driver.specs.Places.{IsAttachmentPlace};
-ghost use Rattle.iom_driver.specs.Seen.{state_of};
+ghost use Rattle.iom_driver.specs.StateOf.{state_of};
 
 use crate::device::Device;
 use crate::driver::Driver;
@@ -34,9 +34,9 @@ impl Driver {
 
     /// Whether the frame is reserved, for tables or for the system; false outside memory.
     pub fn is_reserved(&self, frame: u32) -> bool
-        ensures { result ≡ is_marked (state_of self.now).marks frame }
+        ensures { result ≡ is_marked (state_of self.now).owners frame }
     {
-        self.marks.is_reserved(frame)
+        self.owners.is_reserved(frame)
     }
 
     /// Whether the frame is one of memory, isn't reserved, and no device holds or lingers on it: so it may
@@ -44,7 +44,7 @@ impl Driver {
     pub fn is_free(&self, frame: u32) -> bool
         ensures { IsTrue result ↔ IsFreeFrame (state_of self.now) frame }
     {
-        if frame >= self.frames || self.marks.is_reserved(frame) {
+        if frame >= self.frames || self.owners.is_reserved(frame) {
             return false;
         }
         self.ledger.is_free(frame)
@@ -54,7 +54,7 @@ impl Driver {
     pub fn count_free(&self) -> u32
         ensures { AreSoMany (IsFreeFrame (state_of self.now)) result }
     {
-        self.marks.count_free(&self.ledger)
+        self.owners.count_free(&self.ledger)
     }
 
     /// How many tickets aren't confirmed.

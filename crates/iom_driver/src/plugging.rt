@@ -3,7 +3,7 @@ ghost use Rattle.std.specs.Prelude.{ℕ, List};
 ghost use Rattle.iom_registers.specs.declared.registers.Registers.{Registers};
 ghost use Rattle.iom_driver.specs.Calls.{AnswersPlug};
 ghost use Rattle.iom_driver.specs.Ready.{IsReady};
-ghost use Rattle.iom_driver.specs.Seen.{state_of};
+ghost use Rattle.iom_driver.specs.StateOf.{state_of};
 
 use crate::device::{Attachment, Device};
 use crate::driver::Driver;

@@ -5,11 +5,11 @@ ghost use Rattle.iom_ledger.specs.Confirmations.{ConfirmsFrom};
 ghost use Rattle.iom_ledger.specs.History.{History, confirmed_from};
 ghost use Rattle.iom_ledger.specs.Shown.{Agrees};
 ghost use Rattle.iom_phys_mem.specs.Words.{word_at};
-ghost use Rattle.iom_driver.specs.Confirmed.{driven_once_confirmed, mark_given_back, ClearsGone};
+ghost use Rattle.iom_driver.specs.Confirmed.{driven_once_confirmed, owner_given_back, ClearsGone};
 ghost use Rattle.iom_driver.specs.Devices.{HaveOwnIds};
 ghost use Rattle.iom_driver.specs.Polling.{AnswersPoll};
 ghost use Rattle.iom_driver.specs.Ready.{IsReady};
-ghost use Rattle.iom_driver.specs.Seen.{state_of};
+ghost use Rattle.iom_driver.specs.StateOf.{state_of};
 
 use crate::access::has_timed_out;
 use crate::answers::Polled;
@@ -48,17 +48,17 @@ fn confirm_after(ledger: &mut Ledger, confirmed: u32, done: u32)
 
 /// Each device that leaves under a ticket up to this one is attached to nothing from now on; its frames have
 /// no owner any more, and are zero.
-fn let_go(devices: &mut Vec<Device>, marks: &mut TableFrames, memory: &mut Memory, done: u32)
+fn let_go(devices: &mut Vec<Device>, owners: &mut TableFrames, memory: &mut Memory, done: u32)
     requires ids { HaveOwnIds devices.old.items }
-    requires size { length marks.old ≡ length memory.old }
+    requires size { length owners.old ≡ length memory.old }
     ensures devices { devices.new.items ≡ map (driven_once_confirmed done) devices.old.items }
-    ensures marks { marks.new ≡ map (mark_given_back done devices.old.items) marks.old }
-    ensures memory { ClearsGone done devices.old.items marks.old memory.old memory.new }
+    ensures owners { owners.new ≡ map (owner_given_back done devices.old.items) owners.old }
+    ensures memory { ClearsGone done devices.old.items owners.old memory.old memory.new }
 {
     for place in 0..devices.len() {
         let device = devices[place];
         if device.attachment.has_left(done) {
-            marks.give_back(memory, Owner::OneDevice(device.id));
+            owners.give_back(memory, Owner::OneDevice(device.id));
             devices[place].attachment = Attachment::Detached;
         }
     }
@@ -90,7 +90,7 @@ impl Driver {
         let first = self.confirmed + 1;
         let count = done - self.confirmed;
         confirm_after(&mut self.ledger, self.confirmed, done);
-        let_go(&mut self.devices, &mut self.marks, memory, done);
+        let_go(&mut self.devices, &mut self.owners, memory, done);
         self.confirmed = done;
         Ok(Polled {
             first,

@@ -1,4 +1,4 @@
-// A device is cut off, and attached again.
+// A device is quarantined, and attached again.
 ghost use Rattle.std.specs.Prelude.{◌≡◌, ◌<◌, ◌↔◌, ℕ, Some, IfOk, IfErr, IsSome, Contains, length};
 ghost use Rattle.iom_base.specs.Sizes.{page_limit_of};
 ghost use Rattle.iom_base.specs.Refusals.{first_that_applies, NoneApplies};
@@ -9,7 +9,7 @@ ghost use Rattle.iom_driver.specs.Quarantines.{all_unmapped, held_pages, LosesHe
 ghost use Rattle.iom_driver.specs.Ready.{TablesStand, IsReady};
 ghost use Rattle.iom_driver.specs.Reasons.{why_not_revive};
 ghost use Rattle.iom_driver.specs.Revivals.{AnswersRevive};
-ghost use Rattle.iom_driver.specs.Seen.{state_of};
+ghost use Rattle.iom_driver.specs.StateOf.{state_of};
 
 use crate::answers::Ticket;
 use crate::attachments::set_attachment;
@@ -47,7 +47,7 @@ fn clear_leaves(ledger: &Ledger, memory: &mut Memory, id: DeviceId, size: Size, 
 }
 
 impl Driver {
-    /// The device is cut off under the next ticket: its context is cleared, and the leaf of each page that it holds;
+    /// The device is quarantined under the next ticket: its context is cleared, and the leaf of each page that it holds;
     /// all of these are released; and the commands of a detach are queued. Its tables and its number stay its own.
     /// `NotStarted`, `NoSuchDevice`, `NotAttached` (a leaving device too), `Quarantined`, `TooManyPending` where 256
     /// tickets wait, `QueueFull` where the ring has fewer than three free places, `NumbersUsedUp` after the last

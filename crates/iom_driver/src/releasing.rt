@@ -1,7 +1,7 @@
 // What a device holds at a page is released.
 ghost use Rattle.iom_driver.specs.Calls.{AnswersRelease};
 ghost use Rattle.iom_driver.specs.Ready.{IsReady};
-ghost use Rattle.iom_driver.specs.Seen.{state_of};
+ghost use Rattle.iom_driver.specs.StateOf.{state_of};
 
 use crate::answers::Ticket;
 use crate::appending::append_release;

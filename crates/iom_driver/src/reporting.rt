@@ -1,7 +1,7 @@
 // What the IOMMU reports of faults.
 ghost use Rattle.iom_driver.specs.Ready.{IsReady};
 ghost use Rattle.iom_driver.specs.Reports.{AnswersFaults};
-ghost use Rattle.iom_driver.specs.Seen.{state_of};
+ghost use Rattle.iom_driver.specs.StateOf.{state_of};
 
 use crate::access::write;
 use crate::driver::Driver;

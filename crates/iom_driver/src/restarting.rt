@@ -8,7 +8,7 @@ ghost use Rattle.iom_driver.specs.Directory.{KeepsDirectory};
 ghost use Rattle.iom_driver.specs.Layout.{command_frame};
 ghost use Rattle.iom_driver.specs.Ready.{IsRing, KeepsFaults, IsReady};
 ghost use Rattle.iom_driver.specs.Restarts.{turned_off_and_on, all_requeued, IsNamable, AnswersRestart};
-ghost use Rattle.iom_driver.specs.Seen.{state_of};
+ghost use Rattle.iom_driver.specs.StateOf.{state_of};
 
 use crate::access::write;
 use crate::appending::{append_device, append_fence};

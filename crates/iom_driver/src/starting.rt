@@ -5,7 +5,7 @@ ghost use Rattle.iom_registers.specs.declared.register.Register.TheVariants.{Ddt
 ghost use Rattle.iom_driver.specs.Calls.{Starts, StartsFrom, IsOff};
 ghost use Rattle.iom_driver.specs.Layout.{directory_frame, ddtp_of};
 ghost use Rattle.iom_driver.specs.Ready.{IsReady};
-ghost use Rattle.iom_driver.specs.Seen.{state_of};
+ghost use Rattle.iom_driver.specs.StateOf.{state_of};
 
 use crate::access::write;
 use crate::driver::Driver;
@@ -43,7 +43,7 @@ impl Driver {
     /// are zero; then `ddtp`, `cqb`, `cqcsr`, `fqb` and `fqcsr` are written, in this order.
     pub fn start<M: Mmio>(&mut self, memory: &mut Memory, io: &mut M)
         requires idle { (state_of self.old).started ≡ false }
-        requires size { length memory.old ≡ length (state_of self.old).marks }
+        requires size { length memory.old ≡ length (state_of self.old).owners }
         requires off { IsOff (M.registers io.old) }
         ensures effect { Starts M.Mmio (state_of self.old) memory.old io.old (state_of self.new) memory.new io.new }
         ensures ready { IsReady (state_of self.new) memory.new (M.registers io.new) }
@@ -64,7 +64,7 @@ impl Driver {
         requires first { 1 ≤ first_fence }
         requires idle { (state_of self.old).started ≡ false }
         requires unnumbered { (state_of self.old).given ≡ 0 }
-        requires size { length memory.old ≡ length (state_of self.old).marks }
+        requires size { length memory.old ≡ length (state_of self.old).owners }
         requires off { IsOff (M.registers io.old) }
         ensures effect { StartsFrom M.Mmio first_fence (state_of self.old) memory.old io.old (state_of self.new) memory.new io.new }
         ensures ready { IsReady (state_of self.new) memory.new (M.registers io.new) }

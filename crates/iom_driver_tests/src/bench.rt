@@ -84,7 +84,7 @@ pub(crate) struct Bench {
 impl Model for Bench {
     ghost use Rattle.std.specs.Prelude.{ℕ};
     ghost use Rattle.iom_driver.specs.Ready.{IsReady};
-    ghost use Rattle.iom_driver.specs.Seen.{state_of};
+    ghost use Rattle.iom_driver.specs.StateOf.{state_of};
 
     ghost Value = { ℕ };
 
@@ -267,7 +267,7 @@ impl Bench {
     }
 
     /// Whether the step is done and answered so.
-    fn does(&mut self, step: Step) -> bool {
+    fn effect(&mut self, step: Step) -> bool {
         match step {
             Step::Plug(id, done) => self.plug(id) == done,
             Step::PlugTrusted(id, done) => self.plug_trusted(id) == done,
@@ -290,7 +290,7 @@ impl Bench {
 
     fn polls(&mut self, expected: Result<(u32, u32, bool), Refusal>) -> bool {
         let polled = self.poll();
-        polled.map(|told| (told.first, told.count, told.timed_out)) == expected
+        polled.map(|reply| (reply.first, reply.count, reply.timed_out)) == expected
     }
 
     /// The same of a look, and of what the IOMMU does.
@@ -319,7 +319,7 @@ impl Bench {
     /// Takes the steps of a run, one after another.
     pub(crate) fn follow(&mut self, rt: &impl Abort, says: &str, steps: &[Step]) {
         for (place, step) in steps.iter().enumerate() {
-            let is_so = self.does(*step);
+            let is_so = self.effect(*step);
             holds(rt, says, place, is_so);
         }
     }

@@ -1,6 +1,6 @@
 //! Tests of the driver: the bytes of its commands, tables and contexts in each mode, of each size, against the
 //! standard's figures, with ATS and without, the order of its register writes, its refusals, for which fence a
-//! ticket waits, what a poll confirms and gives back, what it tells of faults, how a device is cut off and
+//! ticket waits, what a poll confirms and gives back, what it tells of faults, how a device is quarantined and
 //! revived, and how the queue is restarted.
 //!
 //! The driver stands on memory and on registers with no IOMMU around them: a test takes its place, and

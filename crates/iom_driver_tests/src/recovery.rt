@@ -2,7 +2,7 @@ use crate::bench::{BOTH, FIRST, OK, Run, Start, Step, follow};
 use iom_base::Refusal;
 use iom_registers::Register;
 
-/// Of devices that are cut off and revived, and of restarts.
+/// Of devices that are quarantined and revived, and of restarts.
 static RUNS: [Run; 15] = [
     // The context and each leaf are zero. The commands are those of a detach: IODIR.INVAL_DDT of id 2, IOTINVAL.VMA of
     // the whole address space 1, and the fence of ticket 1.
@@ -62,7 +62,7 @@ static RUNS: [Run; 15] = [
             Step::Reserved(56, true),
         ],
     ),
-    // A device that is cut off keeps its place, and is told apart from one that was detached: before other reasons,
+    // A device that is quarantined keeps its place, and is told apart from one that was detached: before other reasons,
     // and also once the ticket is confirmed.
     (
         "of a quarantined device",
@@ -144,7 +144,7 @@ static RUNS: [Run; 15] = [
             Step::Free(0xff8, true),
         ],
     ),
-    // Of a device that isn't there, one that isn't attached, one that wasn't cut off, and one that leaves.
+    // Of a device that isn't there, one that isn't attached, one that wasn't quarantined, and one that leaves.
     (
         "of a revival",
         Start::Usual,
@@ -187,7 +187,7 @@ static RUNS: [Run; 15] = [
             Step::Restart(Err(Refusal::NotStarted)),
         ],
     ),
-    // Plugged in this order: device 9, which is cut off under ticket 1 and has address space 3; device 5, attached with
+    // Plugged in this order: device 9, which is quarantined under ticket 1 and has address space 3; device 5, attached with
     // ATS, of space 1; device 7, which is attached to nothing; and device 3, which leaves under ticket 2, of space 2.
     //
     // In the order of plugging, of each device but 7: IODIR.INVAL_DDT, and IOTINVAL.VMA of its address space; of
@@ -232,7 +232,7 @@ static RUNS: [Run; 15] = [
             Step::Register(Register::Cqt, 8),
         ],
     ),
-    // Plugged in this order: device 9, which is cut off under ticket 1 and has address space 3; device 5, attached with
+    // Plugged in this order: device 9, which is quarantined under ticket 1 and has address space 3; device 5, attached with
     // ATS, of space 1; device 7, which is attached to nothing; and device 3, which leaves under ticket 2, of space 2.
     //
     // The tickets that waited are confirmed by the restart's fence, and by no older one. The next ticket's fence has

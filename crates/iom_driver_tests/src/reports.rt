@@ -22,7 +22,7 @@ struct Desk {
 impl Model for Desk {
     ghost use Rattle.std.specs.Prelude.{◌≡◌, ℕ, true};
     ghost use Rattle.iom_driver.specs.Ready.{IsReady};
-    ghost use Rattle.iom_driver.specs.Seen.{state_of};
+    ghost use Rattle.iom_driver.specs.StateOf.{state_of};
 
     ghost Value = { ℕ };
 
@@ -69,14 +69,14 @@ impl Desk {
 
     // The fault of this address is told.
     fn expect_fault(&mut self, rt: &impl Abort, address: u64) {
-        let told = self.faults();
-        expect(rt, told == Ok(Some(fault_at(address))));
+        let reply = self.faults();
+        expect(rt, reply == Ok(Some(fault_at(address))));
     }
 
     // There is none.
     fn expect_none(&mut self, rt: &impl Abort) {
-        let told = self.faults();
-        expect(rt, told == Ok(None));
+        let reply = self.faults();
+        expect(rt, reply == Ok(None));
     }
 
     fn expect_register(&self, rt: &impl Abort, register: Register, expected: u64) {

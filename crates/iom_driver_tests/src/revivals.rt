@@ -13,7 +13,7 @@ fn revived(bench: &mut Bench, alloc: Global, id: DeviceId) -> Option<(Result<(),
     Some((done, devices.first()?.epoch()))
 }
 
-/// Of a device in both stages with ATS: it is cut off; its ticket is confirmed; its context stands as before.
+/// Of a device in both stages with ATS: it is quarantined; its ticket is confirmed; its context stands as before.
 static CUT_OFF: [Step; 3] = [
     Step::PlugTrusted(2, OK),
     Step::AttachAts(2, BOTH, OK),

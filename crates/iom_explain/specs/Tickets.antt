@@ -6,7 +6,7 @@ use Rattle.iom_command_queue.specs.declared.entry.QueueEntry.TheVariants as stan
 use Rattle.iom_command_queue.specs.Waiting.{commands_in}
 use Rattle.iom_driver.specs.Layout.{completion_address}
 use Rattle.iom_driver.specs.Looks.{awaited_fence}
-use Rattle.iom_driver.specs.Seen.{state_of}
+use Rattle.iom_driver.specs.StateOf.{state_of}
 use Rattle.iom_iommu.specs.Parts.{registers_of}
 use Rattle.iom_phys_mem.specs.Words.{word_at}
 use Rattle.iom_registers.specs.Queues.{is_processing_commands}

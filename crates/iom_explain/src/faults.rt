@@ -159,7 +159,7 @@ fn note_through_cache<D: Disk>(notes: &mut Notes, world: &World<D>, device: Devi
     }
 }
 
-/// Notes where the way of the request stops; and that its device was cut off or is leaving, where that is so.
+/// Notes where the way of the request stops; and that its device was quarantined or is leaving, where that is so.
 pub(crate) fn note_fault<D: Disk>(notes: &mut Notes, world: &World<D>, event: &Event) {
     match event {
         Event::Read {

@@ -69,7 +69,7 @@ pub(crate) fn note_ticket<D: Disk>(notes: &mut Notes, world: &World<D>, ticket: 
     }
 }
 
-/// Notes the ticket under which the device was cut off or leaves, and what it waits for.
+/// Notes the ticket under which the device was quarantined or leaves, and what it waits for.
 pub(crate) fn note_parting<D: Disk>(notes: &mut Notes, world: &World<D>, device: DeviceId) {
     let Some(ticket) = world.driver().parting_ticket(device) else {
         return;

@@ -28,11 +28,11 @@ one_message : (a b : Message) → message.ghosts.eq a b ≡ true → a ≡ b
 one_message (Ask epoch page) (Ask then other) e =
     let two = both (nat_eq epoch then) (nat_eq page other) e in
     ap (λ n. Ask n page) (eqb-true epoch then two.0) ∙ ap (λ n. Ask then n) (eqb-true page other two.1)
-one_message (Answer epoch page told) (Answer then other answer) e =
-    let two = both (nat_eq epoch then) (nat_eq page other && translation.ghosts.eq told answer) e in
-    let more = both (nat_eq page other) (translation.ghosts.eq told answer) two.1 in
-    ap (λ n. Answer n page told) (eqb-true epoch then two.0) ∙ ap (λ n. Answer then n told) (eqb-true page other more.0)
-    ∙ ap (λ t. Answer then other t) (one_translation told answer more.1)
+one_message (Answer epoch page reply) (Answer then other answer) e =
+    let two = both (nat_eq epoch then) (nat_eq page other && translation.ghosts.eq reply answer) e in
+    let more = both (nat_eq page other) (translation.ghosts.eq reply answer) two.1 in
+    ap (λ n. Answer n page reply) (eqb-true epoch then two.0) ∙ ap (λ n. Answer then n reply) (eqb-true page other more.0)
+    ∙ ap (λ t. Answer then other t) (one_translation reply answer more.1)
 one_message (InvReq serial dropped) (InvReq number other) e =
     let two = both (nat_eq serial number) (range.ghosts.eq dropped other) e in
     ap (λ n. InvReq n dropped) (eqb-true serial number two.0) ∙ ap (λ r. InvReq number r) (one_range dropped other two.1)
@@ -40,9 +40,9 @@ one_message (InvDone serial) (InvDone number) e = ap InvDone (eqb-true serial nu
 one_message (Ask epoch page) (Answer then other answer) e = absurd (cc)
 one_message (Ask epoch page) (InvReq number other) e = absurd (cc)
 one_message (Ask epoch page) (InvDone number) e = absurd (cc)
-one_message (Answer epoch page told) (Ask then other) e = absurd (cc)
-one_message (Answer epoch page told) (InvReq number other) e = absurd (cc)
-one_message (Answer epoch page told) (InvDone number) e = absurd (cc)
+one_message (Answer epoch page reply) (Ask then other) e = absurd (cc)
+one_message (Answer epoch page reply) (InvReq number other) e = absurd (cc)
+one_message (Answer epoch page reply) (InvDone number) e = absurd (cc)
 one_message (InvReq serial dropped) (Ask then other) e = absurd (cc)
 one_message (InvReq serial dropped) (Answer then other answer) e = absurd (cc)
 one_message (InvReq serial dropped) (InvDone number) e = absurd (cc)

@@ -21,23 +21,23 @@ pub enum Range {
 /// message says who sends it.
 #[derive(Clone, Copy, PartialEq, Eq, Debug)]
 pub enum Message {
-    /// A device asks for the translation of a page, in its epoch.
+    /// A device asks for the translation of a page, in its epoch (Translation Request, section 10.2).
     Ask {
         epoch: u64,
         page: PageNumber,
     },
-    /// The IOMMU answers that question.
+    /// The IOMMU answers that question (Translation Completion, section 10.2).
     Answer {
         epoch: u64,
         page: PageNumber,
         translation: Translation,
     },
-    /// The IOMMU asks a device to drop what it knows, by a number of its own.
+    /// The IOMMU asks a device to drop what it knows, by a number of its own (Invalidate Request, section 10.3).
     InvReq {
         serial: u64,
         range: Range,
     },
-    /// A device says that it did what was asked by that number.
+    /// A device says that it did what was asked by that number (Invalidate Completion, section 10.3).
     InvDone {
         serial: u64,
     },

@@ -141,10 +141,10 @@ appends old new r f room stores =
     (from_alike old new (fault_base r) s t lt (elsewhere old new r t f stores) h (waiting s h t) lh refl ∙ sym (list_at old r r h t refl refl refl))
 
 -- BESIDE: two memories that are alike at all places of the ring, and registers with the same ring, head and tail
-pub stays : (old new : List (List ℕ)) (r s : Registers) → s.fqb ≡ r.fqb → fault_head s ≡ fault_head r → fault_tail s ≡ fault_tail r
+pub unchanged : (old new : List (List ℕ)) (r s : Registers) → s.fqb ≡ r.fqb → fault_head s ≡ fault_head r → fault_tail s ≡ fault_tail r
     → ((j : ℕ) → j < fault_entries r → slice_get new (record_place r j / 4096) ≡ slice_get old (record_place r j / 4096))
     → records_in new s ≡ records_in old r
-stays old new r s base head tail same =
+unchanged old new r s base head tail same =
     list_at new r s (fault_head r) (fault_tail r) base head tail
     ∙ from_alike old new (fault_base r) (fault_entries r) (fault_tail r) (below r.fqt r) (λ j lt n. of_same_frame old new (record_place r j) (same j lt))
     (fault_head r) (waiting (fault_entries r) (fault_head r) (fault_tail r)) (below r.fqh r) refl
@@ -171,7 +171,7 @@ empty m r e =
 
 -- registers with the same queue show the same list
 pub same_queue : (m : List (List ℕ)) (r s : Registers) → s.fqb ≡ r.fqb → fault_head s ≡ fault_head r → fault_tail s ≡ fault_tail r → records_in m s ≡ records_in m r
-same_queue m r s base head tail = stays m m r s base head tail (λ j lt. refl)
+same_queue m r s base head tail = unchanged m m r s base head tail (λ j lt. refl)
 
 length-records_from : (m : List (List ℕ)) (base s i n : ℕ) → length (records_from m base s i n) ≡ n
 length-records_from m base s i zero = refl

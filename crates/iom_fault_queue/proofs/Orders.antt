@@ -13,7 +13,7 @@ use Rattle.iom_fault_queue.specs.Fields.{Fields}
 use Rattle.iom_fault_queue.specs.Ring.{records_in, is_full, is_tail_outside, record_at, record_place}
 use Rattle.iom_fault_queue.specs.Calls.{PutsRecord, after_put, moved_on, TakesEntry}
 use Rattle.iom_fault_queue.specs.Laws.{QueueStep, put, take, beside, StepsQueue, RunsQueue, written_by, taken_by}
-use Rattle.iom_fault_queue.proofs.Lists.{appends, drops, differ, stays, same_queue}
+use Rattle.iom_fault_queue.proofs.Lists.{appends, drops, differ, unchanged, same_queue}
 
 -- a queue that takes a record isn't full
 has_room : (marked full outside : Bool) (r a b : Registers) → (if marked then Some r else if full then Some a else if outside then Some b else None) ≡ None → full ≡ false
@@ -73,7 +73,7 @@ step_list m r (take None) new s happens =
     append-nil (records_in m r) ∙ takes_list {X = Registers} (λ x. x) written (λ x q v. refl) m r None s happens.1 ∙ ap (λ n. records_in n s) (sym happens.0)
 step_list m r (take (Some e)) new s happens =
     append-nil (records_in m r) ∙ takes_list {X = Registers} (λ x. x) written (λ x q v. refl) m r (Some e) s happens.1 ∙ ap (λ n. e ∷ records_in n s) (sym happens.0)
-step_list m r beside new s happens = append-nil (records_in m r) ∙ sym (stays m new r s happens.base happens.head happens.tail happens.frames)
+step_list m r beside new s happens = append-nil (records_in m r) ∙ sym (unchanged m new r s happens.base happens.head happens.tail happens.frames)
 
 written_one : (step : QueueStep) (steps : List QueueStep) → written_by (step ∷ steps) ≡ written_by (step ∷ []) ++ written_by steps
 written_one (put f Written) steps = refl

@@ -8,7 +8,7 @@ use iom_phys_mem::Memory;
 use iom_registers::Registers;
 
 /// Whatever changes neither a frame of the ring, nor where the ring is, nor head and tail, leaves the list.
-pub fn stays(memory: &Memory, registers: &Registers, new: &Memory, later: &Registers)
+pub fn unchanged(memory: &Memory, registers: &Registers, new: &Memory, later: &Registers)
     requires { LeavesQueue memory.now registers.now new.now later.now }
     ensures { records_in new.now later.now ≡ records_in memory.now registers.now }
 {}

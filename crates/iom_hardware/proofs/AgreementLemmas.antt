@@ -5,12 +5,12 @@ use Rattle.iom_block_devices.specs.declared.block.Block.{Block}
 use Rattle.iom_block_devices.specs.declared.block.DiskAtHand.{DiskAtHand}
 use Rattle.iom_block_devices.specs.Entries.{disk_entries_of, numbers_of}
 use Rattle.iom_board.specs.BoardParts.{board_parts}
-use Rattle.iom_board.specs.Sound.{IsSoundBoard}
+use Rattle.iom_board.specs.Invariant.{BoardInvariant}
 use Rattle.iom_device.specs.declared.device.Device.{Device}
 use Rattle.iom_virtio_blk.specs.declared.disk.Disk.{Ghosts}
 use Rattle.iom_hardware.specs.declared.hardware.Hardware.{Hardware}
 use Rattle.iom_hardware.specs.Agreement.{AgreesWith, known_blocks}
-use Rattle.iom_hardware.specs.Sound.{IsSoundHardware}
+use Rattle.iom_hardware.specs.Invariant.{HardwareInvariant}
 
 -- where the same block devices are known, and none of them got a disk or lost one
 pub agrees_still : {D : Type 0} {d : Ghosts D} (devices after : List Device) (disks left : List ℕ) (blocks blocks' : List (Block D d)) (at_hand : List (DiskAtHand D))
@@ -22,12 +22,12 @@ agrees_still devices after disks left blocks blocks' at_hand same kept entries a
 }
 
 -- so hardware is sound still, where its board is
-pub sound_after : {D : Type 0} {d : Ghosts D} (old new : Hardware D d) → IsSoundHardware old → IsSoundBoard (board_parts new.board) new.board.events
+pub sound_after : {D : Type 0} {d : Ghosts D} (old new : Hardware D d) → HardwareInvariant old → BoardInvariant (board_parts new.board) new.board.events
     → known_blocks new.board.devices.items ≡ known_blocks old.board.devices.items → new.board.disks.items ≡ old.board.disks.items
     → disk_entries_of new.blocks.items ≡ disk_entries_of old.blocks.items → numbers_of new.at_hand.items ≡ numbers_of old.at_hand.items
-    → vec_capacity new.blocks ≡ vec_capacity old.blocks → IsSoundHardware new
-sound_after old new sound board known kept entries numbers room = record {
+    → vec_capacity new.blocks ≡ vec_capacity old.blocks → HardwareInvariant new
+sound_after old new invariants board known kept entries numbers room = record {
   board = board;
-  agrees = record { known = entries ∙ sound.agrees.known ∙ sym known; numbers = numbers ∙ sound.agrees.numbers ∙ sym kept };
-  room = subst (λ (n : ℕ). device_limit ≤ n) (sym room) sound.room;
+  agrees = record { known = entries ∙ invariants.agrees.known ∙ sym known; numbers = numbers ∙ invariants.agrees.numbers ∙ sym kept };
+  room = subst (λ (n : ℕ). device_limit ≤ n) (sym room) invariants.room;
 }

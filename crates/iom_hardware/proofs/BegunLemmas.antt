@@ -8,7 +8,7 @@ use Rattle.iom_board.specs.BoardParts.{BoardParts}
 use Rattle.iom_board.specs.declared.answers.CacheReply.{CacheReply}
 use Rattle.iom_board.specs.declared.answers.CacheReply.TheVariants.{Miss, Replied}
 use Rattle.iom_board.specs.Messages.{with_message}
-use Rattle.iom_board.specs.Sound.{IsSoundBoard}
+use Rattle.iom_board.specs.Invariant.{BoardInvariant}
 use Rattle.iom_board.specs.ThroughCache.{RequestsAccessThroughCache}
 use Rattle.iom_board.proofs.Permitted.{there}
 use Rattle.iom_board.proofs.Sent.{messages_sent}
@@ -43,22 +43,22 @@ tried : (old between : BoardParts) (id : ℕ) (access : Access) (first : Result 
     → IsAble is_block_device old.devices id
 tried old between id access first reply (inl none) is = let both = sym none.answered ∙ is in cc
 tried old between id access first reply (inr (inl wrong)) is = let both = sym wrong.answered ∙ is in cc
-tried old between id access first reply (inr (inr does)) is = does.able
+tried old between id access first reply (inr (inr effect)) is = effect.able
 
 -- and its question leaves the board sound
-pub asked_sound : (old between : BoardParts) (events id epoch page : ℕ) (access : Access) (first : Result CacheReply Refusal) (reply : CacheReply) → IsSoundBoard between events
+pub asked_sound : (old between : BoardParts) (events id epoch page : ℕ) (access : Access) (first : Result CacheReply Refusal) (reply : CacheReply) → BoardInvariant between events
     → RequestsAccessThroughCache is_block_device old id access first between → first ≡ Ok reply → between.devices ≡ old.devices → page < 2 ^ 52
-    → IsSoundBoard (record between { fabric = with_message between.fabric id (Ask epoch page) }) events
-asked_sound old between events id epoch page access first reply sound tries is devices fits =
+    → BoardInvariant (record between { fabric = with_message between.fabric id (Ask epoch page) }) events
+asked_sound old between events id epoch page access first reply invariants tries is devices fits =
     let able = tried old between id access first reply tries is in
     let here = ap (λ ds. is_some (device_with ds id)) devices ∙ there is_block_device old.devices id able in
     record {
-      size = sound.size;
-      own_ids = sound.own_ids;
-      rows = sound.rows;
-      caches = sound.caches;
-      askers = messages_sent between.devices between.fabric id (Ask epoch page) sound.askers (here, fits);
-      accepted = sound.accepted;
-      serials = sound.serials;
-      epochs = sound.epochs;
+      size = invariants.size;
+      own_ids = invariants.own_ids;
+      rows = invariants.rows;
+      caches = invariants.caches;
+      askers = messages_sent between.devices between.fabric id (Ask epoch page) invariants.askers (here, fits);
+      accepted = invariants.accepted;
+      serials = invariants.serials;
+      epochs = invariants.epochs;
     }

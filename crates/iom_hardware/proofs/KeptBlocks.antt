@@ -40,7 +40,7 @@ by_device : {A : Type 0} (can : DeviceKind → Bool) (Call : BoardParts → A �
     → ((given : A) → Call old given new → KeepsKnown old new) → ByDevice can Call old id answer new → KeepsKnown old new
 by_device can Call old new id answer keeps (inl none) = same_parts old new none.same
 by_device can Call old new id answer keeps (inr (inl wrong)) = same_parts old new wrong.same
-by_device can Call old new id answer keeps (inr (inr does)) = keeps does.given does.call
+by_device can Call old new id answer keeps (inr (inr effect)) = keeps effect.given effect.call
 
 pub committed : (old new : BoardParts) (id : ℕ) (answer : Result (Option MadeAt) Refusal) → CommitsOldestAccess old id answer new → KeepsKnown old new
 committed old new id answer commits = by_device _ _ old new id answer (λ given makes. ap known_blocks makes.devices) commits
@@ -67,7 +67,7 @@ pub cached_devices : (can : DeviceKind → Bool) (old new : BoardParts) (id : �
     → new.devices ≡ old.devices
 cached_devices can old new id access answer (inl none) = ap (λ (parts : BoardParts). parts.devices) none.same
 cached_devices can old new id access answer (inr (inl wrong)) = ap (λ (parts : BoardParts). parts.devices) wrong.same
-cached_devices can old new id access answer (inr (inr does)) = by does.given does.call
+cached_devices can old new id access answer (inr (inr effect)) = by effect.given effect.call
   where
     by : (reply : CacheReply) → GoesByCache id access old reply new → new.devices ≡ old.devices
     by reply (inl (outside, is, same)) = ap (λ (parts : BoardParts). parts.devices) same

@@ -7,7 +7,7 @@ use Rattle.iom_base.specs.declared.device_kind.DeviceKind.{DeviceKind}
 use Rattle.iom_base.specs.DeviceKinds.{is_block_device}
 use Rattle.iom_device.specs.declared.device.Device.{Device}
 use Rattle.iom_device.specs.Caches.{IsAble, device_with, with_cache, with_has_disk}
-use Rattle.iom_board.specs.Sound.{AreOfOneId}
+use Rattle.iom_board.specs.Invariant.{AreOfOneId}
 use Rattle.iom_block_devices.specs.Entries.{DiskEntry}
 use Rattle.iom_hardware.specs.Agreement.{known_blocks}
 use Rattle.iom_block_devices.specs.Places.{has_in, with_has}

@@ -15,7 +15,7 @@ use Rattle.iom_block_devices.specs.Entries.{DiskEntry, disk_entry_of, disk_entri
 use Rattle.iom_block_devices.specs.Places.{has_in, with_has}
 use Rattle.iom_board.specs.BoardParts.{BoardParts}
 use Rattle.iom_board.specs.Plugging.{LetsDiskGo, LosesDisk, PutsDiskIntoDevice, TakesDisk, has_disk_in, newly_plugged, why_not_plugged}
-use Rattle.iom_board.specs.Sound.{AreOfOneId}
+use Rattle.iom_board.specs.Invariant.{AreOfOneId}
 use Rattle.iom_device.specs.declared.device.Device.{Device}
 use Rattle.iom_device.specs.Caches.{IsAble, cache_of, device_with, kind_in, with_has_disk}
 use Rattle.iom_device.specs.Calls.{reset_of, with_block_reset, with_reset}
@@ -118,4 +118,4 @@ disk_taken disks left old new id disk answer (inr (inr (inr takes))) done = take
 pub disk_gone : (old new : BoardParts) (id : ℕ) (answer : Result (Unit {0}) Refusal) → LosesDisk old id answer new → answer ≡ Ok tt → LetsDiskGo id old tt new
 disk_gone old new id answer (inl none) done = absurd (ok_err NoSuchDevice (sym done ∙ none.answered))
 disk_gone old new id answer (inr (inl wrong)) done = absurd (ok_err WrongKind (sym done ∙ wrong.answered))
-disk_gone old new id answer (inr (inr does)) done = record { gone = does.call.gone }
+disk_gone old new id answer (inr (inr effect)) done = record { gone = effect.call.gone }

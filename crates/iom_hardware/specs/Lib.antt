@@ -1,7 +1,7 @@
 pub mod Inside
 pub mod Agreement
 pub mod AgreementIsFact
-pub mod Sound
+pub mod Invariant
 pub mod PowerOn
 pub mod Blocks
 pub mod Queues

@@ -2,7 +2,7 @@
 use Rattle.std.specs.Prelude.{◌≡◌, ◌⊎◌, ℕ, Option, None, Some, Result, Ok}
 use Rattle.iom_base.specs.DeviceKinds.{is_block_device}
 use Rattle.iom_base.specs.declared.refusal.Refusal.{Refusal}
-use Rattle.iom_block_devices.specs.Seen.{BlockSeen}
+use Rattle.iom_block_devices.specs.Shown.{ShownBlock}
 use Rattle.iom_board.specs.BoardParts.{BoardParts}
 use Rattle.iom_board.specs.ByDevice.{FindsNoDevice, FindsWrongKind}
 use Rattle.iom_device.specs.Caches.{IsAble}
@@ -13,6 +13,6 @@ abbrev pub FindsNoBlock : {A : Type 0} → BoardParts → ℕ → Result A Refus
 FindsNoBlock old id answer new = FindsNoDevice old id answer new ⊎ FindsWrongKind is_block_device old id answer new
 
 -- THE STATUS of the block device, if there is one
-abbrev pub TellsStatus : Option BlockSeen → BoardParts → ℕ → Result ℕ Refusal → Type 0
+abbrev pub TellsStatus : Option ShownBlock → BoardParts → ℕ → Result ℕ Refusal → Type 0
 TellsStatus None parts id answer = FindsNoBlock parts id answer parts
 TellsStatus (Some block) parts id answer = IsAble is_block_device parts.devices id × (answer ≡ Ok (device_status block.device.front.stage))

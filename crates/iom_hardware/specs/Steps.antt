@@ -6,7 +6,7 @@ use Rattle.iom_base.specs.Accesses.{MayWant, page_of}
 use Rattle.iom_base.specs.DeviceKinds.{has_cache, is_block_device}
 use Rattle.iom_base.specs.declared.refusal.Refusal.{Refusal}
 use Rattle.iom_block_devices.specs.Changes.{Changes}
-use Rattle.iom_block_devices.specs.Seen.{BlockSeen, BlocksSeen}
+use Rattle.iom_block_devices.specs.Shown.{ShownBlock, ShownBlocks}
 use Rattle.iom_block_devices.specs.Wanted.{wanted_access}
 use Rattle.iom_board.specs.BoardParts.{BoardParts}
 use Rattle.iom_board.specs.declared.answers.CacheReply.{CacheReply}
@@ -111,10 +111,10 @@ pub record TakesOneStep (old : BoardParts) (id : ℕ) (answer : Result Stepped R
   pub ends : Ends taken old id between answer new after
 
 -- where there is no block device with the id the step is refused
-abbrev pub IsRefusedIfNone : Option BlockSeen → BoardParts → ℕ → Result Stepped Refusal → BoardParts → Type 0
+abbrev pub IsRefusedIfNone : Option ShownBlock → BoardParts → ℕ → Result Stepped Refusal → BoardParts → Type 0
 IsRefusedIfNone None old id answer new = FindsNoBlock old id answer new
 IsRefusedIfNone (Some block) old id answer new = IsAble is_block_device old.devices id
 
 -- A BLOCK DEVICE TAKES A STEP
-abbrev pub TakesStep : BoardParts → BlocksSeen → ℕ → Result Stepped Refusal → BoardParts → BlocksSeen → Type 0
+abbrev pub TakesStep : BoardParts → ShownBlocks → ℕ → Result Stepped Refusal → BoardParts → ShownBlocks → Type 0
 TakesStep old before id answer new after = Changes (TakesOneStep old id answer new) before id after

@@ -11,7 +11,7 @@ ghost use Rattle.iom_iommu.specs.Requests.{IsWithinFrame};
 ghost use Rattle.iom_iommu.specs.Parts.{flights_of};
 ghost use Rattle.iom_hardware.specs.Blocks.{GaveBytes, HearsIfMade, oldest_number};
 ghost use Rattle.iom_hardware.specs.Inside.{inside};
-ghost use Rattle.iom_hardware.specs.Sound.{IsSoundHardware};
+ghost use Rattle.iom_hardware.specs.Invariant.{HardwareInvariant};
 
 use crate::hardware::Hardware;
 use iom_base::{AccessKind, DeviceId, Refusal};
@@ -40,7 +40,7 @@ impl<D: Disk> Hardware<D> {
         requires within { IsWithinFrame (length self.old.board.memory) made }
         ensures board { self.new.board ≡ self.old.board }
         ensures heard { (bytes : List ℕ) → GaveBytes made.kind self.old.board.memory made bytes
-            → Changes (HearsMade number bytes) (inside D.seen self.old) id (inside D.seen self.new) }
+            → Changes (HearsMade number bytes) (inside D.shown self.old) id (inside D.shown self.new) }
         ensures at_hand { self.new.at_hand ≡ self.old.at_hand }
         ensures entries { disk_entries_of self.new.blocks.items ≡ disk_entries_of self.old.blocks.items }
         ensures room { vec_capacity self.new.blocks ≡ vec_capacity self.old.blocks }
@@ -55,13 +55,13 @@ impl<D: Disk> Hardware<D> {
     /// that waits for it is handed its bytes.
     #[inline(always)]
     pub fn commit(&mut self, id: DeviceId) -> Result<Option<MadeAt>, Refusal>
-        requires sound { IsSoundHardware self.old }
+        requires invariants { HardwareInvariant self.old }
         requires count { self.old.board.events + 1 < 2 ^ 64 }
         ensures effect { CommitsOldestAccess (board_parts self.old.board) id result (board_parts self.new.board) }
         ensures inside { HearsIfMade result (oldest_number (row_of (flights_of self.old.board.iommu).rows id)) self.new.board.memory
-            (inside D.seen self.old) id (inside D.seen self.new) }
+            (inside D.shown self.old) id (inside D.shown self.new) }
         ensures within { IfOk result (λ made. IfSome made (IsWithinFrame (length self.new.board.memory))) }
-        ensures sound { IsSoundHardware self.new }
+        ensures invariants { HardwareInvariant self.new }
         ensures counted { IsCounted self.old.board self.new.board }
     {
         // Without block devices nobody hears of it.

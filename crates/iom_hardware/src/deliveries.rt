@@ -6,7 +6,7 @@ ghost use Rattle.iom_board.specs.Counted.{IsCounted};
 ghost use Rattle.iom_board.specs.Deliveries.{DeliversAtPlace};
 ghost use Rattle.iom_hardware.specs.Blocks.{DeliversInside, counts, is_refused, refused_page};
 ghost use Rattle.iom_hardware.specs.Inside.{inside};
-ghost use Rattle.iom_hardware.specs.Sound.{IsSoundHardware};
+ghost use Rattle.iom_hardware.specs.Invariant.{HardwareInvariant};
 
 use crate::hardware::Hardware;
 use iom_ats_cache::Taken;
@@ -47,11 +47,11 @@ impl<D: Disk> Hardware<D> {
     /// The message at the place, counted from 0, arrives, as [`Board::deliver`](iom_board::Board::deliver) says; a block
     /// device whose access still wants a page for which there is no translation needs a reset from then on.
     pub fn deliver(&mut self, place: u64) -> Delivered
-        requires sound { IsSoundHardware self.old }
+        requires invariants { HardwareInvariant self.old }
         requires count { self.old.board.events + 1 < 2 ^ 64 }
         ensures effect { DeliversAtPlace (board_parts self.old.board) place result (board_parts self.new.board) }
-        ensures inside { DeliversInside (slice_get self.old.board.fabric place) result (inside D.seen self.old) (inside D.seen self.new) }
-        ensures sound { IsSoundHardware self.new }
+        ensures inside { DeliversInside (slice_get self.old.board.fabric place) result (inside D.shown self.old) (inside D.shown self.new) }
+        ensures invariants { HardwareInvariant self.new }
         ensures counted { IsCounted self.old.board self.new.board }
     {
         let message = self.board.fabric.get(place as usize);

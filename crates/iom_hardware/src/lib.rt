@@ -5,7 +5,7 @@
 //! It knows neither driver nor ledger nor ticket. What no block device has a part in is asked of its board; the calls here
 //! are those in which one has: it is plugged in, a disk is put in, its queue is set, it takes a step, its access is made,
 //! and it hears of an answer. The layers above may rely on each doing to the board and to the block devices what
-//! `specs/` says, and on both lists of devices agreeing (`specs/Sound.antt`), which each call asks for and gives back.
+//! `specs/` says, and on both lists of devices agreeing (`specs/Invariant.antt`), which each call asks for and gives back.
 #![tactic(auto)]
 
 mod commits;

@@ -7,7 +7,7 @@ ghost use Rattle.iom_virtqueue.specs.Layouts.{layout_of};
 ghost use Rattle.iom_hardware.specs.Blocks.{ResetsInside, SetsQueueInside};
 ghost use Rattle.iom_hardware.specs.Inside.{inside};
 ghost use Rattle.iom_hardware.specs.Queues.{SetsQueue};
-ghost use Rattle.iom_hardware.specs.Sound.{IsSoundHardware};
+ghost use Rattle.iom_hardware.specs.Invariant.{HardwareInvariant};
 
 use crate::hardware::Hardware;
 use iom_base::{DeviceId, Refusal};
@@ -19,11 +19,11 @@ impl<D: Disk> Hardware<D> {
     /// A device is reset, as [`Board::reset`](iom_board::Board::reset) says; a block device gives up what it had in work, and
     /// has no queue.
     pub fn reset(&mut self, id: DeviceId) -> Result<(), Refusal>
-        requires sound { IsSoundHardware self.old }
+        requires invariants { HardwareInvariant self.old }
         requires count { self.old.board.events + 1 < 2 ^ 64 }
         ensures effect { ResetsAnyDevice (board_parts self.old.board) id result (board_parts self.new.board) }
-        ensures inside { ResetsInside (inside D.seen self.old) id result (inside D.seen self.new) }
-        ensures sound { IsSoundHardware self.new }
+        ensures inside { ResetsInside (inside D.shown self.old) id result (inside D.shown self.new) }
+        ensures invariants { HardwareInvariant self.new }
         ensures counted { IsCounted self.old.board self.new.board }
     {
         self.board.reset(id)?;
@@ -42,11 +42,11 @@ impl<D: Disk> Hardware<D> {
         available: u64,
         used: u64,
     ) -> Result<(), Refusal>
-        requires sound { IsSoundHardware self.old }
+        requires invariants { HardwareInvariant self.old }
         requires count { self.old.board.events + 1 < 2 ^ 64 }
         ensures effect { SetsQueue (board_parts self.old.board) id (layout_of size descriptors available used) result (board_parts self.new.board) }
-        ensures inside { SetsQueueInside (layout_of size descriptors available used) (inside D.seen self.old) id result (inside D.seen self.new) }
-        ensures sound { IsSoundHardware self.new }
+        ensures inside { SetsQueueInside (layout_of size descriptors available used) (inside D.shown self.old) id result (inside D.shown self.new) }
+        ensures invariants { HardwareInvariant self.new }
         ensures counted { IsCounted self.old.board self.new.board }
     {
         if let Some(why) = self.why_no_block(id) {

@@ -1,11 +1,11 @@
 // Hardware at power-on.
 ghost use Rattle.std.specs.Prelude.{◌↔◌, IfOk, IsErrOf, IsTrue};
-ghost use Rattle.iom_block_devices.specs.Seen.{states_of};
+ghost use Rattle.iom_block_devices.specs.Shown.{states_of};
 ghost use Rattle.iom_phys_mem.specs.Sizes.{IsMemorySize};
 ghost use Rattle.iom_phys_mem.specs.declared.memory.MemError.TheVariants.{BadSize};
 ghost use Rattle.iom_hardware.specs.Inside.{inside};
 ghost use Rattle.iom_hardware.specs.PowerOn.{IsHardwareAtPowerOn};
-ghost use Rattle.iom_hardware.specs.Sound.{IsSoundHardware};
+ghost use Rattle.iom_hardware.specs.Invariant.{HardwareInvariant};
 
 use crate::hardware::Hardware;
 use iom_base::MAX_DEVICES;
@@ -27,8 +27,8 @@ impl<D: Disk> Hardware<D> {
     /// way, no event was counted, and each disk is at hand, with its place among these as its number, from 0. `BadSize`
     /// exactly where the frames aren't 64 to 4,096; else `OutOfMemory` where an allocation is refused.
     pub fn new(alloc: Global, frames: u32, disks: Vec<D>) -> Result<Hardware<D>, MemError>
-        ensures power_on { IfOk result (λ hardware. IsHardwareAtPowerOn frames (states_of D.seen disks.items) hardware.board (inside D.seen hardware)) }
-        ensures sound { IfOk result (λ hardware. IsSoundHardware hardware) }
+        ensures power_on { IfOk result (λ hardware. IsHardwareAtPowerOn frames (states_of D.shown disks.items) hardware.board (inside D.shown hardware)) }
+        ensures invariants { IfOk result (λ hardware. HardwareInvariant hardware) }
         ensures size { IfOk result (λ hardware. IsMemorySize frames) }
         ensures bad_size { (IsErrOf result BadSize) ↔ ¬ IsMemorySize frames }
     {

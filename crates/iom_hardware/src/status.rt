@@ -4,7 +4,7 @@ ghost use Rattle.iom_board.specs.BoardParts.{board_parts};
 ghost use Rattle.iom_device.specs.Caches.{kind_in};
 ghost use Rattle.iom_hardware.specs.Inside.{inside};
 ghost use Rattle.iom_hardware.specs.Permits.{IsBlockOrRefused};
-ghost use Rattle.iom_hardware.specs.Sound.{IsSoundHardware};
+ghost use Rattle.iom_hardware.specs.Invariant.{HardwareInvariant};
 ghost use Rattle.iom_hardware.specs.Status.{TellsStatus};
 
 use crate::hardware::Hardware;
@@ -37,8 +37,8 @@ impl<D: Disk> Hardware<D> {
     /// The device status of the block device with this id. `NoSuchDevice` where no device has it, `WrongKind` where it is no
     /// block device. It is no event.
     pub fn status(&self, id: DeviceId) -> Result<u8, Refusal>
-        requires sound { IsSoundHardware self.now }
-        ensures { TellsStatus (block_with (inside D.seen self.now).blocks id) (board_parts self.now.board) id result }
+        requires invariants { HardwareInvariant self.now }
+        ensures { TellsStatus (block_with (inside D.shown self.now).blocks id) (board_parts self.now.board) id result }
     {
         if let Some(why) = self.why_no_block(id) {
             return Err(why);

@@ -10,14 +10,14 @@ ghost use Rattle.iom_block_devices.specs.Changes.{block_with};
 ghost use Rattle.iom_block_devices.specs.Wanted.{wanted_access};
 ghost use Rattle.iom_board.specs.BoardParts.{board_parts};
 ghost use Rattle.iom_board.specs.Counted.{IsCounted};
-ghost use Rattle.iom_board.specs.Sound.{IsSoundBoard};
+ghost use Rattle.iom_board.specs.Invariant.{BoardInvariant};
 ghost use Rattle.iom_iommu.specs.Requests.{access_of};
 ghost use Rattle.iom_virtio_blk.specs.Disks.{disk_in};
 ghost use Rattle.iom_virtio_blk.specs.Steps.{device};
 ghost use Rattle.iom_virtio_blk.specs.Wants.{access_wanted};
 ghost use Rattle.iom_virtqueue.specs.Accesses.{LiesInPage};
 ghost use Rattle.iom_hardware.specs.Inside.{inside};
-ghost use Rattle.iom_hardware.specs.Sound.{IsSoundHardware};
+ghost use Rattle.iom_hardware.specs.Invariant.{HardwareInvariant};
 ghost use Rattle.iom_hardware.specs.Steps.{Begins, BeginsAny, GoesThroughCache, IsRefusedIfNone, TakesOneStep, TakesStep, began, reply_to};
 
 use crate::hardware::Hardware;
@@ -91,11 +91,11 @@ fn through_cache(
     kind: AccessKind,
     bytes: &[u8],
 ) -> Result<Stepped, Refusal>
-    requires sound { IsSoundBoard (board_parts board.old) board.old.events }
+    requires invariants { BoardInvariant (board_parts board.old) board.old.events }
     requires count { board.old.events + 1 < 2 ^ 64 }
     requires wants { MayWant (access_of address len kind bytes.now) }
     ensures begins { GoesThroughCache (board_parts board.old) id (access_of address len kind bytes.now) result (board_parts board.new) }
-    ensures sound { IsSoundBoard (board_parts board.new) board.new.events }
+    ensures invariants { BoardInvariant (board_parts board.new) board.new.events }
     ensures counted { IsCounted board.old board.new }
 {
     match board.through_cache(Sender::Step, id, address, len, kind, bytes) {
@@ -120,12 +120,12 @@ fn access(
     kind: AccessKind,
     bytes: &[u8],
 ) -> Result<Stepped, Refusal>
-    requires sound { IsSoundBoard (board_parts board.old) board.old.events }
+    requires invariants { BoardInvariant (board_parts board.old) board.old.events }
     requires count { board.old.events + 1 < 2 ^ 64 }
     requires wants { MayWant (access_of address len kind bytes.now) }
     ensures begins { Begins (board_parts board.old) id (access_of address len kind bytes.now) result (board_parts board.new) }
     ensures fits { address < 2 ^ 64 }
-    ensures sound { IsSoundBoard (board_parts board.new) board.new.events }
+    ensures invariants { BoardInvariant (board_parts board.new) board.new.events }
     ensures counted { IsCounted board.old board.new }
 {
     if caches(board.kind_of(id)) {
@@ -142,11 +142,11 @@ fn begin<D: Disk>(
     id: DeviceId,
     want: &WantedAccess,
 ) -> Result<Stepped, Refusal>
-    requires sound { IsSoundBoard (board_parts board.old) board.old.events }
+    requires invariants { BoardInvariant (board_parts board.old) board.old.events }
     requires count { board.old.events + 1 < 2 ^ 64 }
     requires want { LiesInPage (access_wanted blk.now.front.buffer want.now) }
     ensures begins { BeginsAny (access_wanted blk.now.front.buffer want.now) (board_parts board.old) id result (board_parts board.new) }
-    ensures sound { IsSoundBoard (board_parts board.new) board.new.events }
+    ensures invariants { BoardInvariant (board_parts board.new) board.new.events }
     ensures counted { IsCounted board.old board.new }
 {
     let (address, bytes) = match want {
@@ -167,11 +167,11 @@ fn begin<D: Disk>(
 
 /// The block device takes a step, up to the access that it wants, and is told what comes of that.
 fn step_once<D: Disk>(board: &mut Board, blk: &mut Blk<D>, id: DeviceId) -> Result<Stepped, Refusal>
-    requires sound { IsSoundBoard (board_parts board.old) board.old.events }
+    requires invariants { BoardInvariant (board_parts board.old) board.old.events }
     requires count { board.old.events + 1 < 2 ^ 64 }
     ensures steps { TakesOneStep (board_parts board.old) id result (board_parts board.new)
-        (device blk.old.front (disk_in D.seen blk.old.drive.disk)) (device blk.new.front (disk_in D.seen blk.new.drive.disk)) }
-    ensures sound { IsSoundBoard (board_parts board.new) board.new.events }
+        (device blk.old.front (disk_in D.shown blk.old.drive.disk)) (device blk.new.front (disk_in D.shown blk.new.drive.disk)) }
+    ensures invariants { BoardInvariant (board_parts board.new) board.new.events }
     ensures counted { IsCounted board.old board.new }
 {
     let rest = match blk.step() {
@@ -195,11 +195,11 @@ impl<D: Disk> Hardware<D> {
     /// same call: untranslated or, where the device has a cache, through that. `NoSuchDevice` where no device has the id,
     /// `WrongKind` where it is no block device: then nothing changes.
     pub fn step(&mut self, id: DeviceId) -> Result<Stepped, Refusal>
-        requires sound { IsSoundHardware self.old }
+        requires invariants { HardwareInvariant self.old }
         requires count { self.old.board.events + 1 < 2 ^ 64 }
-        ensures refused { IsRefusedIfNone (block_with (inside D.seen self.old).blocks id) (board_parts self.old.board) id result (board_parts self.new.board) }
-        ensures steps { TakesStep (board_parts self.old.board) (inside D.seen self.old) id result (board_parts self.new.board) (inside D.seen self.new) }
-        ensures sound { IsSoundHardware self.new }
+        ensures refused { IsRefusedIfNone (block_with (inside D.shown self.old).blocks id) (board_parts self.old.board) id result (board_parts self.new.board) }
+        ensures steps { TakesStep (board_parts self.old.board) (inside D.shown self.old) id result (board_parts self.new.board) (inside D.shown self.new) }
+        ensures invariants { HardwareInvariant self.new }
         ensures counted { IsCounted self.old.board self.new.board }
     {
         match place_of(&self.blocks, id) {

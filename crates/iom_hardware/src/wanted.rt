@@ -14,7 +14,7 @@ impl<D: Disk> Hardware<D> {
     /// The access that the block device wants, or waits for where it began that. None where it wants none, or no block
     /// device has the id.
     pub fn wanted(&self, alloc: Global, id: DeviceId) -> Result<Option<Access>, AllocError>
-        ensures { IfOk result (λ access. access ≡ wanted_of (block_with (inside D.seen self.now).blocks id)) }
+        ensures { IfOk result (λ access. access ≡ wanted_of (block_with (inside D.shown self.now).blocks id)) }
     {
         wanted(alloc, &self.blocks, id)
     }

@@ -4,13 +4,13 @@
 // proof would carry.
 ghost use Rattle.std.specs.Prelude.{◌+◌, ◌<◌, ◌^◌};
 ghost use Rattle.iom_board.specs.BoardParts.{board_parts};
-ghost use Rattle.iom_board.specs.Sound.{IsSoundBoard};
-ghost use Rattle.iom_board.specs.SoundIsFact.{sound_board_prop};
+ghost use Rattle.iom_board.specs.Invariant.{BoardInvariant};
+ghost use Rattle.iom_board.specs.InvariantIsFact.{board_invariant_prop};
 
 use crate::expect::expect;
 use crate::setup::{Answer, BASE_VALUE, CQB, CQCSR, FRAMES, RING, did, fetched_as, width_at};
 use iom_base::{AccessKind, DeviceKind, NewDevice, Refusal};
-use iom_board::laws::software_keeps_sound;
+use iom_board::laws::software_keeps_invariant;
 use iom_board::{Board, CacheReply, Delivered, NoPlace, Sender};
 use iom_fabric::{PageNumber, Repeat};
 use iom_fault_reasons::{WhyFault, WhyTranslated, why_fault, why_translated};
@@ -32,7 +32,7 @@ pub(crate) enum Act<'a> {
     NoLoad(u64, u64, NoPlace),
     /// A command, by its two words, stands in an entry of the queue, and is done by a fetch, which may be answered otherwise.
     Put(u32, (u64, u64)),
-    Does((u64, u64)),
+    Effect((u64, u64)),
     Fetch(Answer),
     Timeout(bool),
     /// A device is plugged in with this id, and is of a kind.
@@ -68,7 +68,7 @@ pub(crate) enum Act<'a> {
 #[derive(Drop)]
 pub(crate) struct Machine {
     hardware: Board,
-    ghost sound: { IsSoundBoard (board_parts hardware) hardware.events } by { sound_board_prop (board_parts hardware) hardware.events },
+    ghost invariants: { BoardInvariant (board_parts hardware) hardware.events } by { board_invariant_prop (board_parts hardware) hardware.events },
 }
 
 impl Machine {
@@ -87,7 +87,7 @@ impl Machine {
     }
 
     fn write(&mut self, rt: &impl Abort, offset: u64, value: u64) {
-        software_keeps_sound();
+        software_keeps_invariant();
         let written = self.hardware.iommu.write(offset, width_at(offset), value);
         expect(rt, written.is_ok());
     }
@@ -265,7 +265,7 @@ impl Machine {
             Act::NoStore(address, why) => self.stores(rt, address, 0, Err(why)),
             Act::NoLoad(address, len, why) => self.expect_no_load(rt, address, len, why),
             Act::Put(index, words) => self.put(rt, index, words),
-            Act::Does(words) => self.fetches(rt, did(rt, words)),
+            Act::Effect(words) => self.fetches(rt, did(rt, words)),
             Act::Fetch(answer) => self.fetches(rt, fetched_as(answer)),
             Act::Timeout(expected) => self.times_out(rt, expected),
             _ => self.takes_of_device(rt, act),

@@ -13,12 +13,12 @@ use Rattle.iom_hardware_script.specs.declared.script.HardwareLine.{HardwareLine}
 use Rattle.iom_hardware_script.specs.declared.script.HardwareLine.TheVariants as line
 use Rattle.iom_hardware_script.specs.declared.script.Help.{Help}
 use Rattle.iom_hardware_session.proofs.SessionLemmas.{through_more}
-use Rattle.iom_hardware_session.specs.Runs.{Told, claimed_then, LineGoesOn, GoThrough, is_wrong_by, is_wrong, IsSessionAtPowerOn}
+use Rattle.iom_hardware_session.specs.Runs.{LineReply, claimed_then, LineGoesOn, GoThrough, is_wrong_by, is_wrong, IsSessionAtPowerOn}
 use Rattle.iom_hardware_session.specs.declared.session.Stepped.{Stepped}
 use Rattle.iom_hardware_session.specs.declared.state.Session.{Session}
 
 -- what is claimed is shown, line after line
-shown_after : (all : List Told) (old new : Session) (before after : Claimed) → ShowsClaimed old.claims before → GoThrough old before all new after → ShowsClaimed new.claims after
+shown_after : (all : List LineReply) (old new : Session) (before after : Claimed) → ShowsClaimed old.claims before → GoThrough old before all new after → ShowsClaimed new.claims after
 shown_after [] old new before after shows (same, is) = subst (λ (s : Session). ShowsClaimed s.claims after) (sym same) (subst (λ (c : Claimed). ShowsClaimed old.claims c) (sym is) shows)
 shown_after (first ∷ others) old new before after shows (between, goes, rest) = shown_after others between new (claimed_then first before) after goes.claimed rest
 
@@ -26,7 +26,7 @@ or_false : (b : Bool) → (b || false) ≡ b
 or_false true = refl
 or_false false = refl
 
-abbrev told_of : HardwareLine → Stepped → Session → Told
+abbrev told_of : HardwareLine → Stepped → Session → LineReply
 told_of said stepped new = record { said = said; stepped = stepped; watched = new.watched.items }
 
 -- A LINE MORE
@@ -34,16 +34,16 @@ pub has_run_more : (frames : ℕ) (ran : List HardwareLine) (old new : Session) 
     → ((c : Claimed) → ShowsClaimed old.claims c → LineGoesOn old c (record { said = said; stepped = stepped; watched = new.watched.items }) new)
     → HasRun frames ran old wrong → HasRun frames (ran ++ said ∷ []) new (wrong || is_wrong_by stepped new.watched.items)
 has_run_more frames ran old new wrong said stepped goes has =
-    let told = told_of said stepped new in
+    let reply = told_of said stepped new in
     let shows = shown_after has.all has.first old nothing_claimed has.claimed has.begins.claims has.through in
     record {
       first = has.first;
-      all = has.all ++ told ∷ [];
-      claimed = claimed_then told has.claimed;
+      all = has.all ++ reply ∷ [];
+      claimed = claimed_then reply has.claimed;
       begins = has.begins;
-      same = map-append (λ (t : Told). t.said) has.all (told ∷ []) ∙ ap (λ (l : List HardwareLine). l ++ said ∷ []) has.same;
-      through = through_more has.all told has.first old new nothing_claimed has.claimed has.through (goes has.claimed shows);
-      tells = list_any-append is_wrong has.all (told ∷ []) ∙ ap (λ (b : Bool). b || (is_wrong told || false)) has.tells ∙ ap (λ (b : Bool). wrong || b) (or_false (is_wrong told));
+      same = map-append (λ (t : LineReply). t.said) has.all (reply ∷ []) ∙ ap (λ (l : List HardwareLine). l ++ said ∷ []) has.same;
+      through = through_more has.all reply has.first old new nothing_claimed has.claimed has.through (goes has.claimed shows);
+      tells = list_any-append is_wrong has.all (reply ∷ []) ∙ ap (λ (b : Bool). b || (is_wrong reply || false)) has.tells ∙ ap (λ (b : Bool). wrong || b) (or_false (is_wrong reply));
     }
 
 -- WHAT WAS SAID

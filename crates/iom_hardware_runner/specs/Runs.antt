@@ -6,7 +6,7 @@ use Rattle.iom_hardware_script.specs.declared.script.HardwareLine.{HardwareLine}
 use Rattle.iom_hardware_script.specs.declared.script.HardwareLine.TheVariants as line
 use Rattle.iom_hardware_script.specs.declared.script.Help.{Help}
 use Rattle.iom_hardware_script.specs.Grammar.{IsSetupLine, IsHardwareLine}
-use Rattle.iom_hardware_session.specs.Runs.{Told, GoThrough, is_any_told_wrong, IsSessionAtPowerOn}
+use Rattle.iom_hardware_session.specs.Runs.{LineReply, GoThrough, is_any_reply_wrong, IsSessionAtPowerOn}
 use Rattle.iom_hardware_session.specs.declared.state.Session.{Session}
 use Rattle.iom_machine.specs.declared.event.Event.TheVariants.{Read, Write, WriteThroughCache, Ask, Commit, Fetch, Deliver}
 use Rattle.iom_script.specs.Words.{IsWithout}
@@ -40,18 +40,18 @@ pub data SpellsOut : List HardwareLine → List HardwareLine → Type 0 where
   ByItself : (said ran : List HardwareLine) (own : HardwareLine) → SpellsOut said ran → is_asked said ≡ true → is_own own ≡ true → SpellsOut said (ran ++ own ∷ [])
 
 -- the lines of what was told
-abbrev pub lines_of : List Told → List HardwareLine
-lines_of all = map (λ (told : Told). told.said) all
+abbrev pub lines_of : List LineReply → List HardwareLine
+lines_of all = map (λ (reply : LineReply). reply.said) all
 
 -- THE SESSION WENT THROUGH THESE LINES from power-on, and this is whether anything was wrong
 pub record HasRun (frames : ℕ) (ran : List HardwareLine) (session : Session) (wrong : Bool) : Type 0 where
   pub first : Session
-  pub all : List Told
+  pub all : List LineReply
   pub claimed : Claimed
   pub begins : IsSessionAtPowerOn frames first
   pub same : lines_of all ≡ ran
   pub through : GoThrough first nothing_claimed all session claimed
-  pub tells : is_any_told_wrong all ≡ wrong
+  pub tells : is_any_reply_wrong all ≡ wrong
 
 -- lines that all say something: none of them, or one that says how much memory there is, and then what happens
 abbrev pub TextsRun : List (List ℕ) → Bool → Type 0

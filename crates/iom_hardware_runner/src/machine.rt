@@ -121,7 +121,7 @@ impl Machine {
 
     /// A line happens, as the next of the log. The words behind its answer.
     fn tell(&mut self, said: HardwareLine, output: &Output) -> Result<String, RunFault>
-        ensures told { OnOk result (TellsLine self.old.teller said self.new.teller) }
+        ensures reply { OnOk result (TellsLine self.old.teller said self.new.teller) }
         ensures helper { self.new.helper ≡ self.old.helper }
     {
         if self.teller.events() >= u64::MAX - 1 {

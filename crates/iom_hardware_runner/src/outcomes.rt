@@ -131,10 +131,10 @@ fn letters_of(rights: Rights) -> &'static [u8]
     }
 }
 
-fn put_translation(out: &mut LineBuffer, told: Translation)
-    ensures { out.new ≡ answer_text told }
+fn put_translation(out: &mut LineBuffer, reply: Translation)
+    ensures { out.new ≡ answer_text reply }
 {
-    match told {
+    match reply {
         Translation::Page { frame, rights } => {
             put_numbered(out, b"answer ", u64::from(frame));
             out.append(b" ");
@@ -156,7 +156,7 @@ fn put_taken(out: &mut LineBuffer, taken: Taken) {
 pub(crate) fn put_delivered(out: &mut LineBuffer, delivered: Delivered) {
     match delivered {
         Delivered::NoMessage => put_words(out, b"none"),
-        Delivered::Answered(told) => put_translation(out, told),
+        Delivered::Answered(reply) => put_translation(out, reply),
         Delivered::Taken(taken) => put_taken(out, taken),
         Delivered::Ignored => put_words(out, b"ignored"),
         Delivered::Invalidated(serial) => put_numbered(out, b"invalidated ", serial),

@@ -173,8 +173,8 @@ fn told_of_request(event: &Event) -> Option<Named> {
 }
 
 fn told_of_event(event: &Event) -> Named {
-    if let Some(told) = told_of_request(event) {
-        return told;
+    if let Some(reply) = told_of_request(event) {
+        return reply;
     }
     match event {
         Event::Plug { device, new } => plugged(*device, *new),
@@ -264,10 +264,10 @@ fn each_kind_of_line_says_its_own(rt: HostRuntime) {
     expect(&rt, script.frames == Some(4096));
     let lines = script.lines.as_slice();
     expect(&rt, lines.len() == TOLD_OF_EACH.len());
-    for (said, told) in lines.iter().zip(TOLD_OF_EACH.iter()) {
+    for (said, reply) in lines.iter().zip(TOLD_OF_EACH.iter()) {
         let (name, numbers) = told_of(&said.line);
-        expect(&rt, said.number == told.0);
-        expect(&rt, name == told.1);
-        expect(&rt, numbers == told.2);
+        expect(&rt, said.number == reply.0);
+        expect(&rt, name == reply.1);
+        expect(&rt, numbers == reply.2);
     }
 }

@@ -6,7 +6,7 @@ use Rattle.iom_base.specs.DeviceKinds.{has_cache, is_any_kind, is_block_device}
 use Rattle.iom_base.specs.declared.access.Access.{Access}
 use Rattle.iom_base.specs.declared.refusal.Refusal.{Refusal}
 use Rattle.iom_block_devices.specs.Changes.{block_with, ChangesIfThere}
-use Rattle.iom_block_devices.specs.Seen.{BlockSeen, BlocksSeen}
+use Rattle.iom_block_devices.specs.Shown.{ShownBlock, ShownBlocks}
 use Rattle.iom_board.specs.BoardParts.{BoardParts}
 use Rattle.iom_board.specs.Messages.{with_message}
 use Rattle.iom_board.specs.ThroughCache.{GoesByCache, GoesByCachedFrame, RequestsAccessThroughCache, frame_in_cache}
@@ -19,7 +19,7 @@ use Rattle.iom_hardware.specs.Queues.{SetsQueue}
 use Rattle.iom_hardware.specs.Status.{FindsNoBlock}
 use Rattle.iom_hardware.specs.Steps.{AsksIfMissed, GoesBy, Ends, TakesOneStep, TakesStep, IsRefusedIfNone}
 use Rattle.iom_hardware.specs.declared.steps.Stepped.{Stepped}
-use Rattle.iom_hardware_ways.specs.Calls.{HardwareCall, CallDoes, DoesHarmlessly}
+use Rattle.iom_hardware_ways.specs.Calls.{HardwareCall, CallEffect, HarmlessEffect}
 use Rattle.iom_hardware_ways.specs.Calls as call
 use Rattle.iom_virtio_blk.specs.declared.step.Step.{Step as Taken}
 use Rattle.iom_virtio_blk.specs.declared.step.Step.TheVariants as step
@@ -27,8 +27,8 @@ use Rattle.iom_virtio_blk.specs.Steps.{Device}
 use Rattle.iom_virtqueue.specs.declared.layout.Layout.{Layout}
 
 -- the board stays, or hardware does this by a call; and what a trusted device writes isn't what hardware reads
-abbrev pub StaysOrCalls : (ℕ → Bool) → BoardParts → BoardParts → Type 0
-StaysOrCalls trusted old new = (new ≡ old) ⊎ ((done : HardwareCall) × CallDoes done old new × DoesHarmlessly trusted done old)
+abbrev pub UnchangedOrCalls : (ℕ → Bool) → BoardParts → BoardParts → Type 0
+UnchangedOrCalls trusted old new = (new ≡ old) ⊎ ((done : HardwareCall) × CallEffect done old new × HarmlessEffect trusted done old)
 
 -- an access that misses in the device's cache leaves the board
 missed_by : (frame : Option ℕ) (old new : BoardParts) (id : ℕ) (access : Access) (reply : CacheReply) → reply ≡ Miss → GoesByCachedFrame frame id access old reply new → new ≡ old
@@ -40,20 +40,20 @@ missed_by (Some frame) old new id access (Replied given) is replies = absurd (cc
 missed : (old new : BoardParts) (id : ℕ) (access : Access) → RequestsAccessThroughCache is_block_device old id access (Ok Miss) new → new ≡ old
 missed old new id access (inl none) = none.same
 missed old new id access (inr (inl wrong)) = wrong.same
-missed old new id access (inr (inr does)) = by does.given (given does.given does.answered) does.call
+missed old new id access (inr (inr effect)) = by effect.given (given effect.given effect.answered) effect.call
   where
     given : (reply : CacheReply) → ◌≡◌ {A = Result CacheReply Refusal} (Ok Miss) (Ok reply) → reply ≡ Miss
     given reply is = cc
 
     by : (reply : CacheReply) → reply ≡ Miss → GoesByCache id access old reply new → new ≡ old
-    by reply is (inl (outside, told, same)) = same
-    by reply is (inr (inl (within, full, told, same))) = same
+    by reply is (inl (outside, response, same)) = same
+    by reply is (inr (inl (within, full, response, same))) = same
     by reply is (inr (inr (within, room, finds))) = missed_by (frame_in_cache old id access) old new id access reply is finds
 
 -- it goes through the device's cache, or where that misses the device asks
 through : (trusted : ℕ → Bool) (first : Result CacheReply Refusal) (old between new : BoardParts) (id : ℕ) (access : Access) (answer : Result Stepped Refusal)
     → IsAble is_block_device old.devices id → RequestsAccessThroughCache is_block_device old id access first between → AsksIfMissed first between id access answer new
-    → StaysOrCalls trusted old new
+    → UnchangedOrCalls trusted old new
 through trusted (Ok Miss) old between new id access answer able tries asks = inr (
   call.AskAtStep id (page_of access),
   record { able = able; asked = asks.1 ∙ ap (λ (p : BoardParts). record p { fabric = with_message p.fabric id (Ask (epoch_in p.devices id) (page_of access)) }) (missed old between id access tries) },
@@ -71,12 +71,12 @@ through trusted (Err why) old between new id access answer able tries asks = inr
 )
 
 goes : (trusted : ℕ → Bool) (caches : Bool) (old new : BoardParts) (id : ℕ) (access : Access) (answer : Result Stepped Refusal) → IsAble is_block_device old.devices id
-    → GoesBy caches old id access answer new → StaysOrCalls trusted old new
+    → GoesBy caches old id access answer new → UnchangedOrCalls trusted old new
 goes trusted false old new id access answer able untranslated = inr (call.Request Step id access untranslated.given, untranslated.requests, tt)
 goes trusted true old new id access answer able cached = through trusted cached.first old cached.between new id access answer able cached.tries cached.asks
 
 ended : (trusted : ℕ → Bool) (taken : Taken) (old new : BoardParts) (id : ℕ) (between after : Device) (answer : Result Stepped Refusal) → IsAble is_block_device old.devices id
-    → Ends taken old id between answer new after → StaysOrCalls trusted old new
+    → Ends taken old id between answer new after → UnchangedOrCalls trusted old new
 ended trusted step.Idle old new id between after answer able ends = inl ends.same
 ended trusted step.Waiting old new id between after answer able ends = inl ends.same
 ended trusted step.Down old new id between after answer able ends = inl ends.same
@@ -91,18 +91,18 @@ no_block old new id answer (inl none) = none.same
 no_block old new id answer (inr wrong) = wrong.same
 
 -- A STEP
-pub step_calls : (trusted : ℕ → Bool) (old new : BoardParts) (before after : BlocksSeen) (id : ℕ) (answer : Result Stepped Refusal) → TakesStep old before id answer new after
-    → IsRefusedIfNone (block_with before.blocks id) old id answer new → StaysOrCalls trusted old new
+pub step_calls : (trusted : ℕ → Bool) (old new : BoardParts) (before after : ShownBlocks) (id : ℕ) (answer : Result Stepped Refusal) → TakesStep old before id answer new after
+    → IsRefusedIfNone (block_with before.blocks id) old id answer new → UnchangedOrCalls trusted old new
 step_calls trusted old new before after id answer takes refused = by (block_with before.blocks id) takes.0 refused
   where
-    by : (found : Option BlockSeen) → ChangesIfThere found (TakesOneStep old id answer new) before.blocks id after.blocks → IsRefusedIfNone found old id answer new
-        → StaysOrCalls trusted old new
-    by None stays none = inl (no_block old new id answer none)
+    by : (found : Option ShownBlock) → ChangesIfThere found (TakesOneStep old id answer new) before.blocks id after.blocks → IsRefusedIfNone found old id answer new
+        → UnchangedOrCalls trusted old new
+    by None unchanged none = inl (no_block old new id answer none)
     by (Some block) (now, one, is) able = ended trusted one.taken old new id one.between now answer able one.ends
 
 -- A QUEUE THAT IS SET resets the device
 pub queue_calls : (trusted : ℕ → Bool) (old new : BoardParts) (id : ℕ) (layout : Layout) (answer : Result (Unit {0}) Refusal) → SetsQueue old id layout answer new
-    → StaysOrCalls trusted old new
+    → UnchangedOrCalls trusted old new
 queue_calls trusted old new id layout answer (inl none) = inl none.same
 queue_calls trusted old new id layout answer (inr (inl wrong)) = inl wrong.same
 queue_calls trusted old new id layout answer (inr (inr (inl bad))) = inl bad.same

@@ -170,11 +170,11 @@ IsKept claim session claimed = IsWatched claim session.watched.items × HoldsOn 
 pub done_is_kept : DoneStaysDone → (number : ℕ) (grant : Grant) (new : Session) (before : Claimed) (watched : List Watched) → IsOpen before.history (claim_from number grant)
     → GoodMeans (said.Done number) (scene_in new) before (after_done number before) → new.watched.items ≡ with_claim (good.Done number grant.device grant.frame) watched
     → IsKept (good.Done number grant.device grant.frame) new (after_done number before)
-done_is_kept stays number grant new before watched opened means is = (
+done_is_kept unchanged number grant new before watched opened means is = (
   watched_as (good.Done number grant.device grant.frame) (with_claim (good.Done number grant.device grant.frame) watched) new.watched.items is
       (is_new (good.Done number grant.device grant.frame) (good.Done number grant.device grant.frame) watched
       (and_from (grant.device == grant.device) (grant.frame == grant.frame) (eq-eqb grant.device grant.device refl) (eq-eqb grant.frame grant.frame refl))),
-  λ calls made at comes. stays new before number grant calls made means opened at comes,
+  λ calls made at comes. unchanged new before number grant calls made means opened at comes,
 )
 
 -- A FRAME THAT IS HANDED OFF is kept
@@ -190,13 +190,13 @@ hand_off_is_kept free frame new before after watched means is = (
 beside_done : DoneStaysDone → (claim : GoodClaim) (rows : Rows) (number : ℕ) (grant : Grant) (new : Session) (before : Claimed) (watched : List Watched) → ShowsClaimed rows before
     → IsOpen before.history (claim_from number grant) → GoodMeans (said.Done number) (scene_in new) before (after_done number before)
     → new.watched.items ≡ with_claim (good.Done number grant.device grant.frame) watched → IsWatched claim watched → HoldsOn claim new before → IsKept claim new (after_done number before)
-beside_done stays claim rows number grant new before watched shows opened means is was holds = by (is_about_same (good.Done number grant.device grant.frame) claim) refl
+beside_done unchanged claim rows number grant new before watched shows opened means is was holds = by (is_about_same (good.Done number grant.device grant.frame) claim) refl
   where
     by : (b : Bool) → is_about_same (good.Done number grant.device grant.frame) claim ≡ b → IsKept claim new (after_done number before)
     by true same = (
       watched_as claim (with_claim (good.Done number grant.device grant.frame) watched) new.watched.items is (is_new claim (good.Done number grant.device grant.frame) watched same),
       same_holds claim (good.Done number grant.device grant.frame) new (after_done number before) (about_back claim (good.Done number grant.device grant.frame) same)
-          (done_is_kept stays number grant new before watched opened means is).1,
+          (done_is_kept unchanged number grant new before watched opened means is).1,
     )
     by false other = (
       watched_as claim (with_claim (good.Done number grant.device grant.frame) watched) new.watched.items is (beside_new claim (good.Done number grant.device grant.frame) watched other was),
@@ -224,52 +224,52 @@ pub claim_keeps : DoneStaysDone → HandedOffStaysFree → (own : Said) (answer 
     → ShowsClaimed rows before → ClaimIsAdmitted own answer hardware before → (answer ≡ found.Good → GoodMeans own (scene_in new) before (claimed_after own answer before))
     → WatchesClaim own answer before watched new.watched.items → is_wrong_claim (Some answer) ≡ false → IsNotEnded claim own answer → IsWatched claim watched → HoldsOn claim new before
     → IsKept claim new (claimed_after own answer before)
-claim_keeps stays free (said.Grant device page frame rights) found.Good claim hardware rows new before watched shows admitted means is fine ends was holds = (
+claim_keeps unchanged free (said.Grant device page frame rights) found.Good claim hardware rows new before watched shows admitted means is fine ends was holds = (
   watched_as claim (without_frame frame watched) new.watched.items is (beside_frame claim frame watched (not_handed_off claim frame (not_granted claim device page frame rights ends)) was),
   holds_still claim new before (claimed_after (said.Grant device page frame rights) found.Good before)
       (allows_grant claim (record { device = device; page = page; frame = frame; rights = rights_of rights }) before admitted.1.3) holds,
 )
-claim_keeps stays free (said.Grant device page frame rights) (found.Wrong why) claim hardware rows new before watched shows admitted means is fine ends was holds = absurd (false≢true (sym fine))
-claim_keeps stays free (said.Grant device page frame rights) (found.Released given) claim hardware rows new before watched shows admitted means is fine ends was holds = absurd admitted.0
-claim_keeps stays free (said.Grant device page frame rights) found.Trusted claim hardware rows new before watched shows admitted means is fine ends was holds = absurd admitted.0
-claim_keeps stays free (said.Grant device page frame rights) (found.Refused why) claim hardware rows new before watched shows admitted means is fine ends was holds = (watched_as claim watched new.watched.items is was, holds)
-claim_keeps stays free (said.Grant device page frame rights) found.NoSuchClaim claim hardware rows new before watched shows admitted means is fine ends was holds = absurd admitted
-claim_keeps stays free (said.Ready device page) found.Good claim hardware rows new before watched shows admitted means is fine ends was holds = (watched_as claim watched new.watched.items is was, holds)
-claim_keeps stays free (said.Ready device page) (found.Wrong why) claim hardware rows new before watched shows admitted means is fine ends was holds = absurd (false≢true (sym fine))
-claim_keeps stays free (said.Ready device page) (found.Released given) claim hardware rows new before watched shows admitted means is fine ends was holds = absurd admitted.0
-claim_keeps stays free (said.Ready device page) found.Trusted claim hardware rows new before watched shows admitted means is fine ends was holds = absurd admitted.0
-claim_keeps stays free (said.Ready device page) (found.Refused why) claim hardware rows new before watched shows admitted means is fine ends was holds = (watched_as claim watched new.watched.items is was, holds)
-claim_keeps stays free (said.Ready device page) found.NoSuchClaim claim hardware rows new before watched shows admitted means is fine ends was holds = absurd admitted
-claim_keeps stays free (said.Release device page) found.Good claim hardware rows new before watched shows admitted means is fine ends was holds = absurd admitted.0
-claim_keeps stays free (said.Release device page) (found.Wrong why) claim hardware rows new before watched shows admitted means is fine ends was holds = absurd (false≢true (sym fine))
-claim_keeps stays free (said.Release device page) (found.Released given) claim hardware rows new before watched shows admitted means is fine ends was holds = (watched_as claim watched new.watched.items is was, holds_still claim new before (after_release device page before) (allows_release claim rows before device page shows admitted.1.1) holds)
-claim_keeps stays free (said.Release device page) found.Trusted claim hardware rows new before watched shows admitted means is fine ends was holds = absurd admitted.0
-claim_keeps stays free (said.Release device page) (found.Refused why) claim hardware rows new before watched shows admitted means is fine ends was holds = (watched_as claim watched new.watched.items is was, holds)
-claim_keeps stays free (said.Release device page) found.NoSuchClaim claim hardware rows new before watched shows admitted means is fine ends was holds = absurd admitted
-claim_keeps stays free (said.Done number) found.Good claim hardware rows new before watched shows admitted means is fine ends was holds = let (grant, opened, same) = is in beside_done stays claim rows number grant new before watched shows opened (means refl) same was holds
-claim_keeps stays free (said.Done number) (found.Wrong why) claim hardware rows new before watched shows admitted means is fine ends was holds = absurd (false≢true (sym fine))
-claim_keeps stays free (said.Done number) (found.Released given) claim hardware rows new before watched shows admitted means is fine ends was holds = absurd admitted.0
-claim_keeps stays free (said.Done number) found.Trusted claim hardware rows new before watched shows admitted means is fine ends was holds = absurd admitted.0
-claim_keeps stays free (said.Done number) (found.Refused why) claim hardware rows new before watched shows admitted means is fine ends was holds = (watched_as claim watched new.watched.items is was, holds)
-claim_keeps stays free (said.Done number) found.NoSuchClaim claim hardware rows new before watched shows admitted means is fine ends was holds = (watched_as claim watched new.watched.items is was, holds)
-claim_keeps stays free (said.HandOff frame) found.Good claim hardware rows new before watched shows admitted means is fine ends was holds = beside_hand_off free claim frame new before watched (means refl) is was holds
-claim_keeps stays free (said.HandOff frame) (found.Wrong why) claim hardware rows new before watched shows admitted means is fine ends was holds = absurd (false≢true (sym fine))
-claim_keeps stays free (said.HandOff frame) (found.Released given) claim hardware rows new before watched shows admitted means is fine ends was holds = absurd admitted.0
-claim_keeps stays free (said.HandOff frame) found.Trusted claim hardware rows new before watched shows admitted means is fine ends was holds = absurd admitted.0
-claim_keeps stays free (said.HandOff frame) (found.Refused why) claim hardware rows new before watched shows admitted means is fine ends was holds = (watched_as claim watched new.watched.items is was, holds)
-claim_keeps stays free (said.HandOff frame) found.NoSuchClaim claim hardware rows new before watched shows admitted means is fine ends was holds = absurd admitted
-claim_keeps stays free (said.Take frame) found.Good claim hardware rows new before watched shows admitted means is fine ends was holds = (
+claim_keeps unchanged free (said.Grant device page frame rights) (found.Wrong why) claim hardware rows new before watched shows admitted means is fine ends was holds = absurd (false≢true (sym fine))
+claim_keeps unchanged free (said.Grant device page frame rights) (found.Released given) claim hardware rows new before watched shows admitted means is fine ends was holds = absurd admitted.0
+claim_keeps unchanged free (said.Grant device page frame rights) found.Trusted claim hardware rows new before watched shows admitted means is fine ends was holds = absurd admitted.0
+claim_keeps unchanged free (said.Grant device page frame rights) (found.Refused why) claim hardware rows new before watched shows admitted means is fine ends was holds = (watched_as claim watched new.watched.items is was, holds)
+claim_keeps unchanged free (said.Grant device page frame rights) found.NoSuchClaim claim hardware rows new before watched shows admitted means is fine ends was holds = absurd admitted
+claim_keeps unchanged free (said.Ready device page) found.Good claim hardware rows new before watched shows admitted means is fine ends was holds = (watched_as claim watched new.watched.items is was, holds)
+claim_keeps unchanged free (said.Ready device page) (found.Wrong why) claim hardware rows new before watched shows admitted means is fine ends was holds = absurd (false≢true (sym fine))
+claim_keeps unchanged free (said.Ready device page) (found.Released given) claim hardware rows new before watched shows admitted means is fine ends was holds = absurd admitted.0
+claim_keeps unchanged free (said.Ready device page) found.Trusted claim hardware rows new before watched shows admitted means is fine ends was holds = absurd admitted.0
+claim_keeps unchanged free (said.Ready device page) (found.Refused why) claim hardware rows new before watched shows admitted means is fine ends was holds = (watched_as claim watched new.watched.items is was, holds)
+claim_keeps unchanged free (said.Ready device page) found.NoSuchClaim claim hardware rows new before watched shows admitted means is fine ends was holds = absurd admitted
+claim_keeps unchanged free (said.Release device page) found.Good claim hardware rows new before watched shows admitted means is fine ends was holds = absurd admitted.0
+claim_keeps unchanged free (said.Release device page) (found.Wrong why) claim hardware rows new before watched shows admitted means is fine ends was holds = absurd (false≢true (sym fine))
+claim_keeps unchanged free (said.Release device page) (found.Released given) claim hardware rows new before watched shows admitted means is fine ends was holds = (watched_as claim watched new.watched.items is was, holds_still claim new before (after_release device page before) (allows_release claim rows before device page shows admitted.1.1) holds)
+claim_keeps unchanged free (said.Release device page) found.Trusted claim hardware rows new before watched shows admitted means is fine ends was holds = absurd admitted.0
+claim_keeps unchanged free (said.Release device page) (found.Refused why) claim hardware rows new before watched shows admitted means is fine ends was holds = (watched_as claim watched new.watched.items is was, holds)
+claim_keeps unchanged free (said.Release device page) found.NoSuchClaim claim hardware rows new before watched shows admitted means is fine ends was holds = absurd admitted
+claim_keeps unchanged free (said.Done number) found.Good claim hardware rows new before watched shows admitted means is fine ends was holds = let (grant, opened, same) = is in beside_done unchanged claim rows number grant new before watched shows opened (means refl) same was holds
+claim_keeps unchanged free (said.Done number) (found.Wrong why) claim hardware rows new before watched shows admitted means is fine ends was holds = absurd (false≢true (sym fine))
+claim_keeps unchanged free (said.Done number) (found.Released given) claim hardware rows new before watched shows admitted means is fine ends was holds = absurd admitted.0
+claim_keeps unchanged free (said.Done number) found.Trusted claim hardware rows new before watched shows admitted means is fine ends was holds = absurd admitted.0
+claim_keeps unchanged free (said.Done number) (found.Refused why) claim hardware rows new before watched shows admitted means is fine ends was holds = (watched_as claim watched new.watched.items is was, holds)
+claim_keeps unchanged free (said.Done number) found.NoSuchClaim claim hardware rows new before watched shows admitted means is fine ends was holds = (watched_as claim watched new.watched.items is was, holds)
+claim_keeps unchanged free (said.HandOff frame) found.Good claim hardware rows new before watched shows admitted means is fine ends was holds = beside_hand_off free claim frame new before watched (means refl) is was holds
+claim_keeps unchanged free (said.HandOff frame) (found.Wrong why) claim hardware rows new before watched shows admitted means is fine ends was holds = absurd (false≢true (sym fine))
+claim_keeps unchanged free (said.HandOff frame) (found.Released given) claim hardware rows new before watched shows admitted means is fine ends was holds = absurd admitted.0
+claim_keeps unchanged free (said.HandOff frame) found.Trusted claim hardware rows new before watched shows admitted means is fine ends was holds = absurd admitted.0
+claim_keeps unchanged free (said.HandOff frame) (found.Refused why) claim hardware rows new before watched shows admitted means is fine ends was holds = (watched_as claim watched new.watched.items is was, holds)
+claim_keeps unchanged free (said.HandOff frame) found.NoSuchClaim claim hardware rows new before watched shows admitted means is fine ends was holds = absurd admitted
+claim_keeps unchanged free (said.Take frame) found.Good claim hardware rows new before watched shows admitted means is fine ends was holds = (
   watched_as claim (without_frame frame watched) new.watched.items is (beside_frame claim frame watched (not_handed_off claim frame (not_taken claim frame ends)) was),
   holds_still claim new before (after_mark frame false before) (allows_mark claim frame false before) holds,
 )
-claim_keeps stays free (said.Take frame) (found.Wrong why) claim hardware rows new before watched shows admitted means is fine ends was holds = absurd (false≢true (sym fine))
-claim_keeps stays free (said.Take frame) (found.Released given) claim hardware rows new before watched shows admitted means is fine ends was holds = absurd admitted.0
-claim_keeps stays free (said.Take frame) found.Trusted claim hardware rows new before watched shows admitted means is fine ends was holds = absurd admitted.0
-claim_keeps stays free (said.Take frame) (found.Refused why) claim hardware rows new before watched shows admitted means is fine ends was holds = (watched_as claim watched new.watched.items is was, holds)
-claim_keeps stays free (said.Take frame) found.NoSuchClaim claim hardware rows new before watched shows admitted means is fine ends was holds = absurd admitted
-claim_keeps stays free (said.Trust device) found.Good claim hardware rows new before watched shows admitted means is fine ends was holds = absurd admitted.0
-claim_keeps stays free (said.Trust device) (found.Wrong why) claim hardware rows new before watched shows admitted means is fine ends was holds = absurd (false≢true (sym fine))
-claim_keeps stays free (said.Trust device) (found.Released given) claim hardware rows new before watched shows admitted means is fine ends was holds = absurd admitted.0
-claim_keeps stays free (said.Trust device) found.Trusted claim hardware rows new before watched shows admitted means is fine ends was holds = (watched_as claim watched new.watched.items is was, holds)
-claim_keeps stays free (said.Trust device) (found.Refused why) claim hardware rows new before watched shows admitted means is fine ends was holds = (watched_as claim watched new.watched.items is was, holds)
-claim_keeps stays free (said.Trust device) found.NoSuchClaim claim hardware rows new before watched shows admitted means is fine ends was holds = absurd admitted
+claim_keeps unchanged free (said.Take frame) (found.Wrong why) claim hardware rows new before watched shows admitted means is fine ends was holds = absurd (false≢true (sym fine))
+claim_keeps unchanged free (said.Take frame) (found.Released given) claim hardware rows new before watched shows admitted means is fine ends was holds = absurd admitted.0
+claim_keeps unchanged free (said.Take frame) found.Trusted claim hardware rows new before watched shows admitted means is fine ends was holds = absurd admitted.0
+claim_keeps unchanged free (said.Take frame) (found.Refused why) claim hardware rows new before watched shows admitted means is fine ends was holds = (watched_as claim watched new.watched.items is was, holds)
+claim_keeps unchanged free (said.Take frame) found.NoSuchClaim claim hardware rows new before watched shows admitted means is fine ends was holds = absurd admitted
+claim_keeps unchanged free (said.Trust device) found.Good claim hardware rows new before watched shows admitted means is fine ends was holds = absurd admitted.0
+claim_keeps unchanged free (said.Trust device) (found.Wrong why) claim hardware rows new before watched shows admitted means is fine ends was holds = absurd (false≢true (sym fine))
+claim_keeps unchanged free (said.Trust device) (found.Released given) claim hardware rows new before watched shows admitted means is fine ends was holds = absurd admitted.0
+claim_keeps unchanged free (said.Trust device) found.Trusted claim hardware rows new before watched shows admitted means is fine ends was holds = (watched_as claim watched new.watched.items is was, holds)
+claim_keeps unchanged free (said.Trust device) (found.Refused why) claim hardware rows new before watched shows admitted means is fine ends was holds = (watched_as claim watched new.watched.items is was, holds)
+claim_keeps unchanged free (said.Trust device) found.NoSuchClaim claim hardware rows new before watched shows admitted means is fine ends was holds = absurd admitted

@@ -8,14 +8,14 @@ use Rattle.iom_base.specs.Accesses.{read_of, write_of}
 use Rattle.iom_board.specs.BoardParts.{board_parts}
 use Rattle.iom_board.specs.declared.board.Board.{Board}
 use Rattle.iom_board.specs.declared.sender.Sender.TheVariants.{Own}
-use Rattle.iom_hardware_ways.specs.Calls.{HardwareCall, CallDoes, DoesHarmlessly, IsMadeHarmlessly}
+use Rattle.iom_hardware_ways.specs.Calls.{HardwareCall, CallEffect, HarmlessEffect, IsMadeHarmlessly}
 use Rattle.iom_hardware_ways.specs.Calls as call
 use Rattle.iom_hardware_script.specs.declared.script.HardwareLine.TheVariants as line
 use Rattle.iom_hardware.specs.declared.steps.Stepped.{Stepped}
-use Rattle.iom_hardware_session.proofs.BlockLemmas.{StaysOrCalls, step_calls, queue_calls}
+use Rattle.iom_hardware_session.proofs.BlockLemmas.{UnchangedOrCalls, step_calls, queue_calls}
 use Rattle.iom_hardware_session.specs.Answered.{reply_in, cache_reply_in, sending_in, fetch_in, timeout_in, delivery_in, drop_in, repeat_in, commit_in, reset_in, load_in, queue_in, step_in, status_in}
-use Rattle.iom_hardware_session.specs.Events.{CallOrNothing, Stays, LoadsAsAnswered, StepsAsAnswered, SetsQueueAsAnswered, TellsAsAnswered, EventOrNone}
-use Rattle.iom_hardware_session.specs.Seen.{SeenHardware}
+use Rattle.iom_hardware_session.specs.Events.{CallOrNothing, Unchanged, LoadsAsAnswered, StepsAsAnswered, SetsQueueAsAnswered, TellsAsAnswered, EventOrNone}
+use Rattle.iom_hardware_session.specs.Shown.{ShownHardware}
 use Rattle.iom_hardware_session.specs.Lines.{is_write, is_made_write, is_of_software}
 use Rattle.iom_hardware_session.specs.declared.answer.Answer.{Answer}
 use Rattle.iom_board.specs.declared.answers.NoPlace.{NoPlace}
@@ -27,34 +27,34 @@ use Rattle.iom_virtqueue.specs.declared.layout.Layout.{Layout}
 use Rattle.iom_way_survey.specs.Surveys.{is_id_among}
 
 -- hardware does this by a call, and what a trusted device writes isn't what hardware reads
-abbrev pub DoesByCall : List ℕ → Board → Board → Type 0
-DoesByCall trusted old new = (done : HardwareCall) × CallDoes done (board_parts old) (board_parts new) × DoesHarmlessly (is_id_among trusted) done (board_parts old)
+abbrev pub EffectByCall : List ℕ → Board → Board → Type 0
+EffectByCall trusted old new = (done : HardwareCall) × CallEffect done (board_parts old) (board_parts new) × HarmlessEffect (is_id_among trusted) done (board_parts old)
 
 -- nothing is done at the board, or something by a call
-abbrev pub StaysOrDoes : List ℕ → SeenHardware → SeenHardware → Type 0
-StaysOrDoes trusted old new = StaysOrCalls (is_id_among trusted) (board_parts old.board) (board_parts new.board)
+abbrev pub UnchangedOrEffect : List ℕ → ShownHardware → ShownHardware → Type 0
+UnchangedOrEffect trusted old new = UnchangedOrCalls (is_id_among trusted) (board_parts old.board) (board_parts new.board)
 
-by_call : {X : Type 0} (trusted : List ℕ) (old new : SeenHardware) (of : X → HardwareCall) (answer : Option X) → ((x : X) → answer ≡ Some x → DoesHarmlessly (is_id_among trusted) (of x) (board_parts old.board))
-    → CallOrNothing (option_map of answer) old new → StaysOrDoes trusted old new
-by_call trusted old new of None harmless does = absurd does
-by_call trusted old new of (Some x) harmless does = inr (of x, does.0, harmless x refl)
+by_call : {X : Type 0} (trusted : List ℕ) (old new : ShownHardware) (of : X → HardwareCall) (answer : Option X) → ((x : X) → answer ≡ Some x → HarmlessEffect (is_id_among trusted) (of x) (board_parts old.board))
+    → CallOrNothing (option_map of answer) old new → UnchangedOrEffect trusted old new
+by_call trusted old new of None harmless effect = absurd effect
+by_call trusted old new of (Some x) harmless effect = inr (of x, effect.0, harmless x refl)
 
-loads_nothing : (old new : SeenHardware) (address len : ℕ) (answer : Option (Result (Unit {0}) NoPlace)) → LoadsAsAnswered answer address len old new → Stays old new
-loads_nothing old new address len None does = absurd does
-loads_nothing old new address len (Some answer) does = does.1
+loads_nothing : (old new : ShownHardware) (address len : ℕ) (answer : Option (Result (Unit {0}) NoPlace)) → LoadsAsAnswered answer address len old new → Unchanged old new
+loads_nothing old new address len None effect = absurd effect
+loads_nothing old new address len (Some answer) effect = effect.1
 
-steps : (trusted : List ℕ) (old new : SeenHardware) (device : ℕ) (answer : Option (Result Stepped Refusal)) → StepsAsAnswered answer device old new → StaysOrDoes trusted old new
-steps trusted old new device None does = absurd does
-steps trusted old new device (Some answer) does = step_calls (is_id_among trusted) (board_parts old.board) (board_parts new.board) old.inside new.inside device answer does.0 does.1
+steps : (trusted : List ℕ) (old new : ShownHardware) (device : ℕ) (answer : Option (Result Stepped Refusal)) → StepsAsAnswered answer device old new → UnchangedOrEffect trusted old new
+steps trusted old new device None effect = absurd effect
+steps trusted old new device (Some answer) effect = step_calls (is_id_among trusted) (board_parts old.board) (board_parts new.board) old.inside new.inside device answer effect.0 effect.1
 
-sets : (trusted : List ℕ) (old new : SeenHardware) (device : ℕ) (layout : Layout) (answer : Option (Result (Unit {0}) Refusal)) → SetsQueueAsAnswered answer device layout old new
-    → StaysOrDoes trusted old new
-sets trusted old new device layout None does = absurd does
-sets trusted old new device layout (Some answer) does = queue_calls (is_id_among trusted) (board_parts old.board) (board_parts new.board) device layout answer does.0
+sets : (trusted : List ℕ) (old new : ShownHardware) (device : ℕ) (layout : Layout) (answer : Option (Result (Unit {0}) Refusal)) → SetsQueueAsAnswered answer device layout old new
+    → UnchangedOrEffect trusted old new
+sets trusted old new device layout None effect = absurd effect
+sets trusted old new device layout (Some answer) effect = queue_calls (is_id_among trusted) (board_parts old.board) (board_parts new.board) device layout answer effect.0
 
-tells_nothing : (old new : SeenHardware) (device : ℕ) (answer : Option (Result ℕ Refusal)) → TellsAsAnswered answer device old new → Stays old new
-tells_nothing old new device None does = absurd does
-tells_nothing old new device (Some answer) does = does.1
+tells_nothing : (old new : ShownHardware) (device : ℕ) (answer : Option (Result ℕ Refusal)) → TellsAsAnswered answer device old new → Unchanged old new
+tells_nothing old new device None effect = absurd effect
+tells_nothing old new device (Some answer) effect = effect.1
 
 -- a commit that isn't a trusted device's write is harmless
 harmless_commit : (trusted : List ℕ) (old : Board) (id : ℕ) (answer : Result (Option MadeAt) Refusal) → (is_made_write (Some answer) && is_id_among trusted id) ≡ false
@@ -66,44 +66,44 @@ harmless_commit trusted old id (Ok (Some made)) none = λ among write read. absu
 harmless_commit trusted old id (Ok None) none = tt
 harmless_commit trusted old id (Err why) none = tt
 
-commits : (trusted : List ℕ) (old new : SeenHardware) (id : ℕ) (answer : Option (Result (Option MadeAt) Refusal)) → (is_made_write answer && is_id_among trusted id) ≡ false
-    → CallOrNothing (option_map (call.Commit id) answer) old new → StaysOrDoes trusted old new
-commits trusted old new id None none does = absurd does
-commits trusted old new id (Some answer) none does = inr (call.Commit id answer, does.0, harmless_commit trusted old.board id answer none)
+commits : (trusted : List ℕ) (old new : ShownHardware) (id : ℕ) (answer : Option (Result (Option MadeAt) Refusal)) → (is_made_write answer && is_id_among trusted id) ≡ false
+    → CallOrNothing (option_map (call.Commit id) answer) old new → UnchangedOrEffect trusted old new
+commits trusted old new id None none effect = absurd effect
+commits trusted old new id (Some answer) none effect = inr (call.Commit id answer, effect.0, harmless_commit trusted old.board id answer none)
 
 -- AN EVENT that isn't of software stays, or is a call of hardware
-pub event_does : (trusted : List ℕ) (old new : SeenHardware) (said : Event) (answer : Answer) → is_of_software (line.Event said) answer trusted ≡ false → EventOrNone said answer old new
-    → StaysOrDoes trusted old new
-event_does trusted old new (event.Plug device what) answer soft does = absurd (false≢true (sym soft))
-event_does trusted old new (event.Poke address bytes) answer soft does = absurd (false≢true (sym soft))
-event_does trusted old new (event.Peek address len) answer soft does = inl (loads_nothing old new address len (load_in answer) (does.0 refl)).0
-event_does trusted old new (event.Read device address len) answer soft does = by_call trusted old new (call.Request Own device (read_of address len)) (reply_in answer) (λ x is. tt) (does.0 refl)
-event_does trusted old new (event.Write device address bytes) answer soft does = by_call trusted old new (call.Request Own device (write_of address bytes)) (reply_in answer) (λ x is. tt) (does.0 refl)
-event_does trusted old new (event.ReadTranslated device address len) answer soft does = by_call trusted old new (call.Translated device (read_of address len)) (reply_in answer) (λ x is. tt) (does.0 refl)
-event_does trusted old new (event.WriteTranslated device address bytes) answer soft does = by_call trusted old new (call.Translated device (write_of address bytes)) (reply_in answer) (λ x is. tt) (does.0 refl)
-event_does trusted old new (event.ReadThroughCache device address len) answer soft does = by_call trusted old new (call.ThroughCache Own device (read_of address len)) (cache_reply_in answer) (λ x is. tt) (does.0 refl)
-event_does trusted old new (event.WriteThroughCache device address bytes) answer soft does = by_call trusted old new (call.ThroughCache Own device (write_of address bytes)) (cache_reply_in answer) (λ x is. tt) (does.0 refl)
-event_does trusted old new (event.Ask device page) answer soft does = by_call trusted old new (call.Ask device page) (sending_in answer) (λ x is. tt) (does.0 refl)
-event_does trusted old new (event.Forge device serial) answer soft does = by_call trusted old new (call.Forge device serial) (sending_in answer) (λ x is. tt) (does.0 refl)
-event_does trusted old new event.Fetch answer soft does = by_call trusted old new call.Fetch (fetch_in answer) (λ x is. tt) (does.0 refl)
-event_does trusted old new event.Timeout answer soft does = by_call trusted old new call.Timeout (timeout_in answer) (λ x is. tt) (does.0 refl)
-event_does trusted old new (event.Deliver place) answer soft does = by_call trusted old new (call.Deliver place) (delivery_in answer) (λ x is. tt) (does.0 refl)
-event_does trusted old new (event.Drop place) answer soft does = by_call trusted old new (call.Drop place) (drop_in answer) (λ x is. tt) (does.0 refl)
-event_does trusted old new (event.Repeat place) answer soft does = by_call trusted old new (call.Repeat place) (repeat_in answer) (λ x is. tt) (does.0 refl)
-event_does trusted old new (event.Reset device) answer soft does = by_call trusted old new (call.Reset device) (reset_in answer) (λ x is. tt) (does.0 refl)
-event_does trusted old new (event.Commit device) answer soft does = commits trusted old new device (commit_in answer) soft (does.0 refl)
-event_does trusted old new (event.Medium device disk) answer soft does = absurd (false≢true (sym soft))
-event_does trusted old new (event.Queue device size descriptors available used) answer soft does =
-    sets trusted old new device (layout_of size descriptors available used) (queue_in answer) (does.0 refl)
-event_does trusted old new (event.Step device) answer soft does = steps trusted old new device (step_in answer) (does.0 refl)
-event_does trusted old new (event.Status device) answer soft does = inl (tells_nothing old new device (status_in answer) (does.0 refl)).0
-event_does trusted old new (event.Attach device mode ats) answer soft does = inl (does.1 refl).1.0
-event_does trusted old new (event.Detach device) answer soft does = inl (does.1 refl).1.0
-event_does trusted old new (event.Grant device page frame rights) answer soft does = inl (does.1 refl).1.0
-event_does trusted old new (event.Release device page) answer soft does = inl (does.1 refl).1.0
-event_does trusted old new (event.Quarantine device) answer soft does = inl (does.1 refl).1.0
-event_does trusted old new (event.Revive device) answer soft does = inl (does.1 refl).1.0
-event_does trusted old new event.Restart answer soft does = inl (does.1 refl).1.0
-event_does trusted old new event.Poll answer soft does = inl (does.1 refl).1.0
-event_does trusted old new event.Faults answer soft does = inl (does.1 refl).1.0
-event_does trusted old new (event.Free frame) answer soft does = inl (does.1 refl).1.0
+pub event_effect : (trusted : List ℕ) (old new : ShownHardware) (said : Event) (answer : Answer) → is_of_software (line.Event said) answer trusted ≡ false → EventOrNone said answer old new
+    → UnchangedOrEffect trusted old new
+event_effect trusted old new (event.Plug device what) answer soft effect = absurd (false≢true (sym soft))
+event_effect trusted old new (event.Poke address bytes) answer soft effect = absurd (false≢true (sym soft))
+event_effect trusted old new (event.Peek address len) answer soft effect = inl (loads_nothing old new address len (load_in answer) (effect.0 refl)).0
+event_effect trusted old new (event.Read device address len) answer soft effect = by_call trusted old new (call.Request Own device (read_of address len)) (reply_in answer) (λ x is. tt) (effect.0 refl)
+event_effect trusted old new (event.Write device address bytes) answer soft effect = by_call trusted old new (call.Request Own device (write_of address bytes)) (reply_in answer) (λ x is. tt) (effect.0 refl)
+event_effect trusted old new (event.ReadTranslated device address len) answer soft effect = by_call trusted old new (call.Translated device (read_of address len)) (reply_in answer) (λ x is. tt) (effect.0 refl)
+event_effect trusted old new (event.WriteTranslated device address bytes) answer soft effect = by_call trusted old new (call.Translated device (write_of address bytes)) (reply_in answer) (λ x is. tt) (effect.0 refl)
+event_effect trusted old new (event.ReadThroughCache device address len) answer soft effect = by_call trusted old new (call.ThroughCache Own device (read_of address len)) (cache_reply_in answer) (λ x is. tt) (effect.0 refl)
+event_effect trusted old new (event.WriteThroughCache device address bytes) answer soft effect = by_call trusted old new (call.ThroughCache Own device (write_of address bytes)) (cache_reply_in answer) (λ x is. tt) (effect.0 refl)
+event_effect trusted old new (event.Ask device page) answer soft effect = by_call trusted old new (call.Ask device page) (sending_in answer) (λ x is. tt) (effect.0 refl)
+event_effect trusted old new (event.Forge device serial) answer soft effect = by_call trusted old new (call.Forge device serial) (sending_in answer) (λ x is. tt) (effect.0 refl)
+event_effect trusted old new event.Fetch answer soft effect = by_call trusted old new call.Fetch (fetch_in answer) (λ x is. tt) (effect.0 refl)
+event_effect trusted old new event.Timeout answer soft effect = by_call trusted old new call.Timeout (timeout_in answer) (λ x is. tt) (effect.0 refl)
+event_effect trusted old new (event.Deliver place) answer soft effect = by_call trusted old new (call.Deliver place) (delivery_in answer) (λ x is. tt) (effect.0 refl)
+event_effect trusted old new (event.Drop place) answer soft effect = by_call trusted old new (call.Drop place) (drop_in answer) (λ x is. tt) (effect.0 refl)
+event_effect trusted old new (event.Repeat place) answer soft effect = by_call trusted old new (call.Repeat place) (repeat_in answer) (λ x is. tt) (effect.0 refl)
+event_effect trusted old new (event.Reset device) answer soft effect = by_call trusted old new (call.Reset device) (reset_in answer) (λ x is. tt) (effect.0 refl)
+event_effect trusted old new (event.Commit device) answer soft effect = commits trusted old new device (commit_in answer) soft (effect.0 refl)
+event_effect trusted old new (event.Medium device disk) answer soft effect = absurd (false≢true (sym soft))
+event_effect trusted old new (event.Queue device size descriptors available used) answer soft effect =
+    sets trusted old new device (layout_of size descriptors available used) (queue_in answer) (effect.0 refl)
+event_effect trusted old new (event.Step device) answer soft effect = steps trusted old new device (step_in answer) (effect.0 refl)
+event_effect trusted old new (event.Status device) answer soft effect = inl (tells_nothing old new device (status_in answer) (effect.0 refl)).0
+event_effect trusted old new (event.Attach device mode ats) answer soft effect = inl (effect.1 refl).1.0
+event_effect trusted old new (event.Detach device) answer soft effect = inl (effect.1 refl).1.0
+event_effect trusted old new (event.Grant device page frame rights) answer soft effect = inl (effect.1 refl).1.0
+event_effect trusted old new (event.Release device page) answer soft effect = inl (effect.1 refl).1.0
+event_effect trusted old new (event.Quarantine device) answer soft effect = inl (effect.1 refl).1.0
+event_effect trusted old new (event.Revive device) answer soft effect = inl (effect.1 refl).1.0
+event_effect trusted old new event.Restart answer soft effect = inl (effect.1 refl).1.0
+event_effect trusted old new event.Poll answer soft effect = inl (effect.1 refl).1.0
+event_effect trusted old new event.Faults answer soft effect = inl (effect.1 refl).1.0
+event_effect trusted old new (event.Free frame) answer soft effect = inl (effect.1 refl).1.0

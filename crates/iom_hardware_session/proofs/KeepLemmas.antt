@@ -8,11 +8,11 @@ use Rattle.iom_base.specs.declared.access.AccessKind.{AccessKind}
 use Rattle.iom_claims.proofs.ListLemmas.{contains_filter, any_from_passing}
 use Rattle.iom_claims.specs.Claimed.{Claimed}
 use Rattle.iom_board.specs.BoardParts.{BoardParts, board_parts}
-use Rattle.iom_hardware_session.proofs.EventLemmas.{DoesByCall}
+use Rattle.iom_hardware_session.proofs.EventLemmas.{EffectByCall}
 use Rattle.iom_hardware_session.proofs.TurnLemmas.{AreFewer, comes_before, comes_fewer}
 use Rattle.iom_hardware_session.specs.Laws.{ComesFromParts, ComesToMake, HoldsOn, GoodAgainHolds}
 use Rattle.iom_hardware_session.specs.Runs.{has_fallen}
-use Rattle.iom_hardware_session.specs.Watching.{is_about_same, still_good, claims_of, IsToldOf, AreJudgedAgain}
+use Rattle.iom_hardware_session.specs.Watching.{is_about_same, still_good, claims_of, IsVerdictOf, AreJudgedAgain}
 use Rattle.iom_hardware_session.specs.declared.answer.Wrong.{Wrong}
 use Rattle.iom_hardware_session.specs.declared.state.Session.{Session}
 use Rattle.iom_hardware_session.specs.declared.watched.GoodClaim.{GoodClaim}
@@ -76,10 +76,10 @@ judged_holds holds claim old new session claimed judged none (own, within_old, s
     let (other, there, claims) = claim_at old new k own judged.same at in
     let within = get_contains new k other there in
     let why = none_fallen new other none within in
-    let told : IsToldOf None other.claim session.hardware.board session.trusted.items claimed =
-    subst (λ (w : Option Wrong). IsToldOf w other.claim session.hardware.board session.trusted.items claimed) why (judged.told k other there) in
+    let reply : IsVerdictOf None other.claim session.hardware.board session.trusted.items claimed =
+    subst (λ (w : Option Wrong). IsVerdictOf w other.claim session.hardware.board session.trusted.items claimed) why (judged.reply k other there) in
     let about = subst (λ (c : GoodClaim). is_about_same claim c ≡ true) (sym claims) same in
-    ((other, within, about, why), same_holds claim other.claim session claimed about (holds session claimed other.claim told))
+    ((other, within, about, why), same_holds claim other.claim session claimed about (holds session claimed other.claim reply))
 
 -- what is good stays where others drop out
 pub still_watched : (claim : GoodClaim) (watched : List Watched) → IsWatched claim watched → IsWatched claim (still_good watched)
@@ -99,10 +99,10 @@ stays_sooner old new same fewer = λ calls id made comes. (
       (subst (λ (parts : BoardParts). ComesFromParts (is_id_among new.trusted.items) parts calls id made) same comes),
 )
 
-pub call_sooner : (old new : Session) → new.trusted.items ≡ old.trusted.items → DoesByCall old.trusted.items old.hardware.board new.hardware.board → ComesSooner old new
-call_sooner old new same (done, does, harmless) = λ calls id made comes. (
+pub call_sooner : (old new : Session) → new.trusted.items ≡ old.trusted.items → EffectByCall old.trusted.items old.hardware.board new.hardware.board → ComesSooner old new
+call_sooner old new same (done, effect, harmless) = λ calls id made comes. (
   done ∷ calls,
-  comes_before (is_id_among old.trusted.items) done calls old.hardware.board.events id made (board_parts old.hardware.board) (board_parts new.hardware.board) old.sound harmless does
+  comes_before (is_id_among old.trusted.items) done calls old.hardware.board.events id made (board_parts old.hardware.board) (board_parts new.hardware.board) old.invariants harmless effect
       (subst (λ (trusted : List ℕ). ComesFromParts (is_id_among trusted) (board_parts new.hardware.board) calls id made) same comes),
 )
 

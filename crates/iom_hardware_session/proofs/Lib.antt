@@ -6,7 +6,7 @@ pub mod WatchLemmas
 pub mod GoodLemmas
 pub mod TurnLemmas
 pub mod MayLemmas
-pub mod SoundLemmas
+pub mod InvariantLemmas
 pub mod BlockLemmas
 pub mod EventLemmas
 pub mod KeepLemmas

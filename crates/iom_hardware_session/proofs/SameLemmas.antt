@@ -48,7 +48,7 @@ one_wrong Uncertain Uncertain e = refl
 one_wrong (Reached device by) (Reached other its) e =
     let two = both (nat_eq device other) (kind.ghosts.eq by its) e in
     ap (λ d. Reached d by) (eqb-true device other two.0) ∙ ap (λ k. Reached other k) (one_kind by its two.1)
-one_wrong (NotReady seen) (NotReady other) e = ap NotReady (one_found seen other e)
+one_wrong (NotReady shown) (NotReady other) e = ap NotReady (one_found shown other e)
 one_wrong Held Lingers e = absurd (cc)
 one_wrong Held Used e = absurd (cc)
 one_wrong Held Uncertain e = absurd (cc)
@@ -74,11 +74,11 @@ one_wrong (Reached device by) Lingers e = absurd (cc)
 one_wrong (Reached device by) Used e = absurd (cc)
 one_wrong (Reached device by) Uncertain e = absurd (cc)
 one_wrong (Reached device by) (NotReady other) e = absurd (cc)
-one_wrong (NotReady seen) Held e = absurd (cc)
-one_wrong (NotReady seen) Lingers e = absurd (cc)
-one_wrong (NotReady seen) Used e = absurd (cc)
-one_wrong (NotReady seen) Uncertain e = absurd (cc)
-one_wrong (NotReady seen) (Reached other its) e = absurd (cc)
+one_wrong (NotReady shown) Held e = absurd (cc)
+one_wrong (NotReady shown) Lingers e = absurd (cc)
+one_wrong (NotReady shown) Used e = absurd (cc)
+one_wrong (NotReady shown) Uncertain e = absurd (cc)
+one_wrong (NotReady shown) (Reached other its) e = absurd (cc)
 
 one_why : (a b : Option Wrong) → option_eq wrong.ghosts.eq a b ≡ true → a ≡ b
 one_why None None e = refl

@@ -5,7 +5,7 @@ use Rattle.iom_device.specs.Caches.{epoch_in}
 use Rattle.iom_fabric.specs.declared.fabric.OnLink.{OnLink}
 use Rattle.iom_fabric.specs.declared.message.Message.{Message as Sent}
 use Rattle.iom_fabric.specs.declared.message.Message.TheVariants as sent
-use Rattle.iom_fabric.specs.declared.message.Translation.TheVariants as told
+use Rattle.iom_fabric.specs.declared.message.Translation.TheVariants as reply
 use Rattle.iom_board.specs.BoardParts.{BoardParts}
 use Rattle.iom_hardware_ways.specs.Scenes.{message_of, said_on, scene_of}
 use Rattle.iom_reach.specs.Safe.{AreTimely}
@@ -27,21 +27,21 @@ asked_by now device (sent.Ask e p) d epoch page is by = (dev is, subst (λ n. n 
 
     ep : Question device e p ≡ Question d epoch page → e ≡ epoch
     ep e = cc
-asked_by now device (sent.Answer e p (told.Page frame rights)) d epoch page is by = absurd (cc)
-asked_by now device (sent.Answer e p (told.Refused cause)) d epoch page is by = absurd (cc)
+asked_by now device (sent.Answer e p (reply.Page frame rights)) d epoch page is by = absurd (cc)
+asked_by now device (sent.Answer e p (reply.Refused cause)) d epoch page is by = absurd (cc)
 asked_by now device (sent.InvReq serial range) d epoch page is by = absurd (cc)
 asked_by now device (sent.InvDone serial) d epoch page is by = absurd (cc)
 
 pub answered_by : (now device : ℕ) (own : Sent) (d epoch page : ℕ) (mapping : Mapping) → said_on device own ≡ Answer d epoch page mapping → IsBy now own → (device ≡ d) × (epoch ≤ now)
 answered_by now device (sent.Ask e p) d epoch page mapping is by = absurd (cc)
-answered_by now device (sent.Answer e p (told.Page frame rights)) d epoch page mapping is by = (dev is, subst (λ n. n ≤ now) (ep is) by)
+answered_by now device (sent.Answer e p (reply.Page frame rights)) d epoch page mapping is by = (dev is, subst (λ n. n ≤ now) (ep is) by)
   where
     dev : Answer device e p (record { frame = frame; rights = rights }) ≡ Answer d epoch page mapping → device ≡ d
     dev e = cc
 
     ep : Answer device e p (record { frame = frame; rights = rights }) ≡ Answer d epoch page mapping → e ≡ epoch
     ep e = cc
-answered_by now device (sent.Answer e p (told.Refused cause)) d epoch page mapping is by = absurd (cc)
+answered_by now device (sent.Answer e p (reply.Refused cause)) d epoch page mapping is by = absurd (cc)
 answered_by now device (sent.InvReq serial range) d epoch page mapping is by = absurd (cc)
 answered_by now device (sent.InvDone serial) d epoch page mapping is by = absurd (cc)
 

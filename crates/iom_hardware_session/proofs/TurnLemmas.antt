@@ -2,8 +2,8 @@
 use Rattle.std.proofs.Common.{◌≡◌, inl, inr, ℕ, ◌+◌, Bool, true, List, [], ◌∷◌, Option, None, Some, Result, Ok, Err, subst, arith}
 use Rattle.iom_base.specs.declared.refusal.Refusal.{Refusal}
 use Rattle.iom_board.specs.BoardParts.{BoardParts}
-use Rattle.iom_board.specs.Sound.{IsSoundBoard}
-use Rattle.iom_hardware_ways.specs.Calls.{HardwareCall, Request, Translated, ThroughCache, Ask, AskAtStep, Forge, Fetch, Timeout, Deliver, Drop, Repeat, Commit, Reset, CallDoes, IsMadeHarmlessly, DoesHarmlessly, DoInTurn}
+use Rattle.iom_board.specs.Invariant.{BoardInvariant}
+use Rattle.iom_hardware_ways.specs.Calls.{HardwareCall, Request, Translated, ThroughCache, Ask, AskAtStep, Forge, Fetch, Timeout, Deliver, Drop, Repeat, Commit, Reset, CallEffect, IsMadeHarmlessly, HarmlessEffect, DoInTurn}
 use Rattle.iom_hardware_ways.specs.Scenes.{scene_of}
 use Rattle.iom_hardware_session.specs.Laws.{ComesFromParts}
 use Rattle.iom_inflight.specs.declared.made.MadeAt.{MadeAt}
@@ -13,35 +13,35 @@ use Rattle.iom_reach.specs.Scene.{AddressSpace}
 use Rattle.iom_reach.specs.Ways.{WalkBegins, AtRoot, PartWay}
 
 -- what is sound after so many events is after more
-pub sound_later : (parts : BoardParts) (events more : ℕ) → IsSoundBoard parts events → IsSoundBoard parts (events + more)
-sound_later parts events more sound = record {
-  size = sound.size;
-  own_ids = sound.own_ids;
-  rows = sound.rows;
-  caches = sound.caches;
-  askers = sound.askers;
-  accepted = let is = sound.accepted in omega (arith, is);
-  serials = let is = sound.serials in omega (arith, is);
-  epochs = λ id. let is = sound.epochs id in omega (arith, is);
+pub sound_later : (parts : BoardParts) (events more : ℕ) → BoardInvariant parts events → BoardInvariant parts (events + more)
+sound_later parts events more invariants = record {
+  size = invariants.size;
+  own_ids = invariants.own_ids;
+  rows = invariants.rows;
+  caches = invariants.caches;
+  askers = invariants.askers;
+  accepted = let is = invariants.accepted in omega (arith, is);
+  serials = let is = invariants.serials in omega (arith, is);
+  epochs = λ id. let is = invariants.epochs id in omega (arith, is);
 }
 
 pub turns_later : (trusted : ℕ → Bool) (calls : List HardwareCall) (events more : ℕ) (old new : BoardParts) → DoInTurn trusted events old calls new
     → DoInTurn trusted (events + more) old calls new
 turns_later trusted [] events more old new turns = turns
-turns_later trusted (first ∷ others) events more old new (sound, harmless, (between, does, rest)) =
-    (sound_later old events more sound, harmless, (between, does, subst (λ (n : ℕ). DoInTurn trusted n between others new) (swap events more) (turns_later trusted others (events + 1) more between new rest)))
+turns_later trusted (first ∷ others) events more old new (invariants, harmless, (between, effect, rest)) =
+    (sound_later old events more invariants, harmless, (between, effect, subst (λ (n : ℕ). DoInTurn trusted n between others new) (swap events more) (turns_later trusted others (events + 1) more between new rest)))
   where
     swap : (a b : ℕ) → a + 1 + b ≡ a + b + 1
     swap a b = omega arith
 
 -- what may come after a call may come with the call before it
-pub comes_before : (trusted : ℕ → Bool) (call : HardwareCall) (calls : List HardwareCall) (events id : ℕ) (made : MadeAt) (old new : BoardParts) → IsSoundBoard old events
-    → DoesHarmlessly trusted call old → CallDoes call old new → ComesFromParts trusted new calls id made → ComesFromParts trusted old (call ∷ calls) id made
-comes_before trusted call calls events id made old new sound harmless does (more, between, last, turns, makes) = (
+pub comes_before : (trusted : ℕ → Bool) (call : HardwareCall) (calls : List HardwareCall) (events id : ℕ) (made : MadeAt) (old new : BoardParts) → BoardInvariant old events
+    → HarmlessEffect trusted call old → CallEffect call old new → ComesFromParts trusted new calls id made → ComesFromParts trusted old (call ∷ calls) id made
+comes_before trusted call calls events id made old new invariants harmless effect (more, between, last, turns, makes) = (
   events + more,
   between,
   last,
-  (sound_later old events more sound, harmless, (new, does, subst (λ (n : ℕ). DoInTurn trusted n new calls between) (swap events more) (turns_later trusted calls more (events + 1) new between turns))),
+  (sound_later old events more invariants, harmless, (new, effect, subst (λ (n : ℕ). DoInTurn trusted n new calls between) (swap events more) (turns_later trusted calls more (events + 1) new between turns))),
   makes,
 )
   where
@@ -71,7 +71,7 @@ made_fewer fewer more parts id (Ok (Some made)) are is = λ trusted write read. 
 made_fewer fewer more parts id (Ok None) are is = is
 made_fewer fewer more parts id (Err why) are is = is
 
-does_fewer : (fewer more : ℕ → Bool) (call : HardwareCall) (parts : BoardParts) → AreFewer fewer more → DoesHarmlessly more call parts → DoesHarmlessly fewer call parts
+does_fewer : (fewer more : ℕ → Bool) (call : HardwareCall) (parts : BoardParts) → AreFewer fewer more → HarmlessEffect more call parts → HarmlessEffect fewer call parts
 does_fewer fewer more (Commit id answer) parts are is = made_fewer fewer more parts id answer are is
 does_fewer fewer more (Request sender id access answer) parts are is = is
 does_fewer fewer more (Translated id access answer) parts are is = is
@@ -89,8 +89,8 @@ does_fewer fewer more (Reset id answer) parts are is = is
 turns_fewer : (fewer more : ℕ → Bool) (calls : List HardwareCall) (events : ℕ) (old new : BoardParts) → AreFewer fewer more → DoInTurn more events old calls new
     → DoInTurn fewer events old calls new
 turns_fewer fewer more [] events old new are turns = turns
-turns_fewer fewer more (first ∷ others) events old new are (sound, harmless, (between, does, rest)) =
-    (sound, does_fewer fewer more first old are harmless, (between, does, turns_fewer fewer more others (events + 1) between new are rest))
+turns_fewer fewer more (first ∷ others) events old new are (invariants, harmless, (between, effect, rest)) =
+    (invariants, does_fewer fewer more first old are harmless, (between, effect, turns_fewer fewer more others (events + 1) between new are rest))
 
 pub comes_fewer : (fewer more : ℕ → Bool) (parts : BoardParts) (calls : List HardwareCall) (id : ℕ) (made : MadeAt) → AreFewer fewer more → ComesFromParts more parts calls id made
     → ComesFromParts fewer parts calls id made

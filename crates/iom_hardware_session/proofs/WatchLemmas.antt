@@ -11,7 +11,7 @@ use Rattle.iom_hardware_session.specs.declared.answer.Wrong.{Wrong}
 use Rattle.iom_hardware_session.specs.declared.watched.GoodClaim.{GoodClaim}
 use Rattle.iom_hardware_session.specs.declared.watched.GoodClaim.TheVariants as good
 use Rattle.iom_hardware_session.specs.declared.watched.Watched.{Watched}
-use Rattle.iom_hardware_session.specs.Watching.{claims_of, with_claim, with_if_good, IsToldOf, AreJudgedAgain, WatchesDone}
+use Rattle.iom_hardware_session.specs.Watching.{claims_of, with_claim, with_if_good, IsVerdictOf, AreJudgedAgain, WatchesDone}
 
 -- where one place is written, what stands there is that, and all else stays
 pub set_get : (list : List Watched) (place k : ℕ) (new own : Watched) → slice_get (slice_set list place new) k ≡ Some own → ((k ≡ place) × (new ≡ own)) ⊎ (¬ (k ≡ place) × (slice_get list k ≡ Some own))
@@ -39,12 +39,12 @@ set_claims (first ∷ others) (suc place) own why at = ap (λ claims. first.clai
 
 -- those before the place are judged
 abbrev pub AreJudgedBelow : ℕ → List Watched → Board → List ℕ → Claimed → Type 0
-AreJudgedBelow place list hardware trusted claimed = (k : ℕ) (own : Watched) → k < place → slice_get list k ≡ Some own → IsToldOf own.why own.claim hardware trusted claimed
+AreJudgedBelow place list hardware trusted claimed = (k : ℕ) (own : Watched) → k < place → slice_get list k ≡ Some own → IsVerdictOf own.why own.claim hardware trusted claimed
 
 pub one_more_judged : (list : List Watched) (place : ℕ) (new : Watched) (hardware : Board) (trusted : List ℕ) (claimed : Claimed) → AreJudgedBelow place list hardware trusted claimed
-    → IsToldOf new.why new.claim hardware trusted claimed → AreJudgedBelow (place + 1) (slice_set list place new) hardware trusted claimed
-one_more_judged list place new hardware trusted claimed before told k own less at = elim (set_get list place k new own at) [
-  | inl (same, is) ↦ subst (λ (w : Watched). IsToldOf w.why w.claim hardware trusted claimed) is told
+    → IsVerdictOf new.why new.claim hardware trusted claimed → AreJudgedBelow (place + 1) (slice_set list place new) hardware trusted claimed
+one_more_judged list place new hardware trusted claimed before reply k own less at = elim (set_get list place k new own at) [
+  | inl (same, is) ↦ subst (λ (w : Watched). IsVerdictOf w.why w.claim hardware trusted claimed) is reply
   | inr (apart, there) ↦ before k own (below k place less apart) there
 ]
   where
@@ -55,7 +55,7 @@ pub all_judged : (old list : List Watched) (place : ℕ) (hardware : Board) (tru
     → AreJudgedBelow place list hardware trusted claimed → AreJudgedAgain old list hardware trusted claimed
 all_judged old list place hardware trusted claimed same long below = record {
   same = same;
-  told = λ k own at. let within = slice_get_within list k own at in below k own (omega (arith, within, long)) at;
+  reply = λ k own at. let within = slice_get_within list k own at in below k own (omega (arith, within, long)) at;
 }
 
 -- what a claim that is done withdrew is watched, where it is good

@@ -7,7 +7,7 @@ use Rattle.iom_base.specs.declared.device_kind.DeviceKind.{DeviceKind}
 use Rattle.iom_device.specs.Caches.{device_with, kind_in}
 use Rattle.iom_device.specs.declared.device.Device.{Device}
 use Rattle.iom_board.specs.BoardParts.{BoardParts}
-use Rattle.iom_board.specs.Sound.{IsSoundBoard, flight_ids, device_ids}
+use Rattle.iom_board.specs.Invariant.{BoardInvariant, flight_ids, device_ids}
 use Rattle.iom_hardware_ways.specs.Scenes.{ats_kind, flights_in, scene_of}
 use Rattle.iom_inflight.specs.Flights.{FlightRow, row_of}
 use Rattle.iom_iommu.specs.Parts.{flights_of}
@@ -78,12 +78,12 @@ flying rows devices id access same inside = by (row_of rows id) refl inside
     by (Some row) e there = rowed rows devices id row same e
 
 -- A device that has a way is plugged in
-pub has_place : (trusted : ℕ → Bool) (parts : BoardParts) (events device frame : ℕ) (kind : AccessKind) → IsSoundBoard parts events → Way (scene_of trusted parts) device frame kind
+pub has_place : (trusted : ℕ → Bool) (parts : BoardParts) (events device frame : ℕ) (kind : AccessKind) → BoardInvariant parts events → Way (scene_of trusted parts) device frame kind
     → (k : ℕ) × (own : Device) × (slice_get parts.devices k ≡ Some own) × (own.id ≡ device)
-has_place trusted parts events device frame kind sound (Accepted inside) = flying (flights_of parts.iommu).rows parts.devices device (record { frame = frame; kind = kind }) sound.rows inside
-has_place trusted parts events device frame kind sound (AnyFrame (own, is) bare) = plugged parts.devices device own is
-has_place trusted parts events device frame kind sound (ByContext context ((own, is), there, found) through) = plugged parts.devices device own is
-has_place trusted parts events device frame kind sound (OnTheWalk space table steps mapping (k, less, at) leads serves) = absurd (omega (arith, less))
+has_place trusted parts events device frame kind invariants (Accepted inside) = flying (flights_of parts.iommu).rows parts.devices device (record { frame = frame; kind = kind }) invariants.rows inside
+has_place trusted parts events device frame kind invariants (AnyFrame (own, is) bare) = plugged parts.devices device own is
+has_place trusted parts events device frame kind invariants (ByContext context ((own, is), there, found) through) = plugged parts.devices device own is
+has_place trusted parts events device frame kind invariants (OnTheWalk space table steps mapping (k, less, at) leads serves) = absurd (omega (arith, less))
 
 -- one place has one device
 pub one_there : (devices : List Device) (k place : ℕ) (own other : Device) → k ≡ place → slice_get devices k ≡ Some own → slice_get devices place ≡ Some other → own ≡ other

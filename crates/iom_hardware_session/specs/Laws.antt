@@ -8,7 +8,7 @@ use Rattle.iom_hardware_session.specs.declared.state.Session.{Session}
 use Rattle.iom_hardware_session.specs.declared.watched.GoodClaim.{GoodClaim}
 use Rattle.iom_hardware_session.specs.declared.watched.GoodClaim.TheVariants as good
 use Rattle.iom_hardware_session.specs.Good.{scene_in, GoodMeans}
-use Rattle.iom_hardware_session.specs.Watching.{IsToldOf}
+use Rattle.iom_hardware_session.specs.Watching.{IsVerdictOf}
 use Rattle.iom_hardware_ways.specs.Calls.{HardwareCall, DoInTurn}
 use Rattle.iom_hardware_ways.specs.Laws.{MakesIn}
 use Rattle.iom_inflight.specs.declared.made.MadeAt.{MadeAt}
@@ -43,4 +43,4 @@ HoldsOn (good.HandedOff frame) session claimed = (calls : List HardwareCall) (id
 
 -- WHAT WAS FOUND GOOD AGAIN, of whatever was claimed by then, holds on until software changes something
 abbrev pub GoodAgainHolds : Type 0
-GoodAgainHolds = (session : Session) (claimed : Claimed) (claim : GoodClaim) → IsToldOf None claim session.hardware.board session.trusted.items claimed → HoldsOn claim session claimed
+GoodAgainHolds = (session : Session) (claimed : Claimed) (claim : GoodClaim) → IsVerdictOf None claim session.hardware.board session.trusted.items claimed → HoldsOn claim session claimed

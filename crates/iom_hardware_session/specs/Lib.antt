@@ -1,5 +1,5 @@
 pub mod Found
-pub mod Seen
+pub mod Shown
 pub mod Answered
 pub mod Events
 pub mod Claiming

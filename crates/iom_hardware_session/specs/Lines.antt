@@ -6,7 +6,7 @@ use Rattle.iom_base.specs.declared.refusal.Refusal.{Refusal}
 use Rattle.iom_claims.specs.Claimed.{Claimed}
 use Rattle.iom_board.specs.BoardParts.{board_parts, disks_at_hand}
 use Rattle.iom_board.specs.declared.board.Board.{Board}
-use Rattle.iom_hardware.specs.Blocks.{Stay}
+use Rattle.iom_hardware.specs.Blocks.{BlocksUnchanged}
 use Rattle.iom_hardware_script.specs.declared.script.Claim.{Claim as Said}
 use Rattle.iom_hardware_script.specs.declared.script.Claim.TheVariants as claim
 use Rattle.iom_hardware_script.specs.declared.script.HardwareLine.{HardwareLine}
@@ -20,9 +20,9 @@ use Rattle.iom_hardware_session.specs.declared.state.Session.{Session}
 use Rattle.iom_hardware_session.specs.Admitted.{ClaimIsAdmitted}
 use Rattle.iom_hardware_session.specs.Answered.{commit_in, judgement_in}
 use Rattle.iom_hardware_session.specs.Claiming.{claimed_after}
-use Rattle.iom_hardware_session.specs.Events.{EventOrNone, Stays}
+use Rattle.iom_hardware_session.specs.Events.{EventOrNone, Unchanged}
 use Rattle.iom_hardware_session.specs.Good.{GoodMeans}
-use Rattle.iom_hardware_session.specs.Seen.{SeenHardware}
+use Rattle.iom_hardware_session.specs.Shown.{ShownHardware}
 use Rattle.iom_hardware_session.specs.Watching.{still_good, AreJudgedAgain, WatchesClaim}
 use Rattle.iom_hardware_session.specs.declared.watched.Watched.{Watched}
 use Rattle.iom_hardware_session.specs.Wrong.{WrongMeans, IfWrong}
@@ -66,15 +66,15 @@ abbrev pub ReadsRegister : (offset width : ℕ) → Board → Answer → Type 0
 ReadsRegister offset width old answer = answer ≡ answered.Value (value_at (is_hardwired offset width) offset width old)
 
 -- what a write of a register does, by whether it is one of those
-abbrev pub WritesWhere : Bool → (offset width value : ℕ) → SeenHardware → Answer → SeenHardware → Type 0
-WritesWhere true offset width value old answer new = (answer ≡ answered.Written (Ok tt)) × Stays old new
+abbrev pub WritesWhere : Bool → (offset width value : ℕ) → ShownHardware → Answer → ShownHardware → Type 0
+WritesWhere true offset width value old answer new = (answer ≡ answered.Written (Ok tt)) × Unchanged old new
 WritesWhere false offset width value old answer new =
     (answer ≡ answered.Written (done_of (register_at offset (short_width width))))
     × (board_parts new.board ≡ record (board_parts old.board) { iommu = changed_by (after_write old.board.iommu) old.board.iommu value (register_at offset (short_width width)) })
-    × (disks_at_hand new.board ≡ disks_at_hand old.board) × Stay old.inside new.inside
+    × (disks_at_hand new.board ≡ disks_at_hand old.board) × BlocksUnchanged old.inside new.inside
 
 -- THE DRIVER WRITES a register
-abbrev pub WritesRegister : (offset width value : ℕ) → SeenHardware → Answer → SeenHardware → Type 0
+abbrev pub WritesRegister : (offset width value : ℕ) → ShownHardware → Answer → ShownHardware → Type 0
 WritesRegister offset width value old answer new = WritesWhere (is_hardwired offset width) offset width value old answer new
 
 -- the device is trusted, besides those that are
@@ -88,12 +88,12 @@ Trusts (claim.Trust device) answer old new = TrustsAlso device answer old new
 Trusts said answer old new = new ≡ old
 
 -- WHAT A LINE DOES TO HARDWARE, by its answer
-abbrev pub LineDoes : HardwareLine → Answer → SeenHardware → SeenHardware → Type 0
-LineDoes (line.Event event) answer old new = EventOrNone event answer old new
-LineDoes (line.RegisterRead offset width) answer old new = ReadsRegister offset width old.board answer × Stays old new
-LineDoes (line.RegisterWrite offset width value) answer old new = WritesRegister offset width value old answer new
-LineDoes (line.Claim said) answer old new = Stays old new
-LineDoes (line.Help help) answer old new = (answer ≡ answered.NotOfHardware) × Stays old new
+abbrev pub LineEffect : HardwareLine → Answer → ShownHardware → ShownHardware → Type 0
+LineEffect (line.Event event) answer old new = EventOrNone event answer old new
+LineEffect (line.RegisterRead offset width) answer old new = ReadsRegister offset width old.board answer × Unchanged old new
+LineEffect (line.RegisterWrite offset width value) answer old new = WritesRegister offset width value old answer new
+LineEffect (line.Claim said) answer old new = Unchanged old new
+LineEffect (line.Help help) answer old new = (answer ≡ answered.NotOfHardware) × Unchanged old new
 
 -- what is claimed after a claim, where one is judged
 abbrev pub claimed_where : Said → Option ClaimAnswer → Claimed → Claimed

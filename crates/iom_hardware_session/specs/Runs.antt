@@ -13,36 +13,36 @@ use Rattle.iom_hardware_session.specs.declared.session.Stepped.{Stepped}
 use Rattle.iom_hardware_session.specs.declared.state.Session.{Session}
 use Rattle.iom_hardware_session.specs.declared.watched.Watched.{Watched}
 use Rattle.iom_hardware_session.specs.Good.{scene_in}
-use Rattle.iom_hardware_session.specs.Seen.{seen_in}
+use Rattle.iom_hardware_session.specs.Shown.{shown_in}
 use Rattle.iom_program_disks.specs.Disks.{program_disks}
 use Rattle.iom_virtio_blk.specs.MemoryDisks.{disk_state}
-use Rattle.iom_hardware_session.specs.Lines.{LineDoes, TrustsBy, IsAdmittedLine, IsGoodLine, IsWrongLine, WatchesBy, IsViolation, IsAllowed, claimed_by, made_by}
+use Rattle.iom_hardware_session.specs.Lines.{LineEffect, TrustsBy, IsAdmittedLine, IsGoodLine, IsWrongLine, WatchesBy, IsViolation, IsAllowed, claimed_by, made_by}
 
 -- a line, what came of it, and what is watched behind it
-pub record Told : Type 0 where
+pub record LineReply : Type 0 where
   pub said : HardwareLine
   pub stepped : Stepped
   pub watched : List Watched
 
 -- what is claimed behind the line
-abbrev pub claimed_then : Told → Claimed → Claimed
-claimed_then told before = claimed_by told.said told.stepped.answer before
+abbrev pub claimed_then : LineReply → Claimed → Claimed
+claimed_then reply before = claimed_by reply.said reply.stepped.answer before
 
 -- WHAT COMES OF A LINE, by what was claimed before it: all that `Session::line` says
-pub record LineGoesOn (old : Session) (before : Claimed) (told : Told) (new : Session) : Type 0 where
-  pub does : LineDoes told.said told.stepped.answer (seen_in old) (seen_in new)
-  pub claimed : ShowsClaimed new.claims (claimed_then told before)
-  pub trusted : TrustsBy told.said told.stepped.answer old.trusted.items new.trusted.items
-  pub admitted : IsAdmittedLine told.said told.stepped.answer old.hardware.board before
-  pub good : IsGoodLine told.said told.stepped.answer (scene_in new) before
-  pub wrong : IsWrongLine told.said told.stepped.answer new.hardware.board new.trusted.items before
-  pub again : WatchesBy told.said told.stepped.answer before old new
-  pub violated : IsTrue told.stepped.violated ↔ IsViolation before (made_by told.stepped.answer)
-  pub allowed : told.stepped.violated ≡ false → IsAllowed before (made_by told.stepped.answer)
-  pub watched : told.watched ≡ new.watched.items
+pub record LineGoesOn (old : Session) (before : Claimed) (reply : LineReply) (new : Session) : Type 0 where
+  pub effect : LineEffect reply.said reply.stepped.answer (shown_in old) (shown_in new)
+  pub claimed : ShowsClaimed new.claims (claimed_then reply before)
+  pub trusted : TrustsBy reply.said reply.stepped.answer old.trusted.items new.trusted.items
+  pub admitted : IsAdmittedLine reply.said reply.stepped.answer old.hardware.board before
+  pub good : IsGoodLine reply.said reply.stepped.answer (scene_in new) before
+  pub wrong : IsWrongLine reply.said reply.stepped.answer new.hardware.board new.trusted.items before
+  pub again : WatchesBy reply.said reply.stepped.answer before old new
+  pub violated : IsTrue reply.stepped.violated ↔ IsViolation before (made_by reply.stepped.answer)
+  pub allowed : reply.stepped.violated ≡ false → IsAllowed before (made_by reply.stepped.answer)
+  pub watched : reply.watched ≡ new.watched.items
 
 -- THESE LINES one after another, from where a session stands and from what was claimed
-abbrev pub GoThrough : Session → Claimed → List Told → Session → Claimed → Type 0
+abbrev pub GoThrough : Session → Claimed → List LineReply → Session → Claimed → Type 0
 GoThrough old before [] new after = (new ≡ old) × (after ≡ before)
 GoThrough old before (first ∷ others) new after =
     (between : Session) × LineGoesOn old before first between × GoThrough between (claimed_then first before) others new after
@@ -65,11 +65,11 @@ has_fallen watched = list_any (λ (own : Watched). is_some own.why) watched
 abbrev pub is_wrong_by : Stepped → List Watched → Bool
 is_wrong_by stepped watched = is_wrong_claim (judgement_in stepped.answer) || (stepped.violated || has_fallen watched)
 
-abbrev pub is_wrong : Told → Bool
-is_wrong told = is_wrong_by told.stepped told.watched
+abbrev pub is_wrong : LineReply → Bool
+is_wrong reply = is_wrong_by reply.stepped reply.watched
 
-abbrev pub is_any_told_wrong : List Told → Bool
-is_any_told_wrong all = list_any is_wrong all
+abbrev pub is_any_reply_wrong : List LineReply → Bool
+is_any_reply_wrong all = list_any is_wrong all
 
 -- A SESSION BEGINS: hardware at power-on with so many frames of memory and the disks of the programs at hand, nothing claimed, nobody trusted, nothing watched
 pub record IsSessionAtPowerOn (frames : ℕ) (session : Session) : Type 0 where

@@ -17,19 +17,19 @@ use Rattle.iom_hardware_session.specs.declared.state.Session.{Session}
 use Rattle.iom_hardware_session.specs.Claiming.{is_made}
 use Rattle.iom_hardware_session.specs.Laws.{ComesToMake}
 use Rattle.iom_hardware_session.specs.Lines.{IsAllowed, made_by}
-use Rattle.iom_hardware_session.specs.Runs.{Told, claimed_then, GoThrough, is_any_told_wrong}
+use Rattle.iom_hardware_session.specs.Runs.{LineReply, claimed_then, GoThrough, is_any_reply_wrong}
 use Rattle.iom_hardware_ways.specs.Calls.{HardwareCall}
 use Rattle.iom_inflight.specs.declared.made.MadeAt.{MadeAt}
 use Rattle.iom_ledger.specs.History.{May}
 
 -- each access that the lines made is one that what was claimed by then allows
-abbrev pub AccessesAreAllowed : Claimed → List Told → Type 0
+abbrev pub AccessesAreAllowed : Claimed → List LineReply → Type 0
 AccessesAreAllowed before [] = ⊤
 AccessesAreAllowed before (first ∷ others) = IsAllowed before (made_by first.stepped.answer) × AccessesAreAllowed (claimed_then first before) others
 
 -- the line claims this, and it is good
-abbrev pub IsGood : Told → Said → Type 0
-IsGood told said = (told.said ≡ line.Claim said) × (told.stepped.answer ≡ answered.Claim found.Good)
+abbrev pub IsGood : LineReply → Said → Type 0
+IsGood reply said = (reply.said ≡ line.Claim said) × (reply.stepped.answer ≡ answered.Claim found.Good)
 
 -- a claim by which the frame comes back: it is taken, or granted to a device
 abbrev pub brings_back : ℕ → Said → Bool
@@ -45,25 +45,25 @@ abbrev pub comes_back_by : ℕ → HardwareLine → Answer → Bool
 comes_back_by frame (line.Claim said) answer = is_brought_back frame said (judgement_in answer)
 comes_back_by frame said answer = false
 
-abbrev pub comes_back : ℕ → List Told → Bool
-comes_back frame all = list_any (λ (told : Told). comes_back_by frame told.said told.stepped.answer) all
+abbrev pub comes_back : ℕ → List LineReply → Bool
+comes_back frame all = list_any (λ (reply : LineReply). comes_back_by frame reply.said reply.stepped.answer) all
 
 -- NO ACCESS WAS MADE against the claims
 abbrev pub AccessesAreClaimed : Type 0
-AccessesAreClaimed = (old new : Session) (before after : Claimed) (all : List Told)
-    → GoThrough old before all new after → is_any_told_wrong all ≡ false → AccessesAreAllowed before all
+AccessesAreClaimed = (old new : Session) (before after : Claimed) (all : List LineReply)
+    → GoThrough old before all new after → is_any_reply_wrong all ≡ false → AccessesAreAllowed before all
 
 -- AND NONE COULD HAVE BEEN to what was withdrawn and claimed to be done: from then on, whatever hardware and devices do by themselves, at each moment the device
 -- makes no access to the frame but those that what is claimed by then allows
 abbrev pub DoneStaysOutOfReach : Type 0
-DoneStaysOutOfReach = (old new : Session) (before after : Claimed) (done : Told) (later : List Told) (number : ℕ) (grant : Grant) (calls : List HardwareCall) (made : MadeAt)
-    → ShowsClaimed old.claims before → GoThrough old before (done ∷ later) new after → is_any_told_wrong (done ∷ later) ≡ false
+DoneStaysOutOfReach = (old new : Session) (before after : Claimed) (done : LineReply) (later : List LineReply) (number : ℕ) (grant : Grant) (calls : List HardwareCall) (made : MadeAt)
+    → ShowsClaimed old.claims before → GoThrough old before (done ∷ later) new after → is_any_reply_wrong (done ∷ later) ≡ false
     → IsGood done (claim.Done number) → IsOpen before.history (record { number = number; grant = grant })
     → made.frame ≡ grant.frame → ComesToMake new calls grant.device made → May after.history grant.device made.frame made.kind
 
 -- NOR TO A FRAME THAT WAS HANDED OFF: until it is taken or granted, no device makes any access there
 abbrev pub HandedOffStaysUntouched : Type 0
-HandedOffStaysUntouched = (old new : Session) (before after : Claimed) (handed : Told) (later : List Told) (frame id : ℕ) (calls : List HardwareCall) (made : MadeAt)
-    → ShowsClaimed old.claims before → GoThrough old before (handed ∷ later) new after → is_any_told_wrong (handed ∷ later) ≡ false
+HandedOffStaysUntouched = (old new : Session) (before after : Claimed) (handed : LineReply) (later : List LineReply) (frame id : ℕ) (calls : List HardwareCall) (made : MadeAt)
+    → ShowsClaimed old.claims before → GoThrough old before (handed ∷ later) new after → is_any_reply_wrong (handed ∷ later) ≡ false
     → IsGood handed (claim.HandOff frame) → comes_back frame later ≡ false
     → made.frame ≡ frame → ¬ ComesToMake new calls id made

@@ -52,9 +52,9 @@ IsNoMore why (good.Done number device frame) hardware trusted claimed = DoneIsWr
 IsNoMore why (good.HandedOff frame) hardware trusted claimed = HandOffIsWrong why hardware trusted claimed frame
 
 -- what is told of it is true
-abbrev pub IsToldOf : Option Wrong → GoodClaim → Board → List ℕ → Claimed → Type 0
-IsToldOf None claim hardware trusted claimed = IsCertain (scene_with hardware trusted) × IsStillSo claim (scene_with hardware trusted) claimed
-IsToldOf (Some why) claim hardware trusted claimed = IsNoMore why claim hardware trusted claimed
+abbrev pub IsVerdictOf : Option Wrong → GoodClaim → Board → List ℕ → Claimed → Type 0
+IsVerdictOf None claim hardware trusted claimed = IsCertain (scene_with hardware trusted) × IsStillSo claim (scene_with hardware trusted) claimed
+IsVerdictOf (Some why) claim hardware trusted claimed = IsNoMore why claim hardware trusted claimed
 
 -- what they claim
 abbrev pub claims_of : List Watched → List GoodClaim
@@ -63,7 +63,7 @@ claims_of watched = map (λ (own : Watched). own.claim) watched
 -- ALL WERE JUDGED AGAIN, as hardware stands and by what is claimed
 pub record AreJudgedAgain (old new : List Watched) (hardware : Board) (trusted : List ℕ) (claimed : Claimed) : Type 0 where
   pub same : claims_of new ≡ claims_of old
-  pub told : (k : ℕ) (own : Watched) → slice_get new k ≡ Some own → IsToldOf own.why own.claim hardware trusted claimed
+  pub reply : (k : ℕ) (own : Watched) → slice_get new k ≡ Some own → IsVerdictOf own.why own.claim hardware trusted claimed
 
 -- with it, where it is answered that it is good
 abbrev pub with_if_good : ClaimAnswer → GoodClaim → List Watched → List Watched

@@ -1,8 +1,8 @@
 // What devices and hardware do, and what the processor stores and loads.
 ghost use Rattle.std.specs.Prelude.{◌≡◌, ◌+◌, ◌<◌, ◌≤◌, ◌^◌};
-ghost use Rattle.iom_hardware_session.specs.Events.{IsUntranslated, IsTranslated, IsThroughCache, IsMessage, IsOther, IsOfBlock, EventDoes, EventOrNone};
+ghost use Rattle.iom_hardware_session.specs.Events.{IsUntranslated, IsTranslated, IsThroughCache, IsMessage, IsOther, IsOfBlock, EventEffect, EventOrNone};
 ghost use Rattle.iom_hardware_session.specs.Lines.{KeepsClaims};
-ghost use Rattle.iom_hardware_session.specs.Seen.{seen_in};
+ghost use Rattle.iom_hardware_session.specs.Shown.{shown_in};
 
 use crate::answer::Answer;
 use crate::state::Session;
@@ -15,7 +15,7 @@ impl Session {
     fn untranslated(&mut self, event: &Event) -> Answer
         requires event { IsUntranslated event.now }
         requires count { self.old.hardware.board.events + 1 < 2 ^ 64 }
-        ensures does { EventDoes event.now result (seen_in self.old) (seen_in self.new) }
+        ensures effect { EventEffect event.now result (shown_in self.old) (shown_in self.new) }
         ensures claims { KeepsClaims self.old self.new }
         ensures counted { self.new.hardware.board.events ≡ self.old.hardware.board.events + 1 }
     {
@@ -53,7 +53,7 @@ impl Session {
     fn translated(&mut self, event: &Event) -> Answer
         requires event { IsTranslated event.now }
         requires count { self.old.hardware.board.events + 1 < 2 ^ 64 }
-        ensures does { EventDoes event.now result (seen_in self.old) (seen_in self.new) }
+        ensures effect { EventEffect event.now result (shown_in self.old) (shown_in self.new) }
         ensures claims { KeepsClaims self.old self.new }
         ensures counted { self.new.hardware.board.events ≡ self.old.hardware.board.events + 1 }
     {
@@ -83,7 +83,7 @@ impl Session {
     fn through_cache(&mut self, event: &Event) -> Answer
         requires event { IsThroughCache event.now }
         requires count { self.old.hardware.board.events + 1 < 2 ^ 64 }
-        ensures does { EventDoes event.now result (seen_in self.old) (seen_in self.new) }
+        ensures effect { EventEffect event.now result (shown_in self.old) (shown_in self.new) }
         ensures claims { KeepsClaims self.old self.new }
         ensures counted { self.new.hardware.board.events ≡ self.old.hardware.board.events + 1 }
     {
@@ -121,7 +121,7 @@ impl Session {
     fn message(&mut self, event: &Event) -> Answer
         requires event { IsMessage event.now }
         requires count { self.old.hardware.board.events + 1 < 2 ^ 64 }
-        ensures does { EventDoes event.now result (seen_in self.old) (seen_in self.new) }
+        ensures effect { EventEffect event.now result (shown_in self.old) (shown_in self.new) }
         ensures claims { KeepsClaims self.old self.new }
         ensures counted { self.new.hardware.board.events ≡ self.old.hardware.board.events + 1 }
     {
@@ -143,7 +143,7 @@ impl Session {
     fn other(&mut self, event: &Event) -> Answer
         requires event { IsOther event.now }
         requires count { self.old.hardware.board.events + 1 < 2 ^ 64 }
-        ensures does { EventDoes event.now result (seen_in self.old) (seen_in self.new) }
+        ensures effect { EventEffect event.now result (shown_in self.old) (shown_in self.new) }
         ensures claims { KeepsClaims self.old self.new }
         ensures counted { self.new.hardware.board.events ≤ self.old.hardware.board.events + 1 }
     {
@@ -168,7 +168,7 @@ impl Session {
     fn of_block(&mut self, event: &Event) -> Answer
         requires event { IsOfBlock event.now }
         requires count { self.old.hardware.board.events + 1 < 2 ^ 64 }
-        ensures does { EventDoes event.now result (seen_in self.old) (seen_in self.new) }
+        ensures effect { EventEffect event.now result (shown_in self.old) (shown_in self.new) }
         ensures claims { KeepsClaims self.old self.new }
         ensures counted { self.new.hardware.board.events ≤ self.old.hardware.board.events + 1 }
     {
@@ -191,7 +191,7 @@ impl Session {
     /// What devices, hardware or the processor do; an event that is none of theirs does nothing.
     pub(crate) fn event(&mut self, event: &Event) -> Answer
         requires count { self.old.hardware.board.events + 1 < 2 ^ 64 }
-        ensures does { EventOrNone event.now result (seen_in self.old) (seen_in self.new) }
+        ensures effect { EventOrNone event.now result (shown_in self.old) (shown_in self.new) }
         ensures claims { KeepsClaims self.old self.new }
         ensures counted { self.new.hardware.board.events ≤ self.old.hardware.board.events + 1 }
     {

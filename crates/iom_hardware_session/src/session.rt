@@ -10,10 +10,10 @@ ghost use Rattle.iom_hardware_session.specs.Claiming.{claimed_after};
 ghost use Rattle.iom_hardware_session.specs.Answered.{judgement_in};
 ghost use Rattle.iom_hardware_session.specs.Runs.{is_wrong_claim, has_fallen, is_wrong_by};
 ghost use Rattle.iom_hardware_session.specs.Good.{GoodMeans, scene_in};
-ghost use Rattle.iom_hardware_session.specs.Seen.{seen_in};
+ghost use Rattle.iom_hardware_session.specs.Shown.{shown_in};
 ghost use Rattle.iom_hardware_session.specs.Watching.{WatchesClaim};
 ghost use Rattle.iom_hardware_session.specs.Wrong.{IfWrong, WrongMeans};
-ghost use Rattle.iom_hardware_session.specs.Lines.{Trusts, LineDoes, TrustsBy, IsGoodLine, IsWrongLine, WatchesStep, WatchesBy, writes, is_of_software, claimed_by, made_by, IsViolation, IsAllowed, IsAdmittedLine};
+ghost use Rattle.iom_hardware_session.specs.Lines.{Trusts, LineEffect, TrustsBy, IsGoodLine, IsWrongLine, WatchesStep, WatchesBy, writes, is_of_software, claimed_by, made_by, IsViolation, IsAllowed, IsAdmittedLine};
 ghost use Rattle.iom_program_disks.specs.Disks.{program_disks};
 ghost use Rattle.iom_virtio_blk.specs.MemoryDisks.{disk_state};
 ghost use Rattle.iom_way_survey.specs.Surveys.{IsConflict, IsConflictFree, is_id_among};
@@ -75,7 +75,7 @@ impl Session {
     /// The access that the block device wants, or waits for where it began that. None where it wants none, or no block
     /// device has the id.
     pub fn wanted(&self, id: DeviceId) -> Result<Option<Access>, AllocError>
-        ensures { IfOk result (λ access. access ≡ wanted_of (block_with (seen_in self.now).inside.blocks id)) }
+        ensures { IfOk result (λ access. access ≡ wanted_of (block_with (shown_in self.now).inside.blocks id)) }
     {
         self.hardware.wanted(self.alloc, id)
     }
@@ -145,7 +145,7 @@ impl Session {
     /// What comes of a line, of hardware, of software or of what the driver claims.
     fn answer(&mut self, line: &HardwareLine) -> Answer
         requires count { self.old.hardware.board.events + 1 < 2 ^ 64 }
-        ensures does { LineDoes line.now result (seen_in self.old) (seen_in self.new) }
+        ensures effect { LineEffect line.now result (shown_in self.old) (shown_in self.new) }
         ensures claimed { (c : Claimed) → ShowsClaimed self.old.claims c → ShowsClaimed self.new.claims (claimed_by line.now result c) }
         ensures trusted { TrustsBy line.now result self.old.trusted.items self.new.trusted.items }
         ensures good { (c : Claimed) → ShowsClaimed self.old.claims c → IsGoodLine line.now result (scene_in self.new) c }
@@ -173,7 +173,7 @@ impl Session {
     /// again where software changes hardware: [`Session::watched`] tells what is found of them.
     pub fn line(&mut self, line: &HardwareLine) -> Stepped
         requires count { self.old.hardware.board.events + 1 < 2 ^ 64 }
-        ensures does { LineDoes line.now result.answer (seen_in self.old) (seen_in self.new) }
+        ensures effect { LineEffect line.now result.answer (shown_in self.old) (shown_in self.new) }
         ensures claimed { (c : Claimed) → ShowsClaimed self.old.claims c
             → ShowsClaimed self.new.claims (claimed_by line.now result.answer c) }
         ensures trusted { TrustsBy line.now result.answer self.old.trusted.items self.new.trusted.items }

@@ -1,11 +1,11 @@
 // What the driver does: it reads and writes registers (IOMMU specification, chapter 5).
 ghost use Rattle.std.specs.Prelude.{◌≡◌};
 ghost use Rattle.iom_hardware_session.specs.Lines.{KeepsClaims, short_width, is_hardwired, ReadsRegister, WritesRegister};
-ghost use Rattle.iom_hardware_session.specs.Seen.{seen_in};
+ghost use Rattle.iom_hardware_session.specs.Shown.{shown_in};
 
 use crate::answer::Answer;
 use crate::state::Session;
-use iom_board::laws::software_keeps_sound;
+use iom_board::laws::software_keeps_invariant;
 use iom_registers::Mmio;
 
 /// The width of an access in bytes, as registers take it. None of them has the widest.
@@ -46,14 +46,14 @@ impl Session {
 
     /// Writes the register at the offset, which has this width; or says why there is none, and then nothing changes.
     pub(crate) fn write_register(&mut self, offset: u64, width: u64, value: u64) -> Answer
-        ensures written { WritesRegister offset width value (seen_in self.old) result (seen_in self.new) }
+        ensures written { WritesRegister offset width value (shown_in self.old) result (shown_in self.new) }
         ensures claims { KeepsClaims self.old self.new }
         ensures counted { self.new.hardware.board.events ≡ self.old.hardware.board.events }
     {
         if is_hardwired(offset, width) {
             return Answer::Written(Ok(()));
         }
-        software_keeps_sound();
+        software_keeps_invariant();
         Answer::Written(
             self.hardware
                 .board

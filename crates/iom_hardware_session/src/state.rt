@@ -1,8 +1,8 @@
 ghost use Rattle.std.specs.Prelude.{◌≤◌, vec_capacity};
 ghost use Rattle.iom_base.specs.Sizes.{device_limit};
 ghost use Rattle.iom_board.specs.BoardParts.{board_parts};
-ghost use Rattle.iom_board.specs.Sound.{IsSoundBoard};
-ghost use Rattle.iom_board.specs.SoundIsFact.{sound_board_prop};
+ghost use Rattle.iom_board.specs.Invariant.{BoardInvariant};
+ghost use Rattle.iom_board.specs.InvariantIsFact.{board_invariant_prop};
 ghost use Rattle.iom_hardware.specs.Agreement.{AgreesWith};
 ghost use Rattle.iom_hardware.specs.AgreementIsFact.{agrees_prop};
 
@@ -27,7 +27,7 @@ pub struct Session {
     pub(crate) alloc: Global,
     /// Where the ways are looked for.
     pub(crate) survey: Survey,
-    ghost sound: { IsSoundBoard (board_parts hardware.board) hardware.board.events } by { sound_board_prop (board_parts hardware.board) hardware.board.events },
+    ghost invariants: { BoardInvariant (board_parts hardware.board) hardware.board.events } by { board_invariant_prop (board_parts hardware.board) hardware.board.events },
     ghost agrees: { AgreesWith hardware.board.devices.items hardware.board.disks.items hardware.blocks.items hardware.at_hand.items } by { agrees_prop hardware.board.devices.items hardware.board.disks.items hardware.blocks.items hardware.at_hand.items },
     ghost room: { device_limit ≤ vec_capacity hardware.blocks },
 }

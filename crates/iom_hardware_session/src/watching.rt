@@ -4,7 +4,7 @@ ghost use Rattle.iom_claims.specs.Claimed.{Claimed};
 ghost use Rattle.iom_claims.specs.Shown.{ShowsClaimed};
 ghost use Rattle.iom_hardware_session.specs.Good.{scene_in, IsCertain};
 ghost use Rattle.iom_hardware_session.specs.Lines.{KeepsHardware, KeepsAll};
-ghost use Rattle.iom_hardware_session.specs.Watching.{IsStillSo, IsNoMore, IsToldOf, AreJudgedAgain};
+ghost use Rattle.iom_hardware_session.specs.Watching.{IsStillSo, IsNoMore, IsVerdictOf, AreJudgedAgain};
 ghost use Rattle.iom_hardware_session.specs.Wrong.{IsUncertain};
 ghost use Rattle.iom_way_survey.specs.Surveys.{IsSurveyOf};
 
@@ -35,7 +35,7 @@ impl Session {
     fn fallen(&self, is_certain: bool, claim: GoodClaim) -> Option<Wrong>
         requires looked { IsTrue is_certain → IsSurveyOf self.now.survey (scene_in self.now) × IsCertain (scene_in self.now) }
         requires uncertain { is_certain ≡ false → IsUncertain self.now.hardware.board self.now.trusted.items }
-        ensures { (c : Claimed) → ShowsClaimed self.now.claims c → IsToldOf result claim self.now.hardware.board self.now.trusted.items c }
+        ensures { (c : Claimed) → ShowsClaimed self.now.claims c → IsVerdictOf result claim self.now.hardware.board self.now.trusted.items c }
     {
         if is_certain {
             self.fallen_by_survey(claim)

@@ -16,7 +16,7 @@ use Rattle.iom_board.specs.BoardParts.{BoardParts}
 use Rattle.iom_board.specs.Messages.{with_message, SendsMessage, AsksTranslation, ClaimsCompletion, LosesMessage, CopiesMessage}
 use Rattle.iom_iommu.specs.Parts.{registers_of, contexts_of, translations_of, flights_of}
 use Rattle.iom_registers.specs.Queues.{with_cmd_to}
-use Rattle.iom_reach.specs.Occurrences.{CarryMessages, IsSendable}
+use Rattle.iom_reach.specs.Transitions.{CarryMessages, IsSendable}
 use Rattle.iom_reach.specs.Scene.{Message}
 use Rattle.iom_hardware_ways.specs.Calls.{AsksAtStep}
 use Rattle.iom_hardware_ways.specs.Scenes.{said_on, message_of, scene_of}
@@ -29,9 +29,9 @@ pub by_device : {A : Type 0} (trusted : ℕ → Bool) (can : DeviceKind → Bool
     (answer : Result A Refusal) (new : BoardParts) → ByDevice can Call old id answer new
     → ((given : A) → IsAble can old.devices id → answer ≡ Ok given → Call old given new → Comes (scene_of trusted old) (scene_of trusted new))
     → Comes (scene_of trusted old) (scene_of trusted new)
-by_device trusted can Call old id answer new (inl absent) does = nothing (scene_of trusted old) (scene_of trusted new) (ap (scene_of trusted) absent.same)
-by_device trusted can Call old id answer new (inr (inl other)) does = nothing (scene_of trusted old) (scene_of trusted new) (ap (scene_of trusted) other.same)
-by_device trusted can Call old id answer new (inr (inr so)) does = does so.given so.able so.answered so.call
+by_device trusted can Call old id answer new (inl absent) effect = nothing (scene_of trusted old) (scene_of trusted new) (ap (scene_of trusted) absent.same)
+by_device trusted can Call old id answer new (inr (inl other)) effect = nothing (scene_of trusted old) (scene_of trusted new) (ap (scene_of trusted) other.same)
+by_device trusted can Call old id answer new (inr (inr so)) effect = effect so.given so.able so.answered so.call
 
 -- other messages are under way
 pub carried : (trusted : ℕ → Bool) (old new : BoardParts) (fabric : List OnLink) → new ≡ record old { fabric = fabric }
@@ -91,7 +91,7 @@ pub asks : (trusted : ℕ → Bool) (old : BoardParts) (id page : ℕ) (answer :
     → Comes (scene_of trusted old) (scene_of trusted new)
 asks trusted old id page answer new call =
     by_device trusted asks_questions (λ old is_sent new. SendsMessage id (sent.Ask (epoch_in old.devices id) page) old is_sent new) old id answer new call
-    (λ is_sent able told does. sends trusted id (sent.Ask (epoch_in old.devices id) page) old is_sent new does (λ caches. omega arith))
+    (λ is_sent able reply effect. sends trusted id (sent.Ask (epoch_in old.devices id) page) old is_sent new effect (λ caches. omega arith))
 
 -- a block device asks at a step
 pub asks_at_step : (trusted : ℕ → Bool) (old : BoardParts) (id page : ℕ) (new : BoardParts) → AsksAtStep old id page new → Comes (scene_of trusted old) (scene_of trusted new)
@@ -102,7 +102,7 @@ pub forged : (trusted : ℕ → Bool) (old : BoardParts) (id serial : ℕ) (answ
     → Comes (scene_of trusted old) (scene_of trusted new)
 forged trusted old id serial answer new call =
     by_device trusted forges (SendsMessage id (sent.InvDone serial)) old id answer new call
-    (λ is_sent able told does. sends trusted id (sent.InvDone serial) old is_sent new does tt)
+    (λ is_sent able reply effect. sends trusted id (sent.InvDone serial) old is_sent new effect tt)
 
 -- a fence that is given up leaves commands, tables and caches as they are
 pub gives_up : (trusted : ℕ → Bool) (old : BoardParts) (has_effect : Bool) (new : BoardParts) → GivesUpFence old has_effect new

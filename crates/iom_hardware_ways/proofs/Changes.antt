@@ -1,7 +1,7 @@
 -- What a request of any kind changes beside its own outcome: what is cached, and the fault queue.
 use Rattle.std.proofs.Common.{◌≡◌, ◌⊎◌, inl, inr, ℕ, List, Contains, Option, refl, ap}
 use Rattle.iom_reach.specs.Memory.{Memory, WalkStep, DiffersAt}
-use Rattle.iom_reach.specs.Occurrences.{IsPartOf, IsPartWith, WalkGives, Forget, KeepContext, KeepTranslation, RecordFault}
+use Rattle.iom_reach.specs.Transitions.{IsPartOf, IsPartWith, WalkGives, Forget, KeepContext, KeepTranslation, RecordFault}
 use Rattle.iom_reach.specs.Scene.{Mapping, AddressSpace, SpacePage, Context, HardwareScene, HasDevice}
 use Rattle.iom_reach.specs.Ways.{IsStored, WalkBegins}
 use Rattle.iom_hardware_ways.proofs.Turns.{Comes, nothing, one, in_succession}

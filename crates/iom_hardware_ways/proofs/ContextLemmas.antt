@@ -14,7 +14,7 @@ use Rattle.iom_registers.specs.declared.directory.DirectoryMode.{DirectoryMode}
 use Rattle.iom_registers.specs.declared.directory.DirectoryMode.TheVariants as mode
 use Rattle.iom_registers.specs.Queues.{directory_mode, directory_root}
 use Rattle.iom_reach.specs.Memory.{Tables}
-use Rattle.iom_reach.specs.Occurrences.{IsPartOf, IsPartWith}
+use Rattle.iom_reach.specs.Transitions.{IsPartOf, IsPartWith}
 use Rattle.iom_reach.specs.Scene.{Context, At, HasDevice}
 use Rattle.iom_reach.specs.Ways.{MayFind}
 use Rattle.iom_hardware_ways.specs.Formats.{context_of}
@@ -115,8 +115,8 @@ lets (Err cause) context is = absurd (cc)
 lets (Ok own) context is = by own.en_ats refl is
   where
     by : (b : Bool) → own.en_ats ≡ b → (if b then Ok own else Err TransactionTypeDisallowed) ≡ Ok context → (◌≡◌ {A = Result DeviceContext Cause} (Ok own) (Ok context)) × (context.en_ats ≡ true)
-    by false e told = absurd (cc)
-    by true e told = let same : own ≡ context = cc in (told, ap (λ (c : DeviceContext). c.en_ats) (sym same) ∙ e)
+    by false e reply = absurd (cc)
+    by true e reply = let same : own ≡ context = cc in (reply, ap (λ (c : DeviceContext). c.en_ats) (sym same) ∙ e)
 
 pub may_find_ats : (trusted : ℕ → Bool) (parts : BoardParts) (id : ℕ) (context : DeviceContext) → HasDevice (scene_of trusted parts) id
     → ats_context_for parts.memory (registers_of parts.iommu) (contexts_of parts.iommu) id ≡ Ok context
@@ -132,8 +132,8 @@ may_find_ats trusted parts id context plugged found = by (directory_mode (regist
     by : (m : DirectoryMode) → m ≡ directory_mode (registers_of parts.iommu)
         → ats_context_in m (context_or_cause parts.memory (registers_of parts.iommu) (contexts_of parts.iommu) id) ≡ Ok context
         → MayFind (scene_of trusted parts) id (context_of context) × (context.en_ats ≡ true)
-    by mode.Off is told = absurd (cc)
-    by mode.Bare is told = absurd (cc)
-    by mode.OneLevel is told = at (record { root = directory_root (registers_of parts.iommu); levels = 1 }, ap (λ k. directory_by k (directory_root (registers_of parts.iommu))) (sym is)) told
-    by mode.TwoLevels is told = at (record { root = directory_root (registers_of parts.iommu); levels = 2 }, ap (λ k. directory_by k (directory_root (registers_of parts.iommu))) (sym is)) told
-    by mode.ThreeLevels is told = at (record { root = directory_root (registers_of parts.iommu); levels = 3 }, ap (λ k. directory_by k (directory_root (registers_of parts.iommu))) (sym is)) told
+    by mode.Off is reply = absurd (cc)
+    by mode.Bare is reply = absurd (cc)
+    by mode.OneLevel is reply = at (record { root = directory_root (registers_of parts.iommu); levels = 1 }, ap (λ k. directory_by k (directory_root (registers_of parts.iommu))) (sym is)) reply
+    by mode.TwoLevels is reply = at (record { root = directory_root (registers_of parts.iommu); levels = 2 }, ap (λ k. directory_by k (directory_root (registers_of parts.iommu))) (sym is)) reply
+    by mode.ThreeLevels is reply = at (record { root = directory_root (registers_of parts.iommu); levels = 3 }, ap (λ k. directory_by k (directory_root (registers_of parts.iommu))) (sym is)) reply

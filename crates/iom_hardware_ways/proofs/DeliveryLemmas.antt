@@ -20,14 +20,14 @@ use Rattle.iom_fabric.specs.declared.message.Message.TheVariants as sent
 use Rattle.iom_fabric.specs.declared.message.Range.{Range}
 use Rattle.iom_fabric.specs.declared.message.Range.TheVariants as range
 use Rattle.iom_fabric.specs.declared.message.Translation.{Translation as Told}
-use Rattle.iom_fabric.specs.declared.message.Translation.TheVariants as told
+use Rattle.iom_fabric.specs.declared.message.Translation.TheVariants as reply
 use Rattle.iom_fault_queue.specs.Fields.{Fields}
 use Rattle.iom_fault_queue.specs.Records.{record_of}
 use Rattle.iom_fault_queue.specs.declared.transaction.Transaction.TheVariants.{AtsRequest}
 use Rattle.iom_board.specs.Deliveries.{TakesReply, TakesReplied, ObeysInvalidation, TakesCompletion, AnswersAsk, MessageArrives, MessageArrivesIfAny, DeliversAtPlace, with_delivery}
 use Rattle.iom_board.specs.BoardParts.{BoardParts}
 use Rattle.iom_board.specs.Messages.{with_message}
-use Rattle.iom_board.specs.Sound.{IsMessageOf}
+use Rattle.iom_board.specs.Invariant.{IsMessageOf}
 use Rattle.iom_board.specs.declared.answers.Delivered.{Delivered}
 use Rattle.iom_board.specs.declared.answers.Delivered.TheVariants.{Answered, Taken, Ignored, Invalidated, Closed, NotClosed}
 use Rattle.iom_inflight.specs.Flights.{Flights}
@@ -40,7 +40,7 @@ use Rattle.iom_registers.specs.Queues.{directory_mode}
 use Rattle.iom_tlb.specs.Content.{Translations}
 use Rattle.iom_tlb.specs.declared.trans_cache.Translation.{Translation}
 use Rattle.iom_reach.specs.Memory.{DiffersAt}
-use Rattle.iom_reach.specs.Occurrences.{AreAmongWithOf, IsSendable, TranslatesTo, CarryMessages, DeliverAnswer}
+use Rattle.iom_reach.specs.Transitions.{AreAmongWithOf, IsSendable, TranslatesTo, CarryMessages, DeliverAnswer}
 use Rattle.iom_reach.specs.Scene.{Mapping, AtsKind, AtsEntry, Message, Question, Answer, HasDevice}
 use Rattle.iom_hardware_ways.specs.Formats.{context_of}
 use Rattle.iom_hardware_ways.specs.Scenes.{ats_kind, contexts_in, mappings_in, mapping_of, fault_frames_of, kept_entry, kept_entries, said_on, message_of, scene_of}
@@ -120,7 +120,7 @@ told_by : (trusted : ℕ → Bool) (old : BoardParts) (device epoch page : ℕ) 
     → found ≡ ats_context_for old.memory (registers_of old.iommu) (contexts_of old.iommu) device
     → ServesBy sure found old.memory (page * 4096) Read (translations_of old.iommu) (Ok answer) kept
     → IsSendable (scene_of trusted old) (Answer device epoch page (mapping_of answer)) × TranslationsChange (scene_of trusted old) (mappings_in kept)
-told_by trusted old device epoch page sure (Err cause) answer kept there asked is (says, stays) = absurd (cc)
+told_by trusted old device epoch page sure (Err cause) answer kept there asked is (says, unchanged) = absurd (cc)
 told_by trusted old device epoch page sure (Ok context) answer kept there asked is serves =
     let (find, set) = may_find_ats trusted old device context there (sym is) in
     let so = answered_by trusted old device context context.first_stage context.second_stage sure (page * 4096) Read answer kept find refl serves in (
@@ -149,16 +149,16 @@ unless_there false memory r f new s (answer, puts) = recorded_there memory r f a
 question_arrives : (trusted : ℕ → Bool) (old : BoardParts) (place device epoch page : ℕ) (answer : Told) (new : BoardParts) → HasDevice (scene_of trusted old) device
     → Contains (map message_of old.fabric) (Question device epoch page)
     → AnswersAsk old device epoch page (remove old.fabric place) answer new → Comes (scene_of trusted old) (scene_of trusted new)
-question_arrives trusted old place device epoch page (told.Page frame rights) new there asked answers =
+question_arrives trusted old place device epoch page (reply.Page frame rights) new there asked answers =
     let is = answers.call.0 in
     let (may, change) = told_by trusted old device epoch page true (ats_context_for old.memory (registers_of old.iommu) (contexts_of old.iommu) device)
     (record { frame = frame; rights = rights; level = is.level }) (translations_of new.iommu) there asked refl is.served in
-    question_answered trusted old new place device epoch page (told.Page frame rights) there answers.fabric answers.devices is.flights is.contexts
+    question_answered trusted old new place device epoch page (reply.Page frame rights) there answers.fabric answers.devices is.flights is.contexts
     (alike (registers_of new.iommu) (registers_of old.iommu) is.registers) may change (inl (ap slice_get answers.call.1))
-question_arrives trusted old place device epoch page (told.Refused cause) new there asked answers =
+question_arrives trusted old place device epoch page (reply.Refused cause) new there asked answers =
     let is = answers.call in
     let fields = record_of (faulted_of device AtsRequest (page * 4096)) (fault_of is.fault) in
-    question_answered trusted old new place device epoch page (told.Refused cause) there answers.fabric answers.devices is.flights is.contexts
+    question_answered trusted old new place device epoch page (reply.Refused cause) there answers.fabric answers.devices is.flights is.contexts
     (unless_alike (is_page_fault is.fault.cause) old.memory (registers_of old.iommu) fields new.memory (registers_of new.iommu) is.recorded) tt
     (inl (stays_shown (translations_of old.iommu) (translations_of new.iommu)
     (faults_by true (ats_context_for old.memory (registers_of old.iommu) (contexts_of old.iommu) device) old.memory (page * 4096) Read (translations_of old.iommu) is.fault (translations_of new.iommu) is.served)))
@@ -247,12 +247,12 @@ answer_taken : (trusted : ℕ → Bool) (old : BoardParts) (place device epoch p
 answer_taken trusted old place device epoch page answer taken.Stale cache kept new at there (other, same) is =
     gone trusted old place new (with_cache old.devices device (Some kept))
     (ap (λ c. with_cache old.devices device c) (ap Some same ∙ sym at) ∙ cache_kept old.devices device) is
-answer_taken trusted old place device epoch page (told.Refused cause) taken.Refused cache kept new at there (own, same) is =
+answer_taken trusted old place device epoch page (reply.Refused cause) taken.Refused cache kept new at there (own, same) is =
     gone trusted old place new (with_cache old.devices device (Some kept))
     (ap (λ c. with_cache old.devices device c) (ap Some same ∙ sym at) ∙ cache_kept old.devices device) is
-answer_taken trusted old place device epoch page (told.Page frame rights) taken.Refused cache kept new at there never is = absurd never
-answer_taken trusted old place device epoch page (told.Refused cause) taken.Kept cache kept new at there never is = absurd never
-answer_taken trusted old place device epoch page (told.Page frame rights) taken.Kept cache kept new at there (own, same) is =
+answer_taken trusted old place device epoch page (reply.Page frame rights) taken.Refused cache kept new at there never is = absurd never
+answer_taken trusted old place device epoch page (reply.Refused cause) taken.Kept cache kept new at there never is = absurd never
+answer_taken trusted old place device epoch page (reply.Page frame rights) taken.Kept cache kept new at there (own, same) is =
     answer_kept trusted old new place device epoch page (record { frame = frame; rights = rights }) cache kept (record { page = page; frame = frame; rights = rights }) at there own same refl is
 
 answer_arrives : (trusted : ℕ → Bool) (old : BoardParts) (place device epoch page : ℕ) (answer : Told) (delivered : Delivered) (new : BoardParts)
@@ -282,9 +282,9 @@ obeys trusted old place device serial range None fabric new after None at none s
     (is ∙ ap (λ (f : List OnLink). with_delivery old device after f) (quiet refl))
 obeys trusted old place device serial range (Some done) fabric new after None at never sends quiet is = absurd never
 obeys trusted old place device serial range None fabric new after (Some cache) at never sends quiet is = absurd never
-obeys trusted old place device serial range (Some done) fabric new after (Some cache) at (left, does, same) sends quiet is =
+obeys trusted old place device serial range (Some done) fabric new after (Some cache) at (left, effect, same) sends quiet is =
     let between : BoardParts = record old { devices = with_cache old.devices device (Some left) } in
-    let left_is = does.left in
+    let left_is = effect.left in
     in_succession (scene_of trusted old) (scene_of trusted between) (scene_of trusted new)
     (drops trusted old between device cache left at (ap (λ (c : Cache). c.epoch) left_is)
     (λ x there. map_among kept_entry (outside range cache.entries) cache.entries (filter_among (λ (e : Entry). not (range_covers range e.page)) cache.entries) x
@@ -292,18 +292,18 @@ obeys trusted old place device serial range (Some done) fabric new after (Some c
     (carried trusted between new (with_message (remove old.fabric place) device done)
     (is ∙ ap (λ (c : Option Cache). with_delivery old device c fabric) same ∙ ap (λ (f : List OnLink). with_delivery old device (Some left) f) (sends done refl))
     (λ message there. elim (left_cases old.fabric place device done message there) [
-      | inl own ↦ inl (subst (IsSendable (scene_of trusted between)) (ap (said_on device) (sym does.done) ∙ own) tt)
+      | inl own ↦ inl (subst (IsSendable (scene_of trusted between)) (ap (said_on device) (sym effect.done) ∙ own) tt)
       | inr before ↦ inr before
     ]))
 
 invalidation_arrives : (trusted : ℕ → Bool) (old : BoardParts) (place device serial : ℕ) (range : Range) (delivered : Delivered) (new : BoardParts)
     → ObeysInvalidation old device serial range (remove old.fabric place) delivered new → Comes (scene_of trusted old) (scene_of trusted new)
-invalidation_arrives trusted old place device serial range (Invalidated named) new (same, (done, after, does, is)) =
-    obeys trusted old place device serial range (Some done) (with_message (remove old.fabric place) device done) new after (cache_of old.devices device) refl does
-    (λ other told. ap (with_message (remove old.fabric place) device) (let e : done ≡ other = cc in e)) (λ never. absurd (cc)) is
-invalidation_arrives trusted old place device serial range Ignored new (after, does, is) =
-    obeys trusted old place device serial range None (remove old.fabric place) new after (cache_of old.devices device) refl does
-    (λ other never. absurd (cc)) (λ told. refl) is
+invalidation_arrives trusted old place device serial range (Invalidated named) new (same, (done, after, effect, is)) =
+    obeys trusted old place device serial range (Some done) (with_message (remove old.fabric place) device done) new after (cache_of old.devices device) refl effect
+    (λ other reply. ap (with_message (remove old.fabric place) device) (let e : done ≡ other = cc in e)) (λ never. absurd (cc)) is
+invalidation_arrives trusted old place device serial range Ignored new (after, effect, is) =
+    obeys trusted old place device serial range None (remove old.fabric place) new after (cache_of old.devices device) refl effect
+    (λ other never. absurd (cc)) (λ reply. refl) is
 invalidation_arrives trusted old place device serial range _ new never = absurd never
 
 -- THE WORD THAT ONE IS COMPLETED
@@ -323,15 +323,15 @@ completion_arrives trusted old place device serial closed new takes =
 arrives : (trusted : ℕ → Bool) (old : BoardParts) (place device : ℕ) (message : Sent) (delivered : Delivered) (new : BoardParts) → All (IsMessageOf old.devices) old.fabric
     → Contains old.fabric (record { device = device; message = message }) → MessageArrives message old device (remove old.fabric place) delivered new
     → Comes (scene_of trusted old) (scene_of trusted new)
-arrives trusted old place device (sent.Ask epoch page) (Answered answer) new askers there does =
+arrives trusted old place device (sent.Ask epoch page) (Answered answer) new askers there effect =
     question_arrives trusted old place device epoch page answer new (asker trusted old device epoch page askers there)
-    (contains_map message_of old.fabric (record { device = device; message = sent.Ask epoch page }) there) does
-arrives trusted old place device (sent.Answer epoch page answer) delivered new askers there does =
+    (contains_map message_of old.fabric (record { device = device; message = sent.Ask epoch page }) there) effect
+arrives trusted old place device (sent.Answer epoch page answer) delivered new askers there effect =
     answer_arrives trusted old place device epoch page answer delivered new
-    (contains_map message_of old.fabric (record { device = device; message = sent.Answer epoch page answer }) there) does
-arrives trusted old place device (sent.InvReq serial range) delivered new askers there does = invalidation_arrives trusted old place device serial range delivered new does
-arrives trusted old place device (sent.InvDone serial) (Closed named) new askers there (same, does) = completion_arrives trusted old place device serial true new does
-arrives trusted old place device (sent.InvDone serial) (NotClosed named) new askers there (same, does) = completion_arrives trusted old place device serial false new does
+    (contains_map message_of old.fabric (record { device = device; message = sent.Answer epoch page answer }) there) effect
+arrives trusted old place device (sent.InvReq serial range) delivered new askers there effect = invalidation_arrives trusted old place device serial range delivered new effect
+arrives trusted old place device (sent.InvDone serial) (Closed named) new askers there (same, effect) = completion_arrives trusted old place device serial true new effect
+arrives trusted old place device (sent.InvDone serial) (NotClosed named) new askers there (same, effect) = completion_arrives trusted old place device serial false new effect
 arrives trusted old place device message _ new askers there never = absurd never
 
 pub delivers : (trusted : ℕ → Bool) (old : BoardParts) (place : ℕ) (delivered : Delivered) (new : BoardParts) → All (IsMessageOf old.devices) old.fabric
@@ -340,4 +340,4 @@ delivers trusted old place delivered new askers call = by (slice_get old.fabric 
   where
     by : (found : Option OnLink) → slice_get old.fabric place ≡ found → MessageArrivesIfAny found old (remove old.fabric place) delivered new → Comes (scene_of trusted old) (scene_of trusted new)
     by None at (none, same) = nothing (scene_of trusted old) (scene_of trusted new) (ap (scene_of trusted) same)
-    by (Some on) at does = arrives trusted old place on.device on.message delivered new askers (get_contains old.fabric place on at) does
+    by (Some on) at effect = arrives trusted old place on.device on.message delivered new askers (get_contains old.fabric place on at) effect

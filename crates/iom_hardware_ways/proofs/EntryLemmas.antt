@@ -9,7 +9,7 @@ use Rattle.iom_device.specs.Caches.{kind_in, cache_of, epoch_of, epoch_in, with_
 use Rattle.iom_device.specs.Calls.{reset_of}
 use Rattle.iom_board.specs.Commits.{ResetsAnyDevice, ClearsCache}
 use Rattle.iom_board.specs.BoardParts.{BoardParts}
-use Rattle.iom_reach.specs.Occurrences.{AreSomeOf, with_raised_epoch, DropEntries}
+use Rattle.iom_reach.specs.Transitions.{AreSomeOf, with_raised_epoch, DropEntries}
 use Rattle.iom_reach.specs.Scene.{AtsKind, AtsEntry}
 use Rattle.iom_hardware_ways.specs.Scenes.{ats_kind, kept_entry, kept_entries, scene_of}
 use Rattle.iom_hardware_ways.proofs.CarryLemmas.{by_device}
@@ -73,7 +73,7 @@ drops trusted old new id cache left at next among is =
 pub resets : (trusted : ℕ → Bool) (old : BoardParts) (id : ℕ) (answer : Result (Unit {0}) Refusal) (new : BoardParts) → ResetsAnyDevice old id answer new
     → Comes (scene_of trusted old) (scene_of trusted new)
 resets trusted old id answer new call =
-    by_device trusted is_any_kind (ClearsCache id) old id answer new call (λ done able told does. by (cache_of old.devices id) refl does.cleared)
+    by_device trusted is_any_kind (ClearsCache id) old id answer new call (λ done able reply effect. by (cache_of old.devices id) refl effect.cleared)
   where
     by : (cache : Option Cache) → cache_of old.devices id ≡ cache → new ≡ record old { devices = with_cache old.devices id (reset_of cache) } → Comes (scene_of trusted old) (scene_of trusted new)
     by None at is = nothing (scene_of trusted old) (scene_of trusted new)

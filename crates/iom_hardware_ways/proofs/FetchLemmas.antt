@@ -37,7 +37,7 @@ use Rattle.iom_tlb.specs.Content.{Translations, Key, DropsWhere}
 use Rattle.iom_tlb.specs.declared.trans_cache.Translation.{Translation}
 use Rattle.iom_tlb.proofs.ContentLemmas.{found_before_drop}
 use Rattle.iom_reach.specs.Memory.{DiffersAt}
-use Rattle.iom_reach.specs.Occurrences.{AreSomeOfOr, IsPartOf, IsMemoryBy, DoCommand}
+use Rattle.iom_reach.specs.Transitions.{AreSomeOfOr, IsPartOf, IsMemoryBy, DoCommand}
 use Rattle.iom_reach.specs.Scene.{Other}
 use Rattle.iom_hardware_ways.specs.Formats.{word_in, command_in, word_frame, stored_by, context_of}
 use Rattle.iom_hardware_ways.specs.Scenes.{place_at, places_from, waiting_places, contexts_in, mapping_of, mappings_in, cached_key, said_on, message_of, scene_of}
@@ -182,8 +182,8 @@ module _ (trusted : ℕ → Bool) (old new : BoardParts) (command : Command) (fa
     (head : slice_get (commands_in old.memory (registers_of old.iommu)) 0 ≡ Some (stands.Command command))
     (memory : new.memory ≡ with_store old.memory (store_of command)) (left : IsLeft command old.iommu new.iommu)
     (devices : new.devices ≡ old.devices) (fabric_is : new.fabric ≡ fabric) (among : AreSomeOfOr (map message_of fabric) Other (map message_of old.fabric)) where
-  does : Comes (scene_of trusted old) (scene_of trusted new)
-  does =
+  effect : Comes (scene_of trusted old) (scene_of trusted new)
+  effect =
       let r = registers_of old.iommu in
       let mode = directory_mode r in
       let place = place_at (place_of r (command_head r)) in
@@ -254,7 +254,7 @@ fetches trusted old fetched new takes = by fetched takes.fabric (by_answer old.m
     by : (answer : Fetched) → new.fabric ≡ with_opened answer (slots_of new.iommu).last old.fabric → FetchesByAnswer old.memory old.iommu answer new.memory new.iommu
         → Comes (scene_of trusted old) (scene_of trusted new)
     by (Did command) fabric call =
-        does trusted old new command (with_opened (Did command) (slots_of new.iommu).last old.fabric) call.0 call.1 call.4 call.5 takes.devices fabric
+        effect trusted old new command (with_opened (Did command) (slots_of new.iommu).last old.fabric) call.0 call.1 call.4 call.5 takes.devices fabric
         (opened_among command (slots_of new.iommu).last old.fabric)
     by Waiting fabric call = is_so trusted old new _ call.3 (shows_itself (registers_of old.iommu)) refl refl refl call.2 takes.devices fabric
     by Empty fabric call = is_so trusted old new _ call.3 (shows_itself (registers_of old.iommu)) refl refl refl call.2 takes.devices fabric

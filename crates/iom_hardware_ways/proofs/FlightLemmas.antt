@@ -19,9 +19,9 @@ use Rattle.iom_inflight.specs.declared.made.MadeAt.{MadeAt}
 use Rattle.iom_inflight.proofs.Rows.{row_is_own, row_of_own, row_of_other}
 use Rattle.iom_iommu.specs.Parts.{registers_of, contexts_of, translations_of, flights_of}
 use Rattle.iom_reach.specs.Memory.{DiffersAt}
-use Rattle.iom_reach.specs.Occurrences.{AreSomeOf, AreAmongWithOf, IsMemoryAfter, IsHarmless, Make, ComesAbout}
+use Rattle.iom_reach.specs.Transitions.{AreSomeOf, AreAmongWithOf, IsMemoryAfter, IsHarmless, Make, ComesAbout}
 use Rattle.iom_reach.specs.Scene.{PendingAccess}
-use Rattle.iom_reach.proofs.OccurrenceLemmas.{contains_head, contains_tail}
+use Rattle.iom_reach.proofs.TransitionLemmas.{contains_head, contains_tail}
 use Rattle.iom_hardware_ways.specs.Calls.{IsMadeHarmlessly}
 use Rattle.iom_hardware_ways.specs.Scenes.{flight_of, flights_in, scene_of}
 use Rattle.iom_hardware_ways.proofs.CarryLemmas.{by_device}
@@ -98,10 +98,10 @@ performed Write memory made new (bytes, there, is) =
 pub makes : (trusted : ℕ → Bool) (old : BoardParts) (id : ℕ) (made : MadeAt) (new : BoardParts) → MakesAccess id old (Some made) new
     → IsHarmless (scene_of trusted old) id (record { frame = made.frame; kind = made.kind })
     → ComesAbout (Make id (record { frame = made.frame; kind = made.kind })) (scene_of trusted old) (scene_of trusted new)
-makes trusted old id made new does harmless =
-    let is = does.call.makes in
+makes trusted old id made new effect harmless =
+    let is = effect.call.makes in
     let rows = (flights_of old.iommu).rows in
-    let own : record { frame = made.frame; kind = made.kind } ≡ flight_of is.oldest = ap (λ (m : MadeAt). as_flight m) is.told in
+    let own : record { frame = made.frame; kind = made.kind } ≡ flight_of is.oldest = ap (λ (m : MadeAt). as_flight m) is.reply in
     let left : ℕ → List PendingAccess = λ d. flights_in (row_of (with_row rows (record is.row { waiting = is.later })) d) in (
       left,
       slice_get new.memory,
@@ -112,7 +112,7 @@ makes trusted old id made new does harmless =
           (performed is.oldest.accepted.access.kind old.memory is.oldest.accepted new.memory is.performed),
       scene_is trusted new new.memory (registers_of old.iommu) (contexts_of old.iommu) (translations_of old.iommu)
           (with_row rows (record is.row { waiting = is.later })) old.devices old.fabric
-          refl does.call.registers (ap cached_contexts does.call.contexts) (ap ioatc.content does.call.translations) (ap (λ (f : Flights). f.rows) is.after) does.devices does.fabric,
+          refl effect.call.registers (ap cached_contexts effect.call.contexts) (ap ioatc.content effect.call.translations) (ap (λ (f : Flights). f.rows) is.after) effect.devices effect.fabric,
     )
   where
     as_flight : MadeAt → PendingAccess
@@ -121,13 +121,13 @@ makes trusted old id made new does harmless =
 pub commits : (trusted : ℕ → Bool) (old : BoardParts) (id : ℕ) (answer : Result (Option MadeAt) Refusal) (new : BoardParts) → CommitsOldestAccess old id answer new
     → IsMadeHarmlessly trusted old id answer → Comes (scene_of trusted old) (scene_of trusted new)
 commits trusted old id answer new call harmless =
-    by_device trusted is_any_kind (MakesAccess id) old id answer new call (λ given able told does. by given told does)
+    by_device trusted is_any_kind (MakesAccess id) old id answer new call (λ given able reply effect. by given reply effect)
   where
     by : (given : Option MadeAt) → answer ≡ Ok given → MakesAccess id old given new → Comes (scene_of trusted old) (scene_of trusted new)
-    by None told does = nothing (scene_of trusted old) (scene_of trusted new)
+    by None reply effect = nothing (scene_of trusted old) (scene_of trusted new)
         (scene_is trusted new old.memory (registers_of old.iommu) (contexts_of old.iommu) (translations_of old.iommu) (flights_of old.iommu).rows old.devices old.fabric
-        does.call.makes.1 does.call.registers (ap cached_contexts does.call.contexts) (ap ioatc.content does.call.translations) (ap (λ (f : Flights). f.rows) does.call.makes.2)
-        does.devices does.fabric)
-    by (Some made) told does =
+        effect.call.makes.1 effect.call.registers (ap cached_contexts effect.call.contexts) (ap ioatc.content effect.call.translations) (ap (λ (f : Flights). f.rows) effect.call.makes.2)
+        effect.devices effect.fabric)
+    by (Some made) reply effect =
         one (Make id (record { frame = made.frame; kind = made.kind })) (scene_of trusted old) (scene_of trusted new)
-        (makes trusted old id made new does (subst (IsMadeHarmlessly trusted old id) told harmless))
+        (makes trusted old id made new effect (subst (IsMadeHarmlessly trusted old id) reply harmless))

@@ -9,7 +9,7 @@ use Rattle.iom_inflight.specs.declared.made.MadeAt.{MadeAt}
 use Rattle.iom_registers.specs.Queues.{directory_mode, directory_root}
 use Rattle.iom_registers.specs.declared.registers.Registers.{Registers}
 use Rattle.iom_reach.specs.Memory.{Tables, WalkStep}
-use Rattle.iom_reach.specs.Occurrences.{Make, ComesAbout}
+use Rattle.iom_reach.specs.Transitions.{Make, ComesAbout}
 use Rattle.iom_reach.specs.Safe.{IsRead, IsSafe, AreTimely}
 use Rattle.iom_reach.specs.Scene.{AddressSpace, Off, At, Message, Question, Answer, PartialWalk, Place}
 use Rattle.iom_reach.specs.Ways.{WalkBegins, AtRoot, PartWay}
@@ -17,23 +17,23 @@ use Rattle.iom_reach.proofs.LawLemmas.{turns_add_no_way, accesses_had_ways}
 use Rattle.iom_hardware_ways.specs.Calls.{HardwareCall, DoInTurn}
 use Rattle.iom_hardware_ways.specs.Laws.{CallsAddNoWay, MakesIn, MadeAccessesHadWays, QuietStaysQuiet, GoodClaimsHold, FreeStaysFree, BeginsSafe}
 use Rattle.iom_hardware_ways.specs.Scenes.{directory_by, waiting_places, message_of, scene_of}
-use Rattle.iom_hardware_ways.proofs.CallLemmas.{calls_are_occurrences}
+use Rattle.iom_hardware_ways.proofs.CallLemmas.{calls_are_transitions}
 use Rattle.iom_hardware_ways.proofs.FlightLemmas.{makes}
 use Rattle.iom_hardware_ways.proofs.ListLemmas.{in_none}
 use Rattle.iom_hardware_ways.proofs.Turns.{Comes, nothing, in_succession}
 
--- a list of calls is a list of occurrences
+-- a list of calls is a list of transitions
 pub all_occur : (trusted : ℕ → Bool) (calls : List HardwareCall) (events : ℕ) (old new : BoardParts) → DoInTurn trusted events old calls new
     → Comes (scene_of trusted old) (scene_of trusted new)
 all_occur trusted [] events old new same = nothing (scene_of trusted old) (scene_of trusted new) (ap (scene_of trusted) same)
-all_occur trusted (first ∷ others) events old new (sound, harmless, (between, does, later)) =
+all_occur trusted (first ∷ others) events old new (invariants, harmless, (between, effect, later)) =
     in_succession (scene_of trusted old) (scene_of trusted between) (scene_of trusted new)
-    (calls_are_occurrences trusted first events old between sound does harmless) (all_occur trusted others (events + 1) between new later)
+    (calls_are_transitions trusted first events old between invariants effect harmless) (all_occur trusted others (events + 1) between new later)
 
 pub calls_add_no_way : CallsAddNoWay
 calls_add_no_way trusted calls events old new safe timely turns =
-    let (occurrences, all) = all_occur trusted calls events old new turns in
-    turns_add_no_way occurrences (scene_of trusted old) (scene_of trusted new) safe timely all
+    let (transitions, all) = all_occur trusted calls events old new turns in
+    turns_add_no_way transitions (scene_of trusted old) (scene_of trusted new) safe timely all
 
 -- a commit that makes an access is one
 pub made_so : (trusted : ℕ → Bool) (old : BoardParts) (id : ℕ) (made : MadeAt) (new : BoardParts) → MakesIn trusted old id made new
@@ -41,14 +41,14 @@ pub made_so : (trusted : ℕ → Bool) (old : BoardParts) (id : ℕ) (made : Mad
 made_so trusted old id made new (inl absent, harmless) = absurd (let never = absent.answered in cc)
 made_so trusted old id made new (inr (inl other), harmless) = absurd (let never = other.answered in cc)
 made_so trusted old id made new (inr (inr so), harmless) =
-    let told : Ok (Some made) ≡ Ok so.given = so.answered in
+    let reply : Ok (Some made) ≡ Ok so.given = so.answered in
     let same : so.given ≡ Some made = cc in
     makes trusted old id made new (subst (λ given. MakesAccess id old given new) same so.call) harmless
 
 pub accesses_had_ways_in : MadeAccessesHadWays
 accesses_had_ways_in trusted calls events id made old between new safe timely turns makes =
-    let (occurrences, all) = all_occur trusted calls events old between turns in
-    accesses_had_ways occurrences id (record { frame = made.frame; kind = made.kind }) (scene_of trusted old) (scene_of trusted between) (scene_of trusted new) safe timely all
+    let (transitions, all) = all_occur trusted calls events old between turns in
+    accesses_had_ways transitions id (record { frame = made.frame; kind = made.kind }) (scene_of trusted old) (scene_of trusted between) (scene_of trusted new) safe timely all
     (made_so trusted between id made new makes)
 
 pub quiet_stays_quiet : QuietStaysQuiet

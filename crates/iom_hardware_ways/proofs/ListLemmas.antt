@@ -1,7 +1,7 @@
 -- What lists contain.
 use Rattle.std.proofs.Common.{zero, suc, ◌≡◌, ◌⊎◌, inl, inr, ℕ, Bool, true, false, List, [], ◌∷◌, filter, map, drop, cond, remove, slice_get, Contains, Some, subst, arith}
 use Rattle.std.proofs.lemmas.List.Elements.{Contains-push_cases, Contains-append_cases}
-use Rattle.iom_reach.proofs.OccurrenceLemmas.{contains_head, contains_tail}
+use Rattle.iom_reach.proofs.TransitionLemmas.{contains_head, contains_tail}
 
 pub in_none : {X : Type 0} (x : X) → Contains [] x → ⊥
 in_none x (k, below, at) = absurd (omega arith)

@@ -38,10 +38,10 @@ dropped : (memory : List (List ℕ)) (r s : Registers) → dropping memory r ≡
 dropped memory r s is = by (is_fault_queue_marked r) (is_full r) (is_tail_outside memory r) is
   where
     by : (marked full outside : Bool) → (if marked then Some r else if full then Some (with_fqof r) else if outside then Some (with_fqmf r) else None) ≡ Some s → ShowAlike s r
-    by true full outside told = alike s r (let e : r ≡ s = cc in sym e)
-    by false true outside told = alike s (with_fqof r) (let e : with_fqof r ≡ s = cc in sym e)
-    by false false true told = alike s (with_fqmf r) (let e : with_fqmf r ≡ s = cc in sym e)
-    by false false false told = absurd (cc)
+    by true full outside reply = alike s r (let e : r ≡ s = cc in sym e)
+    by false true outside reply = alike s (with_fqof r) (let e : with_fqof r ≡ s = cc in sym e)
+    by false false true reply = alike s (with_fqmf r) (let e : with_fqmf r ≡ s = cc in sym e)
+    by false false false reply = absurd (cc)
 
 pub recorded_alike : (memory : List (List ℕ)) (r : Registers) (f : Fields) (answer : Put) (new : List (List ℕ)) (s : Registers) → PutsRecord memory r f answer new s → ShowAlike s r
 recorded_alike memory r f Written new s (on, none, stores, is) = alike s (with_record_written r) is

@@ -38,10 +38,10 @@ use Rattle.iom_registers.specs.declared.directory.DirectoryMode.{DirectoryMode}
 use Rattle.iom_registers.specs.declared.directory.DirectoryMode.TheVariants as mode
 use Rattle.iom_registers.specs.Queues.{directory_mode, directory_root}
 use Rattle.iom_stage_walk.specs.declared.walked.WalkFault.{WalkFault}
-use Rattle.iom_tlb.specs.Content.{Translations, TranslationsStay}
+use Rattle.iom_tlb.specs.Content.{Translations, TranslationsUnchanged}
 use Rattle.iom_tlb.specs.declared.trans_cache.Translation.{Translation}
 use Rattle.iom_reach.specs.Memory.{WalkStep}
-use Rattle.iom_reach.specs.Occurrences.{IsAdmitted, InModeBare, Requested, FromEntry, Forged, Accept}
+use Rattle.iom_reach.specs.Transitions.{IsAdmitted, InModeBare, Requested, FromEntry, Forged, Accept}
 use Rattle.iom_reach.specs.Scene.{Mapping, AddressSpace, SpacePage, PendingAccess, Forges, Caches, Message, HardwareScene, HasDevice}
 use Rattle.iom_reach.specs.Ways.{WalkBegins, AtRoot, PartWay}
 use Rattle.iom_hardware_ways.specs.Formats.{context_of}
@@ -102,7 +102,7 @@ accepted trusted old new id access number Served there accepts memory devices fa
 -- IT IS REFUSED
 refused : (trusted : ℕ → Bool) (old new : BoardParts) (id : ℕ) (access : Access) (cause : Cause) (Served : Result Translation WalkFault → Translations → Type 0) (transaction : Transaction)
     → HasDevice (scene_of trusted old) id → Refuses Served transaction old.memory old.iommu id access cause new.memory new.iommu → new.devices ≡ old.devices → new.fabric ≡ old.fabric
-    → ((fault : WalkFault) (kept : Translations) → Served (Err fault) kept → TranslationsStay (translations_of old.iommu) kept)
+    → ((fault : WalkFault) (kept : Translations) → Served (Err fault) kept → TranslationsUnchanged (translations_of old.iommu) kept)
     → Comes (scene_of trusted old) (scene_of trusted new)
 refused trusted old new id access cause Served transaction there refuses devices fabric why =
     let s = scene_of trusted old in
@@ -132,7 +132,7 @@ answered : (trusted : ℕ → Bool) (old new : BoardParts) (id : ℕ) (access : 
     → HasDevice (scene_of trusted old) id → Replies (Answers Served transaction old.memory old.iommu id access) old reply new
     → ((answer : Translation) (kept : Translations) → Served (Ok answer) kept
     → IsAdmitted (scene_of trusted old) id answer.frame access.kind × TranslationsChange (scene_of trusted old) (mappings_in kept))
-    → ((fault : WalkFault) (kept : Translations) → Served (Err fault) kept → TranslationsStay (translations_of old.iommu) kept)
+    → ((fault : WalkFault) (kept : Translations) → Served (Err fault) kept → TranslationsUnchanged (translations_of old.iommu) kept)
     → Comes (scene_of trusted old) (scene_of trusted new)
 answered trusted old new id access Served transaction BadSpan there replies served faults = unchanged trusted old new replies.call.1 replies.call.2 replies.devices replies.fabric
 answered trusted old new id access Served transaction Busy there replies served faults = unchanged trusted old new replies.call.2 replies.call.3 replies.devices replies.fabric
@@ -148,7 +148,7 @@ served_by : (trusted : ℕ → Bool) (old : BoardParts) (id address : ℕ) (kind
     → HasDevice (scene_of trusted old) id → HasDirectory trusted old → found ≡ context_or_cause old.memory (registers_of old.iommu) (contexts_of old.iommu) id
     → ServesBy sure found old.memory address kind (translations_of old.iommu) (Ok answer) kept
     → IsAdmitted (scene_of trusted old) id answer.frame kind × TranslationsChange (scene_of trusted old) (mappings_in kept)
-served_by trusted old id address kind sure (Err cause) answer kept there directory is (told, stays) = absurd (cc)
+served_by trusted old id address kind sure (Err cause) answer kept there directory is (response, unchanged) = absurd (cc)
 served_by trusted old id address kind sure (Ok context) answer kept there directory is serves =
     let find = may_find trusted old id context there directory (sym is) in
     let so = answered_by trusted old id context context.first_stage context.second_stage sure address kind answer kept find refl serves in
@@ -158,9 +158,9 @@ served_in : (trusted : ℕ → Bool) (old : BoardParts) (id address : ℕ) (kind
     → HasDevice (scene_of trusted old) id → (m : DirectoryMode) → m ≡ directory_mode (registers_of old.iommu)
     → ServesIn sure m (context_or_cause old.memory (registers_of old.iommu) (contexts_of old.iommu) id) old.memory address kind (translations_of old.iommu) (Ok answer) kept
     → IsAdmitted (scene_of trusted old) id answer.frame kind × TranslationsChange (scene_of trusted old) (mappings_in kept)
-served_in trusted old id address kind sure answer kept there mode.Off is (told, stays) = absurd (cc)
-served_in trusted old id address kind sure answer kept there mode.Bare is (told, stays) =
-    (InModeBare there (ap (λ k. directory_by k (directory_root (registers_of old.iommu))) (sym is)), inl (stays_shown (translations_of old.iommu) kept stays))
+served_in trusted old id address kind sure answer kept there mode.Off is (response, unchanged) = absurd (cc)
+served_in trusted old id address kind sure answer kept there mode.Bare is (response, unchanged) =
+    (InModeBare there (ap (λ k. directory_by k (directory_root (registers_of old.iommu))) (sym is)), inl (stays_shown (translations_of old.iommu) kept unchanged))
 served_in trusted old id address kind sure answer kept there mode.OneLevel is serves =
     served_by trusted old id address kind sure (context_or_cause old.memory (registers_of old.iommu) (contexts_of old.iommu) id) answer kept there
     (record { root = directory_root (registers_of old.iommu); levels = 1 }, ap (λ k. directory_by k (directory_root (registers_of old.iommu))) (sym is)) refl serves
@@ -172,14 +172,14 @@ served_in trusted old id address kind sure answer kept there mode.ThreeLevels is
     (record { root = directory_root (registers_of old.iommu); levels = 3 }, ap (λ k. directory_by k (directory_root (registers_of old.iommu))) (sym is)) refl serves
 
 pub faults_by : (sure : Bool) (found : Result DeviceContext Cause) (memory : List (List ℕ)) (address : ℕ) (kind : AccessKind) (old : Translations) (fault : WalkFault) (kept : Translations)
-    → ServesBy sure found memory address kind old (Err fault) kept → TranslationsStay old kept
-faults_by sure (Err cause) memory address kind old fault kept (told, stays) = stays
+    → ServesBy sure found memory address kind old (Err fault) kept → TranslationsUnchanged old kept
+faults_by sure (Err cause) memory address kind old fault kept (response, unchanged) = unchanged
 faults_by sure (Ok context) memory address kind old fault kept serves = faulted_by context context.first_stage context.second_stage sure memory address kind old kept fault serves
 
 faults_in : (sure : Bool) (m : DirectoryMode) (found : Result DeviceContext Cause) (memory : List (List ℕ)) (address : ℕ) (kind : AccessKind) (old : Translations) (fault : WalkFault) (kept : Translations)
-    → ServesIn sure m found memory address kind old (Err fault) kept → TranslationsStay old kept
-faults_in sure mode.Off found memory address kind old fault kept (told, stays) = stays
-faults_in sure mode.Bare found memory address kind old fault kept (told, stays) = stays
+    → ServesIn sure m found memory address kind old (Err fault) kept → TranslationsUnchanged old kept
+faults_in sure mode.Off found memory address kind old fault kept (response, unchanged) = unchanged
+faults_in sure mode.Bare found memory address kind old fault kept (response, unchanged) = unchanged
 faults_in sure mode.OneLevel found memory address kind old fault kept serves = faults_by sure found memory address kind old fault kept serves
 faults_in sure mode.TwoLevels found memory address kind old fault kept serves = faults_by sure found memory address kind old fault kept serves
 faults_in sure mode.ThreeLevels found memory address kind old fault kept serves = faults_by sure found memory address kind old fault kept serves
@@ -188,7 +188,7 @@ pub requests : (trusted : ℕ → Bool) (can : DeviceKind → Bool) (old : Board
     → RequestsAccess can old id access answer new → Comes (scene_of trusted old) (scene_of trusted new)
 requests trusted can old id access answer new call =
     by_device trusted can (λ old reply new. Replies (AnswersRequest old.memory old.iommu id access) old reply new) old id answer new call
-    (λ reply able told replies. answered trusted old new id access (ServesRequest old.memory old.iommu id access) (untranslated_of access.kind) reply (plugged trusted old can id able) replies
+    (λ reply able response replies. answered trusted old new id access (ServesRequest old.memory old.iommu id access) (untranslated_of access.kind) reply (plugged trusted old can id able) replies
     (λ found kept serves. served_in trusted old id access.address access.kind true found kept (plugged trusted old can id able) (directory_mode (registers_of old.iommu)) refl serves)
     (λ fault kept serves. faults_in true (directory_mode (registers_of old.iommu)) (context_or_cause old.memory (registers_of old.iommu) (contexts_of old.iommu) id) old.memory access.address access.kind
     (translations_of old.iommu) fault kept serves))
@@ -201,8 +201,8 @@ module _ (trusted : ℕ → Bool) (old : BoardParts) (id : ℕ) (access : Access
     → answer.frame ≡ access.address / 4096 → IsAdmitted (scene_of trusted old) id answer.frame access.kind) where
   let_through : (found : Result DeviceContext Cause) → found ≡ ats_context_for old.memory (registers_of old.iommu) (contexts_of old.iommu) id
       → (answer : Translation) → Ok answer ≡ physical_page found old.memory access.address access.kind → IsAdmitted (scene_of trusted old) id answer.frame access.kind
-  let_through (Err cause) is answer told = absurd (cc)
-  let_through (Ok context) is answer told = why context answer (sym is) (own_frame old.memory access.address access.kind answer told).0
+  let_through (Err cause) is answer response = absurd (cc)
+  let_through (Ok context) is answer response = why context answer (sym is) (own_frame old.memory access.address access.kind answer response).0
 
   pub translated : (reply : Reply) (new : BoardParts) → Replies (AnswersTranslated old.memory old.iommu id access) old reply new → Comes (scene_of trusted old) (scene_of trusted new)
   translated reply new replies =
@@ -221,7 +221,7 @@ pub requests_translated : (trusted : ℕ → Bool) (old : BoardParts) (id : ℕ)
     → RequestsTranslatedAccess old id access answer new → Comes (scene_of trusted old) (scene_of trusted new)
 requests_translated trusted old id access answer new call =
     by_device trusted forges (λ old reply new. Replies (AnswersTranslated old.memory old.iommu id access) old reply new) old id answer new call
-    (λ reply able told replies. translated trusted old id access (plugged trusted old forges id able)
+    (λ reply able response replies. translated trusted old id access (plugged trusted old forges id able)
     (λ context given found frame.
     let (find, set) = may_find_ats trusted old id context (plugged trusted old forges id able) found in
     Forged (context_of context) find set (ap (option_map ats_kind) able.1 ∙ ap Some (forges_all able.0 able.2)))
@@ -258,8 +258,8 @@ entry_gives (Some entry) kind frame is = by (allows entry.rights kind) refl is
   where
     by : (b : Bool) → allows entry.rights kind ≡ b → (if b then Some entry.frame else None) ≡ Some frame
         → (own : Entry) × (◌≡◌ {A = Option Entry} (Some entry) (Some own)) × (own.frame ≡ frame) × (allows own.rights kind ≡ true)
-    by true e told = (entry, refl, (let same : entry.frame ≡ frame = cc in same), e)
-    by false e told = absurd (cc)
+    by true e response = (entry, refl, (let same : entry.frame ≡ frame = cc in same), e)
+    by false e response = absurd (cc)
 
 cache_gives : (devices : List Device) (id page : ℕ) (kind : AccessKind) (frame : ℕ) → option_and_then (λ (cache : Cache). frame_for cache page kind) (cache_of devices id) ≡ Some frame
     → (cache : Cache) × (cache_of devices id ≡ Some cache) × (frame_for cache page kind ≡ Some frame)
@@ -267,8 +267,8 @@ cache_gives devices id page kind frame is = by (cache_of devices id) refl is
   where
     by : (found : Option Cache) → cache_of devices id ≡ found → option_and_then (λ (cache : Cache). frame_for cache page kind) found ≡ Some frame
         → (cache : Cache) × (cache_of devices id ≡ Some cache) × (frame_for cache page kind ≡ Some frame)
-    by None e told = absurd (cc)
-    by (Some cache) e told = (cache, e, told)
+    by None e response = absurd (cc)
+    by (Some cache) e response = (cache, e, response)
 
 back_at : (frame offset : ℕ) → (frame * 4096 + offset % 4096) / 4096 ≡ frame
 back_at frame offset = omega arith
@@ -285,8 +285,8 @@ goes_by_cache trusted old id access there caches (Some frame) is (Replied reply)
     let kept : Contains (map kept_entry cache.entries) (kept_entry entry) =
     contains_map kept_entry cache.entries entry (found_there (λ (e : Entry). e.page == page_of access) cache.entries entry found) in
     translated trusted old id (at_frame frame access) there
-    (λ context answer told own.
-    let (find, set) = may_find_ats trusted old id context there told in
+    (λ context answer response own.
+    let (find, set) = may_find_ats trusted old id context there response in
     FromEntry (context_of context) entry.page (record { frame = entry.frame; rights = entry.rights }) find set (caches_kind old.devices id cache caches at)
     (subst (λ o. Contains (kept_entries o) (kept_entry entry)) (sym at) kept) (same ∙ sym (own ∙ back_at frame access.address), allowed))
     reply new replies
@@ -294,9 +294,9 @@ goes_by_cache trusted old id access there caches (Some frame) is (Replied reply)
 pub requests_through_cache : (trusted : ℕ → Bool) (can : DeviceKind → Bool) (old : BoardParts) (id : ℕ) (access : Access) (answer : Result CacheReply Refusal) (new : BoardParts)
     → HaveTheirCaches old.devices → RequestsAccessThroughCache can old id access answer new → Comes (scene_of trusted old) (scene_of trusted new)
 requests_through_cache trusted can old id access answer new caches call =
-    by_device trusted can (GoesByCache id access) old id answer new call (λ reply able told goes. by reply (plugged trusted old can id able) goes)
+    by_device trusted can (GoesByCache id access) old id answer new call (λ reply able response goes. by reply (plugged trusted old can id able) goes)
   where
     by : (reply : CacheReply) → HasDevice (scene_of trusted old) id → GoesByCache id access old reply new → Comes (scene_of trusted old) (scene_of trusted new)
-    by reply there (inl (outside, told, same)) = nothing (scene_of trusted old) (scene_of trusted new) (ap (scene_of trusted) same)
-    by reply there (inr (inl (within, full, told, same))) = nothing (scene_of trusted old) (scene_of trusted new) (ap (scene_of trusted) same)
+    by reply there (inl (outside, response, same)) = nothing (scene_of trusted old) (scene_of trusted new) (ap (scene_of trusted) same)
+    by reply there (inr (inl (within, full, response, same))) = nothing (scene_of trusted old) (scene_of trusted new) (ap (scene_of trusted) same)
     by reply there (inr (inr (within, room, looks))) = goes_by_cache trusted old id access there caches (frame_in_cache old id access) refl reply new looks

@@ -21,13 +21,13 @@ use Rattle.iom_stage_walk.specs.Entries.{entries}
 use Rattle.iom_stage_walk.specs.Paths.{first_widths, first_path, ReachesFirst, StopsFirst}
 use Rattle.iom_stage_walk.specs.Second.{second_widths, second_path, ReachesSecond, StopsSecond}
 use Rattle.iom_stage_walk.proofs.ServesBoth.{both_writes}
-use Rattle.iom_tlb.specs.Content.{Key, Translations, TranslationsStay, Sets}
+use Rattle.iom_tlb.specs.Content.{Key, Translations, TranslationsUnchanged, Sets}
 use Rattle.iom_tlb.specs.declared.space.Space.{Space}
 use Rattle.iom_tlb.specs.declared.space.Space.TheVariants as space
 use Rattle.iom_tlb.specs.declared.trans_cache.Translation.{Translation}
 use Rattle.iom_tlb.proofs.KeyLemmas.{one_or_other}
 use Rattle.iom_reach.specs.Memory.{WalkStep}
-use Rattle.iom_reach.specs.Occurrences.{IsPartOf, IsPartWith, WalkGives, TranslatesTo, ToItself, ByCache, ByWalk}
+use Rattle.iom_reach.specs.Transitions.{IsPartOf, IsPartWith, WalkGives, TranslatesTo, ToItself, ByCache, ByWalk}
 use Rattle.iom_reach.specs.Scene.{Mapping, AddressSpace, First as InFirst, Second as InSecond, Both as InBoth, SpacePage, Context, HardwareScene}
 use Rattle.iom_reach.specs.Ways.{space_of, tables_of, MayFind, WalkBegins, AtRoot}
 use Rattle.iom_hardware_ways.specs.Formats.{steps_along, steps_in, stages_in, context_of}
@@ -58,8 +58,8 @@ same_page one other same =
 
 -- CACHED TRANSLATIONS
 
-pub stays_shown : (old new : Translations) → TranslationsStay old new → IsPartOf (mappings_in new) (mappings_in old)
-stays_shown old new stays at value is = ap (option_map mapping_of) (sym (stays (cached_key at))) ∙ is
+pub stays_shown : (old new : Translations) → TranslationsUnchanged old new → IsPartOf (mappings_in new) (mappings_in old)
+stays_shown old new unchanged at value is = ap (option_map mapping_of) (sym (unchanged (cached_key at))) ∙ is
 
 none_mapped : (cached : Option Translation) (value : Mapping) → cached ≡ None → option_map mapping_of cached ≡ Some value → ⊥
 none_mapped None value none is = cc
@@ -88,8 +88,8 @@ used None kind own is = absurd (cc)
 used (Some found) kind own is = by (allows found.rights kind) refl is
   where
     by : (b : Bool) → allows found.rights kind ≡ b → Some own ≡ (if b then Some found else None) → (◌≡◌ {A = Option Translation} (Some found) (Some own)) × (allows own.rights kind ≡ true)
-    by true e told = let same : found ≡ own = cc in (sym told, ap (λ (t : Translation). allows t.rights kind) (sym same) ∙ e)
-    by false e told = absurd (cc)
+    by true e reply = let same : found ≡ own = cc in (sym reply, ap (λ (t : Translation). allows t.rights kind) (sym same) ∙ e)
+    by false e reply = absurd (cc)
 
 -- WALKS
 
@@ -145,13 +145,13 @@ module _ (trusted : ℕ → Bool) (parts : BoardParts) (context : Context) (s : 
       → (cached : Option Translation) → cached ≡ cached_for (translations_of parts.iommu (cached_space s, page)) kind
       → LooksOrWalks sure cached Reaches Stops (cached_space s, page) (translations_of parts.iommu) (Ok answer) new
       → IsAnswered (scene_of trusted parts) context page kind answer (mappings_in new)
-  looked_or_walked Reaches Stops sure answer new walks (Some own) is (told, stays) =
+  looked_or_walked Reaches Stops sure answer new walks (Some own) is (reply, unchanged) =
       let same : answer ≡ own = cc in
       let (there, allowed) = used (translations_of parts.iommu (cached_space s, page)) kind own is in
       record {
         translates = ByCache s within (ap (option_map mapping_of) (there ∙ ap Some (sym same)));
         allowed = ap (λ (t : Translation). allows t.rights kind) same ∙ allowed;
-        change = inl (stays_shown (translations_of parts.iommu) new stays);
+        change = inl (stays_shown (translations_of parts.iommu) new unchanged);
       }
   looked_or_walked Reaches Stops sure answer new walks None is (walked, reaches, same, inl sets) =
       let (gives, allowed) = walks walked reaches in
@@ -169,18 +169,18 @@ module _ (trusted : ℕ → Bool) (parts : BoardParts) (context : Context) (s : 
           sets_shown (translations_of parts.iommu) (record { space = s; page = page }) (translation_of walked) new sets,
         );
       }
-  looked_or_walked Reaches Stops sure answer new walks None is (walked, reaches, same, inr (unsure, none, stays)) =
+  looked_or_walked Reaches Stops sure answer new walks None is (walked, reaches, same, inr (unsure, none, unchanged)) =
       let (gives, allowed) = walks walked reaches in
       record {
         translates = ByWalk s table steps_to within begins (subst (λ t. WalkGives (scene_of trusted parts) table steps_to (mapping_of t)) (sym same) gives);
         allowed = ap (λ (t : Translation). allows t.rights kind) same ∙ allowed;
-        change = inl (stays_shown (translations_of parts.iommu) new stays);
+        change = inl (stays_shown (translations_of parts.iommu) new unchanged);
       }
 
 -- the frame of the address itself
 pub own_frame : (memory : List (List ℕ)) (address : ℕ) (kind : AccessKind) (answer : Translation) → Ok answer ≡ own_page memory address kind
     → (answer.frame ≡ address / 4096) × (allows answer.rights kind ≡ true)
-own_frame memory address kind answer told = by (nat_lt (address / 4096) (length memory)) told
+own_frame memory address kind answer reply = by (nat_lt (address / 4096) (length memory)) reply
   where
     all_allowed : (k : AccessKind) → allows rw k ≡ true
     all_allowed Read = refl
@@ -199,9 +199,9 @@ pub answered_by : (trusted : ℕ → Bool) (parts : BoardParts) (id : ℕ) (cont
     → (context_of context).stages ≡ stages_in one two context.gscid context.pscid.number
     → TranslatesBy sure one two context parts.memory address kind (translations_of parts.iommu) (Ok answer) new
     → IsAnswered (scene_of trusted parts) (context_of context) (address / 4096) kind answer (mappings_in new)
-answered_by trusted parts id context first.Bare second.Bare sure address kind answer new find is (told, stays) =
-    let (frame, allowed) = own_frame parts.memory address kind answer told in
-    record { translates = ToItself is; allowed = allowed; change = inl (stays_shown (translations_of parts.iommu) new stays) }
+answered_by trusted parts id context first.Bare second.Bare sure address kind answer new find is (reply, unchanged) =
+    let (frame, allowed) = own_frame parts.memory address kind answer reply in
+    record { translates = ToItself is; allowed = allowed; change = inl (stays_shown (translations_of parts.iommu) new unchanged) }
 answered_by trusted parts id context (first.Tables size root) second.Bare sure address kind answer new find is serves =
     looked_or_walked trusted parts (context_of context) (InFirst context.pscid.number) (address / 4096) kind root.number (λ page. steps_along (first_widths (levels_of size)) page)
     (ap space_of is)
@@ -226,13 +226,13 @@ answered_by trusted parts id context (first.Tables size guest) (second.Tables si
 
 -- a fault keeps nothing
 faulted : (Reaches : Walked → Type 0) (Stops : WalkFault → Type 0) (sure : Bool) (key : Key) (old new : Translations) (fault : WalkFault) (cached : Option Translation)
-    → LooksOrWalks sure cached Reaches Stops key old (Err fault) new → TranslationsStay old new
-faulted Reaches Stops sure key old new fault None (stops, stays) = stays
-faulted Reaches Stops sure key old new fault (Some own) (told, stays) = stays
+    → LooksOrWalks sure cached Reaches Stops key old (Err fault) new → TranslationsUnchanged old new
+faulted Reaches Stops sure key old new fault None (stops, unchanged) = unchanged
+faulted Reaches Stops sure key old new fault (Some own) (reply, unchanged) = unchanged
 
 pub faulted_by : (context : DeviceContext) (one : First) (two : Second) (sure : Bool) (memory : List (List ℕ)) (address : ℕ) (kind : AccessKind) (old new : Translations) (fault : WalkFault)
-    → TranslatesBy sure one two context memory address kind old (Err fault) new → TranslationsStay old new
-faulted_by context first.Bare second.Bare sure memory address kind old new fault (told, stays) = stays
+    → TranslatesBy sure one two context memory address kind old (Err fault) new → TranslationsUnchanged old new
+faulted_by context first.Bare second.Bare sure memory address kind old new fault (reply, unchanged) = unchanged
 faulted_by context (first.Tables size root) second.Bare sure memory address kind old new fault serves =
     faulted (ReachesFirst (levels_of size) memory root.number address kind) (StopsFirst (levels_of size) memory root.number address kind) sure (first_key context address) old new fault
     (cached_for (old (first_key context address)) kind) serves

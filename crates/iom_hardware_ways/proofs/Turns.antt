@@ -1,19 +1,19 @@
 -- Occurrences one after another.
 use Rattle.std.proofs.Common.{◌≡◌, ◌++◌, List, [], ◌∷◌, refl, sym, subst}
-use Rattle.iom_reach.specs.Occurrences.{Occurrence, ComesAbout, ComeInTurn}
+use Rattle.iom_reach.specs.Transitions.{Transition, ComesAbout, ComeInTurn}
 use Rattle.iom_reach.specs.Scene.{HardwareScene}
 
--- the one scene comes of the other by some occurrences
+-- the one scene comes of the other by some transitions
 abbrev pub Comes : HardwareScene → HardwareScene → Type 0
-Comes old new = (occurrences : List Occurrence) × ComeInTurn old occurrences new
+Comes old new = (transitions : List Transition) × ComeInTurn old transitions new
 
 pub nothing : (old new : HardwareScene) → new ≡ old → Comes old new
 nothing old new same = ([], same)
 
-pub one : (occurrence : Occurrence) (old new : HardwareScene) → ComesAbout occurrence old new → Comes old new
-one occurrence old new occurs = (occurrence ∷ [], (new, occurs, refl))
+pub one : (transition : Transition) (old new : HardwareScene) → ComesAbout transition old new → Comes old new
+one transition old new occurs = (transition ∷ [], (new, occurs, refl))
 
-in_turn : (some others : List Occurrence) (old between new : HardwareScene) → ComeInTurn old some between → ComeInTurn between others new → ComeInTurn old (some ++ others) new
+in_turn : (some others : List Transition) (old between new : HardwareScene) → ComeInTurn old some between → ComeInTurn between others new → ComeInTurn old (some ++ others) new
 in_turn [] others old between new same later = subst (λ s. ComeInTurn s others new) same later
 in_turn (first ∷ some) others old between new (next, now, rest) later = (next, now, in_turn some others next between new rest later)
 

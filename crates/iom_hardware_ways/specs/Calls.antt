@@ -12,7 +12,7 @@ use Rattle.iom_board.specs.BoardParts.{BoardParts}
 use Rattle.iom_board.specs.Messages.{with_message, AsksTranslation, ClaimsCompletion, LosesMessage, CopiesMessage}
 use Rattle.iom_board.specs.Requests.{RequestsAccess, RequestsTranslatedAccess}
 use Rattle.iom_board.specs.Senders.{untranslated_by, cached_by}
-use Rattle.iom_board.specs.Sound.{IsSoundBoard}
+use Rattle.iom_board.specs.Invariant.{BoardInvariant}
 use Rattle.iom_board.specs.ThroughCache.{RequestsAccessThroughCache}
 use Rattle.iom_board.specs.declared.answers.CacheReply.{CacheReply}
 use Rattle.iom_board.specs.declared.answers.Delivered.{Delivered}
@@ -20,7 +20,7 @@ use Rattle.iom_board.specs.declared.sender.Sender.{Sender}
 use Rattle.iom_inflight.specs.declared.made.MadeAt.{MadeAt}
 use Rattle.iom_iommu.specs.declared.fetched.Fetched.{Fetched}
 use Rattle.iom_iommu.specs.declared.reply.Reply.{Reply}
-use Rattle.iom_reach.specs.Occurrences.{IsHarmless}
+use Rattle.iom_reach.specs.Transitions.{IsHarmless}
 use Rattle.iom_hardware_ways.specs.Scenes.{scene_of}
 
 pub data HardwareCall : Type 0 where
@@ -44,20 +44,20 @@ pub record AsksAtStep (old : BoardParts) (id page : ℕ) (new : BoardParts) : Ty
   pub asked : new ≡ record old { fabric = with_message old.fabric id (sent.Ask (epoch_in old.devices id) page) }
 
 -- what each does is said of hardware itself
-abbrev pub CallDoes : HardwareCall → BoardParts → BoardParts → Type 0
-CallDoes (Request sender id access answer) old new = RequestsAccess (untranslated_by sender) old id access answer new
-CallDoes (Translated id access answer) old new = RequestsTranslatedAccess old id access answer new
-CallDoes (ThroughCache sender id access answer) old new = RequestsAccessThroughCache (cached_by sender) old id access answer new
-CallDoes (Ask id page answer) old new = AsksTranslation old id page answer new
-CallDoes (AskAtStep id page) old new = AsksAtStep old id page new
-CallDoes (Forge id serial answer) old new = ClaimsCompletion old id serial answer new
-CallDoes (Fetch fetched) old new = TakesCommand old fetched new
-CallDoes (Timeout has_effect) old new = GivesUpFence old has_effect new
-CallDoes (Deliver place delivered) old new = DeliversAtPlace old place delivered new
-CallDoes (Drop place found) old new = LosesMessage old place found new
-CallDoes (Repeat place repeated) old new = CopiesMessage old place repeated new
-CallDoes (Commit id answer) old new = CommitsOldestAccess old id answer new
-CallDoes (Reset id answer) old new = ResetsAnyDevice old id answer new
+abbrev pub CallEffect : HardwareCall → BoardParts → BoardParts → Type 0
+CallEffect (Request sender id access answer) old new = RequestsAccess (untranslated_by sender) old id access answer new
+CallEffect (Translated id access answer) old new = RequestsTranslatedAccess old id access answer new
+CallEffect (ThroughCache sender id access answer) old new = RequestsAccessThroughCache (cached_by sender) old id access answer new
+CallEffect (Ask id page answer) old new = AsksTranslation old id page answer new
+CallEffect (AskAtStep id page) old new = AsksAtStep old id page new
+CallEffect (Forge id serial answer) old new = ClaimsCompletion old id serial answer new
+CallEffect (Fetch fetched) old new = TakesCommand old fetched new
+CallEffect (Timeout has_effect) old new = GivesUpFence old has_effect new
+CallEffect (Deliver place delivered) old new = DeliversAtPlace old place delivered new
+CallEffect (Drop place found) old new = LosesMessage old place found new
+CallEffect (Repeat place repeated) old new = CopiesMessage old place repeated new
+CallEffect (Commit id answer) old new = CommitsOldestAccess old id answer new
+CallEffect (Reset id answer) old new = ResetsAnyDevice old id answer new
 
 -- a device that software trusts writes nothing of what hardware reads
 abbrev pub IsMadeHarmlessly : (ℕ → Bool) → BoardParts → ℕ → Result (Option MadeAt) Refusal → Type 0
@@ -65,13 +65,13 @@ IsMadeHarmlessly trusted old id (Ok (Some made)) = IsHarmless (scene_of trusted 
 IsMadeHarmlessly trusted old id (Ok None) = ⊤
 IsMadeHarmlessly trusted old id (Err why) = ⊤
 
-abbrev pub DoesHarmlessly : (ℕ → Bool) → HardwareCall → BoardParts → Type 0
-DoesHarmlessly trusted (Commit id answer) old = IsMadeHarmlessly trusted old id answer
-DoesHarmlessly trusted _ old = ⊤
+abbrev pub HarmlessEffect : (ℕ → Bool) → HardwareCall → BoardParts → Type 0
+HarmlessEffect trusted (Commit id answer) old = IsMadeHarmlessly trusted old id answer
+HarmlessEffect trusted _ old = ⊤
 
--- These calls one after another, after so many events. Hardware is sound before each, as each call asks for it and leaves it
+-- These calls one after another, after so many events. Hardware keeps its invariant before each, as each call asks for it and leaves it
 abbrev pub DoInTurn : (ℕ → Bool) → ℕ → BoardParts → List HardwareCall → BoardParts → Type 0
 DoInTurn trusted events old [] new = new ≡ old
 DoInTurn trusted events old (first ∷ others) new =
-    IsSoundBoard old events × DoesHarmlessly trusted first old
-    × ((between : BoardParts) × CallDoes first old between × DoInTurn trusted (events + 1) between others new)
+    BoardInvariant old events × HarmlessEffect trusted first old
+    × ((between : BoardParts) × CallEffect first old between × DoInTurn trusted (events + 1) between others new)

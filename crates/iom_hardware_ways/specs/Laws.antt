@@ -15,19 +15,19 @@ use Rattle.iom_stage_walk.specs.Both.{ReachesBoth}
 use Rattle.iom_board.specs.Commits.{CommitsOldestAccess}
 use Rattle.iom_board.specs.BoardParts.{BoardParts, board_parts}
 use Rattle.iom_board.specs.PowerOn.{IsBoardAtPowerOn}
-use Rattle.iom_board.specs.Sound.{IsSoundBoard}
+use Rattle.iom_board.specs.Invariant.{BoardInvariant}
 use Rattle.iom_board.specs.declared.board.Board.{Board}
 use Rattle.iom_inflight.specs.declared.made.MadeAt.{MadeAt}
 use Rattle.iom_ledger.specs.History.{History, May}
 use Rattle.iom_reach.specs.Laws.{AddsNoWay, UsesNoMore, Permission, HasAllowedWaysAlone, IsOutOfReach}
 use Rattle.iom_reach.specs.Memory.{Tables, Ends}
-use Rattle.iom_reach.specs.Occurrences.{Occurrence, ComeInTurn}
+use Rattle.iom_reach.specs.Transitions.{Transition, ComeInTurn}
 use Rattle.iom_reach.specs.Safe.{IsSafe, AreTimely}
 use Rattle.iom_reach.specs.Scene.{Mapping, Context, At}
 use Rattle.iom_reach.specs.Ways.{LeadsToMapping, Way}
 use Rattle.iom_hardware_ways.specs.Formats.{steps_along, steps_of, context_of, formats}
 use Rattle.iom_hardware_ways.specs.Scenes.{directory_by, mapping_from, scene_of}
-use Rattle.iom_hardware_ways.specs.Calls.{HardwareCall, CallDoes, DoesHarmlessly, IsMadeHarmlessly, DoInTurn}
+use Rattle.iom_hardware_ways.specs.Calls.{HardwareCall, CallEffect, HarmlessEffect, IsMadeHarmlessly, DoInTurn}
 
 -- THE FORMATS
 
@@ -98,14 +98,14 @@ DirectoriesAreFound = (memory : List (List ℕ)) (ddtp : DirectoryPointer) (id :
 
 -- THE CALLS
 
--- the scene of the one comes of that of the other by a list of occurrences
-abbrev pub AreOccurrences : (ℕ → Bool) → BoardParts → BoardParts → Type 0
-AreOccurrences trusted old new = (occurrences : List Occurrence) × ComeInTurn (scene_of trusted old) occurrences (scene_of trusted new)
+-- the scene of the one comes of that of the other by a list of transitions
+abbrev pub AreTransitions : (ℕ → Bool) → BoardParts → BoardParts → Type 0
+AreTransitions trusted old new = (transitions : List Transition) × ComeInTurn (scene_of trusted old) transitions (scene_of trusted new)
 
--- each call of sound hardware is a list of occurrences
-abbrev pub CallsAreOccurrences : Type 0
-CallsAreOccurrences = (trusted : ℕ → Bool) (call : HardwareCall) (events : ℕ) (old new : BoardParts) → IsSoundBoard old events
-    → CallDoes call old new → DoesHarmlessly trusted call old → AreOccurrences trusted old new
+-- each call of hardware that keeps its invariant is a list of transitions
+abbrev pub CallsAreTransitions : Type 0
+CallsAreTransitions = (trusted : ℕ → Bool) (call : HardwareCall) (events : ℕ) (old new : BoardParts) → BoardInvariant old events
+    → CallEffect call old new → HarmlessEffect trusted call old → AreTransitions trusted old new
 
 -- NO CALL ADDS A WAY: where hardware and devices can't write what hardware reads, no list of calls does
 abbrev pub CallsAddNoWay : Type 0

@@ -15,7 +15,7 @@ use Rattle.iom_device_dir.specs.Paths.{fits_directory}
 use Rattle.iom_fabric.specs.declared.fabric.OnLink.{OnLink}
 use Rattle.iom_fabric.specs.declared.message.Message.{Message as Sent}
 use Rattle.iom_fabric.specs.declared.message.Message.TheVariants as sent
-use Rattle.iom_fabric.specs.declared.message.Translation.TheVariants as told
+use Rattle.iom_fabric.specs.declared.message.Translation.TheVariants as reply
 use Rattle.iom_fault_queue.specs.Ring.{record_place}
 use Rattle.iom_board.specs.BoardParts.{BoardParts}
 use Rattle.iom_inflight.specs.Flights.{NumberedAccess, FlightRow, row_of}
@@ -89,8 +89,8 @@ kept_entries (Some cache) = map kept_entry cache.entries
 -- a message on a device's link
 abbrev pub said_on : ℕ → Sent → Message
 said_on device (sent.Ask epoch page) = Question device epoch page
-said_on device (sent.Answer epoch page (told.Page frame rights)) = Answer device epoch page (mapping_from frame rights)
-said_on device (sent.Answer epoch page (told.Refused cause)) = Other
+said_on device (sent.Answer epoch page (reply.Page frame rights)) = Answer device epoch page (mapping_from frame rights)
+said_on device (sent.Answer epoch page (reply.Refused cause)) = Other
 said_on device (sent.InvReq serial range) = Other
 said_on device (sent.InvDone serial) = Other
 

@@ -1,5 +1,5 @@
 //! What is proved of hardware and the ways that devices have in it.
-ghost use Rattle.iom_hardware_ways.specs.Laws.{FirstStagesLead, SecondStagesLead, BothStagesLead, FirstStagesAreReached, SecondStagesAreReached, SizesHaveIndices, DirectoriesLead, DirectoriesAreFound, CallsAreOccurrences, CallsAddNoWay, MadeAccessesHadWays, QuietStaysQuiet, GoodClaimsHold, FreeStaysFree, BeginsSafe};
+ghost use Rattle.iom_hardware_ways.specs.Laws.{FirstStagesLead, SecondStagesLead, BothStagesLead, FirstStagesAreReached, SecondStagesAreReached, SizesHaveIndices, DirectoriesLead, DirectoriesAreFound, CallsAreTransitions, CallsAddNoWay, MadeAccessesHadWays, QuietStaysQuiet, GoodClaimsHold, FreeStaysFree, BeginsSafe};
 
 /// What the hardware's walks of tables (RISC-V Privileged Architecture, "Sv39", "Sv48", "Two-Stage Address Translation") and
 /// of the device directory (IOMMU specification, section 2.3.1) reach is what walks by its formats lead to; and but for
@@ -15,9 +15,9 @@ pub fn walk_law()
     ensures directory_back { DirectoriesAreFound }
 {}
 
-/// Each call of hardware is a list of the occurrences of which the facts on ways speak.
+/// Each call of hardware is a list of the transitions of which the facts on ways speak.
 pub fn call_law()
-    ensures each { CallsAreOccurrences }
+    ensures each { CallsAreTransitions }
 {}
 
 /// So no list of calls adds a way, where hardware and devices can't write what hardware reads; each access that is made

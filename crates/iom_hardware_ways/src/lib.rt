@@ -3,7 +3,7 @@
 //! `iom_reach` says by which ways a device can still reach a frame, over plain values. Here are these values of a hardware:
 //! its *scene*, read off memory, registers, caches, devices and messages (RISC-V IOMMU Architecture Specification 1.0,
 //! chapters 2, 3 and 5; PCI Express Base Specification, chapter 10). Each call of `iom_board` is proved to be a list of
-//! the occurrences of which `iom_reach` speaks. So no list of calls adds a way, whatever devices ask and send, and in
+//! the transitions of which `iom_reach` speaks. So no list of calls adds a way, whatever devices ask and send, and in
 //! whatever order the IOMMU works.
 //!
 //! It has no code. `specs/Formats.antt` says how memory is read, `specs/Scenes.antt` what the scene is,

@@ -2,7 +2,7 @@
 use Rattle.std.proofs.Common.{◌≡◌, ◌+◌, ◌∙◌, ◌++◌, ℕ, false, List, [], ◌∷◌, length, Option, Some, None, is_some, MatchOption, Result, Ok, Err, is_ok, sym, ap, arith, subst, length-append, if◌then◌else◌}
 use Rattle.iom_inflight.specs.Flights.{FlightRow, new_row, row_of}
 use Rattle.iom_inflight.specs.Rows.{RowStandsAt}
-use Rattle.iom_inflight.specs.Sound.{AreFlights}
+use Rattle.iom_inflight.specs.Invariant.{AreFlights}
 use Rattle.iom_inflight.proofs.Kept.{sound_added}
 
 pub none_found : (rows : List FlightRow) (device : ℕ) (found : Option ℕ) → false ≡ is_some found → MatchOption found (row_of rows device ≡ None) (RowStandsAt rows device) → row_of rows device ≡ None
@@ -16,11 +16,11 @@ pushed_items xs ys new (Err x) u e is = cc
 pub added : (rows new spare popped : List FlightRow) (so_far device : ℕ) (own last : FlightRow) → new ≡ rows ++ own ∷ [] → own ≡ new_row device → spare ≡ popped ++ last ∷ []
     → length rows + length spare ≡ 16 → row_of rows device ≡ None → AreFlights (record { rows = rows; so_far = so_far })
     → (length new + length popped ≡ 16) × AreFlights (record { rows = new; so_far = so_far })
-added rows new spare popped so_far device own last pushed is popped_is all none sound =
+added rows new spare popped so_far device own last pushed is popped_is all none invariants =
     let long : length spare ≡ length popped + 1 = ap (λ (xs : List FlightRow). length xs) popped_is ∙ length-append popped (last ∷ []) in
     let more : length new ≡ length rows + 1 = ap (λ (xs : List FlightRow). length xs) pushed ∙ length-append rows (own ∷ []) in
     let now : rows ++ new_row device ∷ [] ≡ new = sym (pushed ∙ ap (λ (r : FlightRow). rows ++ r ∷ []) is) in (
       omega (arith, long, more, all),
       subst (λ (rs : List FlightRow). AreFlights (record { rows = rs; so_far = so_far })) now
-          (sound_added (record { rows = rows; so_far = so_far }) device sound none (omega (arith, long, all))),
+          (sound_added (record { rows = rows; so_far = so_far }) device invariants none (omega (arith, long, all))),
     )

@@ -8,7 +8,7 @@ use Rattle.iom_inflight.specs.declared.made.MadeAt.{MadeAt}
 use Rattle.iom_inflight.specs.Flights.{NumberedAccess, FlightRow, Flights, row_of, with_row, made_at}
 use Rattle.iom_inflight.specs.Calls.{with_access, flights_with_accepted, IsAccepted, Accepts, MakesOldestInFlight, IsFirstIn, IsReadyToCommit}
 use Rattle.iom_inflight.specs.Rows.{RowStandsAt, RowAccepts, RowMakes, IsMakeable}
-use Rattle.iom_inflight.specs.Sound.{CarriesBytes, AreSoundAccesses, AreFlights}
+use Rattle.iom_inflight.specs.Invariant.{CarriesBytes, AccessesInvariant, AreFlights}
 use Rattle.iom_inflight.proofs.Kept.{sound_row, sound_accepted, sound_made}
 
 -- the flights with a row put at a place
@@ -39,7 +39,7 @@ module _ (flights self : Flights) (view : flights ≡ self) (device place : ℕ)
 
   -- the device has accepted no more than all
   pub counted : AreFlights flights → found.accepted ≤ self.so_far
-  counted sound = subst (λ (f : Flights). found.accepted ≤ f.so_far) view (sound_row flights.so_far flights.rows device found sound.rows found_row).counted
+  counted invariants = subst (λ (f : Flights). found.accepted ≤ f.so_far) view (sound_row flights.so_far flights.rows device found invariants.rows found_row).counted
 
   -- an access is accepted
   after_accepts : (accepted : AcceptedAccess) (new : FlightRow) → new ≡ with_access found accepted (flights.so_far + 1)
@@ -60,8 +60,8 @@ module _ (flights self : Flights) (view : flights ≡ self) (device place : ℕ)
   pub sound_accepts_at : (accepted : AcceptedAccess) (number : ℕ) (new : FlightRow) → RowAccepts found accepted (flights.so_far + 1) (Some number) new → AreFlights flights
       → IsWithinPage accepted.access → CarriesBytes accepted.access.kind accepted.access.len accepted.access.bytes
       → AreFlights (record { rows = set flights.rows place new; so_far = flights.so_far + 1 })
-  sound_accepts_at accepted number new is sound within carries =
-      subst AreFlights (sym (after_accepts accepted new is.2)) (sound_accepted flights device found accepted sound found_row is.0 within carries)
+  sound_accepts_at accepted number new is invariants within carries =
+      subst AreFlights (sym (after_accepts accepted new is.2)) (sound_accepted flights device found accepted invariants found_row is.0 within carries)
 
   -- it isn't
   pub refuses_at : (accepted : AcceptedAccess) (new : FlightRow) → RowAccepts found accepted (flights.so_far + 1) None new → Accepts self device accepted None (put_at flights place new)
@@ -84,22 +84,22 @@ module _ (flights self : Flights) (view : flights ≡ self) (device place : ℕ)
     waiting = is.waiting;
     inside = is.inside;
     within = is.within;
-    told = is.told ∙ ap (λ d. made_at d is.oldest.accepted) own;
+    reply = is.reply ∙ ap (λ d. made_at d is.oldest.accepted) own;
     performed = is.performed;
     after = after_makes is.later new is.after ∙ ap (λ (f : Flights). record f { rows = with_row f.rows (record found { waiting = is.later }) }) view;
   }
 
   pub sound_makes_at : (memory new_memory : List (List ℕ)) (made : Option MadeAt) (new : FlightRow) → RowMakes memory found made new_memory new → AreFlights flights → AreFlights (put_at flights place new)
-  sound_makes_at memory new_memory None new is sound = subst AreFlights (sym (put_back new is.2)) sound
-  sound_makes_at memory new_memory (Some made) new is sound =
-      subst AreFlights (sym (after_makes is.later new is.after)) (sound_made flights device found is.oldest is.later sound found_row is.waiting)
+  sound_makes_at memory new_memory None new is invariants = subst AreFlights (sym (put_back new is.2)) invariants
+  sound_makes_at memory new_memory (Some made) new is invariants =
+      subst AreFlights (sym (after_makes is.later new is.after)) (sound_made flights device found is.oldest is.later invariants found_row is.waiting)
 
   -- the oldest access can be made
   pub makeable_at : (frames : ℕ) → AreFlights flights → IsReadyToCommit frames (row_of self.rows device) → IsMakeable frames found.waiting
-  makeable_at frames sound ready =
+  makeable_at frames invariants ready =
       let own_ready : IsReadyToCommit frames (Some found) = subst (IsReadyToCommit frames) found_row (subst (λ (f : Flights). IsReadyToCommit frames (row_of f.rows device)) (sym view) ready) in
-      by found.waiting (sound_row flights.so_far flights.rows device found sound.rows found_row).accesses own_ready
+      by found.waiting (sound_row flights.so_far flights.rows device found invariants.rows found_row).accesses own_ready
     where
-      by : (waiting : List NumberedAccess) → AreSoundAccesses flights.so_far waiting → IsFirstIn frames waiting → IsMakeable frames waiting
+      by : (waiting : List NumberedAccess) → AccessesInvariant flights.so_far waiting → IsFirstIn frames waiting → IsMakeable frames waiting
       by [] each first = tt
       by (oldest ∷ later) each first = (first, each.0.within, each.0.carries)

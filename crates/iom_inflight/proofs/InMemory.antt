@@ -6,7 +6,7 @@ use Rattle.iom_base.specs.declared.access.AcceptedAccess.{AcceptedAccess}
 use Rattle.iom_inflight.specs.declared.made.MadeAt.{MadeAt}
 use Rattle.iom_inflight.specs.Flights.{NumberedAccess, FlightRow, Flights, new_row, row_of, with_row}
 use Rattle.iom_inflight.specs.Calls.{Adds, IsAccepted, MakesOldestInFlight, IsFirstIn, IsReadyToCommit, with_access}
-use Rattle.iom_inflight.specs.Sound.{AreAccessesIn, AreRowsIn}
+use Rattle.iom_inflight.specs.Invariant.{AreAccessesIn, AreRowsIn}
 
 -- those of a device's row are
 pub row_in_memory : (frames : ℕ) (rows : List FlightRow) (device : ℕ) (row : FlightRow) → AreRowsIn frames rows → row_of rows device ≡ Some row → AreAccessesIn frames row.waiting

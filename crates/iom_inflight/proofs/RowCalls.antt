@@ -59,17 +59,17 @@ made_of : (device : ℕ) (accepted : ℕ) (waiting : List NumberedAccess) (memor
     (record { device = device; accepted = accepted; waiting = drop 1 waiting })
 made_of device accepted [] memory made frame written offset begins is kind makeable there stored = absurd stored
 made_of device accepted (oldest ∷ later) memory made frame written offset begins is kind makeable there stored =
-    let told : made ≡ made_at device oldest.accepted = cc in
-    let writes : oldest.accepted.access.kind ≡ Write = sym (ap (λ (m : MadeAt). m.kind) told) ∙ kind in
-    let on : made.frame ≡ oldest.accepted.frame = ap (λ (m : MadeAt). m.frame) told in
-    let at : offset ≡ offset_of oldest.accepted.access = begins ∙ ap (λ (m : MadeAt). m.offset) told in
+    let reply : made ≡ made_at device oldest.accepted = cc in
+    let writes : oldest.accepted.access.kind ≡ Write = sym (ap (λ (m : MadeAt). m.kind) reply) ∙ kind in
+    let on : made.frame ≡ oldest.accepted.frame = ap (λ (m : MadeAt). m.frame) reply in
+    let at : offset ≡ offset_of oldest.accepted.access = begins ∙ ap (λ (m : MadeAt). m.offset) reply in
     record {
       oldest = oldest;
       later = later;
       waiting = refl;
       inside = makeable.0;
       within = makeable.1;
-      told = told;
+      reply = reply;
       performed = subst (λ k. Performs k memory oldest.accepted (slice_set memory made.frame written)) (sym writes) (
         frame,
         sym (ap (λ n. slice_get memory n) on) ∙ there,

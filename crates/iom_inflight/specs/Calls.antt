@@ -70,7 +70,7 @@ pub record IsMade (memory : List (List ℕ)) (old : Flights) (device : ℕ) (mad
   pub waiting : row.waiting ≡ oldest ∷ later
   pub inside : oldest.accepted.frame < length memory
   pub within : IsWithinPage oldest.accepted.access
-  pub told : made ≡ made_at device oldest.accepted
+  pub reply : made ≡ made_at device oldest.accepted
   pub performed : Performs oldest.accepted.access.kind memory oldest.accepted new_memory
   pub after : new ≡ record old { rows = with_row old.rows (record row { waiting = later }) }
 

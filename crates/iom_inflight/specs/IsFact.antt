@@ -3,7 +3,7 @@ use Rattle.std.specs.Prelude.{ℕ, List, [], ◌∷◌}
 use Rattle.std.specs.Coded.{Unit-prop}
 use Rattle.std.proofs.Props.{props}
 use Rattle.iom_inflight.specs.Flights.{NumberedAccess, FlightRow}
-use Rattle.iom_inflight.specs.Sound.{AreAccessesIn, AreRowsIn}
+use Rattle.iom_inflight.specs.Invariant.{AreAccessesIn, AreRowsIn}
 
 pub accesses_in_prop : (frames : ℕ) (waiting : List NumberedAccess) → IsProp (AreAccessesIn frames waiting)
 accesses_in_prop frames [] = Unit-prop

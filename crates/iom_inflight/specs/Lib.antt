@@ -1,6 +1,6 @@
 pub mod Flights
 pub mod Calls
-pub mod Sound
+pub mod Invariant
 pub mod Rings
 pub mod Rows
 pub mod IsFact

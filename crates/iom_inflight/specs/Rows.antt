@@ -7,7 +7,7 @@ use Rattle.iom_base.specs.declared.access.AccessKind.TheVariants.{Read, Write}
 use Rattle.iom_inflight.specs.declared.made.MadeAt.{MadeAt}
 use Rattle.iom_inflight.specs.Flights.{NumberedAccess, FlightRow, row_of, with_row, made_at}
 use Rattle.iom_inflight.specs.Calls.{with_access, Performs}
-use Rattle.iom_inflight.specs.Sound.{CarriesBytes}
+use Rattle.iom_inflight.specs.Invariant.{CarriesBytes}
 
 -- the row of the device stands at this place: it is the first of the device, and a row that is put there replaces it
 pub record RowStandsAt (rows : List FlightRow) (device place : ℕ) : Type 0 where
@@ -37,7 +37,7 @@ pub record RowMakesOne (memory : List (List ℕ)) (old : FlightRow) (made : Made
   pub waiting : old.waiting ≡ oldest ∷ later
   pub inside : oldest.accepted.frame < length memory
   pub within : IsWithinPage oldest.accepted.access
-  pub told : made ≡ made_at old.device oldest.accepted
+  pub reply : made ≡ made_at old.device oldest.accepted
   pub performed : Performs oldest.accepted.access.kind memory oldest.accepted new_memory
   pub after : new ≡ record old { waiting = later }
 

@@ -5,7 +5,7 @@ ghost use Rattle.iom_base.specs.Spans.{FitsInPage};
 ghost use Rattle.iom_inflight.specs.Flights.{Flights, no_flights, row_of, IsAddedTo, count_in, accepted_in, count_all, waiting_at, oldest_in, oldest_number_in, first_busy, some_in_flight, are_drained};
 ghost use Rattle.iom_inflight.specs.Calls.{Adds, Accepts, MakesOldestInFlight, IsReadyToCommit};
 ghost use Rattle.iom_inflight.specs.Rows.{RowStandsAt};
-ghost use Rattle.iom_inflight.specs.Sound.{AreFlights};
+ghost use Rattle.iom_inflight.specs.Invariant.{AreFlights};
 
 use crate::made::MadeAt;
 use crate::row::Row;
@@ -32,7 +32,7 @@ impl Model for InFlight {
 
     ghost use Rattle.std.specs.Prelude.{◌≡◌, ◌≤◌, ◌+◌, length, vec_capacity};
     ghost use Rattle.iom_base.specs.Sizes.{device_limit};
-    ghost use Rattle.iom_inflight.specs.Sound.{AreFlights};
+    ghost use Rattle.iom_inflight.specs.Invariant.{AreFlights};
 
     ghost view = { λ f. record { rows = f.rows.items; so_far = f.so_far } };
 

@@ -19,7 +19,7 @@ use Rattle.iom_stage_walk.specs.Second.{ReachesSecond, StopsSecond}
 use Rattle.iom_stage_walk.specs.Both.{ReachesBoth, StopsBoth}
 use Rattle.iom_device_dir.specs.Contents.{Content}
 use Rattle.iom_tlb.specs.declared.trans_cache.Translation.{Translation}
-use Rattle.iom_tlb.specs.Content.{Key, Translations, HasNothing, TranslationsStay, Keeps, DropsWhere}
+use Rattle.iom_tlb.specs.Content.{Key, Translations, HasNothing, TranslationsUnchanged, Keeps, DropsWhere}
 use Rattle.iom_tlb.proofs.ContentLemmas.{found_before_look, found_by_keep, found_before_drop}
 use Rattle.iom_iommu.specs.Cached.{AreTranslationsIn}
 use Rattle.iom_iommu.specs.Service.{Walks, LooksOrWalks, Translates, ServesBy, ServesIn, Serves, cached_for, translation_of, first_key, second_key, both_key, context_or_cause}
@@ -28,8 +28,8 @@ pub none_outside : (frames : ℕ) (content : Translations) → HasNothing conten
 none_outside frames content empty key t found = absurd (let e : content key ≡ None = empty key in cc)
 
 module _ (frames : ℕ) (old new : Translations) (inside : AreTranslationsIn frames old) where
-  pub look_inside : TranslationsStay old new → AreTranslationsIn frames new
-  look_inside stays key t found = inside key t (found_before_look old new key t found stays)
+  pub look_inside : TranslationsUnchanged old new → AreTranslationsIn frames new
+  look_inside unchanged key t found = inside key t (found_before_look old new key t found unchanged)
 
   pub keep_inside : (sure : Bool) (at : Key) (kept : Translation) → kept.frame < frames → Keeps sure old at kept new → AreTranslationsIn frames new
   keep_inside sure at kept lt keeps key t found = elim (found_by_keep old new key t found sure at kept keeps) [

@@ -7,7 +7,7 @@ use Rattle.iom_command_queue.specs.declared.command.FenceStore.{FenceStore}
 use Rattle.iom_command_queue.specs.declared.entry.QueueEntry.{QueueEntry}
 use Rattle.iom_command_queue.specs.declared.slot.Slot.{Slot}
 use Rattle.iom_command_queue.specs.OpenSlots.{OpenSlots}
-use Rattle.iom_inflight.specs.Sound.{AreRowsIn}
+use Rattle.iom_inflight.specs.Invariant.{AreRowsIn}
 use Rattle.iom_inflight.specs.IsFact.{rows_in_prop}
 use Rattle.iom_tlb.specs.declared.trans_cache.TransCache.{Ghosts as Cache}
 use Rattle.iom_iommu.specs.declared.iommu.Iommu.{Iommu}

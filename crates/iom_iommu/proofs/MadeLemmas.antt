@@ -3,16 +3,16 @@ use Rattle.std.proofs.Common.{◌≡◌, ◌==◌, ℕ, Bool, true, false, List,
 use Rattle.iom_inflight.specs.declared.made.MadeAt.{MadeAt}
 use Rattle.iom_inflight.specs.Calls.{MakesOldestInFlight}
 use Rattle.iom_inflight.specs.Flights.{FlightRow, Flights, row_of}
-use Rattle.iom_inflight.specs.Sound.{AreFlights, AreSoundRows, AreSoundAccesses, IsSoundRow, AreRowsIn, AreAccessesIn}
+use Rattle.iom_inflight.specs.Invariant.{AreFlights, RowsInvariant, AccessesInvariant, RowInvariant, AreRowsIn, AreAccessesIn}
 use Rattle.iom_iommu.specs.Requests.{IsWithinFrame}
 
 -- the row of a device is as all rows are
-row_sound : (so_far : ℕ) (rows : List FlightRow) (device : ℕ) (row : FlightRow) → AreSoundRows so_far rows → row_of rows device ≡ Some row → IsSoundRow so_far row
-row_sound so_far [] device row sound stands = cc
-row_sound so_far (first ∷ rows) device row sound stands = by (first.device == device) stands (λ is. row_sound so_far rows device row sound.1 is)
+row_sound : (so_far : ℕ) (rows : List FlightRow) (device : ℕ) (row : FlightRow) → RowsInvariant so_far rows → row_of rows device ≡ Some row → RowInvariant so_far row
+row_sound so_far [] device row invariants stands = cc
+row_sound so_far (first ∷ rows) device row invariants stands = by (first.device == device) stands (λ is. row_sound so_far rows device row invariants.1 is)
   where
-    by : (b : Bool) → (if b then Some first else row_of rows device) ≡ Some row → (row_of rows device ≡ Some row → IsSoundRow so_far row) → IsSoundRow so_far row
-    by true is later = (let same : first ≡ row = cc in subst (IsSoundRow so_far) same sound.0)
+    by : (b : Bool) → (if b then Some first else row_of rows device) ≡ Some row → (row_of rows device ≡ Some row → RowInvariant so_far row) → RowInvariant so_far row
+    by true is later = (let same : first ≡ row = cc in subst (RowInvariant so_far) same invariants.0)
     by false is later = later is
 
 row_in : (frames : ℕ) (rows : List FlightRow) (device : ℕ) (row : FlightRow) → AreRowsIn frames rows → row_of rows device ≡ Some row → AreAccessesIn frames row.waiting
@@ -27,7 +27,7 @@ pub made_within : (frames : ℕ) (memory : List (List ℕ)) (old : Flights) (dev
     → MakesOldestInFlight memory old device result new_memory new → IfSome result (IsWithinFrame frames)
 made_within frames memory old device None new_memory new flights inside makes = tt
 made_within frames memory old device (Some made) new_memory new flights inside makes =
-    let sound = row_sound old.so_far old.rows device makes.row flights.rows makes.stands in
-    let accesses = subst (AreSoundAccesses old.so_far) makes.waiting sound.accesses in
+    let invariants = row_sound old.so_far old.rows device makes.row flights.rows makes.stands in
+    let accesses = subst (AccessesInvariant old.so_far) makes.waiting invariants.accesses in
     let frames_in = subst (AreAccessesIn frames) makes.waiting (row_in frames old.rows device makes.row inside makes.stands) in
-    subst (IsWithinFrame frames) (sym makes.told) (record { inside = frames_in.0; within = accesses.0.within.1 })
+    subst (IsWithinFrame frames) (sym makes.reply) (record { inside = frames_in.0; within = accesses.0.within.1 })

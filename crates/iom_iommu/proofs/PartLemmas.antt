@@ -9,7 +9,7 @@ use Rattle.iom_registers.specs.Table.{written}
 use Rattle.iom_registers.specs.Queues.{is_command_queue_on, with_cmd_to}
 use Rattle.iom_command_queue.specs.declared.slot.Slot.{Slot}
 use Rattle.iom_command_queue.specs.OpenSlots.{OpenSlots}
-use Rattle.iom_inflight.specs.Sound.{AreRowsIn}
+use Rattle.iom_inflight.specs.Invariant.{AreRowsIn}
 use Rattle.iom_inflight.specs.IsFact.{rows_in_prop}
 use Rattle.iom_tlb.specs.declared.trans_cache.TransCache.{Ghosts as Cache}
 use Rattle.iom_iommu.specs.declared.iommu.Iommu.{Iommu}

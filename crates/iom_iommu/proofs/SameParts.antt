@@ -1,7 +1,7 @@
 -- IOMMUs whose parts are the same are one.
 use Rattle.std.specs.Prelude.{◌≡◌}
 use mathlib.Core.HLevel.{is_prop→PathP}
-use Rattle.iom_inflight.specs.Sound.{AreRowsIn}
+use Rattle.iom_inflight.specs.Invariant.{AreRowsIn}
 use Rattle.iom_inflight.specs.IsFact.{rows_in_prop}
 use Rattle.iom_tlb.specs.declared.trans_cache.TransCache.{Ghosts as Cache}
 use Rattle.iom_iommu.specs.Cached.{AreTranslationsIn, translations_in_prop}

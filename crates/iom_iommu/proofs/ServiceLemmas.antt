@@ -35,18 +35,18 @@ module _ (memory : List (List ℕ)) (r : Registers) (contexts : Content ℕ Cont
   -- a request of it faults
   refused_in : (m : DirectoryMode) → fits_directory m id ≡ false → (found : Result Context Cause) → found ≡ Err TransactionTypeDisallowed → (sure : Bool) (address : ℕ) (kind : AccessKind)
       (old : Translations) (fault : WalkFault) → fault ≡ plain TransactionTypeDisallowed → ServesIn sure m found memory address kind old (Err fault) old
-  refused_in mode.Off too found none sure address kind old fault told = absurd (cc)
-  refused_in mode.Bare too found none sure address kind old fault told = absurd (cc)
-  refused_in mode.OneLevel too found none sure address kind old fault told =
-      subst (λ f. ServesBy sure f memory address kind old (Err fault) old) (sym none) (ap Err told, λ key. refl)
-  refused_in mode.TwoLevels too found none sure address kind old fault told =
-      subst (λ f. ServesBy sure f memory address kind old (Err fault) old) (sym none) (ap Err told, λ key. refl)
-  refused_in mode.ThreeLevels too found none sure address kind old fault told =
-      subst (λ f. ServesBy sure f memory address kind old (Err fault) old) (sym none) (ap Err told, λ key. refl)
+  refused_in mode.Off too found none sure address kind old fault reply = absurd (cc)
+  refused_in mode.Bare too found none sure address kind old fault reply = absurd (cc)
+  refused_in mode.OneLevel too found none sure address kind old fault reply =
+      subst (λ f. ServesBy sure f memory address kind old (Err fault) old) (sym none) (ap Err reply, λ key. refl)
+  refused_in mode.TwoLevels too found none sure address kind old fault reply =
+      subst (λ f. ServesBy sure f memory address kind old (Err fault) old) (sym none) (ap Err reply, λ key. refl)
+  refused_in mode.ThreeLevels too found none sure address kind old fault reply =
+      subst (λ f. ServesBy sure f memory address kind old (Err fault) old) (sym none) (ap Err reply, λ key. refl)
 
   pub wide_refused : (sure : Bool) (address : ℕ) (kind : AccessKind) (old : Translations) (fault : WalkFault) → fault ≡ plain TransactionTypeDisallowed
       → Serves sure memory r contexts id address kind old (Err fault) old
-  wide_refused sure address kind old fault told = refused_in (directory_mode r) wide (context_or_cause memory r contexts id) no_context sure address kind old fault told
+  wide_refused sure address kind old fault reply = refused_in (directory_mode r) wide (context_or_cause memory r contexts id) no_context sure address kind old fault reply
 
   -- and so does a transaction of ATS
   disallowed_in : (m : DirectoryMode) → fits_directory m id ≡ false → (found : Result Context Cause) → found ≡ Err TransactionTypeDisallowed

@@ -19,7 +19,7 @@ use Rattle.iom_device_dir.specs.declared.values.GuestRoot.{GuestRoot}
 use Rattle.iom_tlb.specs.declared.space.Space.{Space}
 use Rattle.iom_tlb.specs.declared.trans_cache.Translation.{Translation}
 use Rattle.iom_tlb.specs.declared.space.Space.TheVariants as space
-use Rattle.iom_tlb.specs.Content.{Key, Translations, TranslationsStay}
+use Rattle.iom_tlb.specs.Content.{Key, Translations, TranslationsUnchanged}
 use Rattle.iom_iommu.specs.Service.{own_page, cached_for, Walks, LooksOrWalks, Translates}
 use Rattle.iom_iommu.specs.Stages.{space_through, ReachesThrough, StopsThrough}
 
@@ -70,42 +70,26 @@ module _ (memory : List (List ℕ)) (address : ℕ) (kind : AccessKind) (first_s
 
 module _ (sure : Bool) (Reaches : Walked → Type 0) (Stops : WalkFault → Type 0) (kind : AccessKind) (key : Key) (old : Translations) (found : Option Translation) (is : found ≡ cached_for (old key) kind) where
   -- by the translation that was found
-  pub looked : (cached : Translation) (new : Translations) → found ≡ Some cached → TranslationsStay old new → LooksOrWalks sure (cached_for (old key) kind) Reaches Stops key old (Ok cached) new
-  looked cached new some stays =
-      subst (λ (o : Option Translation). LooksOrWalks sure o Reaches Stops key old (Ok cached) new) (sym some ∙ is) (refl, stays)
+  pub looked : (cached : Translation) (new : Translations) → found ≡ Some cached → TranslationsUnchanged old new → LooksOrWalks sure (cached_for (old key) kind) Reaches Stops key old (Ok cached) new
+  looked cached new some unchanged =
+      subst (λ (o : Option Translation). LooksOrWalks sure o Reaches Stops key old (Ok cached) new) (sym some ∙ is) (refl, unchanged)
 
   -- by a walk, where none was: the look before it changes nothing of what a keep leaves
-  pub walked : (between new : Translations) (answer : Result Translation WalkFault) → found ≡ None → TranslationsStay old between → Walks sure Reaches Stops key between answer new
+  pub walked : (between new : Translations) (answer : Result Translation WalkFault) → found ≡ None → TranslationsUnchanged old between → Walks sure Reaches Stops key between answer new
       → LooksOrWalks sure (cached_for (old key) kind) Reaches Stops key old answer new
-  walked between new answer none stays walks =
-      let unchanged : between ≡ old = λ i k. stays k i in
+  walked between new answer none unchanged walks =
+      let same_content : between ≡ old = λ i k. unchanged k i in
       subst (λ (o : Option Translation). LooksOrWalks sure o Reaches Stops key old answer new) (sym none ∙ is)
-      (subst (λ (content : Translations). Walks sure Reaches Stops key content answer new) unchanged walks)
+      (subst (λ (content : Translations). Walks sure Reaches Stops key content answer new) same_content walks)
 
 -- BY THE STAGES of a context: in the address space that they translate, or where both are Bare in none
 module _ (sure : Bool) (context : Context) (memory : List (List ℕ)) (address : ℕ) (kind : AccessKind) (old : Translations) (answer : Result Translation WalkFault) (new : Translations) where
-  abbrev LooksOrWalksIn : (Walked → Type 0) → (WalkFault → Type 0) → Space → Type 0
-  LooksOrWalksIn Reaches Stops at = LooksOrWalks sure (cached_for (old (at, address / 4096)) kind) Reaches Stops (at, address / 4096) old answer new
-
   pub through : (first_stage : FirstStage) (second_stage : SecondStage) (at : Space) → space_through first_stage second_stage context ≡ Some at
       → LooksOrWalks sure (cached_for (old (at, address / 4096)) kind) (ReachesThrough first_stage second_stage memory address kind)
       (StopsThrough first_stage second_stage memory address kind) (at, address / 4096) old answer new
       → Translates sure first_stage second_stage context memory address kind old answer new
-  through Bare second.Bare at is l = absurd (cc)
-  through (Tables size root) second.Bare at is l =
-      let same : at ≡ space.First context.pscid.number = cc in
-      subst (LooksOrWalksIn (ReachesFirst (levels_of size) memory root.number address kind) (StopsFirst (levels_of size) memory root.number address kind)) same l
-  through Bare (second.Tables size root) at is l =
-      let same : at ≡ space.Second context.gscid = cc in
-      subst (LooksOrWalksIn (ReachesSecond (levels_of size) memory root.number address kind) (StopsSecond (levels_of size) memory root.number address kind)) same l
-  through (Tables first_size first) (second.Tables second_size second) at is l =
-      let same : at ≡ space.Both context.gscid context.pscid.number = cc in
-      subst (LooksOrWalksIn (ReachesBoth (levels_of first_size) (levels_of second_size) memory first.number second.number address kind)
-      (StopsBoth (levels_of first_size) (levels_of second_size) memory first.number second.number address kind)) same l
+  through first_stage second_stage at is looks = rw is looks
 
   pub through_none : (first_stage : FirstStage) (second_stage : SecondStage) → space_through first_stage second_stage context ≡ None
-      → answer ≡ own_page memory address kind → TranslationsStay old new → Translates sure first_stage second_stage context memory address kind old answer new
-  through_none Bare second.Bare none is stays = (is, stays)
-  through_none (Tables size root) second.Bare none is stays = absurd (cc)
-  through_none Bare (second.Tables size root) none is stays = absurd (cc)
-  through_none (Tables first_size first) (second.Tables second_size second) none is stays = absurd (cc)
+      → answer ≡ own_page memory address kind → TranslationsUnchanged old new → Translates sure first_stage second_stage context memory address kind old answer new
+  through_none first_stage second_stage none is unchanged = rw none (is, unchanged)

@@ -18,7 +18,7 @@ use Rattle.iom_device_dir.specs.declared.context.Context.{Context}
 use Rattle.iom_device_dir.specs.Contents.{Content, IsSameContent, DropsCovered}
 use Rattle.iom_inflight.specs.Flights.{Flights}
 use Rattle.iom_tlb.specs.declared.trans_cache.TransCache.{Ghosts as Cache}
-use Rattle.iom_tlb.specs.Content.{Translations, TranslationsStay, DropsWhere}
+use Rattle.iom_tlb.specs.Content.{Translations, TranslationsUnchanged, DropsWhere}
 use Rattle.iom_tlb.specs.Covers.{are_covering}
 use Rattle.iom_tlb.specs.Invalidations.{covers_of}
 use Rattle.iom_iommu.specs.Parts.{registers_of, contexts_of, translations_of, flights_of, fence_snapshot_of, waits_of, slots_of, frames_of}
@@ -192,7 +192,7 @@ FetchesByAnswer memory iommu Stopped new_memory new_iommu =
 pub record AreAlike {C : Type 0} {c : Cache C} (one other : Iommu C c) : Type 0 where
   pub registers : registers_of one ≡ registers_of other
   pub contexts : IsSameContent (contexts_of one) (contexts_of other)
-  pub translations : TranslationsStay (translations_of one) (translations_of other)
+  pub translations : TranslationsUnchanged (translations_of one) (translations_of other)
   pub fence_snapshot : fence_snapshot_of one ≡ fence_snapshot_of other
   pub waits : waits_of one ≡ waits_of other
   pub slots : slots_of one ≡ slots_of other

@@ -65,7 +65,7 @@ RecordsUnless false memory r fields new_memory new = (answer : Put) × PutsRecor
 pub record RefusesQuestion {C : Type 0} {c : Cache C} (memory : List (List ℕ)) (old : Iommu C c) (id page : ℕ) (cause : Cause)
     (new_memory : List (List ℕ)) (new : Iommu C c) : Type 0 where
   pub fault : WalkFault
-  pub told : cause ≡ fault.cause
+  pub reply : cause ≡ fault.cause
   pub served : ServesQuestion memory old id page (Err fault) (translations_of new)
   pub contexts : KeepsContext memory (registers_of old) (contexts_of old) id (contexts_of new)
   pub recorded : RecordsUnless (is_page_fault fault.cause) memory (registers_of old)

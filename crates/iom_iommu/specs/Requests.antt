@@ -62,7 +62,7 @@ pub record Refuses {C : Type 0} {c : Cache C} (Served : Result Translation WalkF
   pub within : IsWithinPage access
   pub room : HasRoom (flights_of old) id
   pub fault : WalkFault
-  pub told : cause ≡ fault.cause
+  pub reply : cause ≡ fault.cause
   pub served : Served (Err fault) (translations_of new)
   pub contexts : KeepsContext memory (registers_of old) (contexts_of old) id (contexts_of new)
   pub answer : Put

@@ -3,7 +3,7 @@
 use Rattle.std.specs.Prelude.{◌≡◌, ℕ, ◌/◌, nat_lt, Bool, List, length, Option, None, Some, Result, Ok, Err, if◌then◌else◌}
 use Rattle.iom_base.specs.Tables.{access_fault_of}
 use Rattle.iom_base.specs.Rights.{allows, rw}
-use Rattle.iom_base.specs.Sizes.{page_size, levels_of}
+use Rattle.iom_base.specs.Sizes.{page_size}
 use Rattle.iom_base.specs.declared.access.AccessKind.{AccessKind}
 use Rattle.iom_base.specs.declared.cause.Cause.{Cause}
 use Rattle.iom_base.specs.declared.cause.Cause.TheVariants.{AllInboundDisallowed, TransactionTypeDisallowed}
@@ -13,20 +13,18 @@ use Rattle.iom_registers.specs.declared.registers.Registers.{Registers}
 use Rattle.iom_registers.specs.Queues.{directory_mode}
 use Rattle.iom_stage_walk.specs.declared.walked.Walked.{Walked}
 use Rattle.iom_stage_walk.specs.declared.walked.WalkFault.{WalkFault}
-use Rattle.iom_stage_walk.specs.Paths.{ReachesFirst, StopsFirst}
-use Rattle.iom_stage_walk.specs.Second.{ReachesSecond, StopsSecond}
-use Rattle.iom_stage_walk.specs.Both.{plain, ReachesBoth, StopsBoth}
+use Rattle.iom_stage_walk.specs.Both.{plain}
 use Rattle.iom_device_dir.specs.declared.context.Context.{Context}
 use Rattle.iom_device_dir.specs.declared.stages.FirstStage.{FirstStage}
-use Rattle.iom_device_dir.specs.declared.stages.FirstStage.TheVariants.{Bare, Tables}
 use Rattle.iom_device_dir.specs.declared.stages.SecondStage.{SecondStage}
-use Rattle.iom_device_dir.specs.declared.stages.SecondStage.TheVariants as second
 use Rattle.iom_device_dir.specs.Contents.{Content, IsSameContent, KeepsOne}
 use Rattle.iom_device_dir.specs.Located.{located_context}
 use Rattle.iom_device_dir.specs.Paths.{fits_directory}
+use Rattle.iom_tlb.specs.declared.space.Space.{Space}
 use Rattle.iom_tlb.specs.declared.space.Space.TheVariants as space
 use Rattle.iom_tlb.specs.declared.trans_cache.Translation.{Translation}
-use Rattle.iom_tlb.specs.Content.{Key, Translations, TranslationsStay, Keeps}
+use Rattle.iom_tlb.specs.Content.{Key, Translations, TranslationsUnchanged, Keeps}
+use Rattle.iom_iommu.specs.Stages.{space_through, ReachesThrough, StopsThrough}
 
 -- the cached context; where there is none, the one that the directory has
 abbrev pub found_context : Option Context → Result Context Cause → Result Context Cause
@@ -86,43 +84,39 @@ translation_of walked = record { frame = walked.frame; rights = walked.rights; l
 abbrev pub Walks : Bool → (Walked → Type 0) → (WalkFault → Type 0) → Key → Translations → Result Translation WalkFault → Translations → Type 0
 Walks sure Reaches Stops key old (Ok translation) new =
     (walked : Walked) × Reaches walked × (translation ≡ translation_of walked) × Keeps sure old key (translation_of walked) new
-Walks sure Reaches Stops key old (Err fault) new = Stops fault × TranslationsStay old new
+Walks sure Reaches Stops key old (Err fault) new = Stops fault × TranslationsUnchanged old new
 
 -- by a cached translation, if there is one; else by the walk
 abbrev pub LooksOrWalks : Bool → Option Translation → (Walked → Type 0) → (WalkFault → Type 0) → Key → Translations → Result Translation WalkFault
     → Translations → Type 0
-LooksOrWalks sure (Some cached) Reaches Stops key old answer new = (answer ≡ Ok cached) × TranslationsStay old new
+LooksOrWalks sure (Some cached) Reaches Stops key old answer new = (answer ≡ Ok cached) × TranslationsUnchanged old new
 LooksOrWalks sure None Reaches Stops key old answer new = Walks sure Reaches Stops key old answer new
 
--- by the stages of a context: where both are Bare, the address is that of memory, and nothing is cached
+-- in an address space: by a cached translation of the page, or by a walk; in none the address is that of memory, and nothing is cached
+abbrev pub TranslatesIn : Option Space → Bool → (Walked → Type 0) → (WalkFault → Type 0) → List (List ℕ) → ℕ → AccessKind → Translations → Result Translation WalkFault
+    → Translations → Type 0
+TranslatesIn None sure Reaches Stops memory address kind old answer new = (answer ≡ own_page memory address kind) × TranslationsUnchanged old new
+TranslatesIn (Some space) sure Reaches Stops memory address kind old answer new =
+    LooksOrWalks sure (cached_for (old (space, address / page_size)) kind) Reaches Stops (space, address / page_size) old answer new
+
+-- by the stages of a context
 abbrev pub Translates : Bool → FirstStage → SecondStage → Context → List (List ℕ) → ℕ → AccessKind → Translations → Result Translation WalkFault
     → Translations → Type 0
-Translates sure Bare second.Bare context memory address kind old answer new = (answer ≡ own_page memory address kind) × TranslationsStay old new
-Translates sure (Tables size root) second.Bare context memory address kind old answer new =
-    LooksOrWalks sure (cached_for (old (first_key context address)) kind)
-    (ReachesFirst (levels_of size) memory root.number address kind) (StopsFirst (levels_of size) memory root.number address kind)
-    (first_key context address) old answer new
-Translates sure Bare (second.Tables size root) context memory address kind old answer new =
-    LooksOrWalks sure (cached_for (old (second_key context address)) kind)
-    (ReachesSecond (levels_of size) memory root.number address kind) (StopsSecond (levels_of size) memory root.number address kind)
-    (second_key context address) old answer new
-Translates sure (Tables first_size first) (second.Tables second_size second) context memory address kind old answer new =
-    LooksOrWalks sure (cached_for (old (both_key context address)) kind)
-    (ReachesBoth (levels_of first_size) (levels_of second_size) memory first.number second.number address kind)
-    (StopsBoth (levels_of first_size) (levels_of second_size) memory first.number second.number address kind)
-    (both_key context address) old answer new
+Translates sure first second context memory address kind old answer new =
+    TranslatesIn (space_through first second context) sure (ReachesThrough first second memory address kind) (StopsThrough first second memory address kind)
+    memory address kind old answer new
 
 -- by the context that was found
 abbrev pub ServesBy : Bool → Result Context Cause → List (List ℕ) → ℕ → AccessKind → Translations → Result Translation WalkFault → Translations → Type 0
 ServesBy sure (Ok context) memory address kind old answer new =
     Translates sure context.first_stage context.second_stage context memory address kind old answer new
-ServesBy sure (Err cause) memory address kind old answer new = (answer ≡ Err (plain cause)) × TranslationsStay old new
+ServesBy sure (Err cause) memory address kind old answer new = (answer ≡ Err (plain cause)) × TranslationsUnchanged old new
 
 -- by ddtp's mode: no transaction is allowed, or none is translated, or each by its context
 abbrev pub ServesIn : Bool → DirectoryMode → Result Context Cause → List (List ℕ) → ℕ → AccessKind → Translations → Result Translation WalkFault
     → Translations → Type 0
-ServesIn sure mode.Off found memory address kind old answer new = (answer ≡ Err (plain AllInboundDisallowed)) × TranslationsStay old new
-ServesIn sure mode.Bare found memory address kind old answer new = (answer ≡ own_page memory address kind) × TranslationsStay old new
+ServesIn sure mode.Off found memory address kind old answer new = (answer ≡ Err (plain AllInboundDisallowed)) × TranslationsUnchanged old new
+ServesIn sure mode.Bare found memory address kind old answer new = (answer ≡ own_page memory address kind) × TranslationsUnchanged old new
 ServesIn sure mode.OneLevel found memory address kind old answer new = ServesBy sure found memory address kind old answer new
 ServesIn sure mode.TwoLevels found memory address kind old answer new = ServesBy sure found memory address kind old answer new
 ServesIn sure mode.ThreeLevels found memory address kind old answer new = ServesBy sure found memory address kind old answer new

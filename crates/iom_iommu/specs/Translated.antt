@@ -12,7 +12,7 @@ use Rattle.iom_stage_walk.specs.declared.walked.WalkFault.{WalkFault}
 use Rattle.iom_stage_walk.specs.Both.{plain}
 use Rattle.iom_tlb.specs.declared.trans_cache.TransCache.{Ghosts as Cache}
 use Rattle.iom_tlb.specs.declared.trans_cache.Translation.{Translation}
-use Rattle.iom_tlb.specs.Content.{Translations, TranslationsStay}
+use Rattle.iom_tlb.specs.Content.{Translations, TranslationsUnchanged}
 use Rattle.iom_iommu.specs.Parts.{registers_of, contexts_of, translations_of}
 use Rattle.iom_iommu.specs.Service.{ats_context_for, own_page}
 use Rattle.iom_iommu.specs.Requests.{IommuAccepts, Refuses, Answers}
@@ -26,7 +26,7 @@ physical_page (Err cause) memory address kind = Err (plain cause)
 abbrev pub ServesTranslated : {C : Type 0} {c : Cache C} → List (List ℕ) → Iommu C c → ℕ → Access → Result Translation WalkFault → Translations → Type 0
 ServesTranslated memory old id access answer new =
     (answer ≡ physical_page (ats_context_for memory (registers_of old) (contexts_of old) id) memory access.address access.kind)
-    × TranslationsStay (translations_of old) new
+    × TranslationsUnchanged (translations_of old) new
 
 abbrev pub AcceptsTranslated : {C : Type 0} {c : Cache C} → List (List ℕ) → Iommu C c → ℕ → Access → ℕ → Iommu C c → Type 0
 AcceptsTranslated memory old id access number new = IommuAccepts (ServesTranslated memory old id access) memory old id access number new

@@ -1,7 +1,7 @@
 // The IOMMU at power-on, and its devices.
 ghost use Rattle.std.specs.Prelude.{◌≡◌, IfOk, is_some};
 ghost use Rattle.iom_inflight.specs.Flights.{row_of, waiting_at};
-ghost use Rattle.iom_inflight.specs.Sound.{AreFlights, AreRowsIn};
+ghost use Rattle.iom_inflight.specs.Invariant.{AreFlights, AreRowsIn};
 ghost use Rattle.iom_tlb.specs.Content.{HasNothing};
 ghost use Rattle.iom_iommu.specs.Parts.{IsAtPowerOn, translation_cache_of, contexts_of, AddsDevice, flights_of, frames_of};
 
@@ -82,7 +82,7 @@ impl<C: TransCache> Iommu<C> {
 
     /// What holds of the accesses in flight, whatever calls were made. It does nothing.
     pub fn facts(&self)
-        ensures sound { AreFlights (flights_of self.now) }
+        ensures invariants { AreFlights (flights_of self.now) }
         ensures inside { AreRowsIn (frames_of self.now) (flights_of self.now).rows }
     {
         self.in_flight.facts();

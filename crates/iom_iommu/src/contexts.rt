@@ -55,7 +55,7 @@ pub(crate) fn find_context(
     }
 }
 
-/// The context, unless it has EN_ATS clear.
+/// The context, unless it has EN_ATS clear: step 7 of section 2.3, (a).
 fn letting_ats(found: Result<Context, Cause>) -> Result<Context, Cause>
     ensures { result ≡ letting_ats found }
 {
@@ -80,6 +80,7 @@ pub(crate) fn find_ats_context(
 {
     let mode = registers.directory_mode();
     match mode {
+        // Steps 1, 2 (a), 5, and then 6 with 7 (a), of section 2.3.
         DirectoryMode::Off => Err(Cause::AllInboundDisallowed),
         DirectoryMode::Bare => Err(Cause::TransactionTypeDisallowed),
         _ if !fits_directory(mode, device) => Err(Cause::TransactionTypeDisallowed),

@@ -1,4 +1,4 @@
-ghost use Rattle.iom_inflight.specs.Sound.{AreRowsIn};
+ghost use Rattle.iom_inflight.specs.Invariant.{AreRowsIn};
 ghost use Rattle.iom_inflight.specs.IsFact.{rows_in_prop};
 ghost use Rattle.iom_iommu.specs.Cached.{AreTranslationsIn, translations_in_prop};
 

@@ -54,7 +54,7 @@ pub fn finds_empty<C: TransCache>()
 pub fn stops<C: TransCache>()
     ensures after { (m n : List (List ℕ)) (i j : Iommu C C.TransCache) (answer : Answer) → FetchesCommand m i answer n j
         → (answer ≡ Fetched.Stopped) ↔ (is_processing_commands (registers_of j) ≡ false) }
-    ensures stays { (m n : List (List ℕ)) (i j : Iommu C C.TransCache) (answer : Answer) → FetchesCommand m i answer n j
+    ensures unchanged { (m n : List (List ℕ)) (i j : Iommu C C.TransCache) (answer : Answer) → FetchesCommand m i answer n j
         → is_processing_commands (registers_of i) ≡ false → (n ≡ m) × (j ≡ i) }
 {}
 

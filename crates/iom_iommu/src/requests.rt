@@ -2,7 +2,7 @@
 ghost use Rattle.std.specs.Prelude.{◌≡◌, ◌<◌, ◌≤◌, ◌+◌, ◌*◌, ◌^◌, length, IfSome};
 ghost use Rattle.iom_base.specs.Sizes.{in_flight_limit, device_limit};
 ghost use Rattle.iom_inflight.specs.Flights.{count_in, accepted_in, count_all, first_busy, oldest_in, oldest_number_in, row_of};
-ghost use Rattle.iom_inflight.specs.Sound.{CarriesBytes};
+ghost use Rattle.iom_inflight.specs.Invariant.{CarriesBytes};
 ghost use Rattle.iom_inflight.specs.Calls.{IsAccepted};
 ghost use Rattle.iom_inflight.specs.Rows.{RowStandsAt};
 ghost use Rattle.iom_base.specs.Spans.{FitsInPage};

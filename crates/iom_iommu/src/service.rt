@@ -1,4 +1,5 @@
-// An untranslated request is served (IOMMU specification, section 2.3, "Process to translate an IOVA").
+// An untranslated request is served (IOMMU specification, section 2.3, "Process to translate an IOVA", whose steps are
+// named here by their numbers). There are no process ids, so steps 11 to 16 never come, and no MSI tables, so 18 doesn't.
 ghost use Rattle.std.specs.Prelude.{◌≡◌, ◌≢◌, ◌<◌, true, length, IfOk};
 ghost use Rattle.iom_device_dir.specs.Cached.{cached_contexts};
 ghost use Rattle.iom_device_dir.specs.Located.{located_context};
@@ -42,8 +43,8 @@ fn serve_by_search<C: TransCache>(
     translate_by(memory, found, address, kind, translations)
 }
 
-/// The translation of an access of the device. The context and the translation that this finds in memory are
-/// cached, the context also where the translation then faults.
+/// The translation of an access of the device, by steps 1 to 6 and what follows them. The context and the translation that
+/// this finds in memory are cached, the context also where the translation then faults.
 pub(crate) fn serve<C: TransCache>(
     memory: &Memory,
     registers: &Registers,
@@ -61,12 +62,15 @@ pub(crate) fn serve<C: TransCache>(
 {
     let mode = registers.directory_mode();
     match mode {
+        // Step 1.
         DirectoryMode::Off => Err(plain(Cause::AllInboundDisallowed)),
+        // Step 2: on to step 20 with the address as it is.
         DirectoryMode::Bare => own_page(memory, address, kind),
-        // Also where a context is cached: software may have given the directory fewer levels since.
+        // Step 5, by the base format's DDI of step 3. Also where a context is cached: software may have given the directory fewer levels since.
         _ if !fits_directory(mode, device) => Err(plain(Cause::TransactionTypeDisallowed)),
         DirectoryMode::OneLevel | DirectoryMode::TwoLevels | DirectoryMode::ThreeLevels => {
-            // A device that makes one request after another pays for no search, and for no copy of its context.
+            // Step 6; step 7 refuses no untranslated request. A device that makes one request after another pays for no
+            // search, and for no copy of its context.
             match contexts.last_used(device) {
                 Some(context) => translate(memory, context, address, kind, translations),
                 None => serve_by_search(

@@ -2,7 +2,7 @@
 // "Process to translate an IOVA").
 ghost use Rattle.std.specs.Prelude.{◌≡◌, ◌<◌, ◌+◌, ◌^◌, length, IfOk};
 ghost use Rattle.iom_device_dir.specs.Cached.{cached_contexts};
-ghost use Rattle.iom_inflight.specs.Sound.{CarriesBytes};
+ghost use Rattle.iom_inflight.specs.Invariant.{CarriesBytes};
 ghost use Rattle.iom_iommu.specs.Parts.{IsAdded, flights_of, frames_of};
 ghost use Rattle.iom_iommu.specs.Requests.{access_of};
 ghost use Rattle.iom_iommu.specs.Service.{ats_context_for, KeepsContext};

@@ -1,9 +1,9 @@
 // An address is translated by the stages of a context: by what is cached, or by a walk (IOMMU specification, section 2.3,
-// "Process to translate an IOVA").
+// "Process to translate an IOVA", steps 10, 17, 19 and 20, and section 2.8, "Caching in-memory data structures").
 ghost use Rattle.std.specs.Prelude.{◌≡◌, ◌<◌, ◌/◌, length, IfOk, IfErr, IsSome};
 ghost use Rattle.iom_base.specs.Sizes.{page_size};
 ghost use Rattle.iom_stage_walk.specs.Both.{plain};
-ghost use Rattle.iom_tlb.specs.Content.{TranslationsStay};
+ghost use Rattle.iom_tlb.specs.Content.{TranslationsUnchanged};
 ghost use Rattle.iom_iommu.specs.Cached.{AreTranslationsIn};
 ghost use Rattle.iom_iommu.specs.Service.{own_page, cached_for, Walks, Translates, ServesBy};
 ghost use Rattle.iom_iommu.specs.Stages.{space_through, ReachesThrough, StopsThrough};
@@ -61,7 +61,8 @@ fn space_of(context: &Context) -> Option<Space>
     }
 }
 
-/// Where the walk of the context's stages ends. One of them at least isn't Bare.
+/// Where the walk of the context's stages ends, by step 17, the first stage, and step 19, the second. One of them at least
+/// isn't Bare.
 fn walk(
     memory: &Memory,
     context: &Context,
@@ -152,7 +153,7 @@ fn find_cached<C: TransCache>(
     kind: AccessKind,
 ) -> Option<Translation>
     ensures found { result ≡ cached_for (C.content translations.old (space, page)) kind }
-    ensures stays { TranslationsStay (C.content translations.old) (C.content translations.new) }
+    ensures unchanged { TranslationsUnchanged (C.content translations.old) (C.content translations.new) }
 {
     let cached = translations.look(space, page)?;
     if cached.rights.allows(kind) {
@@ -162,7 +163,8 @@ fn find_cached<C: TransCache>(
     }
 }
 
-/// The translation to which the stages of the context lead.
+/// The translation to which the stages of the context lead, which are those of the context itself (step 10). Where both are
+/// Bare that is the address (step 20).
 #[inline(always)]
 pub(crate) fn translate<C: TransCache>(
     memory: &Memory,

@@ -42,15 +42,15 @@ pub(crate) enum Step<'a> {
     PutEach(u32, (u64, u64)),
     /// A fetch answers so, or does the command with these words, once or so many times.
     Fetch(Answer),
-    Does((u64, u64)),
-    DoesEach(u32, (u64, u64)),
+    Effect((u64, u64)),
+    EachEffect(u32, (u64, u64)),
     /// A fetch does `ATS.INVAL` of the device's page 3, and opens the request with this number; or those up to it.
     Opens(u64),
     OpensEach(u64),
     /// The last request that was opened has this number.
     Last(u64),
     /// Twice a fetch answers so, no register changes, and the word at 0x5000 is 0.
-    Stays(Answer),
+    Unchanged(Answer),
     /// The device says that it completed the invalidation request with this number, which was open or not.
     Done(u32, u64, bool),
     /// So many requests are open.
@@ -197,13 +197,13 @@ impl Bench {
         expect(rt, self.fetch(rt) == expected);
     }
 
-    fn does(&mut self, rt: &impl Abort, words: (u64, u64)) {
+    fn effect(&mut self, rt: &impl Abort, words: (u64, u64)) {
         expect(rt, self.fetch(rt) == did(rt, words));
     }
 
     fn does_each(&mut self, rt: &impl Abort, count: u32, words: (u64, u64)) {
         for _ in 0..count {
-            self.does(rt, words);
+            self.effect(rt, words);
         }
     }
 
@@ -213,7 +213,7 @@ impl Bench {
     }
 
     fn opens(&mut self, rt: &impl Abort, serial: u64) {
-        self.does(rt, INVALIDATE);
+        self.effect(rt, INVALIDATE);
         self.expect_last(rt, serial);
     }
 
@@ -223,7 +223,7 @@ impl Bench {
         }
     }
 
-    fn stays(&mut self, rt: &impl Abort, answer: Answer) {
+    fn unchanged(&mut self, rt: &impl Abort, answer: Answer) {
         let before = self.registers();
         self.answers(rt, answer);
         self.answers(rt, answer);
@@ -341,12 +341,12 @@ impl Bench {
     fn takes_command(&mut self, rt: &impl Abort, step: Step) {
         match step {
             Step::Fetch(answer) => self.answers(rt, answer),
-            Step::Does(words) => self.does(rt, words),
-            Step::DoesEach(count, words) => self.does_each(rt, count, words),
+            Step::Effect(words) => self.effect(rt, words),
+            Step::EachEffect(count, words) => self.does_each(rt, count, words),
             Step::Opens(serial) => self.opens(rt, serial),
             Step::OpensEach(last) => self.opens_each(rt, last),
             Step::Last(serial) => self.expect_last(rt, serial),
-            Step::Stays(answer) => self.stays(rt, answer),
+            Step::Unchanged(answer) => self.unchanged(rt, answer),
             Step::Done(device, serial, is_open) => {
                 expect(rt, self.iommu.done(device, serial) == is_open);
             }

@@ -23,10 +23,10 @@ static LATER: [Step; 15] = [
     Step::Counts(2, 2),
     Step::Commit,
     Step::Counts(2, 1),
-    Step::Does(WITH_PR),
+    Step::Effect(WITH_PR),
     Step::Fetch(Answer::Waiting),
     Step::Commit,
-    Step::Does(WITH_PR),
+    Step::Effect(WITH_PR),
 ];
 
 /// Turned off and on, the queue begins at its first entry, and the fence there counts anew.
@@ -43,7 +43,7 @@ static GIVEN_UP: [Step; 13] = [
     Step::Commit,
     Step::Fetch(Answer::Waiting),
     Step::Commit,
-    Step::Does(WITH_PR),
+    Step::Effect(WITH_PR),
 ];
 
 /// PR waits for reads alone.
@@ -54,7 +54,7 @@ static READS: [Step; 8] = [
     Step::Write(CQT, 2),
     Step::Write(DDTP, 1),
     Step::Ask(DEVICE, 0x3000, b"", Reply::Accepted(1)),
-    Step::Does(WITH_PW),
+    Step::Effect(WITH_PW),
     Step::Fetch(Answer::Waiting),
 ];
 
@@ -66,7 +66,7 @@ static WRITES: [Step; 8] = [
     Step::Write(CQT, 2),
     Step::Write(DDTP, 1),
     Step::Ask(DEVICE, 0x3000, b"\xaa", Reply::Accepted(1)),
-    Step::Does(WITH_PR),
+    Step::Effect(WITH_PR),
     Step::Fetch(Answer::Waiting),
 ];
 

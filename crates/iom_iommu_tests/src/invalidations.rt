@@ -39,7 +39,7 @@ static EACH: [Step; 14] = [
     Step::Fetch(Answer::Waiting),
     Step::Last(2),
     Step::Done(DEVICE, 1, true),
-    Step::Does((2, 0)),
+    Step::Effect((2, 0)),
     Step::Last(2),
 ];
 
@@ -62,7 +62,7 @@ static COUNTS: [Step; 17] = [
     Step::Fetch(Answer::Waiting),
     Step::Last(1),
     Step::Commit,
-    Step::Does((0x1002, 0)),
+    Step::Effect((0x1002, 0)),
 ];
 
 /// Turned off and on, the queue has no open request, and the numbers go on.
@@ -82,7 +82,7 @@ static OFF: [Step; 16] = [
     Step::Fetch(Answer::Waiting),
     Step::Last(2),
     Step::Done(DEVICE, 2, true),
-    Step::Does((2, 0)),
+    Step::Effect((2, 0)),
 ];
 
 #[test]

@@ -139,9 +139,9 @@ static CACHED: [Step; 12] = [
     Step::Ask(DEVICE, 0x3010, b"", Reply::Accepted(1)),
     Step::Store(CONTEXT, 0),
     Step::Ask(DEVICE, 0x3010, b"", Reply::Accepted(2)),
-    Step::Does(OTHER_DEVICE),
+    Step::Effect(OTHER_DEVICE),
     Step::Ask(DEVICE, 0x3010, b"", Reply::Accepted(3)),
-    Step::Does(ITS_DEVICE),
+    Step::Effect(ITS_DEVICE),
     Step::Ask(
         DEVICE,
         0x3010,

@@ -119,7 +119,7 @@ fn goes_after(
         Step::GoesTo(address, b"", 32),
         Step::Put(0, command),
         Step::Write(CQT, 1),
-        Step::Does(command),
+        Step::Effect(command),
         Step::GoesTo(address, b"", frame),
     ];
     bench.store_all(rt, &WORDS);
@@ -211,7 +211,7 @@ static SECOND_SUPERPAGE: [Step; 14] = [
     Step::GoesTo(0x9010, b"", 9),
     Step::Put(0, GVMA_PAGE_8),
     Step::Write(CQT, 1),
-    Step::Does(GVMA_PAGE_8),
+    Step::Effect(GVMA_PAGE_8),
     Step::GoesTo(0x9010, b"", 32),
     Step::GoesTo(0x20_9010, b"", 9),
 ];
@@ -228,7 +228,7 @@ static GUEST_SUPERPAGE: [Step; 11] = [
     Step::GoesTo(0x9010, b"", 32),
     Step::Put(0, VMA_VM_PAGE_4),
     Step::Write(CQT, 1),
-    Step::Does(VMA_VM_PAGE_4),
+    Step::Effect(VMA_VM_PAGE_4),
     Step::GoesTo(0x9010, b"", 33),
 ];
 

@@ -11,12 +11,12 @@ static ILLEGAL: [Step; 12] = [
     Step::Write(CQT, 1),
     Step::Fetch(Answer::Stopped),
     Step::Put(0, FENCE),
-    Step::Stays(Answer::Stopped),
+    Step::Unchanged(Answer::Stopped),
     Step::Write(CQCSR, 3),
     Step::Fetch(Answer::Stopped),
     Step::Write(CQCSR, 3 | 0x400),
     Step::Register(CQCSR, 0x0001_0003),
-    Step::Does(FENCE),
+    Step::Effect(FENCE),
     Step::Word(0x5000, 1),
 ];
 
@@ -27,12 +27,12 @@ static NO_PLACE: [Step; 12] = [
     Step::Write(CQT, 1),
     Step::Fetch(Answer::Stopped),
     Step::Put(0, FENCE),
-    Step::Stays(Answer::Stopped),
+    Step::Unchanged(Answer::Stopped),
     Step::Write(CQCSR, 3),
     Step::Fetch(Answer::Stopped),
     Step::Write(CQCSR, 3 | 0x100),
     Step::Register(CQCSR, 0x0001_0003),
-    Step::Does(FENCE),
+    Step::Effect(FENCE),
     Step::Word(0x5000, 1),
 ];
 
@@ -49,13 +49,13 @@ static OFF: [Step; 10] = [
     Step::TurnOn(BASE_VALUE),
     Step::PutEach(2, FENCE),
     Step::Write(CQT, 2),
-    Step::Does(FENCE),
+    Step::Effect(FENCE),
     Step::Write(CQCSR, 2),
     Step::Fetch(Answer::Stopped),
     Step::Register(CQH, 1),
     Step::Write(CQCSR, 3),
     Step::Register(CQH, 0),
-    Step::Does(FENCE),
+    Step::Effect(FENCE),
 ];
 
 #[test]

@@ -62,7 +62,7 @@ static COMPLETED: [Step; 13] = [
     Step::Done(DEVICE, 1, true),
     Step::Done(DEVICE, 2, true),
     Step::NoTimeout,
-    Step::Does(FENCE),
+    Step::Effect(FENCE),
     Step::Word(0x5000, 1),
     Step::Register(CQH, 3),
 ];
@@ -82,7 +82,7 @@ static ACCESSES: [Step; 15] = [
     Step::Fetch(Answer::Waiting),
     Step::NoTimeout,
     Step::Commit,
-    Step::Does(FENCE_WITH_PR),
+    Step::Effect(FENCE_WITH_PR),
     Step::Word(0x5000, 1),
 ];
 
@@ -142,7 +142,7 @@ static CLEARED: [Step; 14] = [
     Step::Timeout,
     Step::Write(CQCSR, 0x203),
     Step::Register(CQCSR, 0x0001_0003),
-    Step::Does(FENCE),
+    Step::Effect(FENCE),
     Step::Word(0x5000, 1),
     Step::Register(CQH, 3),
     Step::NoTimeout,

@@ -29,7 +29,7 @@ fn goes_after(rt: &impl Abort, bench: &mut Bench, command: (u64, u64), frame: u3
         Step::GoesTo(0x3010, b"", 32),
         Step::Put(0, command),
         Step::Write(CQT, 1),
-        Step::Does(command),
+        Step::Effect(command),
         Step::GoesTo(0x3010, b"", frame),
     ];
     bench.store_all(rt, &WORDS);
@@ -125,7 +125,7 @@ static SUPERPAGE: [Step; 18] = [
     Step::GoesTo(0x20010, b"", 32),
     Step::Put(0, PAGE_5),
     Step::Write(CQT, 1),
-    Step::Does(PAGE_5),
+    Step::Effect(PAGE_5),
     Step::GoesTo(0x3010, b"", 32),
     Step::GoesTo(0x20010, b"", 33),
     Step::GoesTo(0x20_3010, b"", 3),

@@ -38,12 +38,12 @@ use Rattle.iom_judge.specs.declared.verdict.Verdict.{Verdict}
 happen_on : (old : TraceState) (happened : List Happening) (mid : TraceState) (later : List Happening) (new : TraceState)
     → HappenInTurn old happened mid → HappenInTurn mid later new → HappenInTurn old (happened ++ later) new
 happen_on old [] mid later new first rest = subst (λ (s : TraceState). HappenInTurn s later new) first rest
-happen_on old (h ∷ hs) mid later new (next, does, others) rest = (next, does, happen_on next hs mid later new others rest)
+happen_on old (h ∷ hs) mid later new (next, effect, others) rest = (next, effect, happen_on next hs mid later new others rest)
 
 -- what happened is a run of the ledger machine
 run_of : (old : TraceState) (happened : List Happening) (new : TraceState) → HappenInTurn old happened new
     → machine.Run old.machine (events_of happened) (outcomes_of happened) new.machine
-run_of old [] new stays = ap (λ (s : TraceState). s.machine) stays
+run_of old [] new unchanged = ap (λ (s : TraceState). s.machine) unchanged
 run_of old (Came event outcome choice ∷ others) new (mid, comes, rest) = (mid.machine, (choice, comes.step), run_of mid others new rest)
 run_of old (GivenAway frame ∷ others) new (mid, given, rest) =
     subst (λ (s : State). machine.Run s (events_of others) (outcomes_of others) new.machine) given.0.0 (run_of mid others new rest)
@@ -173,7 +173,7 @@ of_run machine size limits lines by =
 
 -- so the lines are lawful
 lawful_lines : (found : Option TraceMachine) (lines : List (List ℕ)) → Certify found lines → AreLawfulLines lines
-lawful_lines None [] told = tt
+lawful_lines None [] reply = tt
 lawful_lines None (l ∷ ls) never = absurd never
 lawful_lines (Some machine) [] never = absurd never
 lawful_lines (Some machine) (l ∷ ls) (size, limits, says, it) = (size, limits, says, of_run machine size limits ls it)

@@ -24,7 +24,7 @@ abbrev pub sharers : (ℕ → Option ℕ) → List Device → ℕ → List ℕ
 sharers first_with devices first =
     map (λ device. device.id) (filter (λ device. is_this (first_with device.id) first && is_attached device.attachment) devices)
 
--- whether a device that is so attached walks in no table any more: it is detached, or cut off, and that is confirmed
+-- whether a device that is so attached walks in no table any more: it is detached, or quarantined, and that is confirmed
 abbrev pub is_gone : History → Attachment → Bool
 is_gone history Detached = true
 is_gone history (Attached mode ats) = false

@@ -9,7 +9,7 @@ ghost use Rattle.iom_judge.specs.Certified.{Continues, ContinuesAs, ContinuesBy,
 ghost use Rattle.iom_judge.specs.declared.changes.Change.TheVariants as changes;
 ghost use Rattle.iom_judge.specs.Happenings.{Happening, Came, CameInTurn, IsShared, behind, change_by, event_of, tables_chosen};
 
-use crate::choosing::{NOTHING, Shown, Tables, Told, where_shown};
+use crate::choosing::{NOTHING, Reported, Shown, Tables, where_shown};
 use crate::machine::TraceMachine;
 use crate::stop::{Line, Stop};
 use iom_base::{DeviceId, GrantRights};
@@ -129,12 +129,12 @@ impl TraceMachine {
         ensures { OnOk result ((choice : spec_choice.Choice) × (choice.taken ≡ [])
             × Continues self.old (Came event.now outcome.now choice ∷ []) self.new) }
     {
-        let told = Told {
+        let reply = Reported {
             event,
             outcome,
             shown: WITHOUT_TABLES,
         };
-        self.go_on_alone(line, told)
+        self.go_on_alone(line, reply)
     }
 
     /// It changes of each of these devices too.
@@ -175,13 +175,13 @@ impl TraceMachine {
     }
 
     /// This came of the event. A grant and a release are those of each device of the domain, and it is its first that is named.
-    pub(crate) fn go_on(&mut self, line: Line<'_>, told: Told<'_>) -> Result<(), Stop>
-        ensures { OnOk result ((choice : spec_choice.Choice) × ShowsChoice told.entry.shown told.entry.event.now choice
-            × ContinuesBy self.old told.entry.event.now told.entry.outcome.now choice self.new) }
+    pub(crate) fn go_on(&mut self, line: Line<'_>, reply: Reported<'_>) -> Result<(), Stop>
+        ensures { OnOk result ((choice : spec_choice.Choice) × ShowsChoice reply.entry.shown reply.entry.event.now choice
+            × ContinuesBy self.old reply.entry.event.now reply.entry.outcome.now choice self.new) }
     {
-        self.domains.check_first(told.event)?;
-        self.go_on_alone(line, told)?;
-        self.change_sharers(line, told.event, told.outcome)
+        self.domains.check_first(reply.event)?;
+        self.go_on_alone(line, reply)?;
+        self.change_sharers(line, reply.event, reply.outcome)
     }
 
     /// It changed so of the device at so many pages, one after another; and the tables that were taken, where they are shown.
@@ -201,12 +201,12 @@ impl TraceMachine {
             let Some(change) = first.behind(index) else {
                 return Err(line.bad("it goes beyond 2^64")?);
             };
-            let told = Told {
+            let reply = Reported {
                 event: &change.event_of(device),
                 outcome,
                 shown: shown_at(has_tables, tables, index),
             };
-            self.go_on(line, told)?;
+            self.go_on(line, reply)?;
         }
         Ok(())
     }

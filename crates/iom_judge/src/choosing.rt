@@ -43,7 +43,7 @@ pub(crate) const NOTHING: Shown<'static> = Shown {
 
 /// That this came of the event, with what the line shows of it.
 #[derive(Clone, Copy)]
-pub(crate) struct Told<'a> {
+pub(crate) struct Reported<'a> {
     pub(crate) event: &'a Event,
     pub(crate) outcome: &'a Outcome,
     pub(crate) shown: Shown<'a>,
@@ -153,8 +153,8 @@ fn choose_shown(
 }
 
 /// A page of which the device may be told so, if there is one.
-fn page_told(kept: &KeptState, id: DeviceId, told: Translation) -> u64 {
-    let found = match told {
+fn page_told(kept: &KeptState, id: DeviceId, reply: Translation) -> u64 {
+    let found = match reply {
         Translation::Page { frame, rights } => first_reachable(kept, id, |it: Reachable| -> bool {
             it.frame == u64::from(frame) && it.rights == rights
         }),
@@ -167,8 +167,8 @@ fn page_told(kept: &KeptState, id: DeviceId, told: Translation) -> u64 {
 }
 
 /// What asks for an access at an address of its device: the device, and the address and kind where they are shown.
-fn asked_by(told: Told<'_>) -> Option<(DeviceId, Option<(u64, AccessKind)>)> {
-    match told.event {
+fn asked_by(reply: Reported<'_>) -> Option<(DeviceId, Option<(u64, AccessKind)>)> {
+    match reply.event {
         Event::Read {
             device,
             address,
@@ -191,7 +191,7 @@ fn asked_by(told: Told<'_>) -> Option<(DeviceId, Option<(u64, AccessKind)>)> {
         } => Some((*device, Some((*address, AccessKind::Write)))),
         Event::Step { device } => Some((
             *device,
-            match told.shown.began {
+            match reply.shown.began {
                 Some(access) => Some((access.address, access.kind)),
                 None => None,
             },
@@ -241,13 +241,13 @@ impl Chosen {
     }
 
     /// No tables are chosen; and they are missing of an attach or a grant, where it isn't shown which it took.
-    fn choose_no_tables(&mut self, line: Line<'_>, told: Told<'_>) {
+    fn choose_no_tables(&mut self, line: Line<'_>, reply: Reported<'_>) {
         self.choice.taken = Sequence::new(line.alloc);
         self.choice.directory = Sequence::new(line.alloc);
-        let is_shown = match told.shown.tables {
+        let is_shown = match reply.shown.tables {
             Tables::Own(tables) => tables.is_some(),
             Tables::OfAnother(pages) => {
-                pages.is_some() || matches!(told.event, Event::Grant { .. })
+                pages.is_some() || matches!(reply.event, Event::Grant { .. })
             }
         };
         if !is_shown {
@@ -283,8 +283,14 @@ impl Chosen {
     }
 
     /// What is chosen of an access that was accepted, as this one of its device.
-    fn choose_accepted(&mut self, line: Line<'_>, kept: &KeptState, told: Told<'_>, number: u64) {
-        let Some((device, access)) = asked_by(told) else {
+    fn choose_accepted(
+        &mut self,
+        line: Line<'_>,
+        kept: &KeptState,
+        reply: Reported<'_>,
+        number: u64,
+    ) {
+        let Some((device, access)) = asked_by(reply) else {
             return;
         };
         let begun = Begun {
@@ -293,9 +299,9 @@ impl Chosen {
             line: line.number,
         };
         match access {
-            None => self.choose_any_access(line.alloc, kept, begun, told.shown.on),
+            None => self.choose_any_access(line.alloc, kept, begun, reply.shown.on),
             Some((address, kind)) => {
-                if told.shown.on.is_none() {
+                if reply.shown.on.is_none() {
                     self.choose_frame(kept, begun, address, kind);
                 }
             }
@@ -303,12 +309,12 @@ impl Chosen {
     }
 
     /// The question that a delivery answered.
-    fn choose_question(&mut self, kept: &KeptState, question: Option<Sent>, told: Translation) {
+    fn choose_question(&mut self, kept: &KeptState, question: Option<Sent>, reply: Translation) {
         if let Some(Sent { device, page }) = question {
             self.choice.device = device;
             self.choice.page = match page {
                 Some(page) => page,
-                None => page_told(kept, device, told),
+                None => page_told(kept, device, reply),
             };
         }
     }
@@ -320,17 +326,17 @@ impl Chosen {
         line: Line<'_>,
         kept: &KeptState,
         notes: &Notes,
-        told: Told<'_>,
+        reply: Reported<'_>,
     ) -> Result<(), AllocError> {
         self.missing = None;
-        match (told.event, told.outcome) {
-            (_, Outcome::Accepted(number)) => self.choose_accepted(line, kept, told, *number),
+        match (reply.event, reply.outcome) {
+            (_, Outcome::Accepted(number)) => self.choose_accepted(line, kept, reply, *number),
             (Event::Step { device }, Outcome::Fault(cause)) => {
                 self.choice.access = refused_access(line.alloc, kept, *device, *cause)?;
             }
             (Event::Step { .. }, _) => self.choice.access = read_at(line.alloc, 0),
             (Event::Attach { .. } | Event::Grant { .. }, Outcome::Done) => {
-                self.choose_no_tables(line, told);
+                self.choose_no_tables(line, reply);
             }
             (event, Outcome::Answered(answer)) => {
                 self.choose_question(kept, notes.question_of(event), *answer);
@@ -346,11 +352,11 @@ impl Chosen {
         line: Line<'_>,
         kept: &KeptState,
         notes: &Notes,
-        told: Told<'_>,
+        reply: Reported<'_>,
     ) -> Result<(), AllocError>
-        ensures { OnOk result (ShowsChoice told.entry.shown told.entry.event.now self.new.choice) }
+        ensures { OnOk result (ShowsChoice reply.entry.shown reply.entry.event.now self.new.choice) }
     {
-        self.choose_unshown(line, kept, notes, told)?;
-        choose_shown(line.alloc, &mut self.choice, told.event, told.shown)
+        self.choose_unshown(line, kept, notes, reply)?;
+        choose_shown(line.alloc, &mut self.choice, reply.event, reply.shown)
     }
 }

@@ -6,7 +6,7 @@ ghost use Rattle.iom_kept_state.specs.Grants.{IsPastOf};
 ghost use Rattle.iom_judge.specs.Certified.{first_in};
 ghost use Rattle.iom_judge.specs.Sharing.{is_gone, is_this, own_domain, sharers, tables_end, NoneWalks};
 
-use crate::choosing::Told;
+use crate::choosing::Reported;
 use crate::missing::Missing;
 use crate::stop::{Stop, uncertified};
 use indexmap::IndexMap;
@@ -144,11 +144,11 @@ impl Domains {
     }
 
     /// What follows can't be certified where tables go back by this, while another device may still walk in them.
-    pub(crate) fn check(&self, kept: &KeptState, told: Told<'_>) -> Result<(), Stop>
+    pub(crate) fn check(&self, kept: &KeptState, reply: Reported<'_>) -> Result<(), Stop>
         ensures { (h : History) → IsPastOf kept.now.grants h → OnOk result
-            (IfSome (tables_end told.entry.event.now told.entry.outcome.now) (NoneWalks (first_in self.now) h kept.now.devices)) }
+            (IfSome (tables_end reply.entry.event.now reply.entry.outcome.now) (NoneWalks (first_in self.now) h kept.now.devices)) }
     {
-        if let Some(first) = tables_end(told.event, told.outcome) {
+        if let Some(first) = tables_end(reply.event, reply.outcome) {
             if !self.none_walks(&kept.grants, kept.devices.as_slice(), first) {
                 return Err(uncertified(Missing::Sharers { first }));
             }

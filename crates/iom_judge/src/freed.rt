@@ -3,7 +3,7 @@ ghost use Rattle.std.specs.Prelude.{OnOk};
 ghost use Rattle.iom_trace_lines.specs.TraceLines.{TablesFreed};
 ghost use Rattle.iom_judge.specs.Certified.{ContinuesAs};
 
-use crate::choosing::{NOTHING, Shown, Told};
+use crate::choosing::{NOTHING, Reported, Shown};
 use crate::machine::TraceMachine;
 use crate::stop::{Line, Stop, uncertified};
 use iom_base::Owner;
@@ -57,11 +57,11 @@ impl TraceMachine {
             freed: tables,
             ..NOTHING
         };
-        let told = Told {
+        let reply = Reported {
             event: &Event::Poll,
             outcome: &Outcome::NoneConfirmed { timed_out: false },
             shown,
         };
-        self.go_on_alone(line, told)
+        self.go_on_alone(line, reply)
     }
 }

@@ -1,7 +1,7 @@
 // What was guessed of what lines don't show, and which line depends on it.
 ghost use Rattle.std.specs.Prelude.{◌≤◌};
 
-use crate::choosing::{Tables, Told};
+use crate::choosing::{Reported, Tables};
 use crate::missing::{Begun, Missing};
 use crate::settled::device_with;
 use iom_base::{DeviceId, PAGE_SIZE, Refusal};
@@ -56,24 +56,24 @@ impl Guesses {
     /// Notes what a line shows, what was guessed of the access that it makes, and what is missing of what it shows.
     pub(crate) fn note_line(
         &mut self,
-        told: Told<'_>,
+        reply: Reported<'_>,
         made: Option<Missing>,
         missing: Option<Missing>,
     ) -> Result<(), AllocError> {
         if matches!(
-            told.shown.tables,
+            reply.shown.tables,
             Tables::Own(Some(_)) | Tables::OfAnother(Some(_))
         ) {
             self.shows_tables = true;
         }
         if matches!(
-            (told.event, told.outcome),
+            (reply.event, reply.outcome),
             (Event::Detach { .. }, Outcome::Ticket(_))
         ) {
             self.gives_back = self.tables.is_some();
         }
         if let Some(made) = made {
-            self.make(made, told.outcome);
+            self.make(made, reply.outcome);
         }
         match missing {
             None => {}

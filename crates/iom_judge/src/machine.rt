@@ -6,7 +6,7 @@ ghost use Rattle.iom_judge.specs.Certified.{first_in, is_given, Continues, Follo
 ghost use Rattle.iom_judge.specs.Happenings.{is_used, Came};
 ghost use Rattle.iom_judge.specs.Sharing.{is_this, own_domain};
 
-use crate::choosing::{Chosen, Shown, Tables, Told, where_shown};
+use crate::choosing::{Chosen, Reported, Shown, Tables, where_shown};
 use crate::domains::Domains;
 use crate::guesses::Guesses;
 use crate::handed::Handed;
@@ -67,70 +67,80 @@ impl TraceMachine {
     fn note(
         &mut self,
         line: Line<'_>,
-        told: Told<'_>,
+        reply: Reported<'_>,
         made: Option<Missing>,
     ) -> Result<(), AllocError>
         ensures kept { self.new.kept ≡ self.old.kept }
         ensures given { OnOk result ((frame : ℕ) → is_given self.new.handed frame
-            ≡ (is_given self.old.handed frame && not (is_used told.entry.event.now told.entry.outcome.now self.old.chosen.choice frame))) }
+            ≡ (is_given self.old.handed frame && not (is_used reply.entry.event.now reply.entry.outcome.now self.old.chosen.choice frame))) }
         ensures takes { OnOk result (self.new.handed.takes_back ≡ self.old.handed.takes_back) }
         ensures domains { OnOk result ((k : ℕ) → first_in self.new.domains k
-            ≡ (if is_this (own_domain told.entry.event.now told.entry.outcome.now) k then None else first_in self.old.domains k)) }
+            ≡ (if is_this (own_domain reply.entry.event.now reply.entry.outcome.now) k then None else first_in self.old.domains k)) }
     {
         self.notes.begin_line(line.number);
-        self.notes.note(told.event, told.outcome)?;
-        self.handed.note(told, &self.chosen.choice);
-        self.domains.note(told.event, told.outcome);
-        self.guesses.note_line(told, made, self.chosen.missing)
+        self.notes.note(reply.event, reply.outcome)?;
+        self.handed.note(reply, &self.chosen.choice);
+        self.domains.note(reply.event, reply.outcome);
+        self.guesses.note_line(reply, made, self.chosen.missing)
     }
 
     /// Whether this may come of the event without the model's limits.
-    fn may_come_unlimited(&mut self, alloc: Global, told: Told<'_>) -> Result<bool, AllocError> {
+    fn may_come_unlimited(
+        &mut self,
+        alloc: Global,
+        reply: Reported<'_>,
+    ) -> Result<bool, AllocError> {
         let limits = self.kept.limits;
         if limits.pages.is_some() {
             return Ok(false);
         }
         self.kept.limits = WorldLimits::Unlimited.to_limits();
         let choice = &self.chosen.choice;
-        let may_come = judge(alloc, &mut self.kept, told.event, told.outcome, choice)?;
+        let may_come = judge(alloc, &mut self.kept, reply.event, reply.outcome, choice)?;
         self.kept.limits = limits;
         Ok(may_come)
     }
 
     /// What is found of a line of which this may not come.
-    fn refusal(&mut self, line: Line<'_>, told: Told<'_>) -> Result<Finding, AllocError> {
-        let guessed = self.guesses.behind(&self.kept, told.event, told.outcome);
+    fn refusal(&mut self, line: Line<'_>, reply: Reported<'_>) -> Result<Finding, AllocError> {
+        let guessed = self.guesses.behind(&self.kept, reply.event, reply.outcome);
         if let Some(missing) = guessed {
             return Ok(Finding::Uncertified(missing));
         }
         let facts = Facts {
             kept: &self.kept,
             notes: &self.notes,
-            on: told.shown.on,
+            on: reply.shown.on,
         };
-        let why = facts.reason(line.alloc, told.event, told.outcome)?;
+        let why = facts.reason(line.alloc, reply.event, reply.outcome)?;
         let reason = line.quoting(&why)?;
-        if self.may_come_unlimited(line.alloc, told)? {
+        if self.may_come_unlimited(line.alloc, reply)? {
             return Ok(Finding::Beyond(reason));
         }
         Ok(Finding::Unlawful(reason))
     }
 
     /// This came of the event, and of no other device's with it. It is left out where it may not come.
-    pub(crate) fn go_on_alone(&mut self, line: Line<'_>, told: Told<'_>) -> Result<(), Stop>
-        ensures { OnOk result ((choice : spec.Choice) × ShowsChoice told.entry.shown told.entry.event.now choice
-            × Continues self.old (Came told.entry.event.now told.entry.outcome.now choice ∷ []) self.new) }
+    pub(crate) fn go_on_alone(&mut self, line: Line<'_>, reply: Reported<'_>) -> Result<(), Stop>
+        ensures { OnOk result ((choice : spec.Choice) × ShowsChoice reply.entry.shown reply.entry.event.now choice
+            × Continues self.old (Came reply.entry.event.now reply.entry.outcome.now choice ∷ []) self.new) }
     {
-        self.chosen.choose(line, &self.kept, &self.notes, told)?;
+        self.chosen.choose(line, &self.kept, &self.notes, reply)?;
         let choice = &self.chosen.choice;
-        self.handed.check(line, told, choice)?;
-        self.domains.check(&self.kept, told)?;
-        let made = self.guesses.of_oldest(&self.kept, told.event);
-        if !judge(line.alloc, &mut self.kept, told.event, told.outcome, choice)? {
-            let finding = self.refusal(line, told)?;
+        self.handed.check(line, reply, choice)?;
+        self.domains.check(&self.kept, reply)?;
+        let made = self.guesses.of_oldest(&self.kept, reply.event);
+        if !judge(
+            line.alloc,
+            &mut self.kept,
+            reply.event,
+            reply.outcome,
+            choice,
+        )? {
+            let finding = self.refusal(line, reply)?;
             return Err(Stop::Found(finding));
         }
-        self.note(line, told, made)?;
+        self.note(line, reply, made)?;
         Ok(())
     }
 
@@ -161,12 +171,12 @@ impl TraceMachine {
                     on: *on,
                     began: began.as_ref(),
                 };
-                let told = Told {
+                let reply = Reported {
                     event,
                     outcome,
                     shown,
                 };
-                self.go_on(line, told)
+                self.go_on(line, reply)
             }
             TraceLine::Made { device, is_read } => self.make(line, *device, *is_read),
             TraceLine::Grants(granted, has_tables) => {

@@ -4,7 +4,7 @@ ghost use Rattle.iom_trace_lines.specs.TraceLines.{Made};
 ghost use Rattle.iom_judge.specs.Certified.{ContinuesAs};
 ghost use Rattle.iom_judge.specs.Happenings.{MayBeTold};
 
-use crate::choosing::{NOTHING, Told};
+use crate::choosing::{NOTHING, Reported};
 use crate::machine::TraceMachine;
 use crate::settled::device_with;
 use crate::stop::{Line, Stop};
@@ -57,11 +57,11 @@ impl TraceMachine {
     ) -> Result<(), Stop>
         ensures { OnOk result (ContinuesAs self.old (Made device is_read) [] self.new) }
     {
-        let told = Told {
+        let reply = Reported {
             event: &Event::Commit { device },
             outcome: &made_now(&self.kept, device, is_read),
             shown: NOTHING,
         };
-        self.go_on_alone(line, told)
+        self.go_on_alone(line, reply)
     }
 }

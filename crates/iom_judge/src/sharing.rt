@@ -13,7 +13,7 @@ ghost use Rattle.iom_judge.specs.Certified.{trace_state, Continues, ContinuesAs,
 ghost use Rattle.iom_judge.specs.Happenings.{Came, Joined};
 ghost use Rattle.iom_judge.specs.Sharing.{first_of, MayShare};
 
-use crate::choosing::{NOTHING, Shown, Tables, Told, where_shown};
+use crate::choosing::{NOTHING, Reported, Shown, Tables, where_shown};
 use crate::machine::TraceMachine;
 use crate::missing::Missing;
 use crate::stop::{Line, Stop, uncertified};
@@ -148,12 +148,12 @@ impl TraceMachine {
             tables: Tables::OfAnother(pages),
             ..NOTHING
         };
-        let told = Told {
+        let reply = Reported {
             event: &Event::Attach { device, mode, ats },
             outcome: &Outcome::Done,
             shown,
         };
-        self.go_on_alone(line, told)
+        self.go_on_alone(line, reply)
     }
 
     /// The mode in which the device is attached, whose domain another may have.

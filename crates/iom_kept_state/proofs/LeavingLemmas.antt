@@ -66,10 +66,10 @@ detached_once h (Quarantined ticket mode ats) left = absurd (false≢true left)
 detached_once h (Leaving ticket mode ats) left = sym (ap (λ (b : Bool). if b then Detached else Leaving ticket mode ats) left)
 
 pub once_stays : (h : History) (attachment : Attachment) → has_left h attachment ≡ false → attachment ≡ once_confirmed h attachment
-once_stays h Detached stays = refl
-once_stays h (Attached mode ats) stays = refl
-once_stays h (Quarantined ticket mode ats) stays = refl
-once_stays h (Leaving ticket mode ats) stays = sym (ap (λ (b : Bool). if b then Detached else Leaving ticket mode ats) stays)
+once_stays h Detached unchanged = refl
+once_stays h (Attached mode ats) unchanged = refl
+once_stays h (Quarantined ticket mode ats) unchanged = refl
+once_stays h (Leaving ticket mode ats) unchanged = sym (ap (λ (b : Bool). if b then Detached else Leaving ticket mode ats) unchanged)
 
 pub devices_stay : (h : History) (devices : List Device) → list_any (λ (device : Device). has_left h device.attachment) devices ≡ false
     → devices ≡ map (device_once_confirmed h) devices

@@ -34,5 +34,5 @@ Decides true old new IsStep = Leaves old new IsStep
 Decides false old new IsStep = (new ≡ old) × MayNotCome old IsStep
 
 -- the same of a step that leaves the state as it is, which needn't be changed for it
-abbrev pub DecidesStaying : Bool → KeptState → (State → State → Type 0) → Type 0
-DecidesStaying may kept IsStep = Decides may kept kept IsStep
+abbrev pub DecidesUnchanged : Bool → KeptState → (State → State → Type 0) → Type 0
+DecidesUnchanged may kept IsStep = Decides may kept kept IsStep

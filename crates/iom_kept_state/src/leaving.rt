@@ -79,7 +79,7 @@ fn give_back(frames: &mut KeptFrames, grants: &KeptGrants, devices: &[Device])
     }
     frames.named.retain(
         |_number: &u64, frame: &mut KeptFrame| -> bool
-            ensures stays { frame.new ≡ frame.old }
+            ensures unchanged { frame.new ≡ frame.old }
             ensures keeps { (grants.exit ≡ grants.entry) × (devices.exit ≡ devices.entry) }
             ensures test { (h : History) → IsPastOf grants.entry.now h → result ≡ not (is_of_left_in h devices.entry.now frame.old.owner) }
         { !is_of_left(grants, devices, frame.owner) },

@@ -136,9 +136,9 @@ count_none test (suc n) none count = absurd (∥∥₁_elim count (λ x y. absur
         here d a = or_left _ _ (and_from (d == d) (a == a) (eq-eqb d d refl) (eq-eqb a a refl))
 
 -- a page that passes as it did changes no other
-stays : (test : ℕ → ℕ → Bool) (d a e b : ℕ) (v : Bool) → test d a ≡ v
+unchanged : (test : ℕ → ℕ → Bool) (d a e b : ℕ) (v : Bool) → test d a ≡ v
     → (if (d == e) && (a == b) then v else test e b) ≡ test e b
-stays test d a e b v before = by ((d == e) && (a == b)) refl
+unchanged test d a e b v before = by ((d == e) && (a == b)) refl
   where
     by : (t : Bool) → ((d == e) && (a == b)) ≡ t → (if t then v else test e b) ≡ test e b
     by true same =
@@ -163,9 +163,9 @@ count_moved test now d a n m false true numbered before after number count =
     count_added test now d a n m device page before after number count
 count_moved test now d a n m true false numbered before after number count = count_dropped test now d a n m before after number count
 count_moved test now d a n m false false numbered before after number count =
-    count_same test now n m (λ e b. after e b ∙ stays test d a e b false before) number count
+    count_same test now n m (λ e b. after e b ∙ unchanged test d a e b false before) number count
 count_moved test now d a n m true true numbered before after number count =
-    count_same test now n m (λ e b. after e b ∙ stays test d a e b true before) number count
+    count_same test now n m (λ e b. after e b ∙ unchanged test d a e b true before) number count
 
 -- a page of a row has a number of 32 bits for its device, and one of 64 bits itself
 numbers_among : (pages : List (ℕ × ℕ)) (d a : ℕ) → AreNumbered pages → has_page pages d a ≡ true

@@ -72,7 +72,7 @@ fn take_waiting_row(pages: &mut Pages, index: usize, ticket: u32) -> Option<(u64
 fn take_waiting_row_at(pages: &mut Pages, page: u64, ticket: u32) -> Option<PageRow>
     ensures taken { IfSome result (λ row. TakesRow pages.old pages.new page row ticket) }
     ensures kept { IfNone result ((a : ℕ) → get nat_eq pages.new a ≡ get nat_eq pages.old a) }
-    ensures stays { IfNone result (unless_waiting (get nat_eq pages.old page) ticket ≡ get nat_eq pages.old page) }
+    ensures unchanged { IfNone result (unless_waiting (get nat_eq pages.old page) ticket ≡ get nat_eq pages.old page) }
 {
     let place = place_of(pages, page)?;
     let (_page, row) = pages.get_index(place)?;
@@ -203,7 +203,7 @@ fn take_in(
 fn take_at_in(devices: &mut Devices, device: DeviceId, page: u64, ticket: u32) -> Option<PageRow>
     ensures taken { IfSome result (λ row. TakesRowOf devices.old devices.new device page row ticket) }
     ensures kept { IfNone result (KeepsRows devices.old devices.new) }
-    ensures stays { IfNone result (unless_waiting (row_at devices.old device page) ticket ≡ row_at devices.old device page) }
+    ensures unchanged { IfNone result (unless_waiting (row_at devices.old device page) ticket ≡ row_at devices.old device page) }
 {
     let place = devices.place_of(device)?;
     take_waiting_row_at(&mut devices.list[place].pages, page, ticket)

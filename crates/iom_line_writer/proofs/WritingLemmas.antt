@@ -8,7 +8,7 @@ use Rattle.iom_machine.specs.declared.outcome.Outcome.{Outcome}
 use Rattle.iom_machine.specs.declared.outcome.Trace.{Trace}
 use Rattle.iom_script.specs.Lines.{line_of, settled_line, trace_line}
 use Rattle.iom_line_writer.specs.declared.writing.LineWriter.{LineWriter}
-use Rattle.iom_line_writer.specs.Told.{told_settled}
+use Rattle.iom_line_writer.specs.AnswerLines.{settled_lines}
 use Rattle.iom_line_writer.specs.Writing.{AppendsFront, AppendsPart, TakesText, FailsAt, FailsWriting}
 
 -- nothing is written of a text
@@ -71,7 +71,7 @@ fails-line contents old new outcome (Some trace) failed = fails-longer contents 
 
 -- the same of the line of what settling answers
 pub fails-answer : {W : Type 0} (contents : W → Option (List ℕ)) (old new : LineWriter W) (answer : Result ℕ Refusal) (trace : Option Trace)
-    → FailsAt contents old (settled_line answer) new → FailsAt contents old (told_settled answer trace) new
+    → FailsAt contents old (settled_line answer) new → FailsAt contents old (settled_lines answer trace) new
 fails-answer contents old new answer None failed = failed
 fails-answer contents old new answer (Some trace) failed = fails-longer contents old new (settled_line answer) (trace_line trace) failed
 

@@ -4,7 +4,7 @@ use Rattle.std.specs.Io.KnownBytes.{Appends}
 use Rattle.iom_machine.specs.declared.outcome.Outcome.{Outcome}
 use Rattle.iom_machine.specs.declared.outcome.Trace.{Trace}
 use Rattle.iom_line_writer.specs.declared.writing.LineWriter.{LineWriter}
-use Rattle.iom_line_writer.specs.Told.{told_line}
+use Rattle.iom_line_writer.specs.AnswerLines.{outcome_lines}
 
 -- known contents grow by a beginning of the text
 abbrev pub AppendsFront : Option (List ℕ) → Option (List ℕ) → List ℕ → Type 0
@@ -35,8 +35,8 @@ FailsAt contents old text new = KeepsWriter old new × AppendsPart (contents old
 
 -- the sink takes the line of the outcome, and that of its counts, where there are any
 abbrev pub TakesLine : {W : Type 0} → (W → Option (List ℕ)) → LineWriter W → Outcome → Option Trace → LineWriter W → Type 0
-TakesLine contents old outcome trace new = TakesText contents old (told_line outcome trace) new
+TakesLine contents old outcome trace new = TakesText contents old (outcome_lines outcome trace) new
 
 -- the sink fails at them
 abbrev pub FailsWriting : {W : Type 0} → (W → Option (List ℕ)) → LineWriter W → Outcome → Option Trace → LineWriter W → Type 0
-FailsWriting contents old outcome trace new = FailsAt contents old (told_line outcome trace) new
+FailsWriting contents old outcome trace new = FailsAt contents old (outcome_lines outcome trace) new

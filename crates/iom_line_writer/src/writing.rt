@@ -5,7 +5,7 @@ ghost use Rattle.std.specs.IoError.{error_kind};
 ghost use Rattle.std.specs.Io.KnownBytes.{Appends, WriteAppends};
 ghost use Rattle.iom_answers.specs.Answers.{outcome_of};
 ghost use Rattle.iom_script.specs.Lines.{line_of, settled_line, trace_line};
-ghost use Rattle.iom_line_writer.specs.Told.{told_settled};
+ghost use Rattle.iom_line_writer.specs.AnswerLines.{settled_lines};
 ghost use Rattle.iom_line_writer.specs.Writing.{AppendsPart, KeepsWriter, wants_counts, TakesText, FailsAt, TakesLine, FailsWriting};
 
 use iom_answers::{Answer, AnswerSink};
@@ -129,8 +129,8 @@ impl<'a, W: Write> LineWriter<'a, W> {
         answer: Result<u32, Refusal>,
         trace: Option<Trace>,
     ) -> Result<(), WriteFault>
-        ensures taken { OnOk result (TakesText W.contents self.old (told_settled answer trace) self.new) }
-        ensures failed { OnErr result (FailsAt W.contents self.old (told_settled answer trace) self.new) }
+        ensures taken { OnOk result (TakesText W.contents self.old (settled_lines answer trace) self.new) }
+        ensures failed { OnErr result (FailsAt W.contents self.old (settled_lines answer trace) self.new) }
     {
         self.put_answer(answer)?;
         match trace {

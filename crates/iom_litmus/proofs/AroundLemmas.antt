@@ -121,8 +121,8 @@ exploring_more {S} noted r test system old new edges table node onward x here wa
               (subst (λ as_here. IsExpanded noted r test new node.place onward as_here) (sym (subst (λ k. get_or (table ++ was.answers ∷ []) k [] ≡ was.answers) also (push_at table was.answers []))) was.all),
         )
 
-    stays : (n : ℕ) (edge : Edge) → IsListed (edges_at edges n) edge → IsListed (edges_at (edges ++ onward ∷ []) n) edge
-    stays n edge listed = by (nat_lt n (length edges)) refl
+    unchanged : (n : ℕ) (edge : Edge) → IsListed (edges_at edges n) edge → IsListed (edges_at (edges ++ onward ∷ []) n) edge
+    unchanged n edge listed = by (nat_lt n (length edges)) refl
       where
         by : (b : Bool) → nat_lt n (length edges) ≡ b → IsListed (edges_at (edges ++ onward ∷ []) n) edge
         by true e = subst (λ es. IsListed es edge) (sym (push_before edges onward [] n (ltb-true n (length edges) e))) listed
@@ -131,7 +131,7 @@ exploring_more {S} noted r test system old new edges table node onward x here wa
     found_by : (k : ℕ) (found : Node S) → 0 < k → slice_get new k ≡ Some found → (b : Bool) → nat_lt k (length old) ≡ b → IsFoundBy new (edges ++ onward ∷ []) k found
     found_by k found more got true e =
         let (n, before, earlier, there, edge, listed, to, way) = x.found k found more (kept_back old new k found was.grown (ltb-true k (length old) e) got) in
-        (n, before, earlier, slice_get_grown old new n earlier was.grown there, edge, stays n edge listed, to, way)
+        (n, before, earlier, slice_get_grown old new n earlier was.grown there, edge, unchanged n edge listed, to, way)
     found_by k found more got false e =
         let (_, (edge, listed, to, way)) = was.found k found (ltb-false k (length old) e) got in
         let less = slice_get_within old (length edges) node here in

@@ -104,10 +104,10 @@ at_leads : {S : Type 0} (noted : Noted S) (r : Readings S) (test : Test) (system
 at_leads noted r test system nodes edges table n place edge x whole at listed =
     let (first, ex, candidates) = expanded_at noted r test system nodes edges table n at.node x whole at.got in
     let (answer, deed, is, to, (end, got, same)) = ex.leads edge listed in
-    let does : deed_of test place.happened edge.step ≡ Some answer.deed = deed_like test place at.node.place edge.step (like_from_same test place at.node.place at.same) ∙ deed in
+    let effect : deed_of test place.happened edge.step ≡ Some answer.deed = deed_like test place at.node.place edge.step (like_from_same test place at.node.place at.same) ∙ deed in
     let by : answer_by table place.happened answer.deed ≡ Some answer = ap (λ m. answer_in (get_or table m []) answer.deed) at.followed ∙ is in
     let goes : taken (behave system table) test place edge.step ≡ gone_on place answer.deed answer.reply answer.after =
-    ap (done (behave system table) place) does ∙ ap (λ o. gone_on place answer.deed (reply_of o) (after_of system o)) by in
+    ap (done (behave system table) place) effect ∙ ap (λ o. gone_on place answer.deed (reply_of o) (after_of system o)) by in
     subst (λ p. IsAt test nodes table edge.to p) (sym goes) (record {
       node = end;
       got = got;

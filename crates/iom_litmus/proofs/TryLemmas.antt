@@ -66,8 +66,8 @@ next_may rules r test place column k cell reply after is runs deed at =
 pub next_refused : {S : Type 0} (rules : Rules S) (r : Readings S) (test : Test) (place left : Place S) (column k : ℕ) (cell : Cell) (reply : Reply) (after : S)
     → next_cell test place.happened column ≡ Some (k, cell) → RunsLines rules place.system no_reply cell.lines reply after
     → (¬ IsAnsweredLike cell.awaited reply.text) → left.system ≡ after → WasTried rules r test place (Steps.Column column) (Refused left)
-next_refused rules r test place left column k cell reply after is runs other stays =
-    (reply, after, next_may rules r test place column k cell reply after is runs, ((λ can. other (subst (λ o. CanRun (λ _. reply) column o) is can)), stays))
+next_refused rules r test place left column k cell reply after is runs other unchanged =
+    (reply, after, next_may rules r test place column k cell reply after is runs, ((λ can. other (subst (λ o. CanRun (λ _. reply) column o) is can)), unchanged))
 
 pub next_ran : {S : Type 0} (rules : Rules S) (r : Readings S) (test : Test) (place new : Place S) (column k : ℕ) (cell : Cell) (reply : Reply) (after : S)
     → next_cell test place.happened column ≡ Some (k, cell) → RunsLines rules place.system no_reply cell.lines reply after
@@ -101,17 +101,17 @@ leaves_taken cells r test place (Steps.Column column) reply after can (Deeds.Cel
 -- a step at a place that was found
 pub cannot_try : {S : Type 0} (noted : Noted S) (r : Readings S) (test : Test) (node : Node S) (step : Step) (nodes : List (Node S)) → (¬ CanTry r test node.place step) → WasExplored noted r test node step nodes nodes None
 cannot_try noted r test node (Steps.Hardware act) nodes cannot =
-    let (reply, after, may, (taken, stays)) = cannot_act noted.rules r test node.place act cannot in (
+    let (reply, after, may, (taken, unchanged)) = cannot_act noted.rules r test node.place act cannot in (
       reply,
       after,
-      (λ deed at. (may deed at, leaves_refused noted.cells test node.place (Steps.Hardware act) reply after (λ spot here. inl (sym stays)) deed at)),
+      (λ deed at. (may deed at, leaves_refused noted.cells test node.place (Steps.Hardware act) reply after (λ spot here. inl (sym unchanged)) deed at)),
       (taken, refl),
     )
 cannot_try noted r test node (Steps.Column column) nodes cannot =
-    let (reply, after, may, (taken, stays)) = has_no_next noted.rules r test node.place column (none_next (next_cell test node.place.happened column) cannot) in (
+    let (reply, after, may, (taken, unchanged)) = has_no_next noted.rules r test node.place column (none_next (next_cell test node.place.happened column) cannot) in (
       reply,
       after,
-      (λ deed at. (may deed at, leaves_refused noted.cells test node.place (Steps.Column column) reply after (λ spot here. inl (sym stays)) deed at)),
+      (λ deed at. (may deed at, leaves_refused noted.cells test node.place (Steps.Column column) reply after (λ spot here. inl (sym unchanged)) deed at)),
       (taken, refl),
     )
   where
@@ -127,7 +127,7 @@ explored_none noted r test node place left step nodes same (reply, after, may, (
       after,
       (λ deed at. (
         may_like noted.rules r test place node.place deed reply after (like_sym test node.place place like) (may deed (sym (deed_like test node.place place step like) ∙ at)),
-        leaves_refused noted.cells test node.place step reply after (λ spot here. elim (known spot here) [ inl stays ↦ inl (sym is_left ∙ stays) | inr there ↦ inr there ]) deed at,
+        leaves_refused noted.cells test node.place step reply after (λ spot here. elim (known spot here) [ inl unchanged ↦ inl (sym is_left ∙ unchanged) | inr there ↦ inr there ]) deed at,
       )),
       ((λ can. taken (can_like r test (λ _. reply) node.place place step like can)), refl),
     )
@@ -160,7 +160,7 @@ explored_some noted r test node place end step way old new to same (reply, after
 
 -- more cells that are noted
 pub left_more : {S : Type 0} (test : Test) (node : Node S) (step : Step) (left : Place S) (old new : List Spot) → KeepsListed old new → IsLeftOrNoted old test node step left → IsLeftOrNoted new test node step left
-left_more test node step left old new keeps known spot at = elim (known spot at) [ inl stays ↦ inl stays | inr there ↦ inr (keeps spot there) ]
+left_more test node step left old new keeps known spot at = elim (known spot at) [ inl unchanged ↦ inl unchanged | inr there ↦ inr (keeps spot there) ]
 
 -- lines, one more
 pub runs_more : {S : Type 0} (rules : Rules S) (system next after : S) (earlier said reply : Reply) (lines : List (List ℕ)) (k : ℕ) (d : List ℕ) → k < length lines

@@ -2,7 +2,7 @@
 use Rattle.std.specs.Prelude.{ℕ, List}
 use Rattle.std.specs.Coded.{Coded, prop_coded}
 use Rattle.iom_inflight.specs.Flights.{FlightRow}
-use Rattle.iom_inflight.specs.Sound.{AreRowsIn}
+use Rattle.iom_inflight.specs.Invariant.{AreRowsIn}
 use Rattle.iom_inflight.specs.IsFact.{rows_in_prop}
 use Rattle.iom_iommu.specs.Cached.{AreTranslationsIn, translations_in_prop}
 use Rattle.iom_tlb.specs.Content.{Translations}

@@ -6,12 +6,12 @@ use Rattle.iom_machine.specs.declared.outcome.Outcome.{Outcome}
 use Rattle.iom_world.specs.Happens.{Happens}
 use Rattle.iom_virtio_blk.specs.declared.disk.Disk.{Ghosts}
 use Rattle.iom_world.specs.declared.world.World.{World}
-use Rattle.iom_world.specs.Seen.{seen_of}
+use Rattle.iom_world.specs.Shown.{shown_of}
 use Rattle.iom_litmus_world.specs.Openings.{GoesThrough, Then}
 
 -- through one event more
 pub through_more : {D : Type 0} {d : Ghosts D} (events : List Event) (n : ℕ) (event : Event) (first old new : World D d) (outcome : Outcome) → n < length events → event ≡ get_or events n event
-    → Happens (seen_of d.seen old) event outcome (seen_of d.seen new) → GoesThrough first (take n events) old → GoesThrough first (take (n + 1) events) new
+    → Happens (shown_of d.shown old) event outcome (shown_of d.shown new) → GoesThrough first (take n events) old → GoesThrough first (take (n + 1) events) new
 through_more {d = d} events n event first old new outcome within is happens through =
     subst (λ (l : List Event). GoesThrough first l new)
     (ap (λ (e : Event). take n events ++ e ∷ []) is ∙ sym (take_more events n event within))

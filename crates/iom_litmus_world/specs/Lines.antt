@@ -13,7 +13,7 @@ use Rattle.iom_script.specs.Grammar.{IsEventLine}
 use Rattle.iom_world.specs.Happens.{Happens}
 use Rattle.iom_virtio_blk.specs.declared.disk.Disk.{Ghosts}
 use Rattle.iom_world.specs.declared.world.World.{World}
-use Rattle.iom_world.specs.Seen.{seen_of}
+use Rattle.iom_world.specs.Shown.{shown_of}
 use Rattle.iom_litmus_world.specs.Places.{WorldPlace, place_of}
 
 -- whether the event is one of a block device, which places don't compare
@@ -38,7 +38,7 @@ pub record RepliesTo {D : Type 0} {d : Ghosts D} (event : Event) (before : World
 -- THE EVENT HAPPENS in the world, and this is the reply
 pub record TakesEvent {D : Type 0} {d : Ghosts D} (event : Event) (before : World D d) (reply : Reply) (after : World D d) : Type 0 where
   pub outcome : Outcome
-  pub happens : Happens (seen_of d.seen before) event outcome (seen_of d.seen after)
+  pub happens : Happens (shown_of d.shown before) event outcome (shown_of d.shown after)
   pub replies : RepliesTo event before reply
 
 -- so it does in some world that is at this place

@@ -19,7 +19,7 @@ pub record DriverPlace : Type 0 where
   pub free : Words
   pub pending : List Pending
   pub ascending : Bool
-  pub marks : List (Option Owner)
+  pub owners : List (Option Owner)
   pub devices : List Device
   pub frames : ℕ
   pub levels : ℕ
@@ -36,7 +36,7 @@ driver_place driver = record {
   free = driver.ledger.frames.free;
   pending = driver.ledger.pending.items;
   ascending = driver.ledger.ascending;
-  marks = driver.marks;
+  owners = driver.owners;
   devices = driver.devices.items;
   frames = driver.frames;
   levels = driver.levels;

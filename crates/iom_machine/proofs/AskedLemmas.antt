@@ -97,7 +97,7 @@ accepted_cases event (Accepted number) id later = by (asked_by event) refl
               let pairs : ◌≡◌ {A = ℕ × Asked} (d, its) (id, asked) = cc in eqb-false d id e (ap (λ (p : ℕ × Asked). p.0) pairs)),
           refl,
         )
-accepted_cases event _ id later = inr ((λ asked accepted. let told = accepted.1.1 in cc), refl)
+accepted_cases event _ id later = inr ((λ asked accepted. let reply = accepted.1.1 in cc), refl)
 
 pub are_accepted : (events : List Event) (outcomes : List Outcome) (id : ℕ) → AreAccepted events outcomes id (accepted_in events outcomes id)
 are_accepted (event ∷ events) (outcome ∷ outcomes) id =
@@ -109,20 +109,20 @@ made_cases : (event : Event) (outcome : Outcome) (id later : ℕ)
     → (MakesAccessOf event outcome id × (made_by event outcome id + later ≡ later + 1)) ⊎ ((¬ MakesAccessOf event outcome id) × (made_by event outcome id + later ≡ later))
 made_cases (events.Commit d) outcome id later = by outcome
   where
-    own : (told : Outcome) → SaysMade told → (b : Bool) → (d == id) ≡ b
-        → (MakesAccessOf (events.Commit d) told id × ((if b then 1 else 0) + later ≡ later + 1))
-        ⊎ ((¬ MakesAccessOf (events.Commit d) told id) × ((if b then 1 else 0) + later ≡ later))
-    own told says true e = inl ((ap (λ n. events.Commit n) (eqb-true d id e), says), omega arith)
-    own told says false e = inr ((λ makes. let same : events.Commit d ≡ events.Commit id = makes.0 in eqb-false d id e cc), omega arith)
+    own : (reply : Outcome) → SaysMade reply → (b : Bool) → (d == id) ≡ b
+        → (MakesAccessOf (events.Commit d) reply id × ((if b then 1 else 0) + later ≡ later + 1))
+        ⊎ ((¬ MakesAccessOf (events.Commit d) reply id) × ((if b then 1 else 0) + later ≡ later))
+    own reply says true e = inl ((ap (λ n. events.Commit n) (eqb-true d id e), says), omega arith)
+    own reply says false e = inr ((λ makes. let same : events.Commit d ≡ events.Commit id = makes.0 in eqb-false d id e cc), omega arith)
 
-    by : (told : Outcome) → (MakesAccessOf (events.Commit d) told id × (made_by (events.Commit d) told id + later ≡ later + 1))
-        ⊎ ((¬ MakesAccessOf (events.Commit d) told id) × (made_by (events.Commit d) told id + later ≡ later))
+    by : (reply : Outcome) → (MakesAccessOf (events.Commit d) reply id × (made_by (events.Commit d) reply id + later ≡ later + 1))
+        ⊎ ((¬ MakesAccessOf (events.Commit d) reply id) × (made_by (events.Commit d) reply id + later ≡ later))
     by (Read bytes) = own (Read bytes) (inl (bytes, refl)) (d == id) refl
     by (Wrote len) = own (Wrote len) (inr (len, refl)) (d == id) refl
     by _ = inr (
       (λ makes. elim makes.1 [
-        | inl (bytes, told) ↦ cc
-        | inr (len, told) ↦ cc
+        | inl (bytes, reply) ↦ cc
+        | inr (len, reply) ↦ cc
       ]),
       omega arith,
     )

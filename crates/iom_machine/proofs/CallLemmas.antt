@@ -21,7 +21,7 @@ use Rattle.iom_machine.specs.Refusals.{attach_reasons, detach_reasons, grant_rea
 use Rattle.iom_machine.specs.Judging.{StandsAt}
 use Rattle.iom_machine.specs.Machine.{Attaches, Detaches, Grants, Quarantines, Revives, Polls}
 use Rattle.iom_machine.specs.Leaving.{leaving_under, with_left}
-use Rattle.iom_machine.specs.CuttingOff.{cut_off_under, attached_again}
+use Rattle.iom_machine.specs.Quarantining.{quarantined_under, attached_again}
 use Rattle.iom_machine.proofs.LeavingLemmas.{devices_may, All-parts}
 use Rattle.iom_machine.proofs.FrameLemmas.{free_besides_none}
 use Rattle.iom_machine.proofs.StepLemmas.{only_state, some_state, no_state, own_place}
@@ -93,19 +93,19 @@ detached_as ticket old id place device devices none next_one is_place at d new =
 
 -- the state after a quarantine
 abbrev pub cut_off_state : ℕ → ℕ → State → Device → State
-cut_off_state ticket id old device = record (with_device old (record device { attachment = cut_off_under ticket device.attachment })) {
+cut_off_state ticket id old device = record (with_device old (record device { attachment = quarantined_under ticket device.attachment })) {
   history = entries.AllReleased id ticket ∷ old.history;
   last_ticket = ticket;
 }
 
 pub cut_off_as : (ticket : ℕ) (old : State) (id place : ℕ) (device : Device) (history : History) (devices : List Device)
     → NoneApplies (quarantine_reasons old id) → ticket ≡ old.last_ticket + 1 → StandsAt old.devices id place → slice_get old.devices place ≡ Some device
-    → history ≡ entries.AllReleased id ticket ∷ old.history → devices ≡ slice_set old.devices place (record device { attachment = cut_off_under ticket device.attachment })
+    → history ≡ entries.AllReleased id ticket ∷ old.history → devices ≡ slice_set old.devices place (record device { attachment = quarantined_under ticket device.attachment })
     → (new : State) → (◌≡◌ {A = Option State} (Some (record { limits = old.limits; levels = old.levels; frames = old.frames; history = history; last_ticket = ticket; devices = devices; disks = old.disks })) (Some new)) ↔ Quarantines old id (Ticket ticket) new
 cut_off_as ticket old id place device history devices none next_one is_place at h d new =
     let next : State = record { limits = old.limits; levels = old.levels; frames = old.frames; history = history; last_ticket = ticket; devices = devices; disks = old.disks } in
     let own = own_place old.devices id place device is_place at in
-    let now : Device = record device { attachment = cut_off_under ticket device.attachment } in
+    let now : Device = record device { attachment = quarantined_under ticket device.attachment } in
     let is : next ≡ cut_off_state ticket id old device = rw (h, d, own.2 now) refl in
     let there : device_of old id ≡ Some device = is_place.1 ∙ at in (
       (λ same. (none, next_one, rw there (sym (only_state next new same) ∙ is))),

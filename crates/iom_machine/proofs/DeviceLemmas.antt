@@ -247,7 +247,7 @@ AreSent-push (first ∷ waiting) [] asked flight sent its = absurd sent
 
 -- where the event asked for it
 change-accepted : (old new : State) (event : Event) (number id : ℕ) (device : Device) (asked : Asked) (entered : AcceptedAccess) → device_of old id ≡ Some device
-    → asked_by event ≡ Some (id, asked) → IsSentOf asked entered → ((told : Outcome) (other : ℕ) → made_by event told other ≡ 0)
+    → asked_by event ≡ Some (id, asked) → IsSentOf asked entered → ((reply : Outcome) (other : ℕ) → made_by event reply other ≡ 0)
     → new ≡ with_accepted old device entered.access entered.frame → DevicesChange event (Accepted number) old new
 change-accepted old new event number id device asked entered at asks its none_made same =
     DevicesChange.changes id device (record device { accepted = device.accepted + 1; in_flight = device.in_flight ++ entered ∷ [] }) at refl
@@ -269,22 +269,22 @@ change-accepted old new event number id device asked entered at asks its none_ma
     own = at_event id ∙ ap (λ b. cond b (asked ∷ []) []) (eq-eqb id id refl)
 
 -- where nothing is accepted
-stays_quiet : (event : Event) (told : Outcome) (old new : State) → ((other : ℕ) → accepted_by event told other ≡ []) → ((other : ℕ) → made_by event told other ≡ 0) → new ≡ old
-    → DevicesChange event told old new
-stays_quiet event told old new none none_made same = DevicesChange.stay (λ other. (none other, none_made other)) (ap (λ (s : State). s.devices) same)
+stays_quiet : (event : Event) (reply : Outcome) (old new : State) → ((other : ℕ) → accepted_by event reply other ≡ []) → ((other : ℕ) → made_by event reply other ≡ 0) → new ≡ old
+    → DevicesChange event reply old new
+stays_quiet event reply old new none none_made same = DevicesChange.stay (λ other. (none other, none_made other)) (ap (λ (s : State). s.devices) same)
 
 -- where the event asks for nothing and makes nothing, and the devices stay
 stays_asking : (event : Event) (outcome : Outcome) (old new : State) → asked_by event ≡ None → ((other : ℕ) → made_by event outcome other ≡ 0) → new.devices ≡ old.devices
     → DevicesChange event outcome old new
 stays_asking event outcome old new asks none_made same = DevicesChange.stay (λ other. (none outcome other, none_made other)) same
   where
-    none : (told : Outcome) (other : ℕ) → accepted_by event told other ≡ []
+    none : (reply : Outcome) (other : ℕ) → accepted_by event reply other ≡ []
     none (Accepted number) other = ap (λ (found : Option (ℕ × Asked)). option_map_or (λ asked. if asked.0 == other then asked.1 ∷ [] else []) found []) asks
     none _ other = refl
 
 -- An access that is asked for is answered: by the IOMMU, or through a cache.
 change-answer : (chosen : ℕ) (old new : State) (event : Event) (outcome : Outcome) (id : ℕ) (asked : Asked) (access : Access) (device : Device) → device_of old id ≡ Some device
-    → asked_by event ≡ Some (id, asked) → IsSentOf asked (record { access = access; frame = chosen }) → ((told : Outcome) (other : ℕ) → made_by event told other ≡ 0)
+    → asked_by event ≡ Some (id, asked) → IsSentOf asked (record { access = access; frame = chosen }) → ((reply : Outcome) (other : ℕ) → made_by event reply other ≡ 0)
     → MayAnswer old device access chosen outcome → new ≡ state_after old device access chosen outcome → DevicesChange event outcome old new
 change-answer chosen old new event (Accepted number) id asked access device at asks sent none_made answer same =
     change-accepted old new event number id device asked (record { access = access; frame = chosen }) at asks sent none_made same
@@ -295,7 +295,7 @@ change-answer chosen old new event (Fault cause) id asked access device at asks 
 change-answer chosen old new event _ id asked access device at asks sent none_made answer same = absurd answer
 
 change-cached : (chosen : ℕ) (old new : State) (event : Event) (outcome : Outcome) (id : ℕ) (asked : Asked) (access : Access) (device : Device) → device_of old id ≡ Some device
-    → asked_by event ≡ Some (id, asked) → IsSentOf asked (record { access = at_frame chosen access; frame = chosen }) → ((told : Outcome) (other : ℕ) → made_by event told other ≡ 0)
+    → asked_by event ≡ Some (id, asked) → IsSentOf asked (record { access = at_frame chosen access; frame = chosen }) → ((reply : Outcome) (other : ℕ) → made_by event reply other ≡ 0)
     → MayAnswerThroughCache old device access chosen outcome → new ≡ state_after_cached old device access chosen outcome → DevicesChange event outcome old new
 change-cached chosen old new event (Accepted number) id asked access device at asks sent none_made answer same =
     change-accepted old new event number id device asked (record { access = at_frame chosen access; frame = chosen }) at asks sent none_made same
@@ -308,17 +308,17 @@ change-cached chosen old new event _ id asked access device at asks sent none_ma
 
 -- the step of a request
 change-requests : (chosen : ℕ) (old new : State) (event : Event) (outcome : Outcome) (id : ℕ) (access : Access) → Requests chosen old id access outcome new
-    → asked_by event ≡ asked_untranslated id access → ((told : Outcome) (other : ℕ) → made_by event told other ≡ 0) → DevicesChange event outcome old new
+    → asked_by event ≡ asked_untranslated id access → ((reply : Outcome) (other : ℕ) → made_by event reply other ≡ 0) → DevicesChange event outcome old new
 change-requests chosen old new event outcome id access step asks none_made = elim (act_cases sends_untranslated _ old id outcome new step) [
-  | inl (why, told, same) ↦ stays_quiet event outcome old new (λ other. ap (λ o. accepted_by event o other) told) (none_made outcome) same
+  | inl (why, reply, same) ↦ stays_quiet event outcome old new (λ other. ap (λ o. accepted_by event o other) reply) (none_made outcome) same
   | inr (device, at, answer) ↦ change-answer chosen old new event outcome id (Asked.Named access false) access device at asks refl none_made answer.0 answer.1
 ]
 
 -- the step of an access through a cache
 change-through_cache : (chosen : ℕ) (old new : State) (event : Event) (outcome : Outcome) (id : ℕ) (access : Access) → RequestsThroughCache chosen old id access outcome new
-    → asked_by event ≡ asked_through_cache id access → ((told : Outcome) (other : ℕ) → made_by event told other ≡ 0) → DevicesChange event outcome old new
+    → asked_by event ≡ asked_through_cache id access → ((reply : Outcome) (other : ℕ) → made_by event reply other ≡ 0) → DevicesChange event outcome old new
 change-through_cache chosen old new event outcome id access step asks none_made = elim (act_cases sends_through_cache _ old id outcome new step) [
-  | inl (why, told, same) ↦ stays_quiet event outcome old new (λ other. ap (λ o. accepted_by event o other) told) (none_made outcome) same
+  | inl (why, reply, same) ↦ stays_quiet event outcome old new (λ other. ap (λ o. accepted_by event o other) reply) (none_made outcome) same
   | inr (device, at, answer) ↦ change-cached chosen old new event outcome id (Asked.Named access true) access device at asks refl none_made answer.0 answer.1
 ]
 
@@ -326,17 +326,17 @@ change-through_cache chosen old new event outcome id access step asks none_made 
 change-answered : (access : Access) (chosen : ℕ) (old new : State) (id : ℕ) (outcome : Outcome) (device : Device) (b : Bool) → device_of old id ≡ Some device
     → IsAnswered b old device access chosen outcome new → DevicesChange (events.Step id) outcome old new
 change-answered access chosen old new id outcome device false at answer =
-    change-answer chosen old new (events.Step id) outcome id Asked.Chosen access device at refl tt (λ told other. refl) answer.0 answer.1
+    change-answer chosen old new (events.Step id) outcome id Asked.Chosen access device at refl tt (λ reply other. refl) answer.0 answer.1
 change-answered access chosen old new id outcome device true at answer =
-    change-cached chosen old new (events.Step id) outcome id Asked.Chosen access device at refl tt (λ told other. refl) answer.0 answer.1
+    change-cached chosen old new (events.Step id) outcome id Asked.Chosen access device at refl tt (λ reply other. refl) answer.0 answer.1
 
 change-steps : (access : Access) (chosen : ℕ) (old new : State) (id : ℕ) (outcome : Outcome) → Steps access chosen old id outcome new → DevicesChange (events.Step id) outcome old new
 change-steps access chosen old new id outcome step = elim (act_cases is_block_device _ old id outcome new step) [
-  | inl (why, told, same) ↦ stays_quiet (events.Step id) outcome old new (λ other. ap (λ o. accepted_by (events.Step id) o other) told) (λ other. refl) same
+  | inl (why, reply, same) ↦ stays_quiet (events.Step id) outcome old new (λ other. ap (λ o. accepted_by (events.Step id) o other) reply) (λ other. refl) same
   | inr (device, at, takes) ↦ by device at outcome takes
 ]
   where
-    by : (device : Device) → device_of old id ≡ Some device → (told : Outcome) → TakesStep old device access chosen told new → DevicesChange (events.Step id) told old new
+    by : (device : Device) → device_of old id ≡ Some device → (reply : Outcome) → TakesStep old device access chosen reply new → DevicesChange (events.Step id) reply old new
     by device at (Stepped step) takes = stays_quiet (events.Step id) (Stepped step) old new (λ other. refl) (λ other. refl) takes.1
     by device at (Accepted number) takes = change-answered access chosen old new id (Accepted number) device (has_cache device.kind) at takes.1
     by device at Busy takes = change-answered access chosen old new id Busy device (has_cache device.kind) at takes.1
@@ -346,11 +346,11 @@ change-steps access chosen old new id outcome step = elim (act_cases is_block_de
 -- a disk is put into a device
 change-inserts : (disk : ℕ) (old new : State) (id : ℕ) (outcome : Outcome) → InsertsDisk disk old id outcome new → DevicesChange (events.Medium id disk) outcome old new
 change-inserts disk old new id outcome step = elim (act_cases is_block_device _ old id outcome new step) [
-  | inl (why, told, same) ↦ stays_asking (events.Medium id disk) outcome old new refl (λ other. refl) (ap (λ (s : State). s.devices) same)
+  | inl (why, reply, same) ↦ stays_asking (events.Medium id disk) outcome old new refl (λ other. refl) (ap (λ (s : State). s.devices) same)
   | inr (device, at, inserts) ↦ by device at outcome inserts
 ]
   where
-    by : (device : Device) → device_of old id ≡ Some device → (told : Outcome) → Inserts disk old device told new → DevicesChange (events.Medium id disk) told old new
+    by : (device : Device) → device_of old id ≡ Some device → (reply : Outcome) → Inserts disk old device reply new → DevicesChange (events.Medium id disk) reply old new
     by device at Done inserts = DevicesChange.changes id device (record device { has_disk = true }) at refl
         (same_flights (Some device) (Some (record device { has_disk = true })) refl refl)
         (λ other differ. (refl, refl)) (ap (λ (s : State). s.devices) inserts.1)
@@ -365,8 +365,8 @@ made_first (flight ∷ later) made at = let same : flight ≡ made = cc in ap (�
 -- the step of a commit
 change-commits : (old new : State) (id : ℕ) (outcome : Outcome) → Commits old id outcome new → DevicesChange (events.Commit id) outcome old new
 change-commits old new id outcome step = elim (act_cases is_any_kind _ old id outcome new step) [
-  | inl (why, told, same) ↦
-      stays_quiet (events.Commit id) outcome old new (λ other. ap (λ o. accepted_by (events.Commit id) o other) told) (λ other. ap (λ o. made_by (events.Commit id) o other) told) same
+  | inl (why, reply, same) ↦
+      stays_quiet (events.Commit id) outcome old new (λ other. ap (λ o. accepted_by (events.Commit id) o other) reply) (λ other. ap (λ o. made_by (events.Commit id) o other) reply) same
   | inr (device, at, makes) ↦ by device at outcome makes
 ]
   where
@@ -389,7 +389,7 @@ change-commits old new id outcome step = elim (act_cases is_any_kind _ old id ou
     its_own : ◌≡◌ {A = ℕ} (if id == id then 1 else 0) 1
     its_own = ap (λ b. cond b 1 0) (eq-eqb id id refl)
 
-    by : (device : Device) → device_of old id ≡ Some device → (told : Outcome) → Makes old device told new → DevicesChange (events.Commit id) told old new
+    by : (device : Device) → device_of old id ≡ Some device → (reply : Outcome) → Makes old device reply new → DevicesChange (events.Commit id) reply old new
     by device at (Read bytes) makes =
         let made = some_case (slice_get device.in_flight 0) _ makes in
         DevicesChange.changes id device (record device { in_flight = drop 1 device.in_flight }) at refl (flows device made.0 _ made.1 its_own)
@@ -464,12 +464,12 @@ devices-step old new events.Poll _ (choice, step) = absurd step
 devices-step old new events.Faults (Record taken) (choice, step) = stays_asking _ _ old new refl (λ other. refl) (ap (λ (s : State). s.devices) step)
 devices-step old new events.Faults NoRecord (choice, step) = stays_asking _ _ old new refl (λ other. refl) (ap (λ (s : State). s.devices) step)
 devices-step old new events.Faults _ (choice, step) = absurd step
-devices-step old new (events.Read id address len) outcome (choice, step) = change-requests choice.frame old new _ outcome id (read_of address len) step refl (λ told other. refl)
-devices-step old new (events.Write id address bytes) outcome (choice, step) = change-requests choice.frame old new _ outcome id (write_of address bytes) step refl (λ told other. refl)
+devices-step old new (events.Read id address len) outcome (choice, step) = change-requests choice.frame old new _ outcome id (read_of address len) step refl (λ reply other. refl)
+devices-step old new (events.Write id address bytes) outcome (choice, step) = change-requests choice.frame old new _ outcome id (write_of address bytes) step refl (λ reply other. refl)
 devices-step old new (events.ReadTranslated id address len) outcome (choice, step) = stays_asking _ _ old new refl (λ other. refl) (ap (λ (s : State). s.devices) (same-translated old new id (read_of address len) outcome step))
 devices-step old new (events.WriteTranslated id address bytes) outcome (choice, step) = stays_asking _ _ old new refl (λ other. refl) (ap (λ (s : State). s.devices) (same-translated old new id (write_of address bytes) outcome step))
-devices-step old new (events.ReadThroughCache id address len) outcome (choice, step) = change-through_cache choice.frame old new _ outcome id (read_of address len) step refl (λ told other. refl)
-devices-step old new (events.WriteThroughCache id address bytes) outcome (choice, step) = change-through_cache choice.frame old new _ outcome id (write_of address bytes) step refl (λ told other. refl)
+devices-step old new (events.ReadThroughCache id address len) outcome (choice, step) = change-through_cache choice.frame old new _ outcome id (read_of address len) step refl (λ reply other. refl)
+devices-step old new (events.WriteThroughCache id address bytes) outcome (choice, step) = change-through_cache choice.frame old new _ outcome id (write_of address bytes) step refl (λ reply other. refl)
 devices-step old new (events.Ask id page) outcome (choice, step) = stays_asking _ _ old new refl (λ other. refl) (ap (λ (s : State). s.devices) (same-asks old new id outcome step))
 devices-step old new (events.Forge id serial) outcome (choice, step) = stays_asking _ _ old new refl (λ other. refl) (ap (λ (s : State). s.devices) (same-forges old new id outcome step))
 devices-step old new (events.Deliver place) outcome (choice, step) = stays_asking _ _ old new refl (λ other. refl) (ap (λ (s : State). s.devices) (same-delivers choice.device choice.page old new outcome step))

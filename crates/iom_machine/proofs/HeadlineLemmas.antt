@@ -33,7 +33,7 @@ use Rattle.iom_machine.specs.Laws.{IsReached}
 use Rattle.iom_machine.proofs.ReachLemmas.{NamesFrame, reach_before}
 use Rattle.iom_machine.proofs.ByteLemmas.{slice_get-set_same, slice_get-set_other, slice_get-written_inside, slice_get-written_outside, slice_get-range, length-range}
 use Rattle.iom_machine.proofs.InFlightLemmas.{act_cases, able_act, some_case, All-at, AllInFlight-of, found_device, IsWhole}
-use Rattle.iom_machine.proofs.SoundLemmas.{IsSound, Change, change-step, sound_if_reached}
+use Rattle.iom_machine.proofs.InvariantLemmas.{StateInvariant, Change, change-step, sound_if_reached}
 
 pub in_flight_may : (state : State) → IsReached state → EachInFlightMay state
 in_flight_may state reached = (sound_if_reached state reached).reaches
@@ -59,19 +59,19 @@ element_at (x ∷ xs) zero below = (x, refl)
 element_at (x ∷ xs) (suc k) below = let rest = element_at xs k (omega arith) in (rest.0, rest.1)
 
 -- the frame of an access in flight is there, with a page of bytes
-frame_there : (state : State) → IsSound state → (id : ℕ) (made : AcceptedAccess) → May state.history id made.frame made.access.kind
+frame_there : (state : State) → StateInvariant state → (id : ℕ) (made : AcceptedAccess) → May state.history id made.frame made.access.kind
     → (frame : Frame) × (slice_get state.frames made.frame ≡ Some frame) × (length frame.bytes ≡ 4096)
-frame_there state sound id made may =
-    let found = element_at state.frames made.frame (sound.in_memory id made.frame made.access.kind may) in
-    (found.0, found.1, All-at (λ (f : Frame). length f.bytes ≡ 4096) state.frames made.frame found.0 sound.frames found.1)
+frame_there state invariants id made may =
+    let found = element_at state.frames made.frame (invariants.in_memory id made.frame made.access.kind may) in
+    (found.0, found.1, All-at (λ (f : Frame). length f.bytes ≡ 4096) state.frames made.frame found.0 invariants.frames found.1)
 
 -- the facts of the access that a commit makes
-made_facts : (state : State) → IsSound state → (id : ℕ) (device : Device) (made : AcceptedAccess) → device_of state id ≡ Some device → slice_get device.in_flight 0 ≡ Some made
+made_facts : (state : State) → StateInvariant state → (id : ℕ) (device : Device) (made : AcceptedAccess) → device_of state id ≡ Some device → slice_get device.in_flight 0 ≡ Some made
     → IsWhole id made × May state.history device.id made.frame made.access.kind
-made_facts state sound id device made at first = (
-  All-at (λ flight. IsWhole device.id flight) device.in_flight 0 made (AllInFlight-of IsWhole state.devices id device at sound.whole) first,
+made_facts state invariants id device made at first = (
+  All-at (λ flight. IsWhole device.id flight) device.in_flight 0 made (AllInFlight-of IsWhole state.devices id device at invariants.whole) first,
   All-at (λ flight. May state.history device.id flight.frame flight.access.kind) device.in_flight 0 made
-      (AllInFlight-of (λ i flight. May state.history i flight.frame flight.access.kind) state.devices id device at sound.reaches) first,
+      (AllInFlight-of (λ i flight. May state.history i flight.frame flight.access.kind) state.devices id device at invariants.reaches) first,
 )
 
 -- the bytes of a frame after a store into it
@@ -130,12 +130,12 @@ stores_its_own frames made frame at long within named = (
     by number offset (inl same) (inr out) =
         subst (λ n. byte_in (stored frames made.frame (offset_of made.access) made.access.bytes) n offset ≡ byte_in frames n offset) (sym same) (here offset out)
 
-touches-makes : (old new : State) (id : ℕ) (outcome : Outcome) → IsSound old → (device : Device) → device_of old id ≡ Some device → Makes old device outcome new → TouchesItsOwn old id outcome new
-touches-makes old new id (Read bytes) sound device at makes =
+touches-makes : (old new : State) (id : ℕ) (outcome : Outcome) → StateInvariant old → (device : Device) → device_of old id ≡ Some device → Makes old device outcome new → TouchesItsOwn old id outcome new
+touches-makes old new id (Read bytes) invariants device at makes =
     let found = some_case (slice_get device.in_flight 0) _ makes in
     let made = found.0 in
-    let facts = made_facts old sound id device made at found.1 in
-    let there = frame_there old sound device.id made facts.1 in
+    let facts = made_facts old invariants id device made at found.1 in
+    let there = frame_there old invariants device.id made facts.1 in
     let own : device.id ≡ id = (found_device old.devices id device at).1 in
     let named = named_in there.0 made bytes.items there.2 facts.0.0
     (found.2.0.2 ∙ ap (λ (l : List ℕ). slice_range l (offset_of made.access) (offset_of made.access + made.access.len)) (bytes_there old.frames made.frame there.0 there.1)) in (
@@ -145,11 +145,11 @@ touches-makes old new id (Read bytes) sound device at makes =
       (named.0, (λ k below. named.1 k below ∙ sym (ap (λ (l : List ℕ). slice_get l (offset_of made.access + k)) (bytes_there old.frames made.frame there.0 there.1)))),
       ap (λ (s : State). s.frames) found.2.1,
     )
-touches-makes old new id (Wrote len) sound device at makes =
+touches-makes old new id (Wrote len) invariants device at makes =
     let found = some_case (slice_get device.in_flight 0) _ makes in
     let made = found.0 in
-    let facts = made_facts old sound id device made at found.1 in
-    let there = frame_there old sound device.id made facts.1 in
+    let facts = made_facts old invariants id device made at found.1 in
+    let there = frame_there old invariants device.id made facts.1 in
     let own : device.id ≡ id = (found_device old.devices id device at).1 in
     let stores = stores_its_own old.frames made there.0 there.1 there.2 facts.0.0 (facts.0.1 found.2.0.0) in
     let frames_now : new.frames ≡ stored old.frames made.frame (offset_of made.access) made.access.bytes = ap (λ (s : State). s.frames) found.2.1 in (
@@ -160,13 +160,13 @@ touches-makes old new id (Wrote len) sound device at makes =
       subst (λ fs. AreNamedBytes fs made made.access.bytes) (sym frames_now) stores.0,
       (λ frame offset out. ap (λ (fs : List Frame). byte_in fs frame offset) frames_now ∙ stores.1 frame offset out),
     )
-touches-makes old new id NothingInFlight sound device at makes = ap (λ (s : State). s.frames) makes.1
-touches-makes old new id _ sound device at makes = absurd makes
+touches-makes old new id NothingInFlight invariants device at makes = ap (λ (s : State). s.frames) makes.1
+touches-makes old new id _ invariants device at makes = absurd makes
 
-pub touches_its_own : (old new : State) (id : ℕ) (outcome : Outcome) → IsSound old → Step old (events.Commit id) outcome new → TouchesItsOwn old id outcome new
-touches_its_own old new id outcome sound (choice, step) = elim (act_cases is_any_kind _ old id outcome new step) [
-  | inl (why, told, same) ↦ subst (λ o. TouchesItsOwn old id o new) (sym told) (ap (λ (s : State). s.frames) same)
-  | inr (device, at, makes) ↦ touches-makes old new id outcome sound device at makes
+pub touches_its_own : (old new : State) (id : ℕ) (outcome : Outcome) → StateInvariant old → Step old (events.Commit id) outcome new → TouchesItsOwn old id outcome new
+touches_its_own old new id outcome invariants (choice, step) = elim (act_cases is_any_kind _ old id outcome new step) [
+  | inl (why, reply, same) ↦ subst (λ o. TouchesItsOwn old id o new) (sym reply) (ap (λ (s : State). s.frames) same)
+  | inr (device, at, makes) ↦ touches-makes old new id outcome invariants device at makes
 ]
 
 -- a held page may be accepted on its frame alone, of a device that is attached in one stage
@@ -246,8 +246,8 @@ barred_confirmed first (suc n) h id frame barred =
 
 barred-change : (event : Event) (outcome : Outcome) (old new : State) (id frame : ℕ) → Change event outcome old new → ¬ GrantsFrameTo event outcome id frame
     → CannotReach old.history id frame → CannotReach new.history id frame
-barred-change event outcome old new id frame (Change.ledger_stays stays) other barred = subst (λ h. CannotReach h id frame) (sym stays.0) barred
-barred-change event outcome old new id frame (Change.detaches stays next) other barred = subst (λ h. CannotReach h id frame) (sym stays) barred
+barred-change event outcome old new id frame (Change.ledger_stays unchanged) other barred = subst (λ h. CannotReach h id frame) (sym unchanged.0) barred
+barred-change event outcome old new id frame (Change.detaches unchanged next) other barred = subst (λ h. CannotReach h id frame) (sym unchanged) barred
 barred-change event outcome old new id frame (Change.grants d page named rights granted low empty extended tickets) other barred =
     subst (λ h. CannotReach h id frame) (sym extended)
     (barred_after (entries.Granted d page named rights) old.history id frame
@@ -270,18 +270,18 @@ pub free-step : (frame : ℕ) (old new : State) (event : Event) (outcome : Outco
 free-step frame old new event outcome step other free id = barred-step id frame old new event outcome step (λ granted. other (id, granted)) (free id)
 
 -- a device touches no frame that it can't reach
-pub untouched_by : (id frame : ℕ) (old : State) (event : Event) (outcome : Outcome) → IsSound old → CannotReach old.history id frame → ¬ TouchesFrameBy old event outcome id frame
-untouched_by id frame old event outcome sound barred (makes, made, (device, at, first), on) =
-    let may = subst (λ f. May old.history device.id f made.access.kind) on (made_facts old sound id device made at first).1 in
+pub untouched_by : (id frame : ℕ) (old : State) (event : Event) (outcome : Outcome) → StateInvariant old → CannotReach old.history id frame → ¬ TouchesFrameBy old event outcome id frame
+untouched_by id frame old event outcome invariants barred (makes, made, (device, at, first), on) =
+    let may = subst (λ f. May old.history device.id f made.access.kind) on (made_facts old invariants id device made at first).1 in
     barred made.access.kind (subst (λ i. May old.history i frame made.access.kind) (found_device old.devices id device at).1 may)
 
 -- and none touches one that is free
-pub untouched : (frame : ℕ) (old : State) (event : Event) (outcome : Outcome) → IsSound old → ledger.NoneMayReach old.history frame → ¬ TouchesFrame old event outcome frame
-untouched frame old event outcome sound free (id, touches) = untouched_by id frame old event outcome sound (free id) touches
+pub untouched : (frame : ℕ) (old : State) (event : Event) (outcome : Outcome) → StateInvariant old → ledger.NoneMayReach old.history frame → ¬ TouchesFrame old event outcome frame
+untouched frame old event outcome invariants free (id, touches) = untouched_by id frame old event outcome invariants (free id) touches
 
 -- the oldest access of a device can be made, where there is one
-makes_of : (state : State) → IsSound state → (id : ℕ) (device : Device) → device_of state id ≡ Some device → (outcome : Outcome) × (new : State) × Makes state device outcome new
-makes_of state sound id device at = by device.in_flight refl
+makes_of : (state : State) → StateInvariant state → (id : ℕ) (device : Device) → device_of state id ≡ Some device → (outcome : Outcome) × (new : State) × Makes state device outcome new
+makes_of state invariants id device at = by device.in_flight refl
   where
     of_kind : (made : AcceptedAccess) (kind : AccessKind) → made.access.kind ≡ kind → slice_get device.in_flight 0 ≡ Some made → May state.history device.id made.frame made.access.kind
         → (outcome : Outcome) × (new : State) × Makes state device outcome new
@@ -300,7 +300,7 @@ makes_of state sound id device at = by device.in_flight refl
     by [] none = (NothingInFlight, state, (none, refl))
     by (made ∷ rest) some =
         let first : slice_get device.in_flight 0 ≡ Some made = ap (λ (l : List AcceptedAccess). slice_get l 0) some in
-        of_kind made made.access.kind refl first (made_facts state sound id device made at first).1
+        of_kind made made.access.kind refl first (made_facts state invariants id device made at first).1
 
 pub commits_are_answered : (state : State) (id : ℕ) → IsReached state → (outcome : Outcome) × (new : State) × Step state (events.Commit id) outcome new
 commits_are_answered state id reached = by (device_of state id) refl

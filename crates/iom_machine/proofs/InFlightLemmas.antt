@@ -201,7 +201,7 @@ in_flight-requests : (P : ℕ → AcceptedAccess → Type 0) (chosen : ℕ) (old
     → (IsAcceptance outcome → IsWithinPage access → May old.history id chosen access.kind → P id (record { access = access; frame = chosen }))
     → AllInFlight P old.devices → AllInFlight P new.devices
 in_flight-requests P chosen old new id access outcome step enters all = elim (act_cases sends_untranslated _ old id outcome new step) [
-  | inl (why, told, same) ↦ subst (λ (s : State). AllInFlight P s.devices) (sym same) all
+  | inl (why, reply, same) ↦ subst (λ (s : State). AllInFlight P s.devices) (sym same) all
   | inr (device, at, answer) ↦ in_flight-answer P chosen old new id device access outcome at answer.0 answer.1 enters all
 ]
 
@@ -224,7 +224,7 @@ in_flight-through_cache : (P : ℕ → AcceptedAccess → Type 0) (chosen : ℕ)
     → (IsAcceptance outcome → IsWithinPage (at_frame chosen access) → May old.history id chosen access.kind → P id (record { access = at_frame chosen access; frame = chosen }))
     → AllInFlight P old.devices → AllInFlight P new.devices
 in_flight-through_cache P chosen old new id access outcome step enters all = elim (act_cases sends_through_cache _ old id outcome new step) [
-  | inl (why, told, same) ↦ subst (λ (s : State). AllInFlight P s.devices) (sym same) all
+  | inl (why, reply, same) ↦ subst (λ (s : State). AllInFlight P s.devices) (sym same) all
   | inr (device, at, answer) ↦ in_flight-cached P chosen old new id device access outcome at answer.0 answer.1 enters all
 ]
 
@@ -244,12 +244,12 @@ in_flight-steps : (P : ℕ → AcceptedAccess → Type 0) (access : Access) (cho
     → ((flight : AcceptedAccess) → IsAcceptance outcome → IsWhole id flight → StillMay old.history id flight → P id flight)
     → AllInFlight P old.devices → AllInFlight P new.devices
 in_flight-steps P access chosen old new id outcome step enters all = elim (act_cases is_block_device _ old id outcome new step) [
-  | inl (why, told, same) ↦ subst (λ (s : State). AllInFlight P s.devices) (sym same) all
+  | inl (why, reply, same) ↦ subst (λ (s : State). AllInFlight P s.devices) (sym same) all
   | inr (device, at, takes) ↦ by device at outcome takes enters
 ]
   where
-    by : (device : Device) → device_of old id ≡ Some device → (told : Outcome) → TakesStep old device access chosen told new
-        → ((flight : AcceptedAccess) → IsAcceptance told → IsWhole id flight → StillMay old.history id flight → P id flight) → AllInFlight P new.devices
+    by : (device : Device) → device_of old id ≡ Some device → (reply : Outcome) → TakesStep old device access chosen reply new
+        → ((flight : AcceptedAccess) → IsAcceptance reply → IsWhole id flight → StillMay old.history id flight → P id flight) → AllInFlight P new.devices
     by device at (Stepped step) takes enters = subst (λ (s : State). AllInFlight P s.devices) (sym takes.1) all
     by device at (Accepted number) takes enters =
         in_flight-answered P chosen old new id device access (Accepted number) (has_cache device.kind) at takes.0 takes.1 enters all
@@ -262,11 +262,11 @@ in_flight-steps P access chosen old new id outcome step enters all = elim (act_c
 in_flight-inserts : (P : ℕ → AcceptedAccess → Type 0) (disk : ℕ) (old new : State) (id : ℕ) (outcome : Outcome) → InsertsDisk disk old id outcome new
     → AllInFlight P old.devices → AllInFlight P new.devices
 in_flight-inserts P disk old new id outcome step all = elim (act_cases is_block_device _ old id outcome new step) [
-  | inl (why, told, same) ↦ subst (λ (s : State). AllInFlight P s.devices) (sym same) all
+  | inl (why, reply, same) ↦ subst (λ (s : State). AllInFlight P s.devices) (sym same) all
   | inr (device, at, inserts) ↦ by device at outcome inserts
 ]
   where
-    by : (device : Device) → device_of old id ≡ Some device → (told : Outcome) → Inserts disk old device told new → AllInFlight P new.devices
+    by : (device : Device) → device_of old id ≡ Some device → (reply : Outcome) → Inserts disk old device reply new → AllInFlight P new.devices
     by device at Done inserts =
         subst (λ (s : State). AllInFlight P s.devices) (sym inserts.1) (AllInFlight-with P old.devices device.id _ all (AllInFlight-of P old.devices id device at all))
     by device at (Refused why) inserts = subst (λ (s : State). AllInFlight P s.devices) (sym inserts.1) all
@@ -291,7 +291,7 @@ in_flight-makes P old new id device _ at makes all = absurd makes
 
 in_flight-commits : (P : ℕ → AcceptedAccess → Type 0) (old new : State) (id : ℕ) (outcome : Outcome) → Commits old id outcome new → AllInFlight P old.devices → AllInFlight P new.devices
 in_flight-commits P old new id outcome step all = elim (act_cases is_any_kind _ old id outcome new step) [
-  | inl (why, told, same) ↦ subst (λ (s : State). AllInFlight P s.devices) (sym same) all
+  | inl (why, reply, same) ↦ subst (λ (s : State). AllInFlight P s.devices) (sym same) all
   | inr (device, at, makes) ↦ in_flight-makes P old new id device outcome at makes all
 ]
 
@@ -313,42 +313,42 @@ same-sends old new _ step = absurd step
 
 pub same-asks : (old new : State) (id : ℕ) (outcome : Outcome) → Asks old id outcome new → new ≡ old
 same-asks old new id outcome step = elim (act_cases asks_questions _ old id outcome new step) [
-  | inl (why, told, same) ↦ same
+  | inl (why, reply, same) ↦ same
   | inr (device, at, sends) ↦ same-sends old new outcome sends
 ]
 
 pub same-forges : (old new : State) (id : ℕ) (outcome : Outcome) → Forges old id outcome new → new ≡ old
 same-forges old new id outcome step = elim (act_cases forges _ old id outcome new step) [
-  | inl (why, told, same) ↦ same
+  | inl (why, reply, same) ↦ same
   | inr (device, at, sends) ↦ same-sends old new outcome sends
 ]
 
 pub same-resets : (old new : State) (id : ℕ) (outcome : Outcome) → Resets old id outcome new → new ≡ old
 same-resets old new id outcome step = elim (act_cases is_any_kind _ old id outcome new step) [
-  | inl (why, told, same) ↦ same
+  | inl (why, reply, same) ↦ same
   | inr (device, at, done) ↦ done.1
 ]
 
 pub same-sets_queue : (layout : Layout) (old new : State) (id : ℕ) (outcome : Outcome) → SetsQueue layout old id outcome new → new ≡ old
 same-sets_queue layout old new id outcome step = elim (act_cases is_block_device _ old id outcome new step) [
-  | inl (why, told, same) ↦ same
+  | inl (why, reply, same) ↦ same
   | inr (device, at, sets) ↦ sets.1
 ]
 
 pub same-tells_status : (old new : State) (id : ℕ) (outcome : Outcome) → TellsStatus old id outcome new → new ≡ old
 same-tells_status old new id outcome step = elim (act_cases is_block_device _ old id outcome new step) [
-  | inl (why, told, same) ↦ same
+  | inl (why, reply, same) ↦ same
   | inr (device, at, tells) ↦ tells.1
 ]
 
 pub same-translated : (old new : State) (id : ℕ) (access : Access) (outcome : Outcome) → RequestsTranslated old id access outcome new → new ≡ old
 same-translated old new id access outcome step = elim (act_cases forges _ old id outcome new step) [
-  | inl (why, told, same) ↦ same
+  | inl (why, reply, same) ↦ same
   | inr (device, at, answer) ↦ answer.1
 ]
 
 pub same-delivers : (asker page : ℕ) (old new : State) (outcome : Outcome) → Delivers asker page old outcome new → new ≡ old
-same-delivers asker page old new (Answered told) step = step.1
+same-delivers asker page old new (Answered reply) step = step.1
 same-delivers asker page old new Kept step = step
 same-delivers asker page old new Stale step = step
 same-delivers asker page old new AnswerRefused step = step

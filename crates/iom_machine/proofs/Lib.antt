@@ -6,7 +6,7 @@ pub mod GrantLemmas
 pub mod AskedLemmas
 pub mod DeviceLemmas
 pub mod LimitLemmas
-pub mod SoundLemmas
+pub mod InvariantLemmas
 pub mod HeadlineLemmas
 pub mod ReclaimLemmas
 pub mod JudgeLemmas

@@ -11,7 +11,7 @@ use Rattle.iom_machine.specs.declared.state.Device.{Device}
 use Rattle.iom_machine.specs.declared.state.State.{State}
 use Rattle.iom_machine.specs.BlockDevices.{Inserts, IsAnswered, TakesStep}
 use Rattle.iom_machine.specs.Devices.{device_of}
-use Rattle.iom_machine.specs.Laws.{LimitsStay}
+use Rattle.iom_machine.specs.Laws.{LimitsUnchanged}
 use Rattle.iom_machine.specs.Machine.{Requests, RequestsThroughCache, InsertsDisk, Steps, Makes, Commits, Run}
 use Rattle.iom_machine.specs.Requests.{state_after}
 use Rattle.iom_machine.specs.ThroughCache.{state_after_cached}
@@ -33,14 +33,14 @@ limits-after_cached old device access frame _ = refl
 -- the step of a request
 limits-requests : (chosen : ℕ) (old new : State) (id : ℕ) (access : Access) (outcome : Outcome) → Requests chosen old id access outcome new → new.limits ≡ old.limits
 limits-requests chosen old new id access outcome step = elim (act_cases sends_untranslated _ old id outcome new step) [
-  | inl (why, told, same) ↦ ap (λ (s : State). s.limits) same
+  | inl (why, reply, same) ↦ ap (λ (s : State). s.limits) same
   | inr (device, at, answer) ↦ ap (λ (s : State). s.limits) answer.1 ∙ limits-after old device access chosen outcome
 ]
 
 -- the step of an access through a cache
 limits-through_cache : (chosen : ℕ) (old new : State) (id : ℕ) (access : Access) (outcome : Outcome) → RequestsThroughCache chosen old id access outcome new → new.limits ≡ old.limits
 limits-through_cache chosen old new id access outcome step = elim (act_cases sends_through_cache _ old id outcome new step) [
-  | inl (why, told, same) ↦ ap (λ (s : State). s.limits) same
+  | inl (why, reply, same) ↦ ap (λ (s : State). s.limits) same
   | inr (device, at, answer) ↦ ap (λ (s : State). s.limits) answer.1 ∙ limits-after_cached old device access chosen outcome
 ]
 
@@ -51,11 +51,11 @@ limits-answered access chosen old new outcome device true answer = ap (λ (s : S
 
 limits-steps : (access : Access) (chosen : ℕ) (old new : State) (id : ℕ) (outcome : Outcome) → Steps access chosen old id outcome new → new.limits ≡ old.limits
 limits-steps access chosen old new id outcome step = elim (act_cases is_block_device _ old id outcome new step) [
-  | inl (why, told, same) ↦ ap (λ (s : State). s.limits) same
+  | inl (why, reply, same) ↦ ap (λ (s : State). s.limits) same
   | inr (device, at, takes) ↦ by device outcome takes
 ]
   where
-    by : (device : Device) (told : Outcome) → TakesStep old device access chosen told new → new.limits ≡ old.limits
+    by : (device : Device) (reply : Outcome) → TakesStep old device access chosen reply new → new.limits ≡ old.limits
     by device (Stepped step) takes = ap (λ (s : State). s.limits) takes.1
     by device (Accepted number) takes = limits-answered access chosen old new (Accepted number) device (has_cache device.kind) takes.1
     by device Busy takes = limits-answered access chosen old new Busy device (has_cache device.kind) takes.1
@@ -65,11 +65,11 @@ limits-steps access chosen old new id outcome step = elim (act_cases is_block_de
 -- a disk is put into a device
 limits-inserts : (disk : ℕ) (old new : State) (id : ℕ) (outcome : Outcome) → InsertsDisk disk old id outcome new → new.limits ≡ old.limits
 limits-inserts disk old new id outcome step = elim (act_cases is_block_device _ old id outcome new step) [
-  | inl (why, told, same) ↦ ap (λ (s : State). s.limits) same
+  | inl (why, reply, same) ↦ ap (λ (s : State). s.limits) same
   | inr (device, at, inserts) ↦ by device outcome inserts
 ]
   where
-    by : (device : Device) (told : Outcome) → Inserts disk old device told new → new.limits ≡ old.limits
+    by : (device : Device) (reply : Outcome) → Inserts disk old device reply new → new.limits ≡ old.limits
     by device Done inserts = ap (λ (s : State). s.limits) inserts.1
     by device (Refused why) inserts = ap (λ (s : State). s.limits) inserts.1
     by device _ inserts = absurd inserts
@@ -77,18 +77,18 @@ limits-inserts disk old new id outcome step = elim (act_cases is_block_device _ 
 -- the step of a commit
 limits-commits : (old new : State) (id : ℕ) (outcome : Outcome) → Commits old id outcome new → new.limits ≡ old.limits
 limits-commits old new id outcome step = elim (act_cases is_any_kind _ old id outcome new step) [
-  | inl (why, told, same) ↦ ap (λ (s : State). s.limits) same
+  | inl (why, reply, same) ↦ ap (λ (s : State). s.limits) same
   | inr (device, at, makes) ↦ by device outcome makes
 ]
   where
-    by : (device : Device) (told : Outcome) → Makes old device told new → new.limits ≡ old.limits
+    by : (device : Device) (reply : Outcome) → Makes old device reply new → new.limits ≡ old.limits
     by device (Read bytes) makes = let made = some_case (slice_get device.in_flight 0) _ makes in ap (λ (s : State). s.limits) made.2.1
     by device (Wrote len) makes = let made = some_case (slice_get device.in_flight 0) _ makes in ap (λ (s : State). s.limits) made.2.1
     by device NothingInFlight makes = ap (λ (s : State). s.limits) makes.1
     by device _ makes = absurd makes
 
 -- No step changes them.
-pub limits-step : LimitsStay
+pub limits-step : LimitsUnchanged
 limits-step old new (events.Plug id what) Done (choice, step) = ap (λ (s : State). s.limits) step.1
 limits-step old new (events.Plug id what) (Refused why) (choice, step) = ap (λ (s : State). s.limits) step.1
 limits-step old new (events.Plug id what) _ (choice, step) = absurd step

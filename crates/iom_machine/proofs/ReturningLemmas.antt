@@ -10,7 +10,7 @@ use Rattle.iom_machine.specs.Frames.{is_reserved, with_frame, IsFree}
 use Rattle.iom_machine.specs.PowerOn.{empty_frame}
 use Rattle.iom_machine.specs.Returning.{MayGiveBackOf, MayGiveBack, frames_returned, with_returned}
 use Rattle.iom_machine.proofs.ByteLemmas.{slice_get-set_same, slice_get-set_other}
-use Rattle.iom_machine.proofs.SoundLemmas.{length-with_frame}
+use Rattle.iom_machine.proofs.InvariantLemmas.{length-with_frame}
 
 -- whether a frame is reserved, where it stands so
 abbrev reserved_at : Option Frame → Bool

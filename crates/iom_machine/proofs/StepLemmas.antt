@@ -50,9 +50,9 @@ acts_absent can next Q old id outcome absent decides new = rw absent (decides ne
 -- a state that stays where a test says so, which decides a fact
 pub stays_where : (next : Option State) (test : Bool) (P : Type 0) (old : State) → (IsTrue test ↔ P)
     → ((new : State) → (next ≡ Some new) ↔ (IsTrue test × (new ≡ old))) → (new : State) → (next ≡ Some new) ↔ (P × (new ≡ old))
-stays_where next test P old decides stays new = (
-  (λ same. let both = (stays new).0 same in (decides.0 both.0, both.1)),
-  (λ both. (stays new).1 (decides.1 both.0, both.1)),
+stays_where next test P old decides unchanged new = (
+  (λ same. let both = (unchanged new).0 same in (decides.0 both.0, both.1)),
+  (λ both. (unchanged new).1 (decides.1 both.0, both.1)),
 )
 
 -- the device at the place of an id has that place itself

@@ -33,15 +33,15 @@ NoneGrants IsGrant _ _ = ⊤
 
 -- No frame is touched that was free at the earlier state, and wasn't granted since.
 abbrev pub FreeFrameIsNotTouched : State → List Event → List Outcome → State → Event → Outcome → Type 0
-FreeFrameIsNotTouched free since told old event outcome =
-    (frame : ℕ) → IsFree free frame → Run free since told old
-    → NoneGrants (λ its what. GrantsFrame its what frame) since told → ¬ TouchesFrame old event outcome frame
+FreeFrameIsNotTouched free since reply old event outcome =
+    (frame : ℕ) → IsFree free frame → Run free since reply old
+    → NoneGrants (λ its what. GrantsFrame its what frame) since reply → ¬ TouchesFrame old event outcome frame
 
 -- No device touches a frame that was free at the earlier state, and wasn't granted to that very device since, whoever else it was granted to.
 abbrev pub OnlyGranteeTouches : State → List Event → List Outcome → State → Event → Outcome → Type 0
-OnlyGranteeTouches free since told old event outcome =
-    (id frame : ℕ) → IsFree free frame → Run free since told old
-    → NoneGrants (λ its what. GrantsFrameTo its what id frame) since told → ¬ TouchesFrameBy old event outcome id frame
+OnlyGranteeTouches free since reply old event outcome =
+    (id frame : ℕ) → IsFree free frame → Run free since reply old
+    → NoneGrants (λ its what. GrantsFrameTo its what id frame) since reply → ¬ TouchesFrameBy old event outcome id frame
 
 -- What is asked for: an access that the event names, through the device's own cache or not; or one of a block device, which its step chose.
 pub data Asked : Type 0 where
@@ -119,15 +119,15 @@ HeldPagesAreAccepted =
 -- A frame that is free is touched by no device until it is granted again.
 abbrev pub FreeFramesAreNotTouched : Type 0
 FreeFramesAreNotTouched =
-    (free old new : State) (since : List Event) (told : List Outcome) (event : Event) (outcome : Outcome)
-    → IsReached free → Step old event outcome new → FreeFrameIsNotTouched free since told old event outcome
+    (free old new : State) (since : List Event) (reply : List Outcome) (event : Event) (outcome : Outcome)
+    → IsReached free → Step old event outcome new → FreeFrameIsNotTouched free since reply old event outcome
 
 -- A frame that is free is touched by each device only after it is granted to that very device again. So, once device 1 has released frame 5 and that is
 -- confirmed, and device 2 was granted the frame: device 1 still leaves it alone, whatever it has cached, while device 2 reads and writes it.
 abbrev pub OnlyGranteesTouch : Type 0
 OnlyGranteesTouch =
-    (free old new : State) (since : List Event) (told : List Outcome) (event : Event) (outcome : Outcome)
-    → IsReached free → Step old event outcome new → OnlyGranteeTouches free since told old event outcome
+    (free old new : State) (since : List Event) (reply : List Outcome) (event : Event) (outcome : Outcome)
+    → IsReached free → Step old event outcome new → OnlyGranteeTouches free since reply old event outcome
 
 -- Every access in flight may still reach its frame.
 abbrev pub AccessesInFlightMay : Type 0
@@ -146,8 +146,8 @@ CommitsAreAnswered =
     (state : State) (id : ℕ) → IsReached state → (outcome : Outcome) × (new : State) × Step state (events.Commit id) outcome new
 
 -- No event changes the limits.
-abbrev pub LimitsStay : Type 0
-LimitsStay = (old new : State) (event : Event) (outcome : Outcome) → Step old event outcome new → new.limits ≡ old.limits
+abbrev pub LimitsUnchanged : Type 0
+LimitsUnchanged = (old new : State) (event : Event) (outcome : Outcome) → Step old event outcome new → new.limits ≡ old.limits
 
 -- A device has grants exactly where there is a page at which it holds something, or something lingers.
 abbrev pub GrantsAreAtPages : Type 0

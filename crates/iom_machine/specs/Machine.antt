@@ -38,7 +38,7 @@ use Rattle.iom_machine.specs.BlockDevices.{Inserts, MaySet, IsStatus, TakesStep}
 use Rattle.iom_virtqueue.specs.declared.layout.Layout.{Layout}
 use Rattle.iom_virtqueue.specs.Layouts.{layout_of}
 use Rattle.iom_machine.specs.Leaving.{leaving_under, with_left}
-use Rattle.iom_machine.specs.CuttingOff.{cut_off_under, attached_again}
+use Rattle.iom_machine.specs.Quarantining.{quarantined_under, attached_again}
 use Rattle.iom_machine.specs.Returning.{MayGiveBack, with_returned}
 
 -- a device as it is plugged in: detached, with nothing in flight, and with its disk, if it is a block device
@@ -97,12 +97,12 @@ Releases old id page (Refused why) new =
     IsRefusedBy (release_reasons old id page) MayFindNoPlace why × (new ≡ old)
 Releases old id page _ new = ⊥
 
--- A device is cut off under the next ticket: all that it holds is released, and lingers until that is confirmed.
+-- A device is quarantined under the next ticket: all that it holds is released, and lingers until that is confirmed.
 abbrev pub Quarantines : State → ℕ → Outcome → State → Type 0
 Quarantines old id (Ticket ticket) new =
     NoneApplies (quarantine_reasons old id) × (ticket ≡ old.last_ticket + 1)
     × IsSomeAnd (device_of old id) (λ device.
-    new ≡ record (with_device old (record device { attachment = cut_off_under ticket device.attachment })) {
+    new ≡ record (with_device old (record device { attachment = quarantined_under ticket device.attachment })) {
       history = entry.AllReleased id ticket ∷ old.history;
       last_ticket = ticket;
     })

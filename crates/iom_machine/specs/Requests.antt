@@ -76,14 +76,14 @@ IsPageFaultOf (Both size) kind cause = IsPageFaultOfEither kind cause
 abbrev pub cause_without_context : State → ℕ → Cause
 cause_without_context state id = if is_too_wide state id then TransactionTypeDisallowed else DirectoryEntryNotValid
 
--- a device that was cut off under the ticket may be served as in its former mode until the ticket is confirmed
-abbrev pub MayAcceptCutOff : ℕ → Mode → History → ℕ → Access → ℕ → Type 0
-MayAcceptCutOff ticket mode history id access frame =
+-- a device that was quarantined under the ticket may be served as in its former mode until the ticket is confirmed
+abbrev pub MayAcceptUnderTicket : ℕ → Mode → History → ℕ → Access → ℕ → Type 0
+MayAcceptUnderTicket ticket mode history id access frame =
     (confirms history ticket ≡ false) × MayAcceptFormerly mode history id access frame
 
 -- it may have no context at any time, and until then a page fault of its former mode
-abbrev pub MayFaultCutOff : ℕ → Mode → State → ℕ → Access → Cause → Type 0
-MayFaultCutOff ticket mode state id access cause =
+abbrev pub MayFaultUnderTicket : ℕ → Mode → State → ℕ → Access → Cause → Type 0
+MayFaultUnderTicket ticket mode state id access cause =
     (cause ≡ cause_without_context state id) ⊎ ((confirms state.history ticket ≡ false) × IsPageFaultOf mode access.kind cause)
 
 -- The IOMMU may accept the access, on the frame. In both stages that is any frame that the device may reach.
@@ -92,8 +92,8 @@ MayAccept Detached state id access frame = ⊥
 MayAccept (Attached (First size) ats) state id access frame = MayAcceptInOneStage state.history id access frame
 MayAccept (Attached (Second size) ats) state id access frame = MayAcceptInOneStage state.history id access frame
 MayAccept (Attached (Both size) ats) state id access frame = May state.history id frame access.kind
-MayAccept (Quarantined ticket mode ats) state id access frame = MayAcceptCutOff ticket mode state.history id access frame
-MayAccept (Leaving ticket mode ats) state id access frame = MayAcceptCutOff ticket mode state.history id access frame
+MayAccept (Quarantined ticket mode ats) state id access frame = MayAcceptUnderTicket ticket mode state.history id access frame
+MayAccept (Leaving ticket mode ats) state id access frame = MayAcceptUnderTicket ticket mode state.history id access frame
 
 -- the IOMMU may refuse the access, with the cause
 abbrev pub MayFault : Attachment → State → ℕ → Access → Cause → Type 0
@@ -101,8 +101,8 @@ MayFault Detached state id access cause = cause ≡ cause_without_context state 
 MayFault (Attached (First size) ats) state id access cause = MayFaultInOneStage page_fault_of state.history id access cause
 MayFault (Attached (Second size) ats) state id access cause = MayFaultInOneStage guest_page_fault_of state.history id access cause
 MayFault (Attached (Both size) ats) state id access cause = IsPageFaultOfEither access.kind cause
-MayFault (Quarantined ticket mode ats) state id access cause = MayFaultCutOff ticket mode state id access cause
-MayFault (Leaving ticket mode ats) state id access cause = MayFaultCutOff ticket mode state id access cause
+MayFault (Quarantined ticket mode ats) state id access cause = MayFaultUnderTicket ticket mode state id access cause
+MayFault (Leaving ticket mode ats) state id access cause = MayFaultUnderTicket ticket mode state id access cause
 
 -- the request comes before the IOMMU: it stays within its page, and the device, with these in flight, isn't busy
 abbrev pub IsForwarded : {X : Type 0} → ℕ → List X → ℕ → ℕ → Type 0

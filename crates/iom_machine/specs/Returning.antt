@@ -21,7 +21,7 @@ NothingLingers state id = (page : ℕ) → is_lingering state id page ≡ false
 -- What belongs to this owner may be given back: the owner is a device that is attached, and nothing lingers for it. A walk of that device
 -- began before its last release was confirmed, and has ended; or it began after. So, as far as the machine knows, no walk is in a table
 -- that was taken out of the tree before the fence of that release. Which of a device's tables are still in its tree the machine doesn't
--- know. A device that is leaving gives its tables back once its own ticket is confirmed (`with_left`), and one that was cut off keeps them
+-- know. A device that is leaving gives its tables back once its own ticket is confirmed (`with_left`), and one that was quarantined keeps them
 -- until it is attached again.
 abbrev pub MayGiveBackOf : State → Option Owner → Type 0
 MayGiveBackOf state None = ⊥

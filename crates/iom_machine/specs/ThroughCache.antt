@@ -10,7 +10,7 @@ use Rattle.iom_machine.specs.declared.state.Attachment.{Attachment}
 use Rattle.iom_machine.specs.declared.state.Attachment.TheVariants.{Detached, Attached, Quarantined, Leaving}
 use Rattle.iom_machine.specs.declared.state.Device.{Device}
 use Rattle.iom_machine.specs.declared.state.State.{State}
-use Rattle.iom_machine.specs.Requests.{IsBusy, IsForwarded, HoldsFor, LingersFor, MayAcceptCutOff, with_accepted}
+use Rattle.iom_machine.specs.Requests.{IsBusy, IsForwarded, HoldsFor, LingersFor, MayAcceptUnderTicket, with_accepted}
 use Rattle.iom_machine.specs.Translated.{MayFindNoContext}
 
 -- a cache may have what is held at the page, and what lingers there
@@ -23,8 +23,8 @@ MayGoThrough Detached state id access frame = ⊥
 MayGoThrough (Attached (First size) ats) state id access frame = MayHaveCached state.history id access frame
 MayGoThrough (Attached (Second size) ats) state id access frame = MayHaveCached state.history id access frame
 MayGoThrough (Attached (Both size) ats) state id access frame = May state.history id frame access.kind
-MayGoThrough (Quarantined ticket mode ats) state id access frame = MayAcceptCutOff ticket mode state.history id access frame
-MayGoThrough (Leaving ticket mode ats) state id access frame = MayAcceptCutOff ticket mode state.history id access frame
+MayGoThrough (Quarantined ticket mode ats) state id access frame = MayAcceptUnderTicket ticket mode state.history id access frame
+MayGoThrough (Leaving ticket mode ats) state id access frame = MayAcceptUnderTicket ticket mode state.history id access frame
 
 -- What may come of a plugged device's access through its cache, on which frame. Whatever the device may do, its cache need not have it.
 abbrev pub MayAnswerThroughCache : State → Device → Access → ℕ → Outcome → Type 0

@@ -13,7 +13,7 @@ use Rattle.iom_machine.specs.declared.state.Device.{Device}
 use Rattle.iom_machine.specs.declared.state.State.{State}
 use Rattle.iom_machine.specs.Requests.{IsBusy, IsForwarded, cause_without_context}
 
--- a device that is attached so may have no context: it has none, or was cut off
+-- a device that is attached so may have no context: it has none, or was quarantined
 abbrev pub MayLackContext : Attachment → Type 0
 MayLackContext Detached = ⊤
 MayLackContext (Attached mode ats) = ⊥

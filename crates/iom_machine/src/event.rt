@@ -40,7 +40,7 @@ pub enum Event {
     Quarantine {
         device: DeviceId,
     },
-    /// The driver is asked to attach a device again that was cut off; it is reset.
+    /// The driver is asked to attach a device again that was quarantined; it is reset.
     Revive {
         device: DeviceId,
     },

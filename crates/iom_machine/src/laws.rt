@@ -1,4 +1,4 @@
-ghost use Rattle.iom_machine.specs.Laws.{GrantsAreAtPages, LimitsStay};
+ghost use Rattle.iom_machine.specs.Laws.{GrantsAreAtPages, LimitsUnchanged};
 ghost use Rattle.iom_machine.specs.Returning.{ReturnedTablesAreFree};
 
 /// A device has grants exactly where there is a page at which it holds something, or something
@@ -8,8 +8,8 @@ pub fn grants_are_at_pages()
 {}
 
 /// No event changes the limits: they are those of power-on.
-pub fn limits_stay()
-    ensures { LimitsStay }
+pub fn limits_unchanged()
+    ensures { LimitsUnchanged }
 {}
 
 /// Tables that may be given back are free then, where no device may reach them.

@@ -7,7 +7,7 @@
 //! their order; `Requests.antt` what a request may be answered, of a page that lingers too;
 //! `Questions.antt` what a device may be told that asks for a translation, and `ThroughCache.antt`
 //! what may come of an access through its cache (address translation services: PCI Express Base
-//! Specification, chapter 10); `CuttingOff.antt` how a device that doesn't answer is cut off, and
+//! Specification, chapter 10); `Quarantining.antt` how a device that doesn't answer is quarantined, and
 //! attached again; `BlockDevices.antt` what a block device may do, of whose requests the machine
 //! knows nothing (virtio 1.2). The layers above are proved to take lawful steps alone, and the laws of this
 //! crate say what every run of lawful steps has. The plain, slow program that decides these definitions is
@@ -28,7 +28,7 @@ pub use choice::Choice;
 pub use event::Event;
 pub use frames::reserve;
 pub use headline::reclaim_theorem;
-pub use laws::{grants_are_at_pages, limits_stay};
+pub use laws::{grants_are_at_pages, limits_unchanged};
 pub use outcome::{BlockStep, CommandName, FaultRecord, Fetched, Outcome, Trace};
 pub use sink::Sink;
 pub use start::{new_frame, power_on};

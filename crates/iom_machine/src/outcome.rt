@@ -57,7 +57,7 @@ pub enum Outcome {
     /// The call did nothing, and says why.
     Refused(Refusal),
     /// Under this ticket the page was released, and lingers until the ticket is confirmed; or the
-    /// device was detached, and is leaving until then; or it was cut off, and all that it held lingers.
+    /// device was detached, and is leaving until then; or it was quarantined, and all that it held lingers.
     Ticket(u32),
     /// The tickets from the first to the last are confirmed now; and whether the IOMMU gave a fence up,
     /// and takes no command until the driver restarts.

@@ -19,7 +19,7 @@ impl Attachment {
     ghost use Rattle.std.specs.Prelude.{◌≡◌};
     ghost use Rattle.iom_machine.specs.Refusals.{mode_at, page_limit_at, table_limit_at};
 
-    /// The mode in which a device is attached, or was until it was cut off or detached.
+    /// The mode in which a device is attached, or was until it was quarantined or detached.
     pub fn mode(self) -> Option<Mode>
         ensures { result ≡ mode_at self }
     {

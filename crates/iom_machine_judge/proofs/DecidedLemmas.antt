@@ -4,7 +4,7 @@ use Rattle.std.proofs.lemmas.Bool.{false≢true}
 use Rattle.std.proofs.lemmas.Option.{slice_get_read}
 use Rattle.iom_kept_state.specs.declared.state.KeptState.{KeptState}
 use Rattle.iom_kept_state.specs.Grants.{IsPastOf}
-use Rattle.iom_kept_state.specs.States.{state_of, Decides, DecidesStaying}
+use Rattle.iom_kept_state.specs.States.{state_of, Decides, DecidesUnchanged}
 use Rattle.iom_ledger.specs.History.{History}
 use Rattle.iom_machine.specs.declared.state.Device.{Device}
 use Rattle.iom_machine.specs.declared.state.State.{State}
@@ -23,7 +23,7 @@ comes old new IsFact final same fact is = λ h past. (
 
 -- it may not come
 pub never_comes : (kept : KeptState) (IsFact : State → Type 0) (final : State → State) → ((h : History) → IsPastOf kept.grants h → ¬ IsFact (state_of kept h))
-    → DecidesStaying false kept (λ before after. IsFact before × (after ≡ final before))
+    → DecidesUnchanged false kept (λ before after. IsFact before × (after ≡ final before))
 never_comes kept IsFact final never = (refl, (λ h past after both. never h past both.0))
 
 -- the device that is read at the place of an id is the one with the id

@@ -53,9 +53,9 @@ refused_by first reasons may_come said May why kept is may decides =
     (refusal first may_come said (May (state_of kept h)) why (may h past) decides))
 
 -- where a reason applies, none doesn't
-pub some_applies : (first : Option Refusal) (reasons : List (Bool × Refusal)) (told : Bool)
-    → first ≡ first_that_applies reasons → told ≡ is_some first → told ≡ true → ¬ NoneApplies reasons
-some_applies first reasons told is tells applies none = false≢true (sym (tells ∙ ap (λ (o : Option Refusal). is_some o) (is ∙ none)) ∙ applies)
+pub some_applies : (first : Option Refusal) (reasons : List (Bool × Refusal)) (reply : Bool)
+    → first ≡ first_that_applies reasons → reply ≡ is_some first → reply ≡ true → ¬ NoneApplies reasons
+some_applies first reasons reply is tells applies none = false≢true (sym (tells ∙ ap (λ (o : Option Refusal). is_some o) (is ∙ none)) ∙ applies)
 
 -- steps that are the same are decided alike
 pub decides_alike : (may : Bool) (old new : KeptState) (S T : State → State → Type 0)
@@ -132,10 +132,10 @@ with_fact A P may kept fact decides =
     (λ h after. ((λ step. (fact, step.0, step.1)), (λ all. (all.1, all.2)))) decides
 
 -- what is told is so
-pub told_so : (told is same : Bool) (P : Type 0) → (IsTrue same ↔ (told ≡ is)) → (IsTrue is ↔ P) → IsTrue same ↔ (IsTrue told ↔ P)
-told_so told is same P compares decides = (
+pub reply_is : (reply is same : Bool) (P : Type 0) → (IsTrue same ↔ (reply ≡ is)) → (IsTrue is ↔ P) → IsTrue same ↔ (IsTrue reply ↔ P)
+reply_is reply is same P compares decides = (
   (λ alike. let e = compares.0 alike in ((λ t. decides.0 (sym e ∙ t)), (λ fact. e ∙ decides.1 fact))),
-  (λ so. compares.1 (by told is (λ t. decides.1 (so.0 t)) (λ t. so.1 (decides.0 t)))),
+  (λ so. compares.1 (by reply is (λ t. decides.1 (so.0 t)) (λ t. so.1 (decides.0 t)))),
 )
   where
     by : (a b : Bool) → (a ≡ true → b ≡ true) → (b ≡ true → a ≡ true) → a ≡ b

@@ -35,10 +35,10 @@ next_state old frames history ticket devices = record {
 }
 
 -- the next state, whose last ticket is told
-pub given_as : (old : KeptState) (frames : List Frame) (history : History) (ticket told : ℕ) (devices : List Device) (Q : State → Type 0) → told ≡ ticket
+pub given_as : (old : KeptState) (frames : List Frame) (history : History) (ticket reply : ℕ) (devices : List Device) (Q : State → Type 0) → reply ≡ ticket
     → ((new : State) → (◌≡◌ {A = Option State} (Some (next_state old frames history ticket devices)) (Some new)) ↔ Q new)
-    → (after : State) → (after ≡ next_state old frames history told devices) ↔ Q after
-given_as old frames history ticket told devices Q is decides =
+    → (after : State) → (after ≡ next_state old frames history reply devices) ↔ Q after
+given_as old frames history ticket reply devices Q is decides =
     subst (λ n. (after : State) → (after ≡ next_state old frames history n devices) ↔ Q after) (sym is) (leaves_as (next_state old frames history ticket devices) Q decides)
 
 -- after a plug
@@ -51,10 +51,10 @@ plugged_as old id what h devices disks none d k after =
     ((λ same. (none, same ∙ same_state)), (λ step. step.1 ∙ sym same_state))
 
 -- after a release
-pub released_as : (old : KeptState) (id page ticket told : ℕ) (h : History) → NoneApplies (release_reasons (state_of old h) id page) → MayTakeTicket (state_of old h) ticket → told ≡ ticket
-    → (after : State) → (after ≡ next_state old (frames_in old.frames) (entries.Released id page ticket ∷ h) told old.devices) ↔ Releases (state_of old h) id page (Ticket ticket) after
-released_as old id page ticket told h none takes is after =
-    let same_state : next_state old (frames_in old.frames) (entries.Released id page ticket ∷ h) told old.devices ≡ next_state old (frames_in old.frames) (entries.Released id page ticket ∷ h) ticket old.devices =
+pub released_as : (old : KeptState) (id page ticket reply : ℕ) (h : History) → NoneApplies (release_reasons (state_of old h) id page) → MayTakeTicket (state_of old h) ticket → reply ≡ ticket
+    → (after : State) → (after ≡ next_state old (frames_in old.frames) (entries.Released id page ticket ∷ h) reply old.devices) ↔ Releases (state_of old h) id page (Ticket ticket) after
+released_as old id page ticket reply h none takes is after =
+    let same_state : next_state old (frames_in old.frames) (entries.Released id page ticket ∷ h) reply old.devices ≡ next_state old (frames_in old.frames) (entries.Released id page ticket ∷ h) ticket old.devices =
     ap (λ n. next_state old (frames_in old.frames) (entries.Released id page ticket ∷ h) n old.devices) is in
     ((λ same. (none, takes, same ∙ same_state)), (λ step. step.2 ∙ sym same_state))
 

@@ -23,8 +23,8 @@ some_in list released among = by (length list == 0) refl
     by false e = refl
 
 -- what decides that decides `has_grants`
-pub any_is_left : (state : State) (id : ℕ) (told : Bool) → IsTrue told ↔ IsLeft state id → told ≡ has_grants state id
-any_is_left state id told decides = same told (has_grants state id) (λ yes. forward (decides.0 yes)) (λ yes. decides.1 (backward yes))
+pub any_is_left : (state : State) (id : ℕ) (reply : Bool) → IsTrue reply ↔ IsLeft state id → reply ≡ has_grants state id
+any_is_left state id reply decides = same reply (has_grants state id) (λ yes. forward (decides.0 yes)) (λ yes. decides.1 (backward yes))
   where
     same : (one other : Bool) → (one ≡ true → other ≡ true) → (other ≡ true → one ≡ true) → one ≡ other
     same true other to from = sym (to refl)

@@ -30,15 +30,15 @@ CallStep choice old (events.Revive id) outcome new = Revives old id outcome new
 CallStep choice old _ outcome new = ⊥
 
 -- the step of an event of the queues or of a message, which leaves the state as it is; no other event is one
-abbrev pub StayingStep : Choice → State → Event → Outcome → State → Type 0
-StayingStep choice old events.Restart outcome new = Restarts old outcome new
-StayingStep choice old events.Fetch outcome new = Fetches old outcome new
-StayingStep choice old events.Timeout outcome new = TimesOut old outcome new
-StayingStep choice old events.Faults outcome new = TakesRecord old outcome new
-StayingStep choice old (events.Deliver place) outcome new = Delivers choice.device choice.page old outcome new
-StayingStep choice old (events.Drop place) outcome new = Drops old outcome new
-StayingStep choice old (events.Repeat place) outcome new = Repeats old outcome new
-StayingStep choice old _ outcome new = ⊥
+abbrev pub UnchangedStep : Choice → State → Event → Outcome → State → Type 0
+UnchangedStep choice old events.Restart outcome new = Restarts old outcome new
+UnchangedStep choice old events.Fetch outcome new = Fetches old outcome new
+UnchangedStep choice old events.Timeout outcome new = TimesOut old outcome new
+UnchangedStep choice old events.Faults outcome new = TakesRecord old outcome new
+UnchangedStep choice old (events.Deliver place) outcome new = Delivers choice.device choice.page old outcome new
+UnchangedStep choice old (events.Drop place) outcome new = Drops old outcome new
+UnchangedStep choice old (events.Repeat place) outcome new = Repeats old outcome new
+UnchangedStep choice old _ outcome new = ⊥
 
 -- which kinds of device can do what the event asks
 abbrev pub able_to : Event → DeviceKind → Bool

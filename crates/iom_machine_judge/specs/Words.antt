@@ -10,19 +10,19 @@ pub use Rattle.iom_base.specs.Spans.{FitsInPage}
 pub use Rattle.iom_base.specs.declared.rights.Rights.{Rights}
 pub use Rattle.iom_kept_state.specs.Grants.{IsPastOf, is_confirmed_in}
 unfoldable pub use Rattle.iom_kept_state.specs.Grants.{held_by, lingering_by}
-pub use Rattle.iom_kept_state.specs.States.{Decides, state_of, DecidesStaying}
+pub use Rattle.iom_kept_state.specs.States.{Decides, state_of, DecidesUnchanged}
 pub use Rattle.iom_ledger.specs.History.{History, May, confirms, confirmed_from, Lingers}
 pub use Rattle.iom_machine.specs.BlockDevices.{MayInsert, Inserts, MaySet, MayBe, Begins, TakesStep, with_disk}
-pub use Rattle.iom_machine.specs.CuttingOff.{cut_off_under, attached_again}
+pub use Rattle.iom_machine.specs.Quarantining.{quarantined_under, attached_again}
 pub use Rattle.iom_machine.specs.Devices.{DeviceMay, device_of}
 pub use Rattle.iom_machine.specs.Frames.{IsFree}
 pub use Rattle.iom_machine.specs.Judging.{StandsAt}
 pub use Rattle.iom_machine.specs.Leaving.{leaving_under}
 pub use Rattle.iom_machine.specs.Machine.{Acts, Plugs, Attaches, Detaches, Grants, Releases, GivesBytes, MakesWrite, Makes, ChosenStep, Polls, Pokes, ShowsBytes, Peeks, TellsFree, Quarantines, Revives}
 pub use Rattle.iom_machine.specs.Messages.{Delivers}
-pub use Rattle.iom_machine.specs.Questions.{MayShow, IsForEachKind, MayTellFormerly, MayTellCutOff, MayTell}
+pub use Rattle.iom_machine.specs.Questions.{MayShow, IsForEachKind, MayTellFormerly, MayTellUnderTicket, MayTell}
 pub use Rattle.iom_machine.specs.Refusals.{MayRefusePlug, MayRefuseAttach, MayRefuseGrant, MayFindNoPlace, plug_reasons, attach_reasons, detach_reasons, grant_reasons, release_reasons, quarantine_reasons, revive_reasons, frame_reasons, poke_reasons, attachment_of, is_detached, is_leaving, is_quarantined, is_attached, may_still_reach, table_limit_at, is_held, is_lingering, has_grants}
-pub use Rattle.iom_machine.specs.Requests.{MayAcceptFormerly, MayAcceptCutOff, MayFaultCutOff, IsPageFaultOf, IsPageFaultOfEither, cause_without_context, LingersSomewhere, IsBusy, IsForwarded, HoldsFor, HoldsNoneFor, LingersFor, MayAccept, MayFault, MayAcceptInOneStage, MayAnswer, state_after}
+pub use Rattle.iom_machine.specs.Requests.{MayAcceptFormerly, MayAcceptUnderTicket, MayFaultUnderTicket, IsPageFaultOf, IsPageFaultOfEither, cause_without_context, LingersSomewhere, IsBusy, IsForwarded, HoldsFor, HoldsNoneFor, LingersFor, MayAccept, MayFault, MayAcceptInOneStage, MayAnswer, state_after}
 pub use Rattle.iom_machine.specs.Returning.{MayGiveBack, with_returned}
 pub use Rattle.iom_machine.specs.ThroughCache.{MayHaveCached, MayGoThrough, MayAnswerThroughCache, state_after_cached}
 pub use Rattle.iom_machine.specs.Tickets.{IsLastPending, MayTakeTicket, AreNextTickets, ArePending, MayConfirm, pending_tickets}

@@ -1,8 +1,8 @@
 // Decides the machine: which step may come.
 ghost use Rattle.std.specs.Prelude.{IfOk};
-ghost use Rattle.iom_machine_judge.specs.Words.{Decides, DecidesStaying, ChosenStep};
+ghost use Rattle.iom_machine_judge.specs.Words.{Decides, DecidesUnchanged, ChosenStep};
 ghost use Rattle.iom_machine_judge.specs.Verdicts.{IsFoundOf, RunsAreChosen};
-ghost use Rattle.iom_machine_judge.specs.Deciding.{CallStep, StayingStep};
+ghost use Rattle.iom_machine_judge.specs.Deciding.{CallStep, UnchangedStep};
 
 use crate::acts::judge_act;
 use crate::calls::{judge_attach, judge_detach, judge_grant, judge_plug, judge_release};
@@ -47,8 +47,8 @@ fn judge_call(
 }
 
 /// Whether this may come of an event of the queues or of a message, which leaves the state as it is.
-fn judge_staying(kept: &KeptState, event: &Event, outcome: &Outcome, choice: &Choice) -> bool
-    ensures { DecidesStaying result kept.now (λ before after. StayingStep choice.now before event.now outcome.now after) }
+fn judge_unchanged(kept: &KeptState, event: &Event, outcome: &Outcome, choice: &Choice) -> bool
+    ensures { DecidesUnchanged result kept.now (λ before after. UnchangedStep choice.now before event.now outcome.now after) }
 {
     match event {
         Event::Restart => {
@@ -90,10 +90,10 @@ pub fn judge(
             judge_call(alloc, kept, event, outcome, choice)
         }
         Event::Restart | Event::Fetch | Event::Timeout | Event::Faults => {
-            Ok(judge_staying(kept, event, outcome, choice))
+            Ok(judge_unchanged(kept, event, outcome, choice))
         }
         Event::Deliver { .. } | Event::Drop { .. } | Event::Repeat { .. } => {
-            Ok(judge_staying(kept, event, outcome, choice))
+            Ok(judge_unchanged(kept, event, outcome, choice))
         }
         Event::Poll => judge_poll(kept, outcome, choice),
         Event::Poke { address, bytes } => judge_poke(kept, *address, bytes.as_slice(), outcome),

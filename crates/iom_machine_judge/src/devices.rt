@@ -1,6 +1,6 @@
 // Where a device stands, and how it changes.
 ghost use Rattle.std.specs.Prelude.{◌≡◌, ◌<◌, ◌==◌, true, false, [], ◌∷◌, ◌++◌, length, find, slice_get, slice_set, MatchOption, OnOk, Some, None, drop};
-ghost use Rattle.iom_machine_judge.specs.Words.{option_copied, StandsAt, leaving_under, cut_off_under, attached_again, Device};
+ghost use Rattle.iom_machine_judge.specs.Words.{option_copied, StandsAt, leaving_under, quarantined_under, attached_again, Device};
 
 use iom_base::{AcceptedAccess, Access, DeviceId, Sequence};
 use iom_kept_state::KeptState;
@@ -89,11 +89,11 @@ pub(crate) fn start_leaving(devices: &mut Sequence<Device>, place: usize, ticket
     };
 }
 
-/// The device is cut off under the ticket, where it is attached.
-pub(crate) fn cut_off(devices: &mut Sequence<Device>, place: usize, ticket: u32)
+/// The device is quarantined under the ticket, where it is attached.
+pub(crate) fn under_ticket(devices: &mut Sequence<Device>, place: usize, ticket: u32)
     requires { place < length devices.old }
     ensures { (device : Device) → slice_get devices.old place ≡ Some device
-        → devices.new ≡ slice_set devices.old place (record device { attachment = cut_off_under ticket device.attachment }) }
+        → devices.new ≡ slice_set devices.old place (record device { attachment = quarantined_under ticket device.attachment }) }
 {
     let device = devices.item_mut(place);
     device.attachment = match device.attachment {
@@ -102,7 +102,7 @@ pub(crate) fn cut_off(devices: &mut Sequence<Device>, place: usize, ticket: u32)
     };
 }
 
-/// The device is attached again as it was before, where it is cut off.
+/// The device is attached again as it was before, where it is quarantined.
 pub(crate) fn attach_again(devices: &mut Sequence<Device>, place: usize)
     requires { place < length devices.old }
     ensures { (device : Device) → slice_get devices.old place ≡ Some device

@@ -17,7 +17,6 @@ mod acts;
 mod block_devices;
 pub mod calls;
 mod commits;
-mod cut_off;
 mod decide;
 mod devices;
 mod disks;
@@ -31,6 +30,7 @@ mod recovery;
 pub mod requests;
 pub mod through_cache;
 pub mod translated;
+mod under_ticket;
 
 pub use decide::{judge, judge_run, lawful_runs_have_choices};
 pub use line::Line;

@@ -1,6 +1,6 @@
 // What the processor writes and reads, and what it is told of a frame.
 ghost use Rattle.std.specs.Prelude.{◌≡◌, ◌↔◌, IfOk, IsTrue};
-ghost use Rattle.iom_machine_judge.specs.Words.{History, Pokes, ShowsBytes, Peeks, TellsFree, state_of, Decides, DecidesStaying};
+ghost use Rattle.iom_machine_judge.specs.Words.{History, Pokes, ShowsBytes, Peeks, TellsFree, state_of, Decides, DecidesUnchanged};
 
 use crate::reasons::{frame_refusal, poke_refusal, refuses};
 use crate::requests::is_within_page;
@@ -53,7 +53,7 @@ fn shows(kept: &KeptState, address: u64, len: u64, bytes: &[u8]) -> bool
 
 /// Whether a peek may come so, which leaves the state as it is.
 pub(crate) fn judge_peek(kept: &KeptState, address: u64, len: u64, outcome: &Outcome) -> bool
-    ensures { DecidesStaying result kept.now (λ before after. Peeks before address len outcome.now after) }
+    ensures { DecidesUnchanged result kept.now (λ before after. Peeks before address len outcome.now after) }
 {
     let fits = is_within_page(address, len);
     let first = frame_refusal(kept, address / PAGE_SIZE);
@@ -78,16 +78,16 @@ fn are_same(one: bool, other: bool) -> bool
 
 /// Whether the question whether the frame is free may be answered so, which leaves the state as it is.
 pub(crate) fn judge_free(kept: &KeptState, frame: u64, outcome: &Outcome) -> bool
-    ensures { DecidesStaying result kept.now (λ before after. TellsFree before frame outcome.now after) }
+    ensures { DecidesUnchanged result kept.now (λ before after. TellsFree before frame outcome.now after) }
 {
     let first = frame_refusal(kept, frame);
     match outcome {
         Outcome::Refused(why) => refuses(first, false, *why),
-        Outcome::Free(told) => {
+        Outcome::Free(reply) => {
             if first.is_some() {
                 return false;
             }
-            are_same(*told, kept.is_free(frame))
+            are_same(*reply, kept.is_free(frame))
         }
         _ => false,
     }

@@ -1,20 +1,20 @@
 // What a device may be told that asks for the translation of a page.
 ghost use Rattle.std.specs.Prelude.{◌≡◌, ◌↔◌, IsTrue, IsSomeAnd, Some, true};
-ghost use Rattle.iom_machine_judge.specs.Words.{IsPastOf, state_of, DecidesStaying, History, Lingers, May, Attached, device_of, Delivers, LingersSomewhere, MayShow, IsForEachKind, MayTellFormerly, MayTellCutOff, MayTell};
+ghost use Rattle.iom_machine_judge.specs.Words.{IsPastOf, state_of, DecidesUnchanged, History, Lingers, May, Attached, device_of, Delivers, LingersSomewhere, MayShow, IsForEachKind, MayTellFormerly, MayTellUnderTicket, MayTell};
 ghost use Rattle.iom_fabric.specs.declared.message.Translation.TheVariants.{Refused};
 
-use crate::cut_off::{cause_without_context, is_page_fault_of, is_page_fault_of_either};
 use crate::devices::device_with;
+use crate::under_ticket::{cause_without_context, is_page_fault_of, is_page_fault_of_either};
 use iom_base::{AccessKind, Cause, DeviceId, Mode, Rights};
 use iom_fabric::Translation;
 use iom_kept_state::{KeptGrants, KeptState};
 use iom_machine::{Attachment, Choice, Outcome};
 
 /// Whether the device is told that there is no translation, with the cause.
-fn is_refused_with(told: Translation, cause: Cause) -> bool
-    ensures { IsTrue result ↔ (told ≡ Refused cause) }
+fn is_refused_with(reply: Translation, cause: Cause) -> bool
+    ensures { IsTrue result ↔ (reply ≡ Refused cause) }
 {
-    match told {
+    match reply {
         Translation::Page { .. } => false,
         Translation::Refused(why) => why == cause,
     }
@@ -83,11 +83,11 @@ fn tells_formerly(
     grants: &KeptGrants,
     id: DeviceId,
     page: u64,
-    told: Translation,
+    reply: Translation,
 ) -> bool
-    ensures { (h : History) → IsPastOf grants.now h → IsTrue result ↔ MayTellFormerly mode true h id page told }
+    ensures { (h : History) → IsPastOf grants.now h → IsTrue result ↔ MayTellFormerly mode true h id page reply }
 {
-    match told {
+    match reply {
         Translation::Refused(cause) => is_page_fault_of(mode, AccessKind::Read, cause),
         Translation::Page { frame, rights } => match mode {
             Mode::First(_) | Mode::Second(_) => {
@@ -98,36 +98,36 @@ fn tells_formerly(
     }
 }
 
-/// Whether a device that was cut off under the ticket may be told so.
-fn tells_cut_off(
+/// Whether a device that was quarantined under the ticket may be told so.
+fn tells_under_ticket(
     ticket: u32,
     mode: Mode,
     ats: bool,
     kept: &KeptState,
     id: DeviceId,
     page: u64,
-    told: Translation,
+    reply: Translation,
 ) -> bool
-    ensures { (h : History) → IsPastOf kept.now.grants h → IsTrue result ↔ MayTellCutOff ticket mode ats (state_of kept.now h) id page told }
+    ensures { (h : History) → IsPastOf kept.now.grants h → IsTrue result ↔ MayTellUnderTicket ticket mode ats (state_of kept.now h) id page reply }
 {
-    if is_refused_with(told, cause_without_context(kept, id)) {
+    if is_refused_with(reply, cause_without_context(kept, id)) {
         return true;
     }
     if kept.grants.is_confirmed(ticket) {
         return false;
     }
     if !ats {
-        return is_refused_with(told, Cause::TransactionTypeDisallowed);
+        return is_refused_with(reply, Cause::TransactionTypeDisallowed);
     }
-    tells_formerly(mode, &kept.grants, id, page, told)
+    tells_formerly(mode, &kept.grants, id, page, reply)
 }
 
 /// Whether an attached device with ATS may be told so.
-fn tells_attached(mode: Mode, kept: &KeptState, id: DeviceId, page: u64, told: Translation) -> bool
-    ensures { (h : History) → IsPastOf kept.now.grants h → IsTrue result ↔ MayTell (Attached mode true) (state_of kept.now h) id page told }
+fn tells_attached(mode: Mode, kept: &KeptState, id: DeviceId, page: u64, reply: Translation) -> bool
+    ensures { (h : History) → IsPastOf kept.now.grants h → IsTrue result ↔ MayTell (Attached mode true) (state_of kept.now h) id page reply }
 {
     let grants = &kept.grants;
-    match told {
+    match reply {
         Translation::Refused(cause) => match mode {
             Mode::First(_) | Mode::Second(_) => {
                 grants.held(id, page).is_none() && is_page_fault_of(mode, AccessKind::Read, cause)
@@ -149,45 +149,45 @@ pub fn may_tell(
     kept: &KeptState,
     id: DeviceId,
     page: u64,
-    told: Translation,
+    reply: Translation,
 ) -> bool
-    ensures { (h : History) → IsPastOf kept.now.grants h → IsTrue result ↔ MayTell attachment (state_of kept.now h) id page told }
+    ensures { (h : History) → IsPastOf kept.now.grants h → IsTrue result ↔ MayTell attachment (state_of kept.now h) id page reply }
 {
     match attachment {
-        Attachment::Detached => is_refused_with(told, cause_without_context(kept, id)),
+        Attachment::Detached => is_refused_with(reply, cause_without_context(kept, id)),
         Attachment::Attached { mode, ats } => {
             if ats {
-                tells_attached(mode, kept, id, page, told)
+                tells_attached(mode, kept, id, page, reply)
             } else {
-                is_refused_with(told, Cause::TransactionTypeDisallowed)
+                is_refused_with(reply, Cause::TransactionTypeDisallowed)
             }
         }
         Attachment::Quarantined { ticket, mode, ats } => {
-            tells_cut_off(ticket, mode, ats, kept, id, page, told)
+            tells_under_ticket(ticket, mode, ats, kept, id, page, reply)
         }
         Attachment::Leaving { ticket, mode, ats } => {
-            tells_cut_off(ticket, mode, ats, kept, id, page, told)
+            tells_under_ticket(ticket, mode, ats, kept, id, page, reply)
         }
     }
 }
 
 /// Whether the question of the device for the page may be answered so.
-fn is_told(kept: &KeptState, asker: DeviceId, page: u64, told: Translation) -> bool
+fn is_told(kept: &KeptState, asker: DeviceId, page: u64, reply: Translation) -> bool
     ensures { (h : History) → IsPastOf kept.now.grants h → IsTrue result ↔ IsSomeAnd (device_of (state_of kept.now h) asker)
-        (λ device. MayTell device.attachment (state_of kept.now h) device.id page told) }
+        (λ device. MayTell device.attachment (state_of kept.now h) device.id page reply) }
 {
     match device_with(kept, asker) {
         None => false,
-        Some(device) => may_tell(device.attachment, kept, device.id, page, told),
+        Some(device) => may_tell(device.attachment, kept, device.id, page, reply),
     }
 }
 
 /// Whether this may come of a delivery, which leaves the state as it is.
 pub(crate) fn judge_deliver(kept: &KeptState, outcome: &Outcome, choice: &Choice) -> bool
-    ensures { DecidesStaying result kept.now (λ before after. Delivers choice.now.device choice.now.page before outcome.now after) }
+    ensures { DecidesUnchanged result kept.now (λ before after. Delivers choice.now.device choice.now.page before outcome.now after) }
 {
     match outcome {
-        Outcome::Answered(told) => is_told(kept, choice.device, choice.page, *told),
+        Outcome::Answered(reply) => is_told(kept, choice.device, choice.page, *reply),
         Outcome::Kept
         | Outcome::Stale
         | Outcome::AnswerRefused

@@ -51,7 +51,7 @@ fn attached(attachment: Attachment) -> bool
     matches!(attachment, Attachment::Attached { .. })
 }
 
-/// Whether it is cut off under a ticket that isn't confirmed.
+/// Whether it is quarantined under a ticket that isn't confirmed.
 pub(crate) fn may_still_reach(kept: &KeptState, attachment: Attachment) -> bool
     ensures { (h : History) → IsPastOf kept.now.grants h → result ≡ may_still_reach h attachment }
 {

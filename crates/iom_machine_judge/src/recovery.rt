@@ -1,9 +1,9 @@
-// Devices that don't answer: they are cut off and attached again, and the queue goes on without them.
+// Devices that don't answer: they are quarantined and attached again, and the queue goes on without them.
 ghost use Rattle.std.specs.Prelude.{IfOk};
 ghost use Rattle.iom_machine_judge.specs.Words.{Quarantines, Revives, Decides};
 
 use crate::calls::{may_find_no_place, may_give};
-use crate::devices::{attach_again, cut_off, place_of};
+use crate::devices::{attach_again, place_of, under_ticket};
 use crate::reasons::{quarantine_refusal, refuses, revive_refusal};
 use iom_base::DeviceId;
 use iom_kept_state::KeptState;
@@ -28,7 +28,7 @@ pub(crate) fn judge_quarantine(
                 return Ok(false);
             };
             kept.grants.release_all(id, *ticket)?;
-            cut_off(&mut kept.devices, place, *ticket);
+            under_ticket(&mut kept.devices, place, *ticket);
             Ok(true)
         }
         Outcome::Refused(why) => Ok(refuses(first, may_find_no_place(*why), *why)),

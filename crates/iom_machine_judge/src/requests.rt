@@ -2,11 +2,11 @@
 ghost use Rattle.std.specs.Prelude.{◌≡◌, ◌↔◌, ◌+◌, ◌<◌, ◌^◌, IfOk, OnOk, IsTrue, Some, true, slice_get, length};
 ghost use Rattle.iom_machine_judge.specs.Words.{FitsInPage, allows, Rights, IsPastOf, state_of, Decides, History, Device, IsBusy, IsForwarded, HoldsFor, HoldsNoneFor, LingersFor, MayAccept, MayFault, MayAcceptInOneStage, MayAnswer, state_after, StandsAt};
 
-use crate::cut_off::{
-    accepts_cut_off, cause_without_context, faults_cut_off, is_page_fault_of,
+use crate::devices::accept;
+use crate::under_ticket::{
+    accepts_under_ticket, cause_without_context, faults_under_ticket, is_page_fault_of,
     is_page_fault_of_either,
 };
-use crate::devices::accept;
 use iom_base::{Access, AccessKind, Cause, DeviceId, Mode, PAGE_SIZE, Rights, Span};
 use iom_kept_state::{KeptGrants, KeptState};
 use iom_machine::{Attachment, Device, Outcome};
@@ -96,10 +96,10 @@ fn may_accept(kept: &KeptState, device: &Device, access: &Access, frame: u64) ->
             Mode::Both(_) => grants.may(id, access.address / PAGE_SIZE, frame, access.kind),
         },
         Attachment::Quarantined { ticket, mode, .. } => {
-            accepts_cut_off(ticket, mode, grants, id, access, frame)
+            accepts_under_ticket(ticket, mode, grants, id, access, frame)
         }
         Attachment::Leaving { ticket, mode, .. } => {
-            accepts_cut_off(ticket, mode, grants, id, access, frame)
+            accepts_under_ticket(ticket, mode, grants, id, access, frame)
         }
     }
 }
@@ -119,10 +119,10 @@ fn may_fault(kept: &KeptState, device: &Device, access: &Access, cause: Cause) -
             Mode::Both(_) => is_page_fault_of_either(kind, cause),
         },
         Attachment::Quarantined { ticket, mode, .. } => {
-            faults_cut_off(ticket, mode, kept, id, access, cause)
+            faults_under_ticket(ticket, mode, kept, id, access, cause)
         }
         Attachment::Leaving { ticket, mode, .. } => {
-            faults_cut_off(ticket, mode, kept, id, access, cause)
+            faults_under_ticket(ticket, mode, kept, id, access, cause)
         }
     }
 }

@@ -2,10 +2,10 @@
 ghost use Rattle.std.specs.Prelude.{◌≡◌, ◌↔◌, ◌<◌, ◌^◌, ℕ, IfOk, OnOk, IsTrue, Some, slice_get, length};
 ghost use Rattle.iom_machine_judge.specs.Words.{at_frame, IsPastOf, state_of, Decides, History, Accepted, Device, MayHaveCached, MayGoThrough, MayAnswerThroughCache, state_after_cached, StandsAt};
 
-use crate::cut_off::accepts_cut_off;
 use crate::devices::accept;
 use crate::requests::{holds, is_busy, is_forwarded, is_next, is_within_page, lingers};
 use crate::translated::may_find_no_context;
+use crate::under_ticket::accepts_under_ticket;
 use iom_base::{Access, DeviceId, Mode, PAGE_SIZE};
 use iom_kept_state::{KeptGrants, KeptState};
 use iom_machine::{Attachment, Device, Outcome};
@@ -46,10 +46,10 @@ fn may_go_through(kept: &KeptState, device: &Device, access: &Access, frame: u64
             Mode::Both(_) => grants.may(id, access.address / PAGE_SIZE, frame, access.kind),
         },
         Attachment::Quarantined { ticket, mode, .. } => {
-            accepts_cut_off(ticket, mode, grants, id, access, frame)
+            accepts_under_ticket(ticket, mode, grants, id, access, frame)
         }
         Attachment::Leaving { ticket, mode, .. } => {
-            accepts_cut_off(ticket, mode, grants, id, access, frame)
+            accepts_under_ticket(ticket, mode, grants, id, access, frame)
         }
     }
 }

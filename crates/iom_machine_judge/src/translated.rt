@@ -2,8 +2,8 @@
 ghost use Rattle.std.specs.Prelude.{◌↔◌, IsTrue};
 ghost use Rattle.iom_machine_judge.specs.Words.{state_of, History, MayLackContext, MayFindNoContext, MayFaultTranslated, MayAnswerTranslated};
 
-use crate::cut_off::cause_without_context;
 use crate::requests::{is_busy, is_forwarded, is_same_cause, is_within_page};
+use crate::under_ticket::cause_without_context;
 use iom_base::{Access, Cause};
 use iom_kept_state::KeptState;
 use iom_machine::{Attachment, Device, Outcome};

@@ -511,7 +511,7 @@ fn does_of(kind: DeviceKind) -> [bool; 6] {
 
 #[test]
 fn kinds_do_what_they_can(rt: HostRuntime) {
-    for (kind, does) in KINDS.iter() {
-        expect(&rt, does_of(*kind) == *does);
+    for (kind, effect) in KINDS.iter() {
+        expect(&rt, does_of(*kind) == *effect);
     }
 }

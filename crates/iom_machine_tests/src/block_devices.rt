@@ -174,7 +174,7 @@ static RUNS: [Run; 4] = [
             (36, Does::Step(9), Comes::Refused(Refusal::WrongKind)),
         ],
     ),
-    // A device that is cut off keeps its disk, also where it is revived; one that is detached doesn't.
+    // A device that is quarantined keeps its disk, also where it is revived; one that is detached doesn't.
     (
         "cut off",
         &[

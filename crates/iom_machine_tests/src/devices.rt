@@ -21,8 +21,8 @@ enum Step {
 }
 
 fn reads(device: &Device, is_there: bool) -> bool {
-    let seen = PageNumber::new(3).and_then(|page| device.look(page, AccessKind::Read));
-    seen == is_there.then_some(13)
+    let shown = PageNumber::new(3).and_then(|page| device.look(page, AccessKind::Read));
+    shown == is_there.then_some(13)
 }
 
 /// What becomes of an answer, where the device has a cache.
@@ -45,7 +45,7 @@ fn obey(rt: &impl Abort, device: &mut Device, serial: u64) -> Option<Message> {
     device.obey(serial, Range::Everything)
 }
 
-fn does(rt: &impl Abort, device: &mut Device, step: Step) -> bool {
+fn effect(rt: &impl Abort, device: &mut Device, step: Step) -> bool {
     match step {
         Step::Reads(is_there) => reads(device, is_there),
         Step::Keeps(epoch, has_cache) => {
@@ -65,7 +65,7 @@ fn does(rt: &impl Abort, device: &mut Device, step: Step) -> bool {
 fn follow(rt: &impl Abort, kind: DeviceKind, steps: &[Step]) {
     let mut device = Device::new(2, kind, None);
     for step in steps.iter() {
-        expect(rt, does(rt, &mut device, *step));
+        expect(rt, effect(rt, &mut device, *step));
     }
 }
 

@@ -146,8 +146,8 @@ fn attach(device: DeviceId, mode: Mode, ats: bool) -> Event {
 }
 
 /// A call of the driver, or what else is done.
-fn event_of(rt: &impl Abort, alloc: Global, does: &Does) -> Event {
-    match *does {
+fn event_of(rt: &impl Abort, alloc: Global, effect: &Does) -> Event {
+    match *effect {
         Does::Plug(device) => plug(device, NewDevice::Raw),
         Does::PlugAts(device) => plug(device, NewDevice::Ats),
         Does::PlugBlock(device, disk) => plug(device, NewDevice::Block { disk }),
@@ -167,7 +167,7 @@ fn event_of(rt: &impl Abort, alloc: Global, does: &Does) -> Event {
         Does::Quarantine(device) => Event::Quarantine { device },
         Does::Revive(device) => Event::Revive { device },
         Does::Restart => Event::Restart,
-        _ => act_of(rt, alloc, does),
+        _ => act_of(rt, alloc, effect),
     }
 }
 
@@ -207,8 +207,8 @@ fn ask(rt: &impl Abort, device: DeviceId, number: u64) -> Event {
 }
 
 /// What stores bytes.
-fn store_of(rt: &impl Abort, alloc: Global, does: &Does) -> Event {
-    match *does {
+fn store_of(rt: &impl Abort, alloc: Global, effect: &Does) -> Event {
+    match *effect {
         Does::Write(device, address, bytes) => Event::Write {
             device,
             address,
@@ -226,8 +226,8 @@ fn store_of(rt: &impl Abort, alloc: Global, does: &Does) -> Event {
 }
 
 /// What a device or the fabric does, or what else is done.
-fn act_of(rt: &impl Abort, alloc: Global, does: &Does) -> Event {
-    match *does {
+fn act_of(rt: &impl Abort, alloc: Global, effect: &Does) -> Event {
+    match *effect {
         Does::Read(device, address, len) => Event::Read {
             device,
             address,
@@ -241,13 +241,13 @@ fn act_of(rt: &impl Abort, alloc: Global, does: &Does) -> Event {
         Does::Repeat(place) => Event::Repeat { place },
         Does::Reset(device) => Event::Reset { device },
         Does::Commit(device) => Event::Commit { device },
-        _ => block_event_of(rt, alloc, does),
+        _ => block_event_of(rt, alloc, effect),
     }
 }
 
 /// What only a block device takes, or what else is done.
-fn block_event_of(rt: &impl Abort, alloc: Global, does: &Does) -> Event {
-    match *does {
+fn block_event_of(rt: &impl Abort, alloc: Global, effect: &Does) -> Event {
+    match *effect {
         Does::Medium(device, disk) => Event::Medium { device, disk },
         Does::Queue(device, size, descriptors, available, used) => Event::Queue {
             device,
@@ -260,20 +260,20 @@ fn block_event_of(rt: &impl Abort, alloc: Global, does: &Does) -> Event {
         Does::StepRead(device, _, _) => Event::Step { device },
         Does::StepWrite(device, _, _) => Event::Step { device },
         Does::Status(device) => Event::Status { device },
-        _ => look_of(rt, alloc, does),
+        _ => look_of(rt, alloc, effect),
     }
 }
 
 /// What the IOMMU does, and a look, or what stores bytes.
-fn look_of(rt: &impl Abort, alloc: Global, does: &Does) -> Event {
-    match *does {
+fn look_of(rt: &impl Abort, alloc: Global, effect: &Does) -> Event {
+    match *effect {
         Does::Fetch => Event::Fetch,
         Does::Timeout => Event::Timeout,
         Does::Poll | Does::PollReturning(_) => Event::Poll,
         Does::Faults => Event::Faults,
         Does::Peek(address, len) => Event::Peek { address, len },
         Does::Free(frame) => Event::Free { frame },
-        _ => store_of(rt, alloc, does),
+        _ => store_of(rt, alloc, effect),
     }
 }
 
@@ -341,8 +341,8 @@ pub(crate) fn outcome_of(comes: &Comes) -> Outcome {
 }
 
 /// The frames that become the device's tables.
-fn taken_by<'a>(does: &Does<'a>) -> &'a [u64] {
-    match *does {
+fn taken_by<'a>(effect: &Does<'a>) -> &'a [u64] {
+    match *effect {
         Does::Attach(_, taken) => taken,
         Does::AttachBelow(_, _, taken) => taken,
         Does::AttachIn(_, _, taken) => taken,
@@ -353,15 +353,15 @@ fn taken_by<'a>(does: &Does<'a>) -> &'a [u64] {
 }
 
 /// The frames that become pages of the device directory.
-fn returned_by<'a>(does: &Does<'a>) -> &'a [u64] {
-    match *does {
+fn returned_by<'a>(effect: &Does<'a>) -> &'a [u64] {
+    match *effect {
         Does::PollReturning(returned) => returned,
         _ => &[],
     }
 }
 
-fn directory_of<'a>(does: &Does<'a>) -> &'a [u64] {
-    match *does {
+fn directory_of<'a>(effect: &Does<'a>) -> &'a [u64] {
+    match *effect {
         Does::AttachBelow(_, pages, _) => pages,
         _ => &[],
     }
@@ -384,8 +384,8 @@ fn question_of(comes: &Comes) -> (DeviceId, u64) {
 }
 
 /// The access that a step wants: its address, length and kind.
-fn want_of(does: &Does) -> (u64, u64, AccessKind) {
-    match *does {
+fn want_of(effect: &Does) -> (u64, u64, AccessKind) {
+    match *effect {
         Does::StepRead(_, address, len) => (address, len, AccessKind::Read),
         Does::StepWrite(_, address, bytes) => (address, bytes.len() as u64, AccessKind::Write),
         _ => (0, 0, AccessKind::Read),
@@ -393,41 +393,41 @@ fn want_of(does: &Does) -> (u64, u64, AccessKind) {
 }
 
 /// Its bytes.
-fn wanted_bytes_of<'a>(does: &Does<'a>) -> &'a [u8] {
-    match *does {
+fn wanted_bytes_of<'a>(effect: &Does<'a>) -> &'a [u8] {
+    match *effect {
         Does::StepWrite(_, _, bytes) => bytes,
         _ => &[],
     }
 }
 
-fn access_of(rt: &impl Abort, alloc: Global, does: &Does) -> Access {
-    let (address, len, kind) = want_of(does);
+fn access_of(rt: &impl Abort, alloc: Global, effect: &Does) -> Access {
+    let (address, len, kind) = want_of(effect);
     Access {
         address,
         len,
         kind,
-        bytes: bytes_of(rt, alloc, wanted_bytes_of(does)),
+        bytes: bytes_of(rt, alloc, wanted_bytes_of(effect)),
     }
 }
 
-fn choice_of(rt: &impl Abort, alloc: Global, does: &Does, comes: &Comes) -> Choice {
+fn choice_of(rt: &impl Abort, alloc: Global, effect: &Does, comes: &Comes) -> Choice {
     let (device, page) = question_of(comes);
     Choice {
-        directory: numbers_of(rt, alloc, directory_of(does)),
-        taken: numbers_of(rt, alloc, taken_by(does)),
-        returned: numbers_of(rt, alloc, returned_by(does)),
+        directory: numbers_of(rt, alloc, directory_of(effect)),
+        taken: numbers_of(rt, alloc, taken_by(effect)),
+        returned: numbers_of(rt, alloc, returned_by(effect)),
         frame: frame_of(comes),
         device,
         page,
-        access: access_of(rt, alloc, does),
+        access: access_of(rt, alloc, effect),
     }
 }
 
-pub(crate) fn line_of(rt: &impl Abort, alloc: Global, does: &Does, comes: &Comes) -> Line {
+pub(crate) fn line_of(rt: &impl Abort, alloc: Global, effect: &Does, comes: &Comes) -> Line {
     Line {
-        event: event_of(rt, alloc, does),
+        event: event_of(rt, alloc, effect),
         outcome: outcome_of(comes),
-        choice: choice_of(rt, alloc, does, comes),
+        choice: choice_of(rt, alloc, effect, comes),
     }
 }
 
@@ -457,10 +457,10 @@ pub(crate) fn push(
     rt: &impl Abort,
     alloc: Global,
     made: &mut Vec<Line>,
-    does: &Does,
+    effect: &Does,
     comes: &Comes,
 ) {
-    let line = line_of(rt, alloc, does, comes);
+    let line = line_of(rt, alloc, effect, comes);
     made.push(line).expect(rt, "memory for a line");
 }
 
@@ -475,12 +475,12 @@ pub(crate) fn lines_of(
     change: Option<&Change>,
 ) -> Vec<Line> {
     let mut made = Vec::new(alloc);
-    for (place, (does, comes)) in base.iter().enumerate() {
+    for (place, (effect, comes)) in base.iter().enumerate() {
         match change {
             Some((changed, other, comes)) if *changed == place => {
                 push(rt, alloc, &mut made, other, comes);
             }
-            _ => push(rt, alloc, &mut made, does, comes),
+            _ => push(rt, alloc, &mut made, effect, comes),
         }
     }
     made

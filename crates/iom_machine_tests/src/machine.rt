@@ -3,7 +3,7 @@ use crate::lines::{Comes, Does, Run, are_judged, line_of};
 use iom_base::{Cause, GrantRights, Refusal};
 use iom_kept_state::KeptState;
 use iom_machine::{
-    CommandName, Fetched, Limits, grants_are_at_pages, limits_stay, reclaim_theorem,
+    CommandName, Fetched, Limits, grants_are_at_pages, limits_unchanged, reclaim_theorem,
 };
 use iom_machine_judge::{Line, judge, lawful_runs_have_choices};
 use std::alloc::Global;
@@ -516,7 +516,7 @@ fn one_step_is_judged(rt: HostRuntime) {
 #[test]
 fn the_laws_can_be_called(_rt: HostRuntime) {
     grants_are_at_pages();
-    limits_stay();
+    limits_unchanged();
     reclaim_theorem();
     lawful_runs_have_choices();
 }

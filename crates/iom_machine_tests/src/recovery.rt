@@ -1,4 +1,4 @@
-// Devices that don't answer: they are cut off and attached again, and the queue goes on without them.
+// Devices that don't answer: they are quarantined and attached again, and the queue goes on without them.
 use crate::expect::expect;
 use crate::lines::{Comes, Does, Run, Way, are_judged, judged, lines_of, push};
 use iom_base::{Cause, GrantRights, Mode, Refusal, Size};
@@ -9,7 +9,7 @@ use std::process::Abort;
 
 /// Lawful runs, by name, and their lines as they are changed below, which may not come there.
 static RUNS: [Run; 3] = [
-    // A device that is cut off with an access in flight, and what is left of its two pages.
+    // A device that is quarantined with an access in flight, and what is left of its two pages.
     (
         "quarantine",
         &[
@@ -29,7 +29,7 @@ static RUNS: [Run; 3] = [
             (Does::Quarantine(1), Comes::Refused(Refusal::QueueFull)),
             (Does::Quarantine(1), Comes::Refused(Refusal::NumbersUsedUp)),
             (Does::Quarantine(1), Comes::Ticket(1)),
-            // cut off
+            // quarantined
             (Does::Quarantine(1), Comes::Refused(Refusal::Quarantined)),
             (
                 Does::Grant(1, 7, 8, GrantRights::ReadOnly, &[]),
@@ -79,7 +79,7 @@ static RUNS: [Run; 3] = [
             (9, Does::Quarantine(1), Comes::Done),
             (9, Does::Quarantine(1), Comes::TimedOut),
             (9, Does::Quarantine(1), Comes::Refused(Refusal::Memory)),
-            // what is held keeps no device from being cut off, and few tickets wait
+            // what is held keeps no device from being quarantined, and few tickets wait
             (
                 9,
                 Does::Quarantine(1),
@@ -90,7 +90,7 @@ static RUNS: [Run; 3] = [
                 Does::Quarantine(1),
                 Comes::Refused(Refusal::TooManyPending),
             ),
-            // cut off twice
+            // quarantined twice
             (10, Does::Quarantine(1), Comes::Ticket(2)),
             (10, Does::Quarantine(1), Comes::Refused(Refusal::QueueFull)),
             // free before the ticket is confirmed
@@ -186,7 +186,7 @@ static RUNS: [Run; 3] = [
             // what it held before
             (13, Does::Release(1, 3), Comes::Ticket(2)),
             (14, Does::Read(1, 0x3000, 1), Comes::Accepted(2, 5)),
-            // cut off no longer
+            // quarantined no longer
             (
                 14,
                 Does::Read(1, 0x3000, 1),
@@ -331,7 +331,7 @@ static TICKETS: [(u32, Comes, Option<usize>); 5] = [
 #[test]
 fn quarantine_may_find_too_many_tickets(rt: HostRuntime) {
     for (tickets, comes, first) in TICKETS.iter() {
-        let seen = first_after_tickets(&rt, rt.alloc(), *tickets, comes);
-        expect(&rt, seen == *first);
+        let shown = first_after_tickets(&rt, rt.alloc(), *tickets, comes);
+        expect(&rt, shown == *first);
     }
 }

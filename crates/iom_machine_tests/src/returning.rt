@@ -42,7 +42,7 @@ static CHANGES: [Change; 8] = [
     (7, Does::Free(59), Comes::Free(true)),
 ];
 
-/// A device that is leaving, and one that is cut off, each with nothing released, give back no table.
+/// A device that is leaving, and one that is quarantined, each with nothing released, give back no table.
 static LEAVING: [(Does, Comes); 4] = [
     (Does::Plug(1), Comes::Done),
     (Does::Attach(1, &[59]), Comes::Done),

@@ -357,7 +357,7 @@ fn attached(device: u32, mode: Mode, ats: bool) -> Told {
 }
 
 /// A call of the driver, or what else the event is.
-fn told(event: &Event) -> Told {
+fn reply(event: &Event) -> Told {
     match event {
         Event::Plug { device, new } => plugged(*device, *new),
         Event::Attach { device, mode, ats } => attached(*device, *mode, *ats),
@@ -461,7 +461,7 @@ fn told_of_others(event: &Event) -> Told {
 /// An event, or that the world settles.
 fn told_of_line(line: &ScriptLine) -> Told {
     match line {
-        ScriptLine::Event(event) => told(event),
+        ScriptLine::Event(event) => reply(event),
         ScriptLine::Settle => one("settle", 0),
     }
 }

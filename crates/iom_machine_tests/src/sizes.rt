@@ -159,7 +159,7 @@ static RUNS: [Run; 4] = [
             (15, Does::Read(1, 0x7ffffffff000, 1), Comes::Accepted(2, 5)),
         ],
     ),
-    // A device in both stages that holds frame 5, and frame 6 to read, and is cut off.
+    // A device in both stages that holds frame 5, and frame 6 to read, and is quarantined.
     (
         "both of four levels",
         &[
@@ -228,7 +228,7 @@ static RUNS: [Run; 4] = [
                 Does::Read(1, 0x3010, 4),
                 Comes::Fault(Cause::WritePageFault),
             ),
-            // cut off comes before a page that is out of range
+            // quarantined comes before a page that is out of range
             (
                 10,
                 Does::Grant(1, 34359738368, 5, GrantRights::ReadOnly, &[]),

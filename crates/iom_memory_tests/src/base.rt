@@ -120,8 +120,8 @@ static SPANS: [(u64, u64, Option<(u64, u16, u16)>); 17] = [
 fn spans_stay_in_their_page(rt: HostRuntime) {
     for (address, len, want) in SPANS.iter() {
         let span = Span::new(*address, *len);
-        let seen = span.map(|span| (span.page, span.offset, span.len));
-        expect(&rt, seen == *want);
+        let shown = span.map(|span| (span.page, span.offset, span.len));
+        expect(&rt, shown == *want);
     }
 }
 

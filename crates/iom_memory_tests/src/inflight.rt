@@ -47,7 +47,7 @@ fn oldest_place(flights: &InFlight, device: u32) -> Option<(u32, u16, u16)> {
     Some((oldest.frame, oldest.offset, oldest.len))
 }
 
-fn does(rt: &impl Abort, flights: &mut InFlight, step: Step) -> bool {
+fn effect(rt: &impl Abort, flights: &mut InFlight, step: Step) -> bool {
     match step {
         Step::Add(device, is_new) => flights.add(device) == is_new,
         Step::Accept(device, address, bytes, number) => {
@@ -65,7 +65,7 @@ fn does(rt: &impl Abort, flights: &mut InFlight, step: Step) -> bool {
 fn follow(rt: &impl Abort, alloc: Global, steps: &[Step]) {
     let mut flights = InFlight::new(alloc).expect(rt, "memory for the accesses");
     for step in steps.iter() {
-        expect(rt, does(rt, &mut flights, *step));
+        expect(rt, effect(rt, &mut flights, *step));
     }
 }
 

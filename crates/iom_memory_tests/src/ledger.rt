@@ -124,7 +124,7 @@ fn are_listed(ledger: &Ledger, device: DeviceId, pages: &[u64]) -> bool {
 }
 
 /// Whether the step is done and answered so.
-fn does(ledger: &mut Ledger, step: Step) -> bool {
+fn effect(ledger: &mut Ledger, step: Step) -> bool {
     match step {
         Step::Grant(device, page, frame, rights) => grant(ledger, device, page, frame, rights),
         Step::Release(device, page, ticket) => release(ledger, device, page, ticket),
@@ -161,7 +161,7 @@ fn answers(ledger: &Ledger, step: Step) -> bool {
 fn after(rt: &impl Abort, alloc: Global, frames: u32, steps: &[Step]) -> Box<Ledger> {
     let mut ledger = ledger_of(alloc, frames).expect(rt, "memory for a ledger");
     for step in steps.iter() {
-        expect(rt, does(&mut ledger, *step));
+        expect(rt, effect(&mut ledger, *step));
     }
     ledger
 }
@@ -448,7 +448,7 @@ static HISTORY: [(Step, Look); 14] = [
 fn each_lookup_answers_what_the_history_says(rt: HostRuntime) -> Result<(), Fail> {
     let mut ledger = ledger_of(rt.alloc(), 8)?;
     for (step, look) in HISTORY.iter() {
-        expect(&rt, does(&mut ledger, *step));
+        expect(&rt, effect(&mut ledger, *step));
         looks(&rt, &ledger, look);
     }
     Ok(())

@@ -59,7 +59,7 @@ fn refused(cause: Cause, gpa: u64, implicit: bool) -> Walk {
     })
 }
 
-fn is_answered(rt: &impl Abort, seen: Walk, answer: Answer) {
+fn is_answered(rt: &impl Abort, shown: Walk, answer: Answer) {
     let wanted = match answer {
         Answer::At(frame, rights) => reached(frame, rights, 0, [None; 4]),
         Answer::AtLeaf(frame, rights, level) => reached(frame, rights, level, [None; 4]),
@@ -72,7 +72,7 @@ fn is_answered(rt: &impl Abort, seen: Walk, answer: Answer) {
         Answer::Fault(cause) => refused(cause, 0, false),
         Answer::Guest(cause, gpa, implicit) => refused(cause, gpa, implicit),
     };
-    expect(rt, seen == wanted);
+    expect(rt, shown == wanted);
 }
 
 fn first(
@@ -108,11 +108,11 @@ fn both(
 ) {
     let root = Ppn::new(0).expect(rt, "44 bits");
     let kind = AccessKind::Write;
-    let seen = walk_both(memory, first_size, root, second_size, 0x30, address, kind);
-    is_answered(rt, seen, answer);
+    let shown = walk_both(memory, first_size, root, second_size, 0x30, address, kind);
+    is_answered(rt, shown, answer);
 }
 
-fn does(rt: &impl Abort, memory: &mut Memory, size: Size, step: Step) {
+fn effect(rt: &impl Abort, memory: &mut Memory, size: Size, step: Step) {
     match step {
         Step::Put(address, word) => expect(rt, memory.store_u64(address, word).is_some()),
         Step::EntryAt(frame, index, entry) => {
@@ -138,7 +138,7 @@ fn does(rt: &impl Abort, memory: &mut Memory, size: Size, step: Step) {
 
 fn takes(rt: &impl Abort, memory: &mut Memory, size: Size, steps: &[Step]) {
     for step in steps.iter() {
-        does(rt, memory, size, *step);
+        effect(rt, memory, size, *step);
     }
 }
 
@@ -512,5 +512,5 @@ fn the_laws_can_be_called(_rt: HostRuntime) {
     laws::one_end_both();
     laws::writes_as_reads_both();
     laws::guest_frames_are_led();
-    laws::faults_are_told();
+    laws::faults_are_reported();
 }

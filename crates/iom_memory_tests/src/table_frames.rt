@@ -92,7 +92,7 @@ impl Bench {
     }
 
     /// Whether the step is done, or answered so.
-    fn does(&mut self, step: Step) -> bool {
+    fn effect(&mut self, step: Step) -> bool {
         match step {
             Step::Grant(frame) => self.grant(frame),
             Step::IsReserved(frame, is) => self.tables.is_reserved(frame) == is,
@@ -132,7 +132,7 @@ impl Bench {
 fn after(rt: &impl Abort, alloc: Global, steps: &[Step]) -> Box<Bench> {
     let mut bench = Bench::new(rt, alloc);
     for step in steps.iter() {
-        expect(rt, bench.does(*step));
+        expect(rt, bench.effect(*step));
     }
     bench
 }

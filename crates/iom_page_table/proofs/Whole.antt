@@ -40,7 +40,7 @@ sets_page size old new root page table upper x tree splits at put low =
 
 -- the frames of the tables stay
 pub same_frames : (shape : List ℕ) (old new : List (List ℕ)) (root : ℕ) (path : List ℕ) (x : Entry) → Sets shape old new root path x → (f : ℕ) → IsFrameOf shape (entries new) root f ↔ IsFrameOf shape (entries old) root f
-same_frames shape old new root path x s f = (λ h. (h.0, h.1, h.2, s.was h.0 h.1 h.2 h.3, h.4), λ h. (h.0, h.1, h.2, s.stays h.0 h.1 h.2 h.3, h.4))
+same_frames shape old new root path x s f = (λ h. (h.0, h.1, h.2, s.was h.0 h.1 h.2 h.3, h.4), λ h. (h.0, h.1, h.2, s.unchanged h.0 h.1 h.2 h.3, h.4))
 
 module _ (size : Size) (frames : List (List ℕ)) (root page : ℕ) (upper : List ℕ) (splits : Splits size page upper) where
   -- the number of the page's entry at the last level
@@ -126,7 +126,7 @@ maps size old mid new root page table upper frames leaf low b splits put =
           | inr x ↦ inr (in_frames frames f h.2 h.4 x)
         ],
         λ h. elim h [
-          | inl x ↦ (x.0, x.1, x.2, s.stays x.0 x.1 x.2 (b.grown.stays x.0 x.1 x.2 x.3), x.4)
+          | inl x ↦ (x.0, x.1, x.2, s.unchanged x.0 x.1 x.2 (b.grown.unchanged x.0 x.1 x.2 x.3), x.4)
           | inr x ↦ (same f).1 (subst (λ g. IsFrameOf (shape_of size) (entries mid) root g) (sym (get_or_default frames x.0 f 0 x.1) ∙ x.2) (b.grown.all x.0 x.1))
         ],
       );
@@ -152,4 +152,4 @@ maps_bytes size old mid new root page table upper frames leaf low b splits free 
     let none : leaf_here (entries mid s) [] (λ next. None) ≡ None = sym (leaf_found size mid root page table upper low splits at) ∙ before in
     let nowhere : entries mid s ≡ Invalid = lowest_nowhere (entries mid s) (b.tree.lowest upper last s here p.long) none in
     let fills : FillsAlong (shape_of size) old mid root upper = subst (λ l. FillsAlong (shape_of size) old mid root l) (take_all (length upper) upper (omega arith)) b.bytes in
-    subst (λ path. FillsAlong (shape_of size) old new root path) splits (fills_next (shape_of size) old mid new root upper last s fills set.stays here (b.nowhere s nowhere) word)
+    subst (λ path. FillsAlong (shape_of size) old new root path) splits (fills_next (shape_of size) old mid new root upper last s fills set.unchanged here (b.nowhere s nowhere) word)

@@ -28,7 +28,7 @@ pub(crate) struct Layout {
     /// For each device with something at pages that weren't granted or aren't known.
     pub(crate) devices: IndexMap<DeviceId, Row>,
     /// What there is to be explained.
-    pub(crate) seen: Vec<Symbol>,
+    pub(crate) shown: Vec<Symbol>,
     /// Where the rows end.
     pub(crate) bottom: u64,
 }
@@ -50,7 +50,7 @@ impl Layout {
             lanes: Vec::new(alloc),
             tracks: Vec::new(alloc),
             devices: IndexMap::new(alloc),
-            seen: Vec::new(alloc),
+            shown: Vec::new(alloc),
             bottom: 0,
         };
         for _lane in &timeline.lanes {
@@ -69,8 +69,8 @@ impl Layout {
 
     /// The legend has to explain it.
     fn see(&mut self, symbol: Symbol) -> Result<(), AllocError> {
-        if !self.seen.contains(&symbol) {
-            self.seen.push(symbol)?;
+        if !self.shown.contains(&symbol) {
+            self.shown.push(symbol)?;
         }
         Ok(())
     }

@@ -25,7 +25,7 @@ fn columns(layout: &Layout) -> u64
 
 /// The height of the legend.
 pub(crate) fn height_of_legend(layout: &Layout) -> u64 {
-    let count = layout.seen.len() as u64;
+    let count = layout.shown.len() as u64;
     let rows = count.saturating_add(columns(layout).saturating_sub(1)) / columns(layout);
     rows.saturating_mul(ENTRY_HEIGHT)
 }
@@ -65,7 +65,7 @@ pub(crate) fn append_legend(svg: &mut Svg, layout: &Layout, top: u64) -> Result<
     let columns = columns(layout);
     let mut place: u64 = 0;
     for symbol in &SYMBOLS {
-        if !layout.seen.contains(symbol) {
+        if !layout.shown.contains(symbol) {
             continue;
         }
         let left = (place % columns).saturating_mul(ENTRY_WIDTH);

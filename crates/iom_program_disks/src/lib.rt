@@ -5,7 +5,7 @@
 #![tactic(auto)]
 
 ghost use Rattle.std.specs.Prelude.{◌≡◌, IfOk};
-ghost use Rattle.iom_block_devices.specs.Seen.{states_of};
+ghost use Rattle.iom_block_devices.specs.Shown.{states_of};
 ghost use Rattle.iom_program_disks.specs.Disks.{program_disks};
 ghost use Rattle.iom_virtio_blk.specs.MemoryDisks.{disk_state};
 

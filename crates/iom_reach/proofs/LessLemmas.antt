@@ -7,7 +7,7 @@ use Rattle.iom_reach.specs.Laws.{AddsNoWay}
 use Rattle.iom_reach.specs.Safe.{IsRead, IsOfTables, IsWritable, HasWord, IsSafe}
 use Rattle.iom_reach.specs.Scene.{Mapping, AddressSpace, Context, Caches, PendingAccess, PartialWalk, Place, HardwareScene, HasDevice}
 use Rattle.iom_reach.specs.Ways.{ServesKind, LeadsToMapping, IsStored, MayFind, IsKept, WalkBegins, AtRoot, PartWay, IsInSpace, Through, ByAts, Untranslated, Translated, Way, Accepted, AnyFrame, ByContext, OnTheWalk}
-use Rattle.iom_reach.specs.Occurrences.{IsContinued}
+use Rattle.iom_reach.specs.Transitions.{IsContinued}
 use Rattle.iom_reach.specs.Memory.{WalkStep, ReadsFrame, Passes}
 
 -- the one scene, with all of the other that hardware changes

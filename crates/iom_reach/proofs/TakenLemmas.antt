@@ -5,21 +5,21 @@ use Rattle.iom_base.specs.declared.access.AccessKind.{AccessKind}
 use Rattle.iom_base.specs.declared.access.AccessKind.TheVariants.{Read, Write}
 use Rattle.iom_base.specs.Rights.{allows, rw}
 use Rattle.std.proofs.lemmas.Bool.{false≢true}
-use Rattle.iom_reach.proofs.OccurrenceLemmas.{contains_head}
+use Rattle.iom_reach.proofs.TransitionLemmas.{contains_head}
 use Rattle.iom_reach.specs.Laws.{WaysCanBeTaken}
 use Rattle.iom_reach.specs.Memory.{Memory}
-use Rattle.iom_reach.specs.Occurrences.{IsMemoryAfter, IsPartWith, ToItself, ByCache, IsAdmitted, InModeBare, Requested, FromEntry, Forged, Walked, Occurrence, KeepTranslation, DeliverAnswer, Accept, Make, ComesAbout, ComeInTurn}
+use Rattle.iom_reach.specs.Transitions.{IsMemoryAfter, IsPartWith, ToItself, ByCache, IsAdmitted, InModeBare, Requested, FromEntry, Forged, Walked, Transition, KeepTranslation, DeliverAnswer, Accept, Make, ComesAbout, ComeInTurn}
 use Rattle.iom_reach.specs.Scene.{Mapping, AddressSpace, First, Second, Both, SpacePage, AtsEntry, PendingAccess, HardwareScene}
 use Rattle.iom_reach.specs.Ways.{ByAts, Untranslated, Translated, Accepted, AnyFrame, ByContext, OnTheWalk}
 
--- hardware and devices come to the access, after so many occurrences at most
+-- hardware and devices come to the access, after so many transitions at most
 abbrev IsTaken : ℕ → HardwareScene → ℕ → PendingAccess → Type 0
-IsTaken most scene device access = (occurrences : List Occurrence) × (length occurrences ≤ most) × (between : HardwareScene) × (new : HardwareScene)
-    × ComeInTurn scene occurrences between × ComesAbout (Make device access) between new
+IsTaken most scene device access = (transitions : List Transition) × (length transitions ≤ most) × (between : HardwareScene) × (new : HardwareScene)
+    × ComeInTurn scene transitions between × ComesAbout (Make device access) between new
 
 -- or after one more
 later : (scene : HardwareScene) (device : ℕ) (access : PendingAccess) → IsTaken 1 scene device access → IsTaken 2 scene device access
-later scene device access (occurrences, few, between, new, turns, made) = (occurrences, omega (arith, few), between, new, turns, made)
+later scene device access (transitions, few, between, new, turns, made) = (transitions, omega (arith, few), between, new, turns, made)
 
 none_among : {X : Type 0} (xs : List X) (x : X) → Contains [] x → Contains xs x
 none_among xs x (k, below, at) = absurd (omega arith)
@@ -125,8 +125,8 @@ taken_served s device access untrusted served = (
   taken_made (record s { in_flight = only_of device access }) device access untrusted (has_only device access),
 )
 
--- after one other occurrence
-taken_after : (s t : HardwareScene) (first : Occurrence) (device : ℕ) (access : PendingAccess) → ComesAbout first s t → IsTaken 1 t device access → IsTaken 2 s device access
+-- after one other transition
+taken_after : (s t : HardwareScene) (first : Transition) (device : ℕ) (access : PendingAccess) → ComesAbout first s t → IsTaken 1 t device access → IsTaken 2 s device access
 taken_after s t first device access now (others, few, between, new, turns, made) = (first ∷ others, omega (arith, few), between, new, (t, now, turns), made)
 
 all_allowed : (kind : AccessKind) → allows rw kind ≡ true

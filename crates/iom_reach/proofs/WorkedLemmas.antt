@@ -118,5 +118,5 @@ through_other = ByContext own_context finds_own (Translated (First 5) refl (inr 
 
 pub spaces_are_shared : SpacesAreShared
 spaces_are_shared =
-    let (occurrences, few, between, new, turns, made) = ways_can_be_taken scene_of_two 1 7 Read refl through_other in
-    (safe, timely, own_leads, (occurrences, between, new, turns, made))
+    let (transitions, few, between, new, turns, made) = ways_can_be_taken scene_of_two 1 7 Read refl through_other in
+    (safe, timely, own_leads, (transitions, between, new, turns, made))

@@ -4,7 +4,7 @@ use Rattle.iom_base.specs.declared.access.AccessKind.{AccessKind}
 use Rattle.iom_reach.specs.Scene.{PendingAccess, HardwareScene}
 use Rattle.iom_reach.specs.Ways.{Way}
 use Rattle.iom_reach.specs.Safe.{IsRead, HasWord, IsSafe, AreTimely}
-use Rattle.iom_reach.specs.Occurrences.{Occurrence, Make, ComesAbout, ComeInTurn}
+use Rattle.iom_reach.specs.Transitions.{Transition, Make, ComesAbout, ComeInTurn}
 
 -- each way of the one scene is a way of the other
 abbrev pub AddsNoWay : HardwareScene → HardwareScene → Type 0
@@ -15,19 +15,19 @@ abbrev pub UsesNoMore : HardwareScene → HardwareScene → Type 0
 UsesNoMore old new = (frame : ℕ) → (IsRead new frame → IsRead old frame) × (HasWord new frame → HasWord old frame) × (new.fault_frames ≡ old.fault_frames)
 
 -- Whatever hardware and devices do adds no way, and leaves what hardware reads out of reach of hardware and devices.
-abbrev pub OccurrencesAddNoWay : Type 0
-OccurrencesAddNoWay = (occurrence : Occurrence) (old new : HardwareScene) → IsSafe old → AreTimely old → ComesAbout occurrence old new
+abbrev pub TransitionsAddNoWay : Type 0
+TransitionsAddNoWay = (transition : Transition) (old new : HardwareScene) → IsSafe old → AreTimely old → ComesAbout transition old new
     → AddsNoWay old new × UsesNoMore old new × IsSafe new × AreTimely new
 
 -- So do any of these in turn.
 abbrev pub TurnsAddNoWay : Type 0
-TurnsAddNoWay = (occurrences : List Occurrence) (old new : HardwareScene) → IsSafe old → AreTimely old → ComeInTurn old occurrences new
+TurnsAddNoWay = (transitions : List Transition) (old new : HardwareScene) → IsSafe old → AreTimely old → ComeInTurn old transitions new
     → AddsNoWay old new × UsesNoMore old new × IsSafe new × AreTimely new
 
 -- Each access that is made had a way before, whatever hardware and devices did in between.
 abbrev pub AccessesHadWays : Type 0
-AccessesHadWays = (occurrences : List Occurrence) (device : ℕ) (access : PendingAccess) (old between new : HardwareScene)
-    → IsSafe old → AreTimely old → ComeInTurn old occurrences between → ComesAbout (Make device access) between new
+AccessesHadWays = (transitions : List Transition) (device : ℕ) (access : PendingAccess) (old between new : HardwareScene)
+    → IsSafe old → AreTimely old → ComeInTurn old transitions between → ComesAbout (Make device access) between new
     → Way old device access.frame access.kind
 
 -- by which kinds of access a device may reach a frame
@@ -41,9 +41,9 @@ HasAllowedWaysAlone may scene device frame = (kind : AccessKind) → Way scene d
 -- Where a device has no way to a frame but those that it may take, each access of that device to that frame is one that it may make, whatever hardware and
 -- devices do from then on.
 abbrev pub QuietIsTrue : Type 0
-QuietIsTrue = (may : Permission) (occurrences : List Occurrence) (device : ℕ) (access : PendingAccess) (old between new : HardwareScene)
+QuietIsTrue = (may : Permission) (transitions : List Transition) (device : ℕ) (access : PendingAccess) (old between new : HardwareScene)
     → IsSafe old → AreTimely old → HasAllowedWaysAlone may old device access.frame
-    → ComeInTurn old occurrences between → ComesAbout (Make device access) between new
+    → ComeInTurn old transitions between → ComesAbout (Make device access) between new
     → may device access.frame access.kind ≡ true
 
 -- no device has any way to the frame
@@ -52,12 +52,12 @@ IsOutOfReach scene frame = (device : ℕ) (kind : AccessKind) → ¬ Way scene d
 
 -- Where no device has any way to a frame, none reaches it, whatever hardware and devices do from then on.
 abbrev pub FreeIsTrue : Type 0
-FreeIsTrue = (occurrences : List Occurrence) (device : ℕ) (access : PendingAccess) (old between new : HardwareScene)
+FreeIsTrue = (transitions : List Transition) (device : ℕ) (access : PendingAccess) (old between new : HardwareScene)
     → IsSafe old → AreTimely old → IsOutOfReach old access.frame
-    → ComeInTurn old occurrences between → ¬ ComesAbout (Make device access) between new
+    → ComeInTurn old transitions between → ¬ ComesAbout (Make device access) between new
 
--- Each way of a device that isn't trusted can be taken: hardware and devices come to an access of that kind, after two other occurrences at most.
+-- Each way of a device that isn't trusted can be taken: hardware and devices come to an access of that kind, after two other transitions at most.
 abbrev pub WaysCanBeTaken : Type 0
 WaysCanBeTaken = (scene : HardwareScene) (device frame : ℕ) (kind : AccessKind) → scene.is_trusted device ≡ false → Way scene device frame kind
-    → (occurrences : List Occurrence) × (length occurrences ≤ 2) × (between : HardwareScene) × (new : HardwareScene) × ComeInTurn scene occurrences between
+    → (transitions : List Transition) × (length transitions ≤ 2) × (between : HardwareScene) × (new : HardwareScene) × ComeInTurn scene transitions between
     × ComesAbout (Make device (record { frame = frame; kind = kind })) between new

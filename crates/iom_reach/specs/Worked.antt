@@ -6,7 +6,7 @@ use Rattle.iom_reach.specs.Memory.{Frame, Tables, Nothing, Leaf}
 use Rattle.iom_reach.specs.Scene.{Mapping, FirstStage, Context, At, Forges, HardwareScene}
 use Rattle.iom_reach.specs.Ways.{tables_of, LeadsToMapping, MayFind}
 use Rattle.iom_reach.specs.Safe.{IsSafe, AreTimely}
-use Rattle.iom_reach.specs.Occurrences.{Occurrence, Make, ComesAbout, ComeInTurn}
+use Rattle.iom_reach.specs.Transitions.{Transition, Make, ComesAbout, ComeInTurn}
 
 -- the context of device 1, and that of device 2: one number, two roots
 abbrev pub own_context : Context
@@ -58,5 +58,5 @@ LeadsOnlyTo scene device frame = (context : Context) (tables : Tables) (mapping 
 -- The scene is safe, device 1's own tables lead to frame 3 alone, and it comes to read frame 7.
 abbrev pub SpacesAreShared : Type 0
 SpacesAreShared = IsSafe scene_of_two × AreTimely scene_of_two × LeadsOnlyTo scene_of_two 1 3
-    × ((occurrences : List Occurrence) × (between : HardwareScene) × (new : HardwareScene) × ComeInTurn scene_of_two occurrences between
+    × ((transitions : List Transition) × (between : HardwareScene) × (new : HardwareScene) × ComeInTurn scene_of_two transitions between
     × ComesAbout (Make 1 (record { frame = 7; kind = Read })) between new)

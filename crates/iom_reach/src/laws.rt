@@ -1,12 +1,12 @@
 //! What the facts on ways give the layers above.
-ghost use Rattle.iom_reach.specs.Laws.{OccurrencesAddNoWay, TurnsAddNoWay, AccessesHadWays, QuietIsTrue, FreeIsTrue, WaysCanBeTaken};
+ghost use Rattle.iom_reach.specs.Laws.{TransitionsAddNoWay, TurnsAddNoWay, AccessesHadWays, QuietIsTrue, FreeIsTrue, WaysCanBeTaken};
 ghost use Rattle.iom_reach.specs.Worked.{SpacesAreShared};
 
 /// Nothing that hardware and devices do adds a way, where none of them can write what hardware reads. So a
 /// device without a way to a frame, but those that it may take, makes no access to it that it may not make
 /// (RISC-V IOMMU Architecture Specification, chapters 2 and 3).
 pub fn reach_law()
-    ensures each { OccurrencesAddNoWay }
+    ensures each { TransitionsAddNoWay }
     ensures in_turn { TurnsAddNoWay }
     ensures made { AccessesHadWays }
     ensures quiet { QuietIsTrue }

@@ -7,7 +7,7 @@
 //! add none by themselves, where none of them can write what hardware reads.
 //!
 //! It has no code, and knows no byte and no register: memory is read by any formats. `specs/Scene.antt` has the values,
-//! `specs/Ways.antt` the ways, `specs/Safe.antt` what must hold beside them, `specs/Occurrences.antt` what hardware and
+//! `specs/Ways.antt` the ways, `specs/Safe.antt` what must hold beside them, `specs/Transitions.antt` what hardware and
 //! devices do, `specs/Laws.antt` what is proved.
 #![tactic(auto)]
 

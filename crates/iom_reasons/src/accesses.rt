@@ -170,8 +170,8 @@ impl Facts<'_> {
     }
 
     /// Whether the device may be told so of the page.
-    fn may_tell(&self, device: &Device, page: u64, told: Translation) -> bool {
-        questions::may_tell(device.attachment, self.kept, device.id, page, told)
+    fn may_tell(&self, device: &Device, page: u64, reply: Translation) -> bool {
+        questions::may_tell(device.attachment, self.kept, device.id, page, reply)
     }
 
     /// Says with which rights the frame could have been the answer. No answer names a frame of more than 32 bits.

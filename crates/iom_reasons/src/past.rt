@@ -72,7 +72,7 @@ pub(crate) struct Past {
     pub(crate) last: IndexMap<Place, Stay>,
     /// Before that.
     before: IndexMap<Place, Stay>,
-    /// The tickets under which devices were cut off, or detached. All that one holds is released when it is cut off, without a line
+    /// The tickets under which devices were quarantined, or detached. All that one holds is released when it is quarantined, without a line
     /// for each page: so a page's grant notes how often devices had left, and the next time that this one does is its release.
     pub(crate) leaves: IndexMap<u32, (DeviceId, Release)>,
     /// The pages that were released last under those tickets that aren't confirmed.

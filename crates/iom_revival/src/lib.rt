@@ -1,4 +1,4 @@
-//! A device that was cut off is attached again: it is reset first, and then the driver writes its context.
+//! A device that was quarantined is attached again: it is reset first, and then the driver writes its context.
 //!
 //! The driver knows nothing of a device's own cache of translations, and the device nothing of its context; the
 //! order of the two is what matters, since the cache may still have translations from before, of pages that others

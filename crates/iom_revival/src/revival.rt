@@ -4,7 +4,7 @@ ghost use Rattle.iom_device.specs.Caches.{epoch_in};
 ghost use Rattle.iom_device.specs.Calls.{devices_revived};
 ghost use Rattle.iom_driver.specs.Ready.{IsReady, TablesStand};
 ghost use Rattle.iom_driver.specs.Revivals.{AnswersRevive};
-ghost use Rattle.iom_driver.specs.Seen.{state_of};
+ghost use Rattle.iom_driver.specs.StateOf.{state_of};
 ghost use Rattle.iom_registers.specs.declared.registers.Registers.{Registers};
 
 use iom_base::{DeviceId, Refusal};

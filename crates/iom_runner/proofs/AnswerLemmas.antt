@@ -26,7 +26,7 @@ use Rattle.iom_machine.specs.declared.state.Device.{Device}
 use Rattle.iom_base.specs.declared.mode.Mode.{Mode}
 use Rattle.iom_base.specs.declared.mode.Mode.TheVariants.{First, Second, Both}
 use Rattle.iom_machine.specs.declared.state.State.{State}
-use Rattle.iom_machine.specs.CuttingOff.{cut_off_under, attached_again}
+use Rattle.iom_machine.specs.Quarantining.{quarantined_under, attached_again}
 use Rattle.iom_machine.specs.Devices.{device_of, with_device}
 use Rattle.iom_machine.specs.Frames.{IsFree}
 use Rattle.iom_machine.specs.Laws.{IsReached}
@@ -134,7 +134,7 @@ quarantine_is_answered state id = found (device_of state id) refl
     by : (device : Device) → device_of state id ≡ Some device → (reason : Option Refusal) → first_that_applies (quarantine_reasons state id) ≡ reason → IsAnswered state (events.Quarantine id)
     by device there None none = (
       Ticket (state.last_ticket + 1),
-      record (with_device state (record device { attachment = cut_off_under (state.last_ticket + 1) device.attachment })) {
+      record (with_device state (record device { attachment = quarantined_under (state.last_ticket + 1) device.attachment })) {
         history = entry.AllReleased id (state.last_ticket + 1) ∷ state.history;
         last_ticket = state.last_ticket + 1;
       },
@@ -257,7 +257,7 @@ act_is_answered : (can : DeviceKind → Bool) (MayCome : Device → ℕ → Outc
 act_is_answered can MayCome state id able = by (device_of state id) refl
   where
     of_kind : (device : Device) → device_of state id ≡ Some device → (b : Bool) → can device.kind ≡ b → ActComes can MayCome state id
-    of_kind device there true can_it = let told = able device in (told.0, told.1, told.2, rw (there, can_it) told.3)
+    of_kind device there true can_it = let answered = able device in (answered.0, answered.1, answered.2, rw (there, can_it) answered.3)
     of_kind device there false cannot = (0, Refused WrongKind, state, rw (there, cannot) (refl, refl))
 
     by : (found : Option Device) → device_of state id ≡ found → ActComes can MayCome state id
@@ -267,18 +267,18 @@ act_is_answered can MayCome state id able = by (device_of state id) refl
 request_is_answered : (state : State) (id : ℕ) (access : Access) → Comes (λ frame outcome new. Requests frame state id access outcome new)
 request_is_answered state id access =
     act_is_answered sends_untranslated (λ device frame outcome new. MayAnswer state device access frame outcome × (new ≡ state_after state device access frame outcome)) state id
-    (λ device. let told = reply state device access in (told.0, told.1, state_after state device access told.0 told.1, (told.2, refl)))
+    (λ device. let answered = reply state device access in (answered.0, answered.1, state_after state device access answered.0 answered.1, (answered.2, refl)))
 
 translated_is_answered : (state : State) (id : ℕ) (access : Access) → Comes (λ frame. RequestsTranslated state id access)
 translated_is_answered state id access =
     act_is_answered forges (λ device frame outcome new. MayAnswerTranslated state device access outcome × (new ≡ state)) state id
-    (λ device. let told = translated_reply state device access in (told.0, told.1, state, (told.2, refl)))
+    (λ device. let answered = translated_reply state device access in (answered.0, answered.1, state, (answered.2, refl)))
 
 cached_is_answered : (state : State) (id : ℕ) (access : Access) → Comes (λ frame outcome new. RequestsThroughCache frame state id access outcome new)
 cached_is_answered state id access =
     act_is_answered sends_through_cache
     (λ device frame outcome new. MayAnswerThroughCache state device access frame outcome × (new ≡ state_after_cached state device access frame outcome)) state id
-    (λ device. let told = cached_reply state device access in (told.0, told.1, state_after_cached state device access told.0 told.1, (told.2, refl)))
+    (λ device. let answered = cached_reply state device access in (answered.0, answered.1, state_after_cached state device access answered.0 answered.1, (answered.2, refl)))
 
 -- a message may be lost
 message_is_answered : (can : DeviceKind → Bool) (state : State) (id : ℕ) → Comes (λ frame outcome new. Acts can (λ device. Sends state outcome new) state id outcome new)
@@ -340,7 +340,7 @@ status_is_answered state id =
 -- every event is answered
 is_answered : (state : State) (event : Event) → IsReached state → IsAnswered state event
 is_answered state (events.Plug id what) reached = plug_is_answered state id what
-is_answered state (events.Medium id disk) reached = let told = medium_is_answered state id disk in (told.1, told.2, (no_choice, told.3))
+is_answered state (events.Medium id disk) reached = let answered = medium_is_answered state id disk in (answered.1, answered.2, (no_choice, answered.3))
 is_answered state (events.Attach id mode ats) reached = attach_is_answered state id mode ats
 is_answered state (events.Detach id) reached = detach_is_answered state id
 is_answered state (events.Grant id page frame rights) reached = grant_is_answered state id page frame rights
@@ -349,35 +349,35 @@ is_answered state (events.Quarantine id) reached = quarantine_is_answered state 
 is_answered state (events.Revive id) reached = revive_is_answered state id
 is_answered state events.Restart reached = (Done, state, (no_choice, refl))
 is_answered state events.Timeout reached = (NoEffect, state, (no_choice, refl))
-is_answered state (events.Reset id) reached = let told = reset_is_answered state id in (told.1, told.2, (no_choice, told.3))
+is_answered state (events.Reset id) reached = let answered = reset_is_answered state id in (answered.1, answered.2, (no_choice, answered.3))
 is_answered state events.Fetch reached = (Fetched Empty, state, (no_choice, refl))
 is_answered state events.Poll reached = (NoneConfirmed false, state, (no_choice, (All-nil (MayGiveBack state), refl)))
 is_answered state events.Faults reached = (NoRecord, state, (no_choice, refl))
 is_answered state (events.Read id address len) reached =
-    let told = request_is_answered state id (read_of address len) in (told.1, told.2, (frame_chosen told.0, told.3))
+    let answered = request_is_answered state id (read_of address len) in (answered.1, answered.2, (frame_chosen answered.0, answered.3))
 is_answered state (events.Write id address bytes) reached =
-    let told = request_is_answered state id (write_of address bytes) in (told.1, told.2, (frame_chosen told.0, told.3))
+    let answered = request_is_answered state id (write_of address bytes) in (answered.1, answered.2, (frame_chosen answered.0, answered.3))
 is_answered state (events.ReadTranslated id address len) reached =
-    let told = translated_is_answered state id (read_of address len) in (told.1, told.2, (no_choice, told.3))
+    let answered = translated_is_answered state id (read_of address len) in (answered.1, answered.2, (no_choice, answered.3))
 is_answered state (events.WriteTranslated id address bytes) reached =
-    let told = translated_is_answered state id (write_of address bytes) in (told.1, told.2, (no_choice, told.3))
+    let answered = translated_is_answered state id (write_of address bytes) in (answered.1, answered.2, (no_choice, answered.3))
 is_answered state (events.ReadThroughCache id address len) reached =
-    let told = cached_is_answered state id (read_of address len) in (told.1, told.2, (frame_chosen told.0, told.3))
+    let answered = cached_is_answered state id (read_of address len) in (answered.1, answered.2, (frame_chosen answered.0, answered.3))
 is_answered state (events.WriteThroughCache id address bytes) reached =
-    let told = cached_is_answered state id (write_of address bytes) in (told.1, told.2, (frame_chosen told.0, told.3))
-is_answered state (events.Ask id page) reached = let told = message_is_answered asks_questions state id in (told.1, told.2, (no_choice, told.3))
-is_answered state (events.Forge id serial) reached = let told = message_is_answered forges state id in (told.1, told.2, (no_choice, told.3))
+    let answered = cached_is_answered state id (write_of address bytes) in (answered.1, answered.2, (frame_chosen answered.0, answered.3))
+is_answered state (events.Ask id page) reached = let answered = message_is_answered asks_questions state id in (answered.1, answered.2, (no_choice, answered.3))
+is_answered state (events.Forge id serial) reached = let answered = message_is_answered forges state id in (answered.1, answered.2, (no_choice, answered.3))
 is_answered state (events.Deliver place) reached = (NoMessage, state, (no_choice, refl))
 is_answered state (events.Drop place) reached = (NoMessage, state, (no_choice, refl))
 is_answered state (events.Repeat place) reached = (NoMessage, state, (no_choice, refl))
 is_answered state (events.Queue id size descriptors available used) reached =
-    let told = queue_is_answered state id (layout_of size descriptors available used) in (told.1, told.2, (no_choice, told.3))
-is_answered state (events.Step id) reached = let told = step_is_answered state id in (told.1, told.2, (frame_chosen told.0, told.3))
-is_answered state (events.Status id) reached = let told = status_is_answered state id in (told.1, told.2, (no_choice, told.3))
+    let answered = queue_is_answered state id (layout_of size descriptors available used) in (answered.1, answered.2, (no_choice, answered.3))
+is_answered state (events.Step id) reached = let answered = step_is_answered state id in (answered.1, answered.2, (frame_chosen answered.0, answered.3))
+is_answered state (events.Status id) reached = let answered = status_is_answered state id in (answered.1, answered.2, (no_choice, answered.3))
 is_answered state (events.Commit id) reached = commits_are_answered state id reached
-is_answered state (events.Poke address bytes) reached = let told = poke_is_answered state address bytes in (told.0, told.1, (no_choice, told.2))
-is_answered state (events.Peek address len) reached = let told = peek_is_answered state address len reached in (told.0, told.1, (no_choice, told.2))
-is_answered state (events.Free frame) reached = let told = free_is_answered state frame in (told.0, told.1, (no_choice, told.2))
+is_answered state (events.Poke address bytes) reached = let answered = poke_is_answered state address bytes in (answered.0, answered.1, (no_choice, answered.2))
+is_answered state (events.Peek address len) reached = let answered = peek_is_answered state address len reached in (answered.0, answered.1, (no_choice, answered.2))
+is_answered state (events.Free frame) reached = let answered = free_is_answered state frame in (answered.0, answered.1, (no_choice, answered.2))
 
 -- the state is reached with the model's limits
 abbrev pub IsModels : State → Type 0
@@ -385,8 +385,8 @@ IsModels state = IsReached state × (state.limits ≡ model_limits)
 
 -- and so is every line
 line_is_answered : (state : State) (line : ScriptLine) → IsModels state → (answer : Answer) × (new : State) × LineLeads state line answer new
-line_is_answered state (says.Event event) (reached, model) = let told = is_answered state event reached in (inl told.0, told.1, told.2)
-line_is_answered state says.Settle (reached, model) = let told = can_settle state model reached in (inr told.0, told.1, told.2)
+line_is_answered state (says.Event event) (reached, model) = let answered = is_answered state event reached in (inl answered.0, answered.1, answered.2)
+line_is_answered state says.Settle (reached, model) = let answered = can_settle state model reached in (inr answered.0, answered.1, answered.2)
 
 -- a state that is reached, after events
 reached-ran : (old new : State) → IsModels old → Ran old new → IsModels new
@@ -408,33 +408,33 @@ has_run : (counts : Bool) (state : State) (lines : List ScriptLine) → IsModels
     → (answers : List Answer) × (traces : List (Option Trace)) × (last : State) × CountedRun state lines answers traces last × AreThere counts traces
 has_run counts state [] reached = ([], [], state, (refl, tt), All-nil (λ (trace : Option Trace). is_some trace ≡ counts))
 has_run counts state (line ∷ lines) reached =
-    let told = line_is_answered state line reached in
-    let rest = has_run counts told.1 lines (reached-ran state told.1 reached (unrolled_line state line told.0 told.1 told.2)) in
-    let trace = some_trace counts told.1 in (
-      told.0 ∷ rest.0,
+    let answered = line_is_answered state line reached in
+    let rest = has_run counts answered.1 lines (reached-ran state answered.1 reached (unrolled_line state line answered.0 answered.1 answered.2)) in
+    let trace = some_trace counts answered.1 in (
+      answered.0 ∷ rest.0,
       trace.0 ∷ rest.1,
       rest.2,
-      ((told.1, told.2, rest.3.0), (trace.2, rest.3.1)),
+      ((answered.1, answered.2, rest.3.0), (trace.2, rest.3.1)),
       All-cons (λ (t : Option Trace). is_some t ≡ counts) trace.0 rest.1 trace.1 rest.4,
     )
 
 -- a run, and then another
-run-append : (old mid new : State) (lines later : List ScriptLine) (answers told : List Answer) (traces more : List (Option Trace))
-    → CountedRun old lines answers traces mid → CountedRun mid later told more new → CountedRun old (lines ++ later) (answers ++ told) (traces ++ more) new
-run-append old mid new [] later [] told [] more ran rest = subst (λ (s : State). CountedRun s later told more new) ran.0 rest
-run-append old mid new [] later [] told (trace ∷ traces) more ran rest = absurd ran.1
-run-append old mid new [] later (answer ∷ answers) told traces more ran rest = absurd ran.0
-run-append old mid new (line ∷ lines) later [] told traces more ran rest = absurd ran.0
-run-append old mid new (line ∷ lines) later (answer ∷ answers) told [] more ran rest = absurd ran.1
-run-append old mid new (line ∷ lines) later (answer ∷ answers) told (trace ∷ traces) more ((next, step, run), are) rest =
-    let all = run-append next mid new lines later answers told traces more (run, are.1) rest in
+run-append : (old mid new : State) (lines later : List ScriptLine) (answers answered : List Answer) (traces more : List (Option Trace))
+    → CountedRun old lines answers traces mid → CountedRun mid later answered more new → CountedRun old (lines ++ later) (answers ++ answered) (traces ++ more) new
+run-append old mid new [] later [] answered [] more ran rest = subst (λ (s : State). CountedRun s later answered more new) ran.0 rest
+run-append old mid new [] later [] answered (trace ∷ traces) more ran rest = absurd ran.1
+run-append old mid new [] later (answer ∷ answers) answered traces more ran rest = absurd ran.0
+run-append old mid new (line ∷ lines) later [] answered traces more ran rest = absurd ran.0
+run-append old mid new (line ∷ lines) later (answer ∷ answers) answered [] more ran rest = absurd ran.1
+run-append old mid new (line ∷ lines) later (answer ∷ answers) answered (trace ∷ traces) more ((next, step, run), are) rest =
+    let all = run-append next mid new lines later answers answered traces more (run, are.1) rest in
     ((next, step, all.0), (are.0, all.1))
 
 -- each run over some lines, from a state that is reached, goes on over later ones
 pub goes_on : (counts : Bool) (old mid : State) (lines later : List ScriptLine) (answers : List Answer) (traces : List (Option Trace))
     → IsModels old → CountedRun old lines answers traces mid
-    → (told : List Answer) × (more : List (Option Trace)) × (last : State)
-    × CountedRun old (lines ++ later) (answers ++ told) (traces ++ more) last × AreThere counts more
+    → (answered : List Answer) × (more : List (Option Trace)) × (last : State)
+    × CountedRun old (lines ++ later) (answers ++ answered) (traces ++ more) last × AreThere counts more
 goes_on counts old mid lines later answers traces reached ran =
     let rest = has_run counts mid later (reached-ran old mid reached (unrolled old lines answers mid ran.0)) in
     (rest.0, rest.1, rest.2, run-append old mid rest.2 lines later answers rest.0 traces rest.1 ran rest.3, rest.4)

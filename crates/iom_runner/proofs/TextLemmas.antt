@@ -117,11 +117,11 @@ lines_written setting script old new (text, is, appends) = (text, told_of_machin
 -- bytes that are a script are told as one
 pub runs_script : (setting : Setting) (input : List ℕ) (script : Script) (result : Result (Unit {0}) RunFault) (old new : Option (List ℕ)) → IsScript input script → TellsScript setting script result old new
     → RunsBytes setting input result old new
-runs_script setting input script (Ok done) old new is told = (script, is, lines_written setting script old new told, told)
-runs_script setting input script (Err faults.Writing) old new is told = (script, is, told.0, told.1)
-runs_script setting input script (Err faults.Memory) old new is told = told.1
-runs_script setting input script (Err faults.Reading) old new is told = absurd told
-runs_script setting input script (Err (faults.Script number)) old new is told = absurd told
+runs_script setting input script (Ok done) old new is reply = (script, is, lines_written setting script old new reply, reply)
+runs_script setting input script (Err faults.Writing) old new is reply = (script, is, reply.0, reply.1)
+runs_script setting input script (Err faults.Memory) old new is reply = reply.1
+runs_script setting input script (Err faults.Reading) old new is reply = absurd reply
+runs_script setting input script (Err (faults.Script number)) old new is reply = absurd reply
 
 -- the program ends as the run of the bytes does, where that goes well
 pub program_ran : (setting : Setting) (input : List ℕ) (ran : Result (Unit {0}) RunFault) (done : Unit {0}) (old new : Option (List ℕ)) → ran ≡ Ok done → RunsBytes setting input ran old new
@@ -155,11 +155,11 @@ untold setting script size written result fault there is memory =
 pub told_script : (setting : Setting) (script : Script) (size : WorldSize) (lines : List ScriptLine) (result : Result (Unit {0}) RunFault) (old new : Option (List ℕ))
     → script.world ≡ Some size → lines ≡ script.lines → OnOk result (WritesRun setting size lines old new) → OnErr result (BeginsRun setting size lines old new)
     → OnErr result (BeginsRunSoFar setting size lines old new) → IfErr result (λ fault. fault ≡ faults.Writing) → TellsScript setting script result old new
-told_script setting script size lines (Ok done) old new is same told front so_far writing = of_script (TellsWorld setting) (Appends old new) script size lines is same told
-told_script setting script size lines (Err fault) old new is same told front so_far writing =
+told_script setting script size lines (Ok done) old new is same reply front so_far writing = of_script (TellsWorld setting) (Appends old new) script size lines is same reply
+told_script setting script size lines (Err fault) old new is same reply front so_far writing =
     subst (λ f. TellsScript setting script (Err f) old new) (sym writing) (of_script (TellsRun setting) (AppendsFront old new) script size lines is same front, of_script (TellsSoFar setting) (AppendsPart old new) script size lines is same so_far)
 
 -- what is told by way of a writer, where the writer began and ended so
 pub told_by : {W : Type 0} (contents : W → Option (List ℕ)) (Tells : Option (List ℕ) → Option (List ℕ) → Type 0) (old start end new : W) → start ≡ old → end ≡ new
     → Tells (contents start) (contents end) → Tells (contents old) (contents new)
-told_by contents Tells old start end new from to told = subst₂ (λ a b. Tells (contents a) (contents b)) from to told
+told_by contents Tells old start end new from to reply = subst₂ (λ a b. Tells (contents a) (contents b)) from to reply

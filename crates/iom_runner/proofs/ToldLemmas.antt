@@ -3,10 +3,10 @@ use Rattle.std.proofs.Common.{◌≡◌, ◌++◌, ◌∙◌, suc, List, [], ◌
 use Rattle.iom_machine.specs.declared.outcome.Trace.{Trace}
 use Rattle.iom_machine.specs.declared.state.State.{State}
 use Rattle.iom_script.specs.declared.script.ScriptLine.{ScriptLine}
-use Rattle.iom_line_writer.specs.Told.{told_line}
+use Rattle.iom_line_writer.specs.AnswerLines.{outcome_lines}
 use Rattle.iom_machine.specs.declared.outcome.Outcome.TheVariants.{Done}
 use Rattle.iom_runner.specs.LineRuns.{Answer}
-use Rattle.iom_runner.specs.Text.{told_answer, told_answers, run_text}
+use Rattle.iom_runner.specs.Text.{answer_line, answer_lines, run_text}
 use Rattle.iom_runner.proofs.AnswerLemmas.{CountedRun}
 
 -- there are as many counts as answers
@@ -21,22 +21,22 @@ traces_as_many state last (line ∷ lines) (answer ∷ answers) (trace ∷ trace
 
 -- the text of answers, and of later ones
 pub answers_append : (answers later : List Answer) (traces more : List (Option Trace)) → length answers ≡ length traces
-    → told_answers (answers ++ later) (traces ++ more) ≡ told_answers answers traces ++ told_answers later more
+    → answer_lines (answers ++ later) (traces ++ more) ≡ answer_lines answers traces ++ answer_lines later more
 answers_append [] later [] more same = refl
 answers_append [] later (trace ∷ traces) more same = cc
 answers_append (answer ∷ answers) later [] more same = cc
 answers_append (answer ∷ answers) later (trace ∷ traces) more same =
     let rest : length answers ≡ length traces = cc in
-    ap (λ l. told_answer answer trace ++ l) (answers_append answers later traces more rest) ∙ sym (append_assoc (told_answer answer trace) (told_answers answers traces) (told_answers later more))
+    ap (λ l. answer_line answer trace ++ l) (answers_append answers later traces more rest) ∙ sym (append_assoc (answer_line answer trace) (answer_lines answers traces) (answer_lines later more))
 
 -- and of one more
 pub answers_more : (answers : List Answer) (answer : Answer) (traces : List (Option Trace)) (trace : Option Trace) → length answers ≡ length traces
-    → told_answers (answers ++ answer ∷ []) (traces ++ trace ∷ []) ≡ told_answers answers traces ++ told_answer answer trace
+    → answer_lines (answers ++ answer ∷ []) (traces ++ trace ∷ []) ≡ answer_lines answers traces ++ answer_line answer trace
 answers_more answers answer traces trace same =
-    answers_append answers (answer ∷ []) traces (trace ∷ []) same ∙ ap (λ l. told_answers answers traces ++ l) (append-nil (told_answer answer trace))
+    answers_append answers (answer ∷ []) traces (trace ∷ []) same ∙ ap (λ l. answer_lines answers traces ++ l) (append-nil (answer_line answer trace))
 
 -- the text of a run that goes on
 pub text_more : (first : Option Trace) (answers later : List Answer) (traces more : List (Option Trace)) → length answers ≡ length traces
-    → run_text first (answers ++ later) (traces ++ more) ≡ run_text first answers traces ++ told_answers later more
+    → run_text first (answers ++ later) (traces ++ more) ≡ run_text first answers traces ++ answer_lines later more
 text_more first answers later traces more same =
-    ap (λ l. told_line Done first ++ l) (answers_append answers later traces more same) ∙ sym (append_assoc (told_line Done first) (told_answers answers traces) (told_answers later more))
+    ap (λ l. outcome_lines Done first ++ l) (answers_append answers later traces more same) ∙ sym (append_assoc (outcome_lines Done first) (answer_lines answers traces) (answer_lines later more))

@@ -34,13 +34,13 @@ unrolled_line old (says.Event event) (inr answer) new step = absurd step
 unrolled_line old says.Settle (inl outcome) new step = absurd step
 
 -- a run, and then another
-abbrev pub run_after : (old mid new : State) (events later : List Event) (outcomes told : List Outcome) → Run old events outcomes mid → Run mid later told new
-    → Run old (events ++ later) (outcomes ++ told) new
-run_after old mid new [] later [] told first rest = subst (λ (state : State). Run state later told new) first rest
-run_after old mid new [] later (outcome ∷ outcomes) told first rest = absurd first
-run_after old mid new (event ∷ events) later [] told first rest = absurd first
-run_after old mid new (event ∷ events) later (outcome ∷ outcomes) told (next, step, first) rest =
-    (next, step, run_after next mid new events later outcomes told first rest)
+abbrev pub run_after : (old mid new : State) (events later : List Event) (outcomes reply : List Outcome) → Run old events outcomes mid → Run mid later reply new
+    → Run old (events ++ later) (outcomes ++ reply) new
+run_after old mid new [] later [] reply first rest = subst (λ (state : State). Run state later reply new) first rest
+run_after old mid new [] later (outcome ∷ outcomes) reply first rest = absurd first
+run_after old mid new (event ∷ events) later [] reply first rest = absurd first
+run_after old mid new (event ∷ events) later (outcome ∷ outcomes) reply (next, step, first) rest =
+    (next, step, run_after next mid new events later outcomes reply first rest)
 
 abbrev pub one_after : (old mid new : State) → Ran old mid → Ran mid new → Ran old new
 one_after old mid new first rest = record {

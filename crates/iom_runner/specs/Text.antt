@@ -12,7 +12,7 @@ use Rattle.iom_script.specs.declared.script.Script.{Script}
 use Rattle.iom_script.specs.declared.script.ScriptLine.{ScriptLine}
 use Rattle.iom_script.specs.declared.script.WorldSize.{WorldSize}
 use Rattle.iom_virtio_blk.specs.DiskStates.{DiskState}
-use Rattle.iom_line_writer.specs.Told.{told_line, told_settled}
+use Rattle.iom_line_writer.specs.AnswerLines.{outcome_lines, settled_lines}
 use Rattle.iom_runner.specs.LineRuns.{Answer, LineRun, unrolled, ReclaimsIn}
 
 -- what scripts are run with: the disks that are at hand, whose numbers are their places from 0, and whether the counts stand behind each line
@@ -25,18 +25,18 @@ abbrev pub power_on : Setting → WorldSize → State
 power_on setting size = opening model_limits size.frames size.levels (map disk_number_of (numbered 0 setting.disks))
 
 -- the line of an answer, with that of its counts, where there are any
-abbrev pub told_answer : Answer → Option Trace → List ℕ
-told_answer (inl outcome) trace = told_line outcome trace
-told_answer (inr answer) trace = told_settled answer trace
+abbrev pub answer_line : Answer → Option Trace → List ℕ
+answer_line (inl outcome) trace = outcome_lines outcome trace
+answer_line (inr answer) trace = settled_lines answer trace
 
-abbrev pub told_answers : List Answer → List (Option Trace) → List ℕ
-told_answers [] traces = []
-told_answers (answer ∷ answers) [] = []
-told_answers (answer ∷ answers) (trace ∷ traces) = told_answer answer trace ++ told_answers answers traces
+abbrev pub answer_lines : List Answer → List (Option Trace) → List ℕ
+answer_lines [] traces = []
+answer_lines (answer ∷ answers) [] = []
+answer_lines (answer ∷ answers) (trace ∷ traces) = answer_line answer trace ++ answer_lines answers traces
 
 -- a line for the world, `ok`, and one for each answer, each with the line of its counts, where there are any
 abbrev pub run_text : Option Trace → List Answer → List (Option Trace) → List ℕ
-run_text first answers traces = told_line Done first ++ told_answers answers traces
+run_text first answers traces = outcome_lines Done first ++ answer_lines answers traces
 
 -- there are counts each time, or never
 abbrev pub AreThere : Bool → List (Option Trace) → Type 0

@@ -7,7 +7,7 @@ use Rattle.iom_machine.specs.declared.state.State.{State}
 use Rattle.iom_driver.specs.Fences.{last_fence}
 use Rattle.iom_world.specs.PowerOn.{BeginsAt}
 use Rattle.iom_world.specs.Runs.{AreCounts}
-use Rattle.iom_world.specs.Seen.{Seen}
+use Rattle.iom_world.specs.Shown.{Shown}
 use Rattle.iom_script.specs.declared.script.Script.{Script}
 use Rattle.iom_script.specs.declared.script.ScriptLine.{ScriptLine}
 use Rattle.iom_script.specs.declared.script.WorldSize.{WorldSize}
@@ -18,22 +18,22 @@ use Rattle.iom_runner.specs.LineRuns.{Answer, LineLeads, LineRun, unrolled_line,
 use Rattle.iom_runner.specs.Text.{Setting, power_on, run_text, AreThere, TellsRun, IsTextOf}
 
 -- settling is refused only where the numbers of fences are used up
-abbrev pub IsRefusedRightly : Answer → Seen → Type 0
+abbrev pub IsRefusedRightly : Answer → Shown → Type 0
 IsRefusedRightly (inl outcome) new = ⊤
 IsRefusedRightly (inr (Ok count)) new = ⊤
 IsRefusedRightly (inr (Err why)) new = 4294967295 ≤ last_fence (new.parts.driver)
 
 -- the world goes through the events of a line that is answered so
-abbrev pub GoesBy : (state : State) → Seen → (line : ScriptLine) (answer : Answer) (last : State) → LineLeads state line answer last → Seen → Type 0
+abbrev pub GoesBy : (state : State) → Shown → (line : ScriptLine) (answer : Answer) (last : State) → LineLeads state line answer last → Shown → Type 0
 GoesBy state old line answer last step new = GoesThroughAll state old last (unrolled_line state line answer last step) new × IsRefusedRightly answer new
 
 -- the world goes through the events of each line, and is this one in the end: it shows the states that the run is in, each event does to it what it may,
 -- and the counts beside each answer are those of the state then
-abbrev pub GoesAlong : (state : State) → Seen → (lines : List ScriptLine) (answers : List Answer) → List (Option Trace) → (last : State)
-    → LineRun state lines answers last → Seen → Type 0
+abbrev pub GoesAlong : (state : State) → Shown → (lines : List ScriptLine) (answers : List Answer) → List (Option Trace) → (last : State)
+    → LineRun state lines answers last → Shown → Type 0
 GoesAlong state old [] [] [] last run new = Shows new last × (new ≡ old)
 GoesAlong state old (line ∷ lines) (answer ∷ answers) (trace ∷ traces) last (mid, step, rest) new =
-    (later : Seen) × GoesBy state old line answer mid step later × AreCounts mid later trace
+    (later : Shown) × GoesBy state old line answer mid step later × AreCounts mid later trace
     × GoesAlong mid later lines answers traces last rest new
 GoesAlong state old _ _ _ last run new = ⊥
 
@@ -41,7 +41,7 @@ GoesAlong state old _ _ _ last run new = ⊥
 -- sentences of the headline hold; each event also does to the world what the machine doesn't see, and the counts are also those of the messages under way
 abbrev pub TellsWorld : Setting → WorldSize → List ScriptLine → List ℕ → Type 0
 TellsWorld setting size lines text =
-    (old new : Seen) × (answers : List Answer) × (last : State) × (first : Option Trace) × (traces : List (Option Trace))
+    (old new : Shown) × (answers : List Answer) × (last : State) × (first : Option Trace) × (traces : List (Option Trace))
     × BeginsAt size.frames size.levels setting.disks old
     × (run : LineRun (power_on setting size) lines answers last)
     × GoesAlong (power_on setting size) old lines answers traces last run new

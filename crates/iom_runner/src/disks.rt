@@ -51,8 +51,8 @@ pub(crate) fn run_with_disks<R: Read, W: Write>(
 {
     let bytes = read_bytes(alloc, reader)?;
     let script = script_of(alloc, &bytes)?;
-    let told = tell_with_disks(alloc, &script, counts, writer);
+    let reply = tell_with_disks(alloc, &script, counts, writer);
     // It is the program's only run: the events go when the process ends, and not one by one.
     mem::forget(script);
-    told
+    reply
 }

@@ -3,8 +3,8 @@ ghost use Rattle.std.specs.Prelude.{◌≡◌, ◌+◌, ◌*◌, ◌<◌, ◌≤
 ghost use Rattle.iom_machine.specs.declared.outcome.Trace.{Trace};
 ghost use Rattle.iom_machine.specs.declared.state.State.{State};
 ghost use Rattle.iom_world.specs.PowerOn.{BeginsAt};
-ghost use Rattle.iom_block_devices.specs.Seen.{states_of};
-ghost use Rattle.iom_world.specs.Seen.{seen_of};
+ghost use Rattle.iom_block_devices.specs.Shown.{states_of};
+ghost use Rattle.iom_world.specs.Shown.{shown_of};
 ghost use Rattle.iom_script.specs.declared.script.ScriptLine.TheVariants as says;
 ghost use Rattle.iom_script.specs.declared.script.WorldSize.{WorldSize};
 ghost use Rattle.iom_script.specs.Grammar.{IsScript, IsWorldSize};
@@ -15,7 +15,7 @@ ghost use Rattle.iom_runner.specs.LineRuns.{Answer};
 ghost use Rattle.iom_script_reading.specs.Reading.{ConsumesAtMost};
 ghost use Rattle.iom_runner.specs.Reading.{FailsWithin};
 ghost use Rattle.iom_runner.specs.Runs.{TellsScript, RunsBytes, AreLeft};
-ghost use Rattle.iom_runner.specs.Text.{Setting, told_answer};
+ghost use Rattle.iom_runner.specs.Text.{Setting, answer_line};
 ghost use Rattle.iom_runner.specs.WorldText.{WritesRun, BeginsRun, BeginsRunSoFar};
 ghost use Rattle.iom_line_writer.specs.Writing.{KeepsWriter, TakesText, FailsAt};
 ghost use Rattle.iom_world.specs.Shows.{Shows};
@@ -43,7 +43,7 @@ pub(crate) fn script_of(alloc: Global, bytes: &[u8]) -> Result<Script, RunFault>
 /// The world at power-on, of that size, with these disks.
 fn world_of<D: Disk>(alloc: Global, size: WorldSize, disks: Vec<D>) -> Result<World<D>, RunFault>
     requires { IsWorldSize size }
-    ensures begins { IfOk result (λ world. BeginsAt size.frames size.levels (states_of D.seen disks.items) (seen_of D.seen world)) }
+    ensures begins { IfOk result (λ world. BeginsAt size.frames size.levels (states_of D.shown disks.items) (shown_of D.shown world)) }
     ensures fault { IfErr result (λ fault. fault ≡ RunFault.Memory) }
 {
     World::new(alloc, size.frames as u32, size.levels as u8, disks).map_err(|_| RunFault::Memory)
@@ -57,10 +57,10 @@ fn tell_settling<W: Write, D: Disk>(
     lines: &mut LineWriter<'_, W>,
 ) -> Result<(), WriteFault>
     requires count { world.old.hardware.board.events + 400 < 2 ^ 64 }
-    ensures told { (answer : Answer) × (trace : Option Trace)
-        × LineHappens (seen_of D.seen world.old) says.Settle answer trace (seen_of D.seen world.new)
-        × (is_some trace ≡ lines.old.counts) × OnOk result (TakesText W.contents lines.old (told_answer answer trace) lines.new)
-        × OnErr result (FailsAt W.contents lines.old (told_answer answer trace) lines.new) }
+    ensures reply { (answer : Answer) × (trace : Option Trace)
+        × LineHappens (shown_of D.shown world.old) says.Settle answer trace (shown_of D.shown world.new)
+        × (is_some trace ≡ lines.old.counts) × OnOk result (TakesText W.contents lines.old (answer_line answer trace) lines.new)
+        × OnErr result (FailsAt W.contents lines.old (answer_line answer trace) lines.new) }
     ensures counted { world.new.hardware.board.events ≤ world.old.hardware.board.events + 400 }
 {
     let answer = world.settle();
@@ -76,10 +76,10 @@ fn tell_line<W: Write, D: Disk>(
     lines: &mut LineWriter<'_, W>,
 ) -> Result<(), WriteFault>
     requires count { world.old.hardware.board.events + 400 < 2 ^ 64 }
-    ensures told { (answer : Answer) × (trace : Option Trace)
-        × LineHappens (seen_of D.seen world.old) line.now answer trace (seen_of D.seen world.new)
-        × (is_some trace ≡ lines.old.counts) × OnOk result (TakesText W.contents lines.old (told_answer answer trace) lines.new)
-        × OnErr result (FailsAt W.contents lines.old (told_answer answer trace) lines.new) }
+    ensures reply { (answer : Answer) × (trace : Option Trace)
+        × LineHappens (shown_of D.shown world.old) line.now answer trace (shown_of D.shown world.new)
+        × (is_some trace ≡ lines.old.counts) × OnOk result (TakesText W.contents lines.old (answer_line answer trace) lines.new)
+        × OnErr result (FailsAt W.contents lines.old (answer_line answer trace) lines.new) }
     ensures counted { world.new.hardware.board.events ≤ world.old.hardware.board.events + 400 }
 {
     match line {
@@ -95,10 +95,10 @@ fn tell_lines<W: Write, D: Disk>(
     lines: &mut LineWriter<'_, W>,
 ) -> Result<(), WriteFault>
     requires count { world.old.hardware.board.events + 400 * length script.now < 2 ^ 64 }
-    ensures ran { (state : State) → Shows (seen_of D.seen world.old) state
-        → OnOk result (RunsAlong W.contents state (seen_of D.seen world.old) script.now lines.old lines.new (seen_of D.seen world.new)) }
-    ensures failed { (state : State) → Shows (seen_of D.seen world.old) state
-        → OnErr result (FailsAlong W.contents state (seen_of D.seen world.old) script.now lines.old lines.new (seen_of D.seen world.new)) }
+    ensures ran { (state : State) → Shows (shown_of D.shown world.old) state
+        → OnOk result (RunsAlong W.contents state (shown_of D.shown world.old) script.now lines.old lines.new (shown_of D.shown world.new)) }
+    ensures failed { (state : State) → Shows (shown_of D.shown world.old) state
+        → OnErr result (FailsAlong W.contents state (shown_of D.shown world.old) script.now lines.old lines.new (shown_of D.shown world.new)) }
 {
     for line in script {
         tell_line(world, line, lines)?;
@@ -114,15 +114,15 @@ fn tell_all<W: Write, D: Disk>(
 ) -> Result<(), WriteFault>
     requires count { world.old.hardware.board.events + 400 * length script.now < 2 ^ 64 }
     requires empty { lines.old.buffer ≡ [] }
-    ensures same_writer { (setting : Setting) (size : WorldSize) → BeginsAt size.frames size.levels setting.disks (seen_of D.seen world.old)
+    ensures same_writer { (setting : Setting) (size : WorldSize) → BeginsAt size.frames size.levels setting.disks (shown_of D.shown world.old)
         → KeepsWriter lines.old lines.new }
-    ensures told { (setting : Setting) (size : WorldSize) → BeginsAt size.frames size.levels setting.disks (seen_of D.seen world.old)
+    ensures reply { (setting : Setting) (size : WorldSize) → BeginsAt size.frames size.levels setting.disks (shown_of D.shown world.old)
         → lines.old.counts ≡ setting.counts
         → OnOk result (WritesRun setting size script.now (W.contents lines.old.writer.now) (W.contents lines.new.writer.now)) }
-    ensures front { (setting : Setting) (size : WorldSize) → BeginsAt size.frames size.levels setting.disks (seen_of D.seen world.old)
+    ensures front { (setting : Setting) (size : WorldSize) → BeginsAt size.frames size.levels setting.disks (shown_of D.shown world.old)
         → lines.old.counts ≡ setting.counts
         → OnErr result (BeginsRun setting size script.now (W.contents lines.old.writer.now) (W.contents lines.new.writer.now)) }
-    ensures so_far { (setting : Setting) (size : WorldSize) → BeginsAt size.frames size.levels setting.disks (seen_of D.seen world.old)
+    ensures so_far { (setting : Setting) (size : WorldSize) → BeginsAt size.frames size.levels setting.disks (shown_of D.shown world.old)
         → lines.old.counts ≡ setting.counts
         → OnErr result (BeginsRunSoFar setting size script.now (W.contents lines.old.writer.now) (W.contents lines.new.writer.now)) }
 {
@@ -142,16 +142,16 @@ fn tell_run<W: Write, D: Disk>(
 ) -> Result<(), RunFault>
     requires count { world.old.hardware.board.events + 400 * length script.now < 2 ^ 64 }
     requires empty { buffer ≡ [] }
-    ensures told { (setting : Setting) (size : WorldSize) → BeginsAt size.frames size.levels setting.disks (seen_of D.seen world.old)
+    ensures reply { (setting : Setting) (size : WorldSize) → BeginsAt size.frames size.levels setting.disks (shown_of D.shown world.old)
         → counts ≡ setting.counts → OnOk result (WritesRun setting size script.now (W.contents writer.old) (W.contents writer.new)) }
-    ensures front { (setting : Setting) (size : WorldSize) → BeginsAt size.frames size.levels setting.disks (seen_of D.seen world.old)
+    ensures front { (setting : Setting) (size : WorldSize) → BeginsAt size.frames size.levels setting.disks (shown_of D.shown world.old)
         → counts ≡ setting.counts → OnErr result (BeginsRun setting size script.now (W.contents writer.old) (W.contents writer.new)) }
-    ensures so_far { (setting : Setting) (size : WorldSize) → BeginsAt size.frames size.levels setting.disks (seen_of D.seen world.old)
+    ensures so_far { (setting : Setting) (size : WorldSize) → BeginsAt size.frames size.levels setting.disks (shown_of D.shown world.old)
         → counts ≡ setting.counts → OnErr result (BeginsRunSoFar setting size script.now (W.contents writer.old) (W.contents writer.new)) }
     ensures fault { IfErr result (λ fault. fault ≡ RunFault.Writing) }
 {
     let mut lines = LineWriter::new(buffer, writer, counts);
-    let told = tell_all(world, script, &mut lines);
+    let reply = tell_all(world, script, &mut lines);
     let LineWriter {
         buffer: _,
         writer,
@@ -159,7 +159,7 @@ fn tell_run<W: Write, D: Disk>(
     } = lines;
     // No effect at run time: from this use the proof reads what the writer holds.
     let _ = &*writer;
-    match told {
+    match reply {
         Ok(()) => Ok(()),
         Err(WriteFault) => Err(RunFault::Writing),
     }
@@ -183,7 +183,7 @@ pub(crate) fn tell<W: Write, D: Disk>(
 ) -> Result<(), RunFault>
     requires world { IfSome script.now.world IsWorldSize }
     requires few { length script.now.lines ≤ 1048576 }
-    ensures { TellsScript (setting_of D.seen disks.items counts) script.now result (W.contents writer.old) (W.contents writer.new) }
+    ensures { TellsScript (setting_of D.shown disks.items counts) script.now result (W.contents writer.old) (W.contents writer.new) }
 {
     let Some(size) = script.world else {
         return Ok(());
@@ -206,7 +206,7 @@ pub fn run<R: Read, W: Write, D: Disk>(
 ) -> Result<(), RunFault>
     // Of a reader whose bytes aren't known, it is so of some bytes.
     ensures ran { (input : List ℕ) × AreLeft input (R.remaining reader.old)
-        × RunsBytes (setting_of D.seen disks.items trace) input result (W.contents writer.old) (W.contents writer.new) }
+        × RunsBytes (setting_of D.shown disks.items trace) input result (W.contents writer.old) (W.contents writer.new) }
 
     // Of the reader at most one byte more is taken than a script may have, and where reading fails not that one.
     ensures consumed { ConsumesAtMost 1048577 (R.remaining reader.old) (R.remaining reader.new) }

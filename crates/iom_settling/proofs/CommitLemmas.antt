@@ -6,12 +6,12 @@ use Rattle.iom_device.specs.declared.device.Device.{Device}
 use Rattle.iom_inflight.specs.declared.made.MadeAt.{MadeAt}
 use Rattle.iom_inflight.specs.Calls.{MakesOldestInFlight}
 use Rattle.iom_inflight.specs.Flights.{NumberedAccess, FlightRow, Flights, row_of, first_busy}
-use Rattle.iom_inflight.specs.Sound.{AreFlights}
+use Rattle.iom_inflight.specs.Invariant.{AreFlights}
 use Rattle.iom_iommu.specs.Parts.{flights_of}
 use Rattle.iom_machine.specs.declared.outcome.Outcome.{Outcome}
 use Rattle.iom_world_effects.specs.Commits.{CommitsAccess}
 use Rattle.iom_world_effects.specs.Parts.{Parts}
-use Rattle.iom_world_effects.specs.Sound.{AreSound, plugged_ids, row_ids}
+use Rattle.iom_world_effects.specs.Invariant.{PartsInvariant, plugged_ids, row_ids}
 use Rattle.iom_settling.specs.Idle.{waiting_by}
 use Rattle.iom_settling.proofs.IdleLemmas.{IsBusyRow, busy_where, first_waits}
 
@@ -42,21 +42,21 @@ made_first memory memory' old new id (Some made) first is busy =
     first_waits old.rows id is.row is.oldest is.later first is.stands is.waiting ∙ ap (λ (f : Flights). id ∷ waiting_by f.rows) (sym is.after)
 
 -- A COMMIT
-pub committed : (old new : Parts) (events id : ℕ) (told : Outcome) → AreSound old events → AreFlights (flights_of old.iommu) → first_busy (flights_of old.iommu).rows ≡ Some id
-    → CommitsAccess old id told new → waiting_by (flights_of old.iommu).rows ≡ id ∷ waiting_by (flights_of new.iommu).rows
-committed old new events id told sound flights found commits = by commits
+pub committed : (old new : Parts) (events id : ℕ) (reply : Outcome) → PartsInvariant old events → AreFlights (flights_of old.iommu) → first_busy (flights_of old.iommu).rows ≡ Some id
+    → CommitsAccess old id reply new → waiting_by (flights_of old.iommu).rows ≡ id ∷ waiting_by (flights_of new.iommu).rows
+committed old new events id reply invariants flights found commits = by commits
   where
     busy : IsBusyRow (flights_of old.iommu).rows id
     busy = busy_where (flights_of old.iommu).rows id flights.distinct found
 
     there : (device : Device) × Contains old.devices device × (device.id ≡ id)
-    there = with_id old.devices id (subst (λ (ids : List ℕ). Contains ids id) sound.known.iommu (row_there (flights_of old.iommu).rows id busy.row busy.stands))
+    there = with_id old.devices id (subst (λ (ids : List ℕ). Contains ids id) invariants.known.iommu (row_there (flights_of old.iommu).rows id busy.row busy.stands))
 
-    by : CommitsAccess old id told new → waiting_by (flights_of old.iommu).rows ≡ id ∷ waiting_by (flights_of new.iommu).rows
+    by : CommitsAccess old id reply new → waiting_by (flights_of old.iommu).rows ≡ id ∷ waiting_by (flights_of new.iommu).rows
     by (inl unknown) = absurd (unknown.absent there.0 there.1 there.2)
     by (inr makes) = made_first old.memory new.memory (flights_of old.iommu) (flights_of new.iommu) id makes.made found makes.call.makes busy
 
 -- the driver stays
-pub commit_drives : (old new : Parts) (id : ℕ) (told : Outcome) → CommitsAccess old id told new → new.driver ≡ old.driver
-commit_drives old new id told (inl unknown) = ap (λ (p : Parts). p.driver) unknown.same
-commit_drives old new id told (inr makes) = makes.driver
+pub commit_drives : (old new : Parts) (id : ℕ) (reply : Outcome) → CommitsAccess old id reply new → new.driver ≡ old.driver
+commit_drives old new id reply (inl unknown) = ap (λ (p : Parts). p.driver) unknown.same
+commit_drives old new id reply (inr makes) = makes.driver

@@ -103,8 +103,8 @@ cached_there (first ∷ others) id own has = by (first.id == id) (λ at. cached_
     by false rest at = rest at
 
 -- THE MESSAGE THAT ARRIVES, by what it is
-module _ (old new : Parts) (told : Outcome) (device : ℕ) (others : List OnLink) where
-  pub arrived : (message : Message) → Arrives message old device others told new → CarriesOn old new × (suc (weights new.fabric) ≤ weight message + weights others)
+module _ (old new : Parts) (reply : Outcome) (device : ℕ) (others : List OnLink) where
+  pub arrived : (message : Message) → Arrives message old device others reply new → CarriesOn old new × (suc (weights new.fabric) ≤ weight message + weights others)
   arrived (sent.Ask epoch page) answers =
       let iommu = question_iommu old new device page answers.answer answers.call in
       let light = sent_weight others device (sent.Answer epoch page answers.answer) in
@@ -157,13 +157,13 @@ module _ (old new : Parts) (told : Outcome) (device : ℕ) (others : List OnLink
       )
 
 -- MESSAGE 0 IS DELIVERED
-pub delivered_first : (old new : Parts) (told : Outcome) (on : OnLink) (others : List OnLink) → old.fabric ≡ on ∷ others → DeliversMessage old 0 told new → Arrives on.message old on.device others told new
-delivered_first old new told on others is delivers = subst (λ (ms : List OnLink). ArrivesIfAny (slice_get ms 0) old (remove ms 0) told new) is delivers
+pub delivered_first : (old new : Parts) (reply : Outcome) (on : OnLink) (others : List OnLink) → old.fabric ≡ on ∷ others → DeliversMessage old 0 reply new → Arrives on.message old on.device others reply new
+delivered_first old new reply on others is delivers = subst (λ (ms : List OnLink). ArrivesIfAny (slice_get ms 0) old (remove ms 0) reply new) is delivers
 
-pub delivered : (old new : Parts) (told : Outcome) (on : OnLink) (others : List OnLink) → old.fabric ≡ on ∷ others → DeliversMessage old 0 told new
+pub delivered : (old new : Parts) (reply : Outcome) (on : OnLink) (others : List OnLink) → old.fabric ≡ on ∷ others → DeliversMessage old 0 reply new
     → CarriesOn old new × (suc (weights new.fabric) ≤ weights old.fabric)
-delivered old new told on others is delivers =
-    let by = arrived old new told on.device others on.message (delivered_first old new told on others is delivers) in
+delivered old new reply on others is delivers =
+    let by = arrived old new reply on.device others on.message (delivered_first old new reply on others is delivers) in
     let light = by.1 in
     let all : weights old.fabric ≡ weight on.message + weights others = ap weights is in
     (by.0, omega (arith, light, all))
@@ -184,9 +184,9 @@ filter_fewer p (x ∷ xs) = by (p x) (filter_fewer p xs)
     by true le = omega (arith, le)
     by false le = omega (arith, le)
 
-module _ (old new : Parts) (told : Outcome) (device : ℕ) (others : List OnLink) (few : length others < 64)
+module _ (old new : Parts) (reply : Outcome) (device : ℕ) (others : List OnLink) (few : length others < 64)
     (caches : (d : Device) → Contains old.devices d → HasItsCache d)
-    (owners : (slot : Slot) → Contains (slots_of old.iommu).open_slots slot → HasCache old.devices slot.device) where
+    (slot_owners : (slot : Slot) → Contains (slots_of old.iommu).open_slots slot → HasCache old.devices slot.device) where
   abbrev slots : List Slot
   slots = (slots_of old.iommu).open_slots
 
@@ -200,7 +200,7 @@ module _ (old new : Parts) (told : Outcome) (device : ℕ) (others : List OnLink
     subst (λ (ms : List OnLink). length ms ≤ suc (length others)) (sym is) short,
   )
 
-  pub words_then : (message : Message) → Arrives message old device others told new → HaveWords slots (record { device = device; message = message } ∷ others)
+  pub words_then : (message : Message) → Arrives message old device others reply new → HaveWords slots (record { device = device; message = message } ∷ others)
       → (HaveWords (slots_of new.iommu).open_slots new.fabric) × ((slot : Slot) → Contains (slots_of new.iommu).open_slots slot → Contains slots slot)
       × (length (slots_of new.iommu).open_slots ≤ length slots) × (length new.fabric ≤ suc (length others))
   words_then (sent.Ask epoch page) answers have =
@@ -225,7 +225,7 @@ module _ (old new : Parts) (told : Outcome) (device : ℕ) (others : List OnLink
       nobody none slot there = at (slot.device == device) refl
         where
           at : (b : Bool) → (slot.device == device) ≡ b → is_word_of slot (record { device = device; message = sent.InvReq serial range }) ≡ false
-          at true is = absurd (false≢true (sym none ∙ subst (λ (d : ℕ). HasCache old.devices d) (eqb-true slot.device device is) (owners slot there)))
+          at true is = absurd (false≢true (sym none ∙ subst (λ (d : ℕ). HasCache old.devices d) (eqb-true slot.device device is) (slot_owners slot there)))
           at false is = rw is refl
 
       obeyed : (cache : Option Cache) (done : Option Message) → cache_of old.devices device ≡ cache → obeys.done ≡ done → Obeys cache serial range done obeys.after → (found : Cache) × (cache_of old.devices device ≡ Some found)

@@ -22,7 +22,7 @@ use Rattle.iom_machine.specs.Traces.{count_in_flight}
 use Rattle.iom_machine.proofs.DeviceLemmas.{HaveOwnIds, own_ids-run}
 use Rattle.iom_machine.proofs.HeadlineLemmas.{commits_are_answered}
 use Rattle.iom_machine.proofs.InFlightLemmas.{able_act, some_case}
-use Rattle.iom_machine.proofs.SoundLemmas.{SameLedger}
+use Rattle.iom_machine.proofs.InvariantLemmas.{SameLedger}
 use Rattle.iom_settling.specs.Settles.{in_flight_by, AreInSettlingOrder, SettlesBy, RefusesToSettle, Settles}
 use Rattle.iom_settling.proofs.FewLemmas.{AreFew, few_if_reached, few_in_flight}
 
@@ -31,17 +31,17 @@ abbrev with_one_less : Device → Device
 with_one_less device = record device { in_flight = drop 1 device.in_flight }
 
 -- A RUN, and one event more
-run_more : (old mid new : State) (events : List Event) (outcomes : List Outcome) (event : Event) (told : Outcome)
-    → Run old events outcomes mid → Step mid event told new → Run old (events ++ event ∷ []) (outcomes ++ told ∷ []) new
-run_more old mid new [] [] event told run step = (new, subst (λ (s : State). Step s event told new) run step, refl)
-run_more old mid new [] (other ∷ outcomes) event told run step = absurd run
-run_more old mid new (other ∷ events) [] event told run step = absurd run
-run_more old mid new (first ∷ events) (other ∷ outcomes) event told run step =
-    (run.0, run.1, run_more run.0 mid new events outcomes event told run.2 step)
+run_more : (old mid new : State) (events : List Event) (outcomes : List Outcome) (event : Event) (reply : Outcome)
+    → Run old events outcomes mid → Step mid event reply new → Run old (events ++ event ∷ []) (outcomes ++ reply ∷ []) new
+run_more old mid new [] [] event reply run step = (new, subst (λ (s : State). Step s event reply new) run step, refl)
+run_more old mid new [] (other ∷ outcomes) event reply run step = absurd run
+run_more old mid new (other ∷ events) [] event reply run step = absurd run
+run_more old mid new (first ∷ events) (other ∷ outcomes) event reply run step =
+    (run.0, run.1, run_more run.0 mid new events outcomes event reply run.2 step)
 
-reached_after : (old new : State) (event : Event) (told : Outcome) → IsReached old → Step old event told new → IsReached new
-reached_after old new event told (events, outcomes, (limits, frames, levels, disks, run)) step =
-    (events ++ event ∷ [], outcomes ++ told ∷ [], (limits, frames, levels, disks, run_more (opening limits frames levels disks) old new events outcomes event told run step))
+reached_after : (old new : State) (event : Event) (reply : Outcome) → IsReached old → Step old event reply new → IsReached new
+reached_after old new event reply (events, outcomes, (limits, frames, levels, disks, run)) step =
+    (events ++ event ∷ [], outcomes ++ reply ∷ [], (limits, frames, levels, disks, run_more (opening limits frames levels disks) old new events outcomes event reply run step))
 
 -- no two devices of a state that is reached have the same id
 own_ids_if_reached : (state : State) → IsReached state → HaveOwnIds state.devices
@@ -98,7 +98,7 @@ record MakesOne (old : State) (device : Device) (new : State) : Type 0 where
   same : SameLedger old new
   devices : new.devices ≡ (with_oldest_made old device).devices
 
-makes_one : (old new : State) (device : Device) (told : Outcome) → 1 ≤ length device.in_flight → Makes old device told new → MakesOne old device new
+makes_one : (old new : State) (device : Device) (reply : Outcome) → 1 ≤ length device.in_flight → Makes old device reply new → MakesOne old device new
 makes_one old new device (outcome.Read bytes) busy makes =
     let made = some_case (slice_get device.in_flight 0) _ makes in record {
       same = (ap (λ (s : State). s.history) made.2.1, ap (λ (s : State). s.last_ticket) made.2.1);
@@ -115,9 +115,9 @@ makes_one old new device _ busy makes = absurd makes
 
 record CommitsOne (old : State) (id : ℕ) (ids : List ℕ) : Type 0 where
   device : ℕ
-  told : Outcome
+  reply : Outcome
   new : State
-  step : Step old (events.Commit device) told new
+  step : Step old (events.Commit device) reply new
   same : SameLedger old new
   named : device ≡ id
   left : in_flight_by new.devices ≡ ids
@@ -131,7 +131,7 @@ commits_one old id ids reached some = by (some_next old.devices id ids (own_ids_
         let made = makes_one old answer.1 device answer.0 next.busy
         (able_act is_any_kind (λ d. Makes old d answer.0 answer.1) old device.id answer.0 answer.1 device next.there refl answer.2.1) in
         let turns : id ∷ ids ≡ device.id ∷ in_flight_by answer.1.devices = sym some ∙ next.first ∙ ap (λ (devices : List Device). device.id ∷ in_flight_by devices) (sym made.devices) in
-        record { device = device.id; told = answer.0; new = answer.1; step = answer.2; same = made.same; named = cc; left = cc }
+        record { device = device.id; reply = answer.0; new = answer.1; step = answer.2; same = made.same; named = cc; left = cc }
 
 -- ALL ARE COMMITTED, one after another
 record CommitsAll (old : State) (ids : List ℕ) : Type 0 where
@@ -157,10 +157,10 @@ commits_all [] old reached none = record {
 }
 commits_all (id ∷ ids) old reached some =
     let one = commits_one old id ids reached some in
-    let rest = commits_all ids one.new (reached_after old one.new (events.Commit one.device) one.told reached one.step) one.left in
+    let rest = commits_all ids one.new (reached_after old one.new (events.Commit one.device) one.reply reached one.step) one.left in
     record {
       events = events.Commit one.device ∷ rest.events;
-      outcomes = one.told ∷ rest.outcomes;
+      outcomes = one.reply ∷ rest.outcomes;
       new = rest.new;
       run = (one.new, one.step, rest.run);
       order = (one.named, rest.order);

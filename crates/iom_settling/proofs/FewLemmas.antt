@@ -30,7 +30,7 @@ use Rattle.iom_machine.specs.Tickets.{with_confirmed}
 use Rattle.iom_machine.specs.Traces.{count_in_flight}
 use Rattle.iom_machine.proofs.InFlightLemmas.{act_cases, some_case, same-sets_queue, same-tells_status, same-translated, same-asks, same-forges, same-delivers, same-drops, same-repeats, same-resets}
 use Rattle.iom_machine.proofs.LimitLemmas.{limits-step}
-use Rattle.iom_machine.proofs.SoundLemmas.{none_applies}
+use Rattle.iom_machine.proofs.InvariantLemmas.{none_applies}
 
 -- each of the devices has at most so many in flight
 abbrev pub HaveFew : ℕ → List Device → Type 0
@@ -121,8 +121,8 @@ few-leaves old new history same few =
     subst (AreFew old.limits) (sym same) (omega (arith, as_many, all), have_few-left old.limits.in_flight history old.devices few.1)
 
 -- WHERE NONE IS CHANGED
-few-stays : (old new : State) → new ≡ old → AreFew old.limits old.devices → AreFew old.limits new.devices
-few-stays old new same few = subst (λ (s : State). AreFew old.limits s.devices) (sym same) few
+few-unchanged : (old new : State) → new ≡ old → AreFew old.limits old.devices → AreFew old.limits new.devices
+few-unchanged old new same few = subst (λ (s : State). AreFew old.limits s.devices) (sym same) few
 
 few-same : (old new : State) → new.devices ≡ old.devices → AreFew old.limits old.devices → AreFew old.limits new.devices
 few-same old new same few = subst (AreFew old.limits) (sym same) few
@@ -145,67 +145,67 @@ few-accepted old new id device access frame at idle same few =
           | inr many ↦ absurd (idle many)
         ]
 
-few-answer : (chosen : ℕ) (old new : State) (id : ℕ) (device : Device) (access : Access) (told : Outcome) → device_of old id ≡ Some device
-    → MayAnswer old device access chosen told → new ≡ state_after old device access chosen told → AreFew old.limits old.devices → AreFew old.limits new.devices
+few-answer : (chosen : ℕ) (old new : State) (id : ℕ) (device : Device) (access : Access) (reply : Outcome) → device_of old id ≡ Some device
+    → MayAnswer old device access chosen reply → new ≡ state_after old device access chosen reply → AreFew old.limits old.devices → AreFew old.limits new.devices
 few-answer chosen old new id device access (outcome.Accepted number) at answer same few = few-accepted old new id device access chosen at answer.0.1 same few
-few-answer chosen old new id device access outcome.BadSpan at answer same few = few-stays old new same few
-few-answer chosen old new id device access outcome.Busy at answer same few = few-stays old new same few
-few-answer chosen old new id device access (outcome.Fault cause) at answer same few = few-stays old new same few
+few-answer chosen old new id device access outcome.BadSpan at answer same few = few-unchanged old new same few
+few-answer chosen old new id device access outcome.Busy at answer same few = few-unchanged old new same few
+few-answer chosen old new id device access (outcome.Fault cause) at answer same few = few-unchanged old new same few
 few-answer chosen old new id device access _ at answer same few = absurd answer
 
-few-cached : (chosen : ℕ) (old new : State) (id : ℕ) (device : Device) (access : Access) (told : Outcome) → device_of old id ≡ Some device
-    → MayAnswerThroughCache old device access chosen told → new ≡ state_after_cached old device access chosen told → AreFew old.limits old.devices → AreFew old.limits new.devices
+few-cached : (chosen : ℕ) (old new : State) (id : ℕ) (device : Device) (access : Access) (reply : Outcome) → device_of old id ≡ Some device
+    → MayAnswerThroughCache old device access chosen reply → new ≡ state_after_cached old device access chosen reply → AreFew old.limits old.devices → AreFew old.limits new.devices
 few-cached chosen old new id device access (outcome.Accepted number) at answer same few =
     few-accepted old new id device (at_frame chosen access) chosen at answer.0.1 same few
-few-cached chosen old new id device access outcome.BadSpan at answer same few = few-stays old new same few
-few-cached chosen old new id device access outcome.Busy at answer same few = few-stays old new same few
-few-cached chosen old new id device access outcome.Miss at answer same few = few-stays old new same few
-few-cached chosen old new id device access (outcome.Fault cause) at answer same few = few-stays old new same few
+few-cached chosen old new id device access outcome.BadSpan at answer same few = few-unchanged old new same few
+few-cached chosen old new id device access outcome.Busy at answer same few = few-unchanged old new same few
+few-cached chosen old new id device access outcome.Miss at answer same few = few-unchanged old new same few
+few-cached chosen old new id device access (outcome.Fault cause) at answer same few = few-unchanged old new same few
 few-cached chosen old new id device access _ at answer same few = absurd answer
 
-few-requests : (chosen : ℕ) (old new : State) (id : ℕ) (access : Access) (told : Outcome) → Requests chosen old id access told new → AreFew old.limits old.devices → AreFew old.limits new.devices
-few-requests chosen old new id access told step few = elim (act_cases sends_untranslated _ old id told new step) [
-  | inl (why, refused, same) ↦ few-stays old new same few
-  | inr (device, at, answer) ↦ few-answer chosen old new id device access told at answer.0 answer.1 few
+few-requests : (chosen : ℕ) (old new : State) (id : ℕ) (access : Access) (reply : Outcome) → Requests chosen old id access reply new → AreFew old.limits old.devices → AreFew old.limits new.devices
+few-requests chosen old new id access reply step few = elim (act_cases sends_untranslated _ old id reply new step) [
+  | inl (why, refused, same) ↦ few-unchanged old new same few
+  | inr (device, at, answer) ↦ few-answer chosen old new id device access reply at answer.0 answer.1 few
 ]
 
-few-through_cache : (chosen : ℕ) (old new : State) (id : ℕ) (access : Access) (told : Outcome) → RequestsThroughCache chosen old id access told new
+few-through_cache : (chosen : ℕ) (old new : State) (id : ℕ) (access : Access) (reply : Outcome) → RequestsThroughCache chosen old id access reply new
     → AreFew old.limits old.devices → AreFew old.limits new.devices
-few-through_cache chosen old new id access told step few = elim (act_cases sends_through_cache _ old id told new step) [
-  | inl (why, refused, same) ↦ few-stays old new same few
-  | inr (device, at, answer) ↦ few-cached chosen old new id device access told at answer.0 answer.1 few
+few-through_cache chosen old new id access reply step few = elim (act_cases sends_through_cache _ old id reply new step) [
+  | inl (why, refused, same) ↦ few-unchanged old new same few
+  | inr (device, at, answer) ↦ few-cached chosen old new id device access reply at answer.0 answer.1 few
 ]
 
 -- a step of a block device
-few-answered : (chosen : ℕ) (old new : State) (id : ℕ) (device : Device) (access : Access) (told : Outcome) (b : Bool) → device_of old id ≡ Some device
-    → IsAnswered b old device access chosen told new → AreFew old.limits old.devices → AreFew old.limits new.devices
-few-answered chosen old new id device access told false at answer few = few-answer chosen old new id device access told at answer.0 answer.1 few
-few-answered chosen old new id device access told true at answer few = few-cached chosen old new id device access told at answer.0 answer.1 few
+few-answered : (chosen : ℕ) (old new : State) (id : ℕ) (device : Device) (access : Access) (reply : Outcome) (b : Bool) → device_of old id ≡ Some device
+    → IsAnswered b old device access chosen reply new → AreFew old.limits old.devices → AreFew old.limits new.devices
+few-answered chosen old new id device access reply false at answer few = few-answer chosen old new id device access reply at answer.0 answer.1 few
+few-answered chosen old new id device access reply true at answer few = few-cached chosen old new id device access reply at answer.0 answer.1 few
 
-few-steps : (access : Access) (chosen : ℕ) (old new : State) (id : ℕ) (told : Outcome) → Steps access chosen old id told new → AreFew old.limits old.devices → AreFew old.limits new.devices
-few-steps access chosen old new id told step few = elim (act_cases is_block_device _ old id told new step) [
-  | inl (why, refused, same) ↦ few-stays old new same few
-  | inr (device, at, takes) ↦ by device at told takes
+few-steps : (access : Access) (chosen : ℕ) (old new : State) (id : ℕ) (reply : Outcome) → Steps access chosen old id reply new → AreFew old.limits old.devices → AreFew old.limits new.devices
+few-steps access chosen old new id reply step few = elim (act_cases is_block_device _ old id reply new step) [
+  | inl (why, refused, same) ↦ few-unchanged old new same few
+  | inr (device, at, takes) ↦ by device at reply takes
 ]
   where
-    by : (device : Device) → device_of old id ≡ Some device → (told : Outcome) → TakesStep old device access chosen told new → AreFew old.limits new.devices
-    by device at (outcome.Stepped step) takes = few-stays old new takes.1 few
+    by : (device : Device) → device_of old id ≡ Some device → (reply : Outcome) → TakesStep old device access chosen reply new → AreFew old.limits new.devices
+    by device at (outcome.Stepped step) takes = few-unchanged old new takes.1 few
     by device at (outcome.Accepted number) takes = few-answered chosen old new id device access (outcome.Accepted number) (has_cache device.kind) at takes.1 few
     by device at outcome.Busy takes = few-answered chosen old new id device access outcome.Busy (has_cache device.kind) at takes.1 few
     by device at (outcome.Fault cause) takes = few-answered chosen old new id device access (outcome.Fault cause) (has_cache device.kind) at takes.1 few
     by device at _ takes = absurd takes
 
 -- WHERE A DISK IS PUT IN
-few-inserts : (disk : ℕ) (old new : State) (id : ℕ) (told : Outcome) → InsertsDisk disk old id told new → AreFew old.limits old.devices → AreFew old.limits new.devices
-few-inserts disk old new id told step few = elim (act_cases is_block_device _ old id told new step) [
-  | inl (why, refused, same) ↦ few-stays old new same few
-  | inr (device, at, inserts) ↦ by device at told inserts
+few-inserts : (disk : ℕ) (old new : State) (id : ℕ) (reply : Outcome) → InsertsDisk disk old id reply new → AreFew old.limits old.devices → AreFew old.limits new.devices
+few-inserts disk old new id reply step few = elim (act_cases is_block_device _ old id reply new step) [
+  | inl (why, refused, same) ↦ few-unchanged old new same few
+  | inr (device, at, inserts) ↦ by device at reply inserts
 ]
   where
-    by : (device : Device) → device_of old id ≡ Some device → (told : Outcome) → Inserts disk old device told new → AreFew old.limits new.devices
+    by : (device : Device) → device_of old id ≡ Some device → (reply : Outcome) → Inserts disk old device reply new → AreFew old.limits new.devices
     by device at outcome.Done inserts =
         few-changed old new id device (record device { has_disk = true }) at (λ its. its) (ap (λ (s : State). s.devices) inserts.1) few
-    by device at (outcome.Refused why) inserts = few-stays old new inserts.1 few
+    by device at (outcome.Refused why) inserts = few-unchanged old new inserts.1 few
     by device at _ inserts = absurd inserts
 
 -- WHERE THE OLDEST ACCESS IS MADE
@@ -215,104 +215,104 @@ few-made old new id device at same few =
     let fewer = length-drop 1 device.in_flight in
     few-changed old new id device (record device { in_flight = drop 1 device.in_flight }) at (λ its. omega (arith, fewer, its)) same few
 
-few-commits : (old new : State) (id : ℕ) (told : Outcome) → Commits old id told new → AreFew old.limits old.devices → AreFew old.limits new.devices
-few-commits old new id told step few = elim (act_cases is_any_kind _ old id told new step) [
-  | inl (why, refused, same) ↦ few-stays old new same few
-  | inr (device, at, makes) ↦ by device at told makes
+few-commits : (old new : State) (id : ℕ) (reply : Outcome) → Commits old id reply new → AreFew old.limits old.devices → AreFew old.limits new.devices
+few-commits old new id reply step few = elim (act_cases is_any_kind _ old id reply new step) [
+  | inl (why, refused, same) ↦ few-unchanged old new same few
+  | inr (device, at, makes) ↦ by device at reply makes
 ]
   where
-    by : (device : Device) → device_of old id ≡ Some device → (told : Outcome) → Makes old device told new → AreFew old.limits new.devices
+    by : (device : Device) → device_of old id ≡ Some device → (reply : Outcome) → Makes old device reply new → AreFew old.limits new.devices
     by device at (outcome.Read bytes) makes =
         let made = some_case (slice_get device.in_flight 0) _ makes in few-made old new id device at (ap (λ (s : State). s.devices) made.2.1) few
     by device at (outcome.Wrote len) makes =
         let made = some_case (slice_get device.in_flight 0) _ makes in few-made old new id device at (ap (λ (s : State). s.devices) made.2.1) few
-    by device at outcome.NothingInFlight makes = few-stays old new makes.1 few
+    by device at outcome.NothingInFlight makes = few-unchanged old new makes.1 few
     by device at _ makes = absurd makes
 
 -- EACH STEP KEEPS THIS
-few-step : (old new : State) (event : Event) (told : Outcome) → Step old event told new → AreFew old.limits old.devices → AreFew old.limits new.devices
+few-step : (old new : State) (event : Event) (reply : Outcome) → Step old event reply new → AreFew old.limits old.devices → AreFew old.limits new.devices
 few-step old new (events.Plug id what) outcome.Done (choice, step) few = few-plugs old new id what step.0 (ap (λ (s : State). s.devices) step.1) few
-few-step old new (events.Plug id what) (outcome.Refused why) (choice, step) few = few-stays old new step.1 few
+few-step old new (events.Plug id what) (outcome.Refused why) (choice, step) few = few-unchanged old new step.1 few
 few-step old new (events.Plug id what) _ (choice, step) few = absurd step
-few-step old new (events.Medium id disk) told (choice, step) few = few-inserts disk old new id told step few
+few-step old new (events.Medium id disk) reply (choice, step) few = few-inserts disk old new id reply step few
 few-step old new (events.Attach id mode ats) outcome.Done (choice, step) few =
     let found = some_case (device_of old id) _ step.2 in
     few-changed old new id found.0 (record found.0 { attachment = _ }) found.1 (λ its. its) (ap (λ (s : State). s.devices) found.2) few
-few-step old new (events.Attach id mode ats) (outcome.Refused why) (choice, step) few = few-stays old new step.1 few
+few-step old new (events.Attach id mode ats) (outcome.Refused why) (choice, step) few = few-unchanged old new step.1 few
 few-step old new (events.Attach id mode ats) _ (choice, step) few = absurd step
 few-step old new (events.Detach id) (outcome.Ticket ticket) (choice, step) few =
     let found = some_case (device_of old id) _ step.2 in
     few-changed old new id found.0 (record found.0 { has_disk = false; attachment = leaving_under ticket found.0.attachment }) found.1 (λ its. its)
     (ap (λ (s : State). s.devices) found.2) few
-few-step old new (events.Detach id) (outcome.Refused why) (choice, step) few = few-stays old new step.1 few
+few-step old new (events.Detach id) (outcome.Refused why) (choice, step) few = few-unchanged old new step.1 few
 few-step old new (events.Detach id) _ (choice, step) few = absurd step
 few-step old new (events.Grant id page frame rights) outcome.Done (choice, step) few = few-same old new (ap (λ (s : State). s.devices) step.2) few
-few-step old new (events.Grant id page frame rights) (outcome.Refused why) (choice, step) few = few-stays old new step.1 few
+few-step old new (events.Grant id page frame rights) (outcome.Refused why) (choice, step) few = few-unchanged old new step.1 few
 few-step old new (events.Grant id page frame rights) _ (choice, step) few = absurd step
 few-step old new (events.Release id page) (outcome.Ticket ticket) (choice, step) few = few-same old new (ap (λ (s : State). s.devices) step.2) few
-few-step old new (events.Release id page) (outcome.Refused why) (choice, step) few = few-stays old new step.1 few
+few-step old new (events.Release id page) (outcome.Refused why) (choice, step) few = few-unchanged old new step.1 few
 few-step old new (events.Release id page) _ (choice, step) few = absurd step
 few-step old new (events.Quarantine id) (outcome.Ticket ticket) (choice, step) few =
     let found = some_case (device_of old id) _ step.2 in
     few-changed old new id found.0 (record found.0 { attachment = _ }) found.1 (λ its. its) (ap (λ (s : State). s.devices) found.2) few
-few-step old new (events.Quarantine id) (outcome.Refused why) (choice, step) few = few-stays old new step.1 few
+few-step old new (events.Quarantine id) (outcome.Refused why) (choice, step) few = few-unchanged old new step.1 few
 few-step old new (events.Quarantine id) _ (choice, step) few = absurd step
 few-step old new (events.Revive id) outcome.Done (choice, step) few =
     let found = some_case (device_of old id) _ step.1 in
     few-changed old new id found.0 (record found.0 { attachment = _ }) found.1 (λ its. its) (ap (λ (s : State). s.devices) found.2) few
-few-step old new (events.Revive id) (outcome.Refused why) (choice, step) few = few-stays old new step.1 few
+few-step old new (events.Revive id) (outcome.Refused why) (choice, step) few = few-unchanged old new step.1 few
 few-step old new (events.Revive id) _ (choice, step) few = absurd step
-few-step old new events.Restart outcome.Done (choice, step) few = few-stays old new step few
-few-step old new events.Restart (outcome.Refused why) (choice, step) few = few-stays old new step.1 few
+few-step old new events.Restart outcome.Done (choice, step) few = few-unchanged old new step few
+few-step old new events.Restart (outcome.Refused why) (choice, step) few = few-unchanged old new step.1 few
 few-step old new events.Restart _ (choice, step) few = absurd step
-few-step old new events.Fetch (outcome.Fetched result) (choice, step) few = few-stays old new step few
+few-step old new events.Fetch (outcome.Fetched result) (choice, step) few = few-unchanged old new step few
 few-step old new events.Fetch _ (choice, step) few = absurd step
-few-step old new events.Timeout outcome.TimedOut (choice, step) few = few-stays old new step few
-few-step old new events.Timeout outcome.NoEffect (choice, step) few = few-stays old new step few
+few-step old new events.Timeout outcome.TimedOut (choice, step) few = few-unchanged old new step few
+few-step old new events.Timeout outcome.NoEffect (choice, step) few = few-unchanged old new step few
 few-step old new events.Timeout _ (choice, step) few = absurd step
 few-step old new events.Poll (outcome.Confirmed first last timed_out) (choice, step) few =
     few-leaves old new (with_confirmed old first last).history (ap (λ (s : State). s.devices) step.1) few
 few-step old new events.Poll (outcome.NoneConfirmed timed_out) (choice, step) few =
     subst (AreFew old.limits) (sym (ap (λ (s : State). s.devices) step.1)) few
 few-step old new events.Poll _ (choice, step) few = absurd step
-few-step old new events.Faults (outcome.Record taken) (choice, step) few = few-stays old new step few
-few-step old new events.Faults outcome.NoRecord (choice, step) few = few-stays old new step few
+few-step old new events.Faults (outcome.Record taken) (choice, step) few = few-unchanged old new step few
+few-step old new events.Faults outcome.NoRecord (choice, step) few = few-unchanged old new step few
 few-step old new events.Faults _ (choice, step) few = absurd step
-few-step old new (events.Read id address len) told (choice, step) few = few-requests choice.frame old new id (read_of address len) told step few
-few-step old new (events.Write id address bytes) told (choice, step) few = few-requests choice.frame old new id (write_of address bytes) told step few
-few-step old new (events.ReadTranslated id address len) told (choice, step) few = few-stays old new (same-translated old new id (read_of address len) told step) few
-few-step old new (events.WriteTranslated id address bytes) told (choice, step) few = few-stays old new (same-translated old new id (write_of address bytes) told step) few
-few-step old new (events.ReadThroughCache id address len) told (choice, step) few = few-through_cache choice.frame old new id (read_of address len) told step few
-few-step old new (events.WriteThroughCache id address bytes) told (choice, step) few = few-through_cache choice.frame old new id (write_of address bytes) told step few
-few-step old new (events.Ask id page) told (choice, step) few = few-stays old new (same-asks old new id told step) few
-few-step old new (events.Forge id serial) told (choice, step) few = few-stays old new (same-forges old new id told step) few
-few-step old new (events.Deliver place) told (choice, step) few = few-stays old new (same-delivers choice.device choice.page old new told step) few
-few-step old new (events.Drop place) told (choice, step) few = few-stays old new (same-drops old new told step) few
-few-step old new (events.Repeat place) told (choice, step) few = few-stays old new (same-repeats old new told step) few
-few-step old new (events.Reset id) told (choice, step) few = few-stays old new (same-resets old new id told step) few
-few-step old new (events.Queue id size descriptors available used) told (choice, step) few = few-stays old new (same-sets_queue _ old new id told step) few
-few-step old new (events.Step id) told (choice, step) few = few-steps choice.access choice.frame old new id told step few
-few-step old new (events.Status id) told (choice, step) few = few-stays old new (same-tells_status old new id told step) few
-few-step old new (events.Commit id) told (choice, step) few = few-commits old new id told step few
+few-step old new (events.Read id address len) reply (choice, step) few = few-requests choice.frame old new id (read_of address len) reply step few
+few-step old new (events.Write id address bytes) reply (choice, step) few = few-requests choice.frame old new id (write_of address bytes) reply step few
+few-step old new (events.ReadTranslated id address len) reply (choice, step) few = few-unchanged old new (same-translated old new id (read_of address len) reply step) few
+few-step old new (events.WriteTranslated id address bytes) reply (choice, step) few = few-unchanged old new (same-translated old new id (write_of address bytes) reply step) few
+few-step old new (events.ReadThroughCache id address len) reply (choice, step) few = few-through_cache choice.frame old new id (read_of address len) reply step few
+few-step old new (events.WriteThroughCache id address bytes) reply (choice, step) few = few-through_cache choice.frame old new id (write_of address bytes) reply step few
+few-step old new (events.Ask id page) reply (choice, step) few = few-unchanged old new (same-asks old new id reply step) few
+few-step old new (events.Forge id serial) reply (choice, step) few = few-unchanged old new (same-forges old new id reply step) few
+few-step old new (events.Deliver place) reply (choice, step) few = few-unchanged old new (same-delivers choice.device choice.page old new reply step) few
+few-step old new (events.Drop place) reply (choice, step) few = few-unchanged old new (same-drops old new reply step) few
+few-step old new (events.Repeat place) reply (choice, step) few = few-unchanged old new (same-repeats old new reply step) few
+few-step old new (events.Reset id) reply (choice, step) few = few-unchanged old new (same-resets old new id reply step) few
+few-step old new (events.Queue id size descriptors available used) reply (choice, step) few = few-unchanged old new (same-sets_queue _ old new id reply step) few
+few-step old new (events.Step id) reply (choice, step) few = few-steps choice.access choice.frame old new id reply step few
+few-step old new (events.Status id) reply (choice, step) few = few-unchanged old new (same-tells_status old new id reply step) few
+few-step old new (events.Commit id) reply (choice, step) few = few-commits old new id reply step few
 few-step old new (events.Poke address bytes) outcome.Done (choice, step) few = few-same old new (ap (λ (s : State). s.devices) step.2) few
-few-step old new (events.Poke address bytes) (outcome.Refused why) (choice, step) few = few-stays old new step.2 few
-few-step old new (events.Poke address bytes) outcome.BadSpan (choice, step) few = few-stays old new step.1 few
+few-step old new (events.Poke address bytes) (outcome.Refused why) (choice, step) few = few-unchanged old new step.2 few
+few-step old new (events.Poke address bytes) outcome.BadSpan (choice, step) few = few-unchanged old new step.1 few
 few-step old new (events.Poke address bytes) _ (choice, step) few = absurd step
-few-step old new (events.Peek address len) (outcome.Bytes bytes) (choice, step) few = few-stays old new step.3 few
-few-step old new (events.Peek address len) (outcome.Refused why) (choice, step) few = few-stays old new step.2 few
-few-step old new (events.Peek address len) outcome.BadSpan (choice, step) few = few-stays old new step.1 few
+few-step old new (events.Peek address len) (outcome.Bytes bytes) (choice, step) few = few-unchanged old new step.3 few
+few-step old new (events.Peek address len) (outcome.Refused why) (choice, step) few = few-unchanged old new step.2 few
+few-step old new (events.Peek address len) outcome.BadSpan (choice, step) few = few-unchanged old new step.1 few
 few-step old new (events.Peek address len) _ (choice, step) few = absurd step
-few-step old new (events.Free frame) (outcome.Free is_free) (choice, step) few = few-stays old new step.2 few
-few-step old new (events.Free frame) (outcome.Refused why) (choice, step) few = few-stays old new step.1 few
+few-step old new (events.Free frame) (outcome.Free is_free) (choice, step) few = few-unchanged old new step.2 few
+few-step old new (events.Free frame) (outcome.Refused why) (choice, step) few = few-unchanged old new step.1 few
 few-step old new (events.Free frame) _ (choice, step) few = absurd step
 
 -- and so does each run, from power-on
 few-run : (old new : State) (events : List Event) (outcomes : List Outcome) → Run old events outcomes new → AreFew old.limits old.devices → AreFew new.limits new.devices
 few-run old new [] [] run few = subst (λ (s : State). AreFew s.limits s.devices) (sym run) few
-few-run old new [] (told ∷ outcomes) run few = absurd run
+few-run old new [] (reply ∷ outcomes) run few = absurd run
 few-run old new (event ∷ events) [] run few = absurd run
-few-run old new (event ∷ events) (told ∷ outcomes) (mid, step, run) few =
-    few-run mid new events outcomes run (subst (λ limits. AreFew limits mid.devices) (sym (limits-step old mid event told step)) (few-step old mid event told step few))
+few-run old new (event ∷ events) (reply ∷ outcomes) (mid, step, run) few =
+    few-run mid new events outcomes run (subst (λ limits. AreFew limits mid.devices) (sym (limits-step old mid event reply step)) (few-step old mid event reply step few))
 
 pub few_if_reached : (state : State) → IsReached state → AreFew state.limits state.devices
 few_if_reached state (events, outcomes, (limits, frames, levels, disks, run)) = few-run (opening limits frames levels disks) state events outcomes run (omega arith, tt)

@@ -5,7 +5,7 @@ use Rattle.std.proofs.lemmas.Bool.Decides.{eqb_tells}
 use Rattle.std.proofs.lemmas.List.{length-append, length-map}
 use Rattle.iom_base.specs.declared.access.AccessKind.{AccessKind}
 use Rattle.iom_inflight.specs.Flights.{NumberedAccess, FlightRow, Flights, row_of, with_row, count_all, has_access, first_busy, is_row_drained, are_drained}
-use Rattle.iom_inflight.specs.Sound.{AreSoundRows, AreDistinct, AreFlights}
+use Rattle.iom_inflight.specs.Invariant.{RowsInvariant, AreDistinct, AreFlights}
 use Rattle.iom_settling.specs.Idle.{AreIdle, waiting_by}
 
 -- nobody has something in flight
@@ -112,9 +112,9 @@ none_waits [] idle = refl
 none_waits (row ∷ rows) idle = rw (idle.0, none_waits rows idle.1) refl
 
 -- of each device eight are in flight at most
-count_rows : (so_far : ℕ) (rows : List FlightRow) → AreSoundRows so_far rows → count_all rows ≤ 8 * length rows
-count_rows so_far [] sound = omega arith
-count_rows so_far (row ∷ rows) sound = let few = sound.0.few in let rest = count_rows so_far rows sound.1 in omega (arith, few, rest)
+count_rows : (so_far : ℕ) (rows : List FlightRow) → RowsInvariant so_far rows → count_all rows ≤ 8 * length rows
+count_rows so_far [] invariants = omega arith
+count_rows so_far (row ∷ rows) invariants = let few = invariants.0.few in let rest = count_rows so_far rows invariants.1 in omega (arith, few, rest)
 
 -- 128 at most
 pub count_few : (flights : Flights) → AreFlights flights → count_all flights.rows ≤ 128

@@ -49,36 +49,36 @@ are_quieting parts these those outcomes others one other committed delivered =
 deliveries_on : (these those : List Event) (outcomes others : List Outcome) → AreBehindCommits false these outcomes → AreBehindCommits true those others
     → AreBehindCommits true (these ++ those) (outcomes ++ others)
 deliveries_on [] those [] others first rest = rest
-deliveries_on (events.Deliver place ∷ these) those (told ∷ outcomes) others first rest = (first.0, deliveries_on these those outcomes others first.1 rest)
+deliveries_on (events.Deliver place ∷ these) those (reply ∷ outcomes) others first rest = (first.0, deliveries_on these those outcomes others first.1 rest)
 deliveries_on _ those _ others first rest = absurd first
 
 pub are_settling : (ids : List ℕ) (these those : List Event) (outcomes others : List Outcome) → AreInSettlingOrder false ids these outcomes → AreBehindCommits true those others
     → AreInSettlingOrder true ids (these ++ those) (outcomes ++ others)
 are_settling [] these those outcomes others first rest = deliveries_on these those outcomes others first rest
-are_settling (id ∷ ids) (events.Commit device ∷ these) those (told ∷ outcomes) others first rest = (first.0, are_settling ids these those outcomes others first.1 rest)
+are_settling (id ∷ ids) (events.Commit device ∷ these) those (reply ∷ outcomes) others first rest = (first.0, are_settling ids these those outcomes others first.1 rest)
 are_settling (id ∷ ids) _ those _ others first rest = absurd first
 
 -- FETCHES. Deliveries behind one that waits, and the next fetch
 deliveries_between : (these later : List Event) (outcomes more : List Outcome) (next : Fetched) → length these ≡ length outcomes → AreDeliveries these outcomes
     → AreBehindFetch next later more → AreBehindFetch tells.Waiting (these ++ events.Fetch ∷ later) (outcomes ++ outcome.Fetched next ∷ more)
 deliveries_between [] later [] more next long delivered rest = rest
-deliveries_between [] later (told ∷ outcomes) more next long delivered rest = absurd (omega (arith, long))
+deliveries_between [] later (reply ∷ outcomes) more next long delivered rest = absurd (omega (arith, long))
 deliveries_between (event ∷ these) later [] more next long delivered rest = absurd (omega (arith, long))
-deliveries_between (events.Deliver place ∷ these) later (told ∷ outcomes) more next long delivered rest =
+deliveries_between (events.Deliver place ∷ these) later (reply ∷ outcomes) more next long delivered rest =
     (delivered.0, deliveries_between these later outcomes more next (omega (arith, long)) delivered.1 rest)
-deliveries_between (_ ∷ these) later (told ∷ outcomes) more next long delivered rest = absurd delivered.0
+deliveries_between (_ ∷ these) later (reply ∷ outcomes) more next long delivered rest = absurd delivered.0
 
 -- none yet
 pub await_first : AwaitFetch [] []
 await_first next later more behind = behind
 
 -- one more, and what may stand between it and the next
-await_after : (these those : List Event) (outcomes others : List Outcome) (told : Fetched) → AwaitFetch these outcomes
+await_after : (these those : List Event) (outcomes others : List Outcome) (reply : Fetched) → AwaitFetch these outcomes
     → ((next : Fetched) (later : List Event) (more : List Outcome) → AreBehindFetch next later more
-    → AreBehindFetch told (those ++ events.Fetch ∷ later) (others ++ outcome.Fetched next ∷ more))
-    → AwaitFetch (these ++ events.Fetch ∷ those) (outcomes ++ outcome.Fetched told ∷ others)
-await_after these those outcomes others told await behind next later more rest =
-    rw (append_assoc these (events.Fetch ∷ those), append_assoc outcomes (outcome.Fetched told ∷ others)) (await told (those ++ events.Fetch ∷ later) (others ++ outcome.Fetched next ∷ more) (behind next later more rest))
+    → AreBehindFetch reply (those ++ events.Fetch ∷ later) (others ++ outcome.Fetched next ∷ more))
+    → AwaitFetch (these ++ events.Fetch ∷ those) (outcomes ++ outcome.Fetched reply ∷ others)
+await_after these those outcomes others reply await behind next later more rest =
+    rw (append_assoc these (events.Fetch ∷ those), append_assoc outcomes (outcome.Fetched reply ∷ others)) (await reply (those ++ events.Fetch ∷ later) (others ++ outcome.Fetched next ∷ more) (behind next later more rest))
 
 pub await_more : (these those : List Event) (outcomes others : List Outcome) → length those ≡ length others → AwaitFetch these outcomes → AreRound those others
     → AwaitFetch (these ++ those) (outcomes ++ others)
@@ -95,20 +95,20 @@ await_poll these outcomes await polled =
     rw (append_assoc these (events.Fetch ∷ []), append_assoc outcomes (outcome.Fetched tells.Empty ∷ [])) (await tells.Empty (events.Poll ∷ []) (polled ∷ []) tt)
 
 -- THEY ARE ALL OF SETTLING'S KINDS
-fetching_settles : (told : Fetched) (all : List Event) (outcomes : List Outcome) → AreBehindFetch told all outcomes → AreAll IsSettling all
+fetching_settles : (reply : Fetched) (all : List Event) (outcomes : List Outcome) → AreBehindFetch reply all outcomes → AreAll IsSettling all
 fetching_settles (tells.Did name) (events.Fetch ∷ later) (outcome.Fetched next ∷ outcomes) are = (tt, fetching_settles next later outcomes are)
-fetching_settles tells.Waiting (events.Deliver place ∷ later) (told ∷ outcomes) are = (are.0, fetching_settles tells.Waiting later outcomes are.1)
+fetching_settles tells.Waiting (events.Deliver place ∷ later) (reply ∷ outcomes) are = (are.0, fetching_settles tells.Waiting later outcomes are.1)
 fetching_settles tells.Waiting (events.Fetch ∷ later) (outcome.Fetched next ∷ outcomes) are = (tt, fetching_settles next later outcomes are)
-fetching_settles tells.Empty (events.Poll ∷ []) (told ∷ []) are = (tt, tt)
+fetching_settles tells.Empty (events.Poll ∷ []) (reply ∷ []) are = (tt, tt)
 fetching_settles _ _ _ are = absurd are
 
 behind_settles : (pending : Bool) (all : List Event) (outcomes : List Outcome) → AreBehindCommits pending all outcomes → AreAll IsSettling all
-behind_settles pending (events.Deliver place ∷ later) (told ∷ outcomes) are = (are.0, behind_settles pending later outcomes are.1)
+behind_settles pending (events.Deliver place ∷ later) (reply ∷ outcomes) are = (are.0, behind_settles pending later outcomes are.1)
 behind_settles true (events.Restart ∷ events.Fetch ∷ later) (outcome.Done ∷ outcome.Fetched first ∷ outcomes) are = (tt, (tt, fetching_settles first later outcomes are))
 behind_settles false [] [] are = tt
 behind_settles _ _ _ are = absurd are
 
 pub all_settling : (pending : Bool) (ids : List ℕ) (all : List Event) (outcomes : List Outcome) → AreInSettlingOrder pending ids all outcomes → AreAll IsSettling all
 all_settling pending [] all outcomes are = behind_settles pending all outcomes are
-all_settling pending (id ∷ ids) (events.Commit device ∷ later) (told ∷ outcomes) are = (tt, all_settling pending ids later outcomes are.1)
+all_settling pending (id ∷ ids) (events.Commit device ∷ later) (reply ∷ outcomes) are = (tt, all_settling pending ids later outcomes are.1)
 all_settling pending (id ∷ ids) _ _ are = absurd are

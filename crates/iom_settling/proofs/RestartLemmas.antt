@@ -33,8 +33,8 @@ use Rattle.iom_iommu.specs.OwnIommu.{Iommu}
 use Rattle.iom_world_effects.specs.Parts.{Parts}
 use Rattle.iom_world_effects.specs.Read.{values_of}
 use Rattle.iom_world_effects.specs.Scenes.{IsSceneOf}
-use Rattle.iom_world_effects.specs.Sound.{AreSound}
-use Rattle.iom_world_effects.proofs.DriverLemmas.{IsSoundDriver}
+use Rattle.iom_world_effects.specs.Invariant.{PartsInvariant}
+use Rattle.iom_world_effects.proofs.DriverLemmas.{DriverInvariant}
 use Rattle.iom_world_invariant.proofs.ReleaseKeeps.{IsRung, rung_all}
 use Rattle.iom_settling.specs.CatchingUp.{HasCache, NothingIsInFlight, WaitFor, CatchesUp}
 use Rattle.iom_settling.specs.Commands.{requests_among, ArePlain}
@@ -109,12 +109,12 @@ plain_all Obeys (device ∷ others) obeys =
 bool_prop : (a b : Bool) → IsProp (a ≡ b)
 bool_prop a b = hlevel props
 
-pub asks_so_caches : (parts : Parts) (events id : ℕ) (a : Attachment) → AreSound parts events → attachment_by_id parts.driver.devices id ≡ a → is_attached_with_ats a ≡ true → HasCache parts.devices id
-asks_so_caches parts events id Detached sound is ats = absurd (false≢true ats)
-asks_so_caches parts events id (Quarantined ticket stage) sound is ats = absurd (false≢true ats)
-asks_so_caches parts events id (Leaving ticket stage) sound is ats = absurd (false≢true ats)
-asks_so_caches parts events id (Attached stage) sound is ats =
-    ∥∥₁_elim sound.copies (bool_prop (caches_translations (kind_in parts.devices id)) true) (λ (scene, shows, facts). by scene shows facts)
+pub asks_so_caches : (parts : Parts) (events id : ℕ) (a : Attachment) → PartsInvariant parts events → attachment_by_id parts.driver.devices id ≡ a → is_attached_with_ats a ≡ true → HasCache parts.devices id
+asks_so_caches parts events id Detached invariants is ats = absurd (false≢true ats)
+asks_so_caches parts events id (Quarantined ticket stage) invariants is ats = absurd (false≢true ats)
+asks_so_caches parts events id (Leaving ticket stage) invariants is ats = absurd (false≢true ats)
+asks_so_caches parts events id (Attached stage) invariants is ats =
+    ∥∥₁_elim invariants.copies (bool_prop (caches_translations (kind_in parts.devices id)) true) (λ (scene, shows, facts). by scene shows facts)
   where
     by : (scene : Scene) → IsSceneOf (values_of parts) scene → IsFaithful scene → caches_translations (kind_in parts.devices id) ≡ true
     by scene shows facts =
@@ -143,19 +143,19 @@ emptied_rung old mid new emptied rung = record {
 wait_for_it : (d : DriverState) → WaitFor (record d { restarts = d.restarts + 1; restarted = d.given }) (last_fence d + 1)
 wait_for_it d ticket low = ap (λ n. n + (d.restarts + 1)) (max-eq_right low) ∙ omega arith
 
-known_few : (parts : Parts) (events : ℕ) → AreSound parts events → IsSoundDriver parts.driver → length parts.driver.devices ≤ 16
-known_few parts events sound own = own.few
+known_few : (parts : Parts) (events : ℕ) → PartsInvariant parts events → DriverInvariant parts.driver → length parts.driver.devices ≤ 16
+known_few parts events invariants own = own.few
 
 -- A RESTART
-pub restarted : (old new : Parts) (events later : ℕ) → AreSound old events → AreSound new later → IsSoundDriver old.driver → NothingIsInFlight old → old.fabric ≡ []
+pub restarted : (old new : Parts) (events later : ℕ) → PartsInvariant old events → PartsInvariant new later → DriverInvariant old.driver → NothingIsInFlight old → old.fabric ≡ []
     → QueuesRestart mmio old.driver old.memory old.iommu new.driver new.memory new.iommu → new.devices ≡ old.devices → new.fabric ≡ old.fabric
     → CatchesUp new (last_fence old.driver + 1) (all_requeued old.driver.devices)
-restarted old new events later sound after own idle quiet queues devices fabric =
+restarted old new events later invariants after own idle quiet queues devices fabric =
     let emptied : IsEmptied old.iommu new.iommu =
-    emptied_rung old.iommu (turned_off_and_on mmio old.iommu) new.iommu (emptied_at_once old.iommu (sound.ready.ring sound.started).on)
+    emptied_rung old.iommu (turned_off_and_on mmio old.iommu) new.iommu (emptied_at_once old.iommu (invariants.ready.ring invariants.started).on)
     (rung_all (restart_commands old.driver.devices (completion_address (length old.memory)) (last_fence old.driver + 1)) old.memory new.memory (turned_off_and_on mmio old.iommu) new.iommu queues.queued) in
     let size : length new.memory ≡ length old.memory =
-    after.ready.stand.size ∙ ap (λ (d : DriverState). length d.marks) queues.driver ∙ sym sound.ready.stand.size in
+    after.ready.stand.size ∙ ap (λ (d : DriverState). length d.owners) queues.driver ∙ sym invariants.ready.stand.size in
     let requests = requests_all old.driver.devices in
     let few = own.few in
     record {
@@ -163,8 +163,8 @@ restarted old new events later sound after own idle quiet queues devices fabric 
       taking = emptied.status;
       waiting = queues.list ∙ ap (λ n. map stands.Command (restart_commands old.driver.devices (completion_address n) (last_fence old.driver + 1))) (sym size);
       plain = rw devices (plain_all (HasCache old.devices) old.driver.devices
-          (λ k device at ats. asks_so_caches old events device.id device.attachment sound (attachment_is old.driver.devices device.id device (device_at old.driver.devices k device own.ids at)) ats));
-      owners = λ slot there. absurd (in_none slot (subst (λ (l : List Slot). Contains l slot) emptied.slots there));
+          (λ k device at ats. asks_so_caches old events device.id device.attachment invariants (attachment_is old.driver.devices device.id device (device_at old.driver.devices k device own.ids at)) ats));
+      slot_owners = λ slot there. absurd (in_none slot (subst (λ (l : List Slot). Contains l slot) emptied.slots there));
       words = rw emptied.slots (words_of_none new.fabric);
       room = rw emptied.slots (omega (arith, requests, few));
       few = rw (fabric, quiet) (omega (arith, requests, few));

@@ -9,9 +9,9 @@ pub went_none : {S : Type 0} (happens : S → Event → Outcome → S → Type 0
 went_none happens Are old are = record { events = []; outcomes = []; takes = refl; order = are; counted = refl }
 
 -- one
-pub went_once : {S : Type 0} (happens : S → Event → Outcome → S → Type 0) (Are : List Event → List Outcome → Type 0) (old new : S) (event : Event) (told : Outcome)
-    → Are (event ∷ []) (told ∷ []) → happens old event told new → Went happens Are old 1 new
-went_once happens Are old new event told are next = record { events = event ∷ []; outcomes = told ∷ []; takes = (new, next, refl); order = are; counted = refl }
+pub went_once : {S : Type 0} (happens : S → Event → Outcome → S → Type 0) (Are : List Event → List Outcome → Type 0) (old new : S) (event : Event) (reply : Outcome)
+    → Are (event ∷ []) (reply ∷ []) → happens old event reply new → Went happens Are old 1 new
+went_once happens Are old new event reply are next = record { events = event ∷ []; outcomes = reply ∷ []; takes = (new, next, refl); order = are; counted = refl }
 
 takes_both : {S : Type 0} (happens : S → Event → Outcome → S → Type 0) (old mid new : S) (events more : List Event) (outcomes others : List Outcome)
     → Takes happens old events outcomes mid → Takes happens mid more others new → Takes happens old (events ++ more) (outcomes ++ others) new
@@ -52,30 +52,30 @@ went_both happens One Other Both old mid new n m join first rest =
     }
 
 -- one before those
-pub went_first : {S : Type 0} (happens : S → Event → Outcome → S → Type 0) (Other Both : List Event → List Outcome → Type 0) (old mid new : S) (n : ℕ) (event : Event) (told : Outcome)
-    → ((those : List Event) (others : List Outcome) → length those ≡ length others → Other those others → Both (event ∷ those) (told ∷ others))
-    → happens old event told mid → Went happens Other mid n new → Went happens Both old (1 + n) new
-went_first happens Other Both old mid new n event told join first rest =
+pub went_first : {S : Type 0} (happens : S → Event → Outcome → S → Type 0) (Other Both : List Event → List Outcome → Type 0) (old mid new : S) (n : ℕ) (event : Event) (reply : Outcome)
+    → ((those : List Event) (others : List Outcome) → length those ≡ length others → Other those others → Both (event ∷ those) (reply ∷ others))
+    → happens old event reply mid → Went happens Other mid n new → Went happens Both old (1 + n) new
+went_first happens Other Both old mid new n event reply join first rest =
     let others = rest.counted in
     record {
       events = event ∷ rest.events;
-      outcomes = told ∷ rest.outcomes;
+      outcomes = reply ∷ rest.outcomes;
       takes = (mid, first, rest.takes);
       order = join rest.events rest.outcomes (as_long happens mid new rest.events rest.outcomes rest.takes) rest.order;
       counted = omega (arith, others);
     }
 
 -- one behind these
-pub went_more : {S : Type 0} (happens : S → Event → Outcome → S → Type 0) (One Both : List Event → List Outcome → Type 0) (old mid new : S) (n : ℕ) (event : Event) (told : Outcome)
-    → ((these : List Event) (outcomes : List Outcome) → One these outcomes → Both (these ++ event ∷ []) (outcomes ++ told ∷ []))
-    → Went happens One old n mid → happens mid event told new → Went happens Both old (n + 1) new
-went_more happens One Both old mid new n event told join first next =
+pub went_more : {S : Type 0} (happens : S → Event → Outcome → S → Type 0) (One Both : List Event → List Outcome → Type 0) (old mid new : S) (n : ℕ) (event : Event) (reply : Outcome)
+    → ((these : List Event) (outcomes : List Outcome) → One these outcomes → Both (these ++ event ∷ []) (outcomes ++ reply ∷ []))
+    → Went happens One old n mid → happens mid event reply new → Went happens Both old (n + 1) new
+went_more happens One Both old mid new n event reply join first next =
     let long = length_both first.events (event ∷ []) in
     let these = first.counted in
     record {
       events = first.events ++ event ∷ [];
-      outcomes = first.outcomes ++ told ∷ [];
-      takes = takes_both happens old mid new first.events (event ∷ []) first.outcomes (told ∷ []) first.takes (new, next, refl);
+      outcomes = first.outcomes ++ reply ∷ [];
+      takes = takes_both happens old mid new first.events (event ∷ []) first.outcomes (reply ∷ []) first.takes (new, next, refl);
       order = join first.events first.outcomes first.order;
       counted = omega (arith, long, these);
     }

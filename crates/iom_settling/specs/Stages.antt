@@ -13,8 +13,8 @@ use Rattle.iom_machine.specs.declared.outcome.Outcome.TheVariants as outcome
 use Rattle.iom_machine.specs.declared.outcome.Fetched.{Fetched}
 use Rattle.iom_machine.specs.declared.outcome.Fetched.TheVariants as tells
 use Rattle.iom_world_effects.specs.Parts.{Parts}
-use Rattle.iom_settling.specs.declared.told.Told.{Told}
-use Rattle.iom_settling.specs.declared.told.Told.TheVariants.{Waits, Empty, Other}
+use Rattle.iom_settling.specs.declared.reply.FetchReply.{FetchReply}
+use Rattle.iom_settling.specs.declared.reply.FetchReply.TheVariants.{Waits, Empty, Other}
 use Rattle.iom_settling.specs.CatchingUp.{NothingIsInFlight, CatchesUp, HasCaughtUp}
 use Rattle.iom_settling.specs.Commands.{requests_among}
 use Rattle.iom_settling.specs.Idle.{waiting_by}
@@ -24,7 +24,7 @@ use Rattle.iom_settling.specs.Went.{Went}
 use Rattle.iom_settling.specs.Weights.{weights}
 
 -- what settling wants to know of an outcome
-abbrev pub brief : Outcome → Told
+abbrev pub brief : Outcome → FetchReply
 brief (outcome.Fetched tells.Waiting) = Waits
 brief (outcome.Fetched tells.Empty) = Empty
 brief _ = Other
@@ -51,7 +51,7 @@ abbrev pub IsInProgress : Parts → ℕ → Type 0
 IsInProgress parts so_far = IsInQueue parts so_far ⊎ IsAtFence parts so_far ⊎ IsBehind parts so_far
 
 -- after a fetch, by what it told: the fence waits; or the queue is empty; or a command was done
-abbrev pub IsAfter : Told → Parts → ℕ → Type 0
+abbrev pub IsAfter : FetchReply → Parts → ℕ → Type 0
 IsAfter Waits parts so_far = CatchesUp parts (last_fence parts.driver) [] × (so_far + weights parts.fabric ≤ 81) × (weights parts.fabric ≤ 80)
 IsAfter Empty parts so_far = HasCaughtUp parts (last_fence parts.driver) × (so_far ≤ 83)
 IsAfter Other parts so_far = IsInProgress parts so_far
@@ -114,7 +114,7 @@ pub record IsWorking {S : Type 0} (parts : S → Parts) (count_of : S → ℕ) (
   pub counted : count_of now ≡ count_of first + events
 
 -- what follows a fetch, by what it told: the deliveries that the fence waits for, or no event
-abbrev pub FollowsFetch : {S : Type 0} → (S → Parts) → (S → ℕ) → (S → Event → Outcome → S → Type 0) → S → ℕ → Told → Option ℕ → S → Type 0
+abbrev pub FollowsFetch : {S : Type 0} → (S → Parts) → (S → ℕ) → (S → Event → Outcome → S → Type 0) → S → ℕ → FetchReply → Option ℕ → S → Type 0
 FollowsFetch parts counted happens old so_far Waits (Some now) new =
     (more : ℕ) × (now ≡ so_far + more) × Went happens AreDeliveries old more new × (counted new ≡ counted old + more) × IsInProgress (parts new) now
 FollowsFetch parts counted happens old so_far Other (Some now) new = (new ≡ old) × (now ≡ so_far) × IsInProgress (parts new) now

@@ -10,10 +10,10 @@
 
 pub mod holds;
 pub mod laws;
+mod reply;
 mod settling;
 mod takes_events;
-mod told;
 
+pub use reply::FetchReply;
 pub use settling::settle;
 pub use takes_events::TakesEvents;
-pub use told::Told;

@@ -9,8 +9,8 @@ ghost use Rattle.iom_settling.specs.Went.{Went};
 ghost use Rattle.iom_settling.specs.Stages.{flights_by, AreCommitsOf, AreDeliveries, AwaitPoll, IsInProgress, IsAfter, FollowsFetch, FetchedOnce, Settled};
 ghost use Rattle.iom_settling.specs.Weights.{weights};
 
+use crate::reply::FetchReply;
 use crate::takes_events::TakesEvents;
-use crate::told::Told;
 use iom_base::Refusal;
 use iom_machine::Event;
 
@@ -55,15 +55,15 @@ fn deliver_all<T: TakesEvents>(world: &mut T) -> u32
 
 /// Where the fence waits for devices, deliveries while there is a message. With these the events so far; None where
 /// the queue was found empty.
-fn after_fetch<T: TakesEvents>(world: &mut T, told: Told, so_far: u32) -> Option<u32>
-    requires stage { IsAfter told (T.parts world.old) so_far }
+fn after_fetch<T: TakesEvents>(world: &mut T, reply: FetchReply, so_far: u32) -> Option<u32>
+    requires stage { IsAfter reply (T.parts world.old) so_far }
     requires count { T.counted world.old + 83 < 2 ^ 64 + so_far }
-    ensures { FollowsFetch T.parts T.counted T.happens world.old so_far told result world.new }
+    ensures { FollowsFetch T.parts T.counted T.happens world.old so_far reply result world.new }
 {
-    match told {
-        Told::Waits => Some(so_far + deliver_all(world)),
-        Told::Empty => None,
-        Told::Other => Some(so_far),
+    match reply {
+        FetchReply::Waits => Some(so_far + deliver_all(world)),
+        FetchReply::Empty => None,
+        FetchReply::Other => Some(so_far),
     }
 }
 
@@ -73,8 +73,8 @@ fn fetch_once<T: TakesEvents>(world: &mut T, so_far: u32) -> Option<u32>
     requires count { T.counted world.old + 83 < 2 ^ 64 + so_far }
     ensures { FetchedOnce T.parts T.counted T.happens world.old so_far result world.new }
 {
-    let told = world.take(&Event::Fetch);
-    after_fetch(world, told, so_far + 1)
+    let reply = world.take(&Event::Fetch);
+    after_fetch(world, reply, so_far + 1)
 }
 
 /// Fetches until the queue is empty, with deliveries where the fence waits for devices. How many of both.

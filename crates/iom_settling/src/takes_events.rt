@@ -1,18 +1,18 @@
 ghost use Rattle.std.specs.Prelude.{◌≡◌, ◌==◌, ◌+◌, ◌<◌, ◌≤◌, ◌^◌, ℕ, List, length, nat_le, nat_lt};
 ghost use Rattle.iom_driver.specs.Fences.{last_fence};
 ghost use Rattle.iom_inflight.specs.Flights.{first_busy};
-ghost use Rattle.iom_inflight.specs.Sound.{AreFlights};
+ghost use Rattle.iom_inflight.specs.Invariant.{AreFlights};
 ghost use Rattle.iom_iommu.specs.Parts.{flights_of};
 ghost use Rattle.iom_machine.specs.declared.event.Event as spec;
 ghost use Rattle.iom_machine.specs.declared.outcome.Outcome.{Outcome};
-ghost use Rattle.iom_world_effects.specs.Does.{Does};
+ghost use Rattle.iom_world_effects.specs.Effect.{Effect};
 ghost use Rattle.iom_world_effects.specs.Parts.{Parts};
-ghost use Rattle.iom_world_effects.specs.Sound.{AreSound};
-ghost use Rattle.iom_world_effects.specs.Stays.{KeepsCommands};
-ghost use Rattle.iom_world_effects.proofs.DriverLemmas.{IsSoundDriver};
+ghost use Rattle.iom_world_effects.specs.Invariant.{PartsInvariant};
+ghost use Rattle.iom_world_effects.specs.Unchanged.{KeepsCommands};
+ghost use Rattle.iom_world_effects.proofs.DriverLemmas.{DriverInvariant};
 ghost use Rattle.iom_settling.specs.Stages.{brief};
 
-use crate::told::Told;
+use crate::reply::FetchReply;
 use iom_base::DeviceId;
 use iom_machine::Event;
 
@@ -49,22 +49,22 @@ pub trait TakesEvents {
         ensures { result ≡ nat_le 4294967295 (last_fence (parts self.now).driver) };
 
     /// One event.
-    fn take(&mut self, event: &Event) -> Told
+    fn take(&mut self, event: &Event) -> FetchReply
         requires count { counted self.old + 1 < 2 ^ 64 }
-        ensures { (told : Outcome) × happens self.old event.now told self.new × (result ≡ brief told) };
+        ensures { (reply : Outcome) × happens self.old event.now reply self.new × (result ≡ brief reply) };
 
     /// An event does what the call behind it says.
-    ghost does: { (x y : Self) (event : spec.Event) (told : Outcome) → happens x event told y → (disks : List ℕ) × Does disks (parts x) event told (parts y) };
+    ghost effect: { (x y : Self) (event : spec.Event) (reply : Outcome) → happens x event reply y → (disks : List ℕ) × Effect disks (parts x) event reply (parts y) };
 
     /// The commands that wait change by some events alone.
-    ghost commands: { (x y : Self) (event : spec.Event) (told : Outcome) → happens x event told y → KeepsCommands event (parts x) (parts y) };
+    ghost commands: { (x y : Self) (event : spec.Event) (reply : Outcome) → happens x event reply y → KeepsCommands event (parts x) (parts y) };
 
     /// Each event is counted.
-    ghost counts: { (x y : Self) (event : spec.Event) (told : Outcome) → happens x event told y → counted y ≡ counted x + 1 };
+    ghost counts: { (x y : Self) (event : spec.Event) (reply : Outcome) → happens x event reply y → counted y ≡ counted x + 1 };
 
-    /// The parts are always sound.
-    ghost sound: { (x : Self) → AreSound (parts x) (counted x) };
+    /// The parts always keep their invariant.
+    ghost invariants: { (x : Self) → PartsInvariant (parts x) (counted x) };
 
     /// And so is the driver by itself.
-    ghost own: { (x : Self) → IsSoundDriver (parts x).driver };
+    ghost own: { (x : Self) → DriverInvariant (parts x).driver };
 }

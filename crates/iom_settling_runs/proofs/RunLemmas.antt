@@ -20,10 +20,10 @@ use Rattle.iom_settling.specs.Stages.{flights_by, Settled}
 use Rattle.iom_settling.proofs.HoldLemmas.{run_holds}
 use Rattle.iom_settling.proofs.OrderLemmas.{all_settling}
 use Rattle.iom_iommu.specs.Parts.{flights_of}
-use Rattle.iom_world_effects.specs.Sound.{HaveDistinctIds, plugged_ids, row_ids}
+use Rattle.iom_world_effects.specs.Invariant.{HaveDistinctIds, plugged_ids, row_ids}
 use Rattle.iom_world.specs.Happens.{Happens}
 use Rattle.iom_world.specs.Runs.{GoesThrough, uncounted}
-use Rattle.iom_world.specs.Seen.{Seen}
+use Rattle.iom_world.specs.Shown.{Shown}
 use Rattle.iom_world.specs.Shows.{Shows}
 use Rattle.iom_settling_runs.specs.Laws.{GoesThroughAll}
 use Rattle.iom_settling_runs.proofs.TurnLemmas.{same_turns}
@@ -59,44 +59,44 @@ some_pending confirmed given = by (nat_lt confirmed given) refl
         let none : given - confirmed ≡ 0 = omega (arith, few) in
         ap (λ n. nat_lt 0 n) (sym none)
 
-still_pending : (seen : Seen) (state : State) → Shows seen state → nat_lt seen.parts.driver.confirmed seen.parts.driver.given ≡ nat_lt 0 (pending_tickets state)
-still_pending seen state shows =
-    some_pending seen.parts.driver.confirmed seen.parts.driver.given
-    ∙ ap (λ n. nat_lt 0 (n - seen.parts.driver.confirmed)) (sym shows.0.given)
+still_pending : (shown : Shown) (state : State) → Shows shown state → nat_lt shown.parts.driver.confirmed shown.parts.driver.given ≡ nat_lt 0 (pending_tickets state)
+still_pending shown state shows =
+    some_pending shown.parts.driver.confirmed shown.parts.driver.given
+    ∙ ap (λ n. nat_lt 0 (n - shown.parts.driver.confirmed)) (sym shows.0.given)
     ∙ ap (λ n. nat_lt 0 (state.last_ticket - n)) (sym shows.0.confirmed)
 
 -- no two devices have one id, and each has its row, in their order; so the same accesses are in flight, in the same order: so these events are in the order of settling for either
-abbrev pub HaveOwnRows : Seen → Type 0
-HaveOwnRows seen = HaveDistinctIds seen.parts.devices × (row_ids (flights_of seen.parts.iommu).rows ≡ plugged_ids seen.parts.devices)
+abbrev pub HaveOwnRows : Shown → Type 0
+HaveOwnRows shown = HaveDistinctIds shown.parts.devices × (row_ids (flights_of shown.parts.iommu).rows ≡ plugged_ids shown.parts.devices)
 
-same_order : (seen : Seen) (state : State) → HaveOwnRows seen → Shows seen state → (pending : Bool) (events : List Event) (outcomes : List Outcome)
-    → AreInSettlingOrder pending (flights_by seen.parts) events outcomes → AreInSettlingOrder pending (in_flight_by state.devices) events outcomes
-same_order seen state own shows pending events outcomes order =
-    let turns = same_turns _ _ seen.parts.devices own.0 own.1 in
+same_order : (shown : Shown) (state : State) → HaveOwnRows shown → Shows shown state → (pending : Bool) (events : List Event) (outcomes : List Outcome)
+    → AreInSettlingOrder pending (flights_by shown.parts) events outcomes → AreInSettlingOrder pending (in_flight_by state.devices) events outcomes
+same_order shown state own shows pending events outcomes order =
+    let turns = same_turns _ _ shown.parts.devices own.0 own.1 in
     subst (λ (ids : List ℕ). AreInSettlingOrder pending ids events outcomes) (sym (ap in_flight_by shows.0.devices ∙ turns)) order
 
-module _ {S : Type 0} (seen_of : S → Seen) (own : (s : S) → HaveOwnRows (seen_of s)) where
+module _ {S : Type 0} (shown_of : S → Shown) (own : (s : S) → HaveOwnRows (shown_of s)) where
   -- the event does so to what is seen as a world
-  abbrev Does : S → Event → Outcome → S → Type 0
-  Does old event told new = Happens (seen_of old) event told (seen_of new)
+  abbrev Effect : S → Event → Outcome → S → Type 0
+  Effect old event reply new = Happens (shown_of old) event reply (shown_of new)
 
   -- events that it took one after another are a run of the machine, which it goes through
-  ran : (old new : S) (events : List Event) (outcomes : List Outcome) (state : State) → Shows (seen_of old) state → Takes Does old events outcomes new
-      → (last : State) × (run : Run state events outcomes last) × Shows (seen_of new) last
-      × GoesThrough state (seen_of old) events outcomes (uncounted events) last run (seen_of new)
+  ran : (old new : S) (events : List Event) (outcomes : List Outcome) (state : State) → Shows (shown_of old) state → Takes Effect old events outcomes new
+      → (last : State) × (run : Run state events outcomes last) × Shows (shown_of new) last
+      × GoesThrough state (shown_of old) events outcomes (uncounted events) last run (shown_of new)
   ran old new [] [] state shows takes =
-      let still = subst (λ (s : S). Shows (seen_of s) state) (sym takes) shows in (state, refl, still, (still, ap seen_of takes))
-  ran old new [] (told ∷ outcomes) state shows takes = absurd takes
+      let still = subst (λ (s : S). Shows (shown_of s) state) (sym takes) shows in (state, refl, still, (still, ap shown_of takes))
+  ran old new [] (reply ∷ outcomes) state shows takes = absurd takes
   ran old new (event ∷ events) [] state shows takes = absurd takes
-  ran old new (event ∷ events) (told ∷ outcomes) state shows takes =
+  ran old new (event ∷ events) (reply ∷ outcomes) state shows takes =
       let next = takes.1.step state shows in
       let rest = ran takes.0 new events outcomes next.0 next.2 takes.2 in
-      (rest.0, (next.0, next.1, rest.1), rest.2, (shows, seen_of takes.0, takes.1, tt, rest.3))
+      (rest.0, (next.0, next.1, rest.1), rest.2, (shows, shown_of takes.0, takes.1, tt, rest.3))
 
-  pub settles : (old new : S) (answer : Result ℕ Refusal) (state : State) → Shows (seen_of old) state
-      → Settled (λ (s : S). (seen_of s).parts) (λ (before : S) (event : Event) (told : Outcome) (after : S). Happens (seen_of before) event told (seen_of after)) old answer new
-      → (last : State) × (by_it : Settles state answer last) × Shows (seen_of new) last
-      × GoesThroughAll state (seen_of old) last (ran_in state answer last by_it) (seen_of new)
+  pub settles : (old new : S) (answer : Result ℕ Refusal) (state : State) → Shows (shown_of old) state
+      → Settled (λ (s : S). (shown_of s).parts) (λ (before : S) (event : Event) (reply : Outcome) (after : S). Happens (shown_of before) event reply (shown_of after)) old answer new
+      → (last : State) × (by_it : Settles state answer last) × Shows (shown_of new) last
+      × GoesThroughAll state (shown_of old) last (ran_in state answer last by_it) (shown_of new)
   settles old new (Ok count) state shows (went, few, idle, confirmed) =
       let run = ran old new went.events went.outcomes state shows went.takes in
       let given = run.2.0.given in
@@ -106,11 +106,11 @@ module _ {S : Type 0} (seen_of : S → Seen) (own : (s : S) → HaveOwnRows (see
           events = went.events;
           outcomes = went.outcomes;
           run = run.1;
-          order = subst (λ (b : Bool). AreInSettlingOrder b (in_flight_by state.devices) went.events went.outcomes) (still_pending (seen_of old) state shows)
-              (same_order (seen_of old) state (own old) shows _ went.events went.outcomes went.order);
+          order = subst (λ (b : Bool). AreInSettlingOrder b (in_flight_by state.devices) went.events went.outcomes) (still_pending (shown_of old) state shows)
+              (same_order (shown_of old) state (own old) shows _ went.events went.outcomes went.order);
           counted = went.counted;
           few = omega (arith, few);
-          idle = ap count_in_flight run.2.0.devices ∙ idle_all _ _ (seen_of new).parts.devices idle;
+          idle = ap count_in_flight run.2.0.devices ∙ idle_all _ _ (shown_of new).parts.devices idle;
           confirmed = omega (arith, given, last, confirmed);
           held = run_holds state run.0 went.events went.outcomes run.1 (all_settling _ _ went.events went.outcomes went.order);
         },
@@ -126,8 +126,8 @@ module _ {S : Type 0} (seen_of : S → Seen) (own : (s : S) → HaveOwnRows (see
           events = went.1.events;
           outcomes = went.1.outcomes;
           run = run.1;
-          order = same_order (seen_of old) state (own old) shows false went.1.events went.1.outcomes went.1.order;
-          idle = ap count_in_flight run.2.0.devices ∙ idle_all _ _ (seen_of new).parts.devices idle;
+          order = same_order (shown_of old) state (own old) shows false went.1.events went.1.outcomes went.1.order;
+          idle = ap count_in_flight run.2.0.devices ∙ idle_all _ _ (shown_of new).parts.devices idle;
           used_up = used_up;
           unconfirmed = omega (arith, given, last, unconfirmed);
         },

@@ -5,7 +5,7 @@ use Rattle.iom_device.specs.declared.device.Device.{Device}
 use Rattle.iom_driver.specs.declared.device.Device as known
 use Rattle.iom_inflight.specs.Flights.{NumberedAccess, FlightRow}
 use Rattle.iom_world_effects.specs.Devices.{shown_devices}
-use Rattle.iom_world_effects.specs.Sound.{HaveDistinctIds, plugged_ids, row_ids}
+use Rattle.iom_world_effects.specs.Invariant.{HaveDistinctIds, plugged_ids, row_ids}
 use Rattle.iom_settling.specs.Idle.{waiting_by}
 use Rattle.iom_settling.specs.Settles.{in_flight_by}
 

@@ -96,13 +96,13 @@ GuestFramesAreLed = (levels levels' : ℕ) (frames : List (List ℕ)) (first sec
 
 -- what a fault tells, of an access of this kind, which numbers it: a guest page fault alone tells an address, which is
 -- that of an entry, eight bytes, where the walk's own read failed
-abbrev pub IsTold : AccessKind → WalkFault → Type 0
-IsTold kind fault =
+abbrev pub IsReported : AccessKind → WalkFault → Type 0
+IsReported kind fault =
     ((fault.cause ≡ guest_page_fault_of kind) × (fault.implicit ≡ true → fault.gpa % entry_size ≡ 0))
     ⊎ (((fault.cause ≡ page_fault_of kind) ⊎ (fault.cause ≡ access_fault_of kind))
     × (fault.gpa ≡ 0) × (fault.implicit ≡ false))
 
 -- where both stages stop, the fault tells this
-abbrev pub FaultsAreTold : Type 0
-FaultsAreTold = (levels levels' : ℕ) (frames : List (List ℕ)) (first second address : ℕ) (kind : AccessKind) (fault : WalkFault)
-    → StopsBoth levels levels' frames first second address kind fault → IsTold kind fault
+abbrev pub FaultsAreReported : Type 0
+FaultsAreReported = (levels levels' : ℕ) (frames : List (List ℕ)) (first second address : ℕ) (kind : AccessKind) (fault : WalkFault)
+    → StopsBoth levels levels' frames first second address kind fault → IsReported kind fault

@@ -85,7 +85,8 @@ pub(crate) struct Faults {
     pub(crate) access: Cause,
 }
 
-/// Follows the indices, one a level, from the table at `root`: one load a level and no more.
+/// Follows the indices, one a level, from the table at `root`: one load a level and no more. It is the "Virtual Address
+/// Translation Process" of the Privileged Architecture: step 1 at `root`, and a turn for steps 2 to 4.
 #[inline(always)]
 pub(crate) fn walk<B: Bytes>(
     memory: &B,
@@ -101,8 +102,11 @@ pub(crate) fn walk<B: Bytes>(
 {
     let mut table = root;
     for (k, index) in indices.iter().enumerate() {
+        // Step 2, of which `Outside` comes, and step 3, of which `Invalid` does.
         match entry_at(memory, table, *index) {
+            // Step 4.
             Entry::Pointer(next) => table = next,
+            // Step 5 and those behind it.
             Entry::Leaf(base, rights) => {
                 return match judge_leaf(kind, base, rights, &indices[k + 1..]) {
                     Some(leaf) => Ok(leaf),
@@ -113,6 +117,7 @@ pub(crate) fn walk<B: Bytes>(
             Entry::Outside => return Err(faults.access),
         }
     }
+    // Step 4, where the last level has a pointer.
     Err(faults.page)
 }
 

@@ -6,7 +6,7 @@ use Rattle.iom_base.specs.declared.rights.Rights.{Rights}
 use Rattle.iom_stage_walk.specs.Entries.{Entries, slot}
 use Rattle.iom_stage_walk.specs.Paths.{Reaches, StopsAs}
 use Rattle.iom_stage_walk.specs.declared.entry.Entry.TheVariants.{Invalid, Leaf, Outside, Pointer}
-use Rattle.iom_standing_walks.specs.Standing.{PointersStay, StandingStays, StandingWalksAreOfNow}
+use Rattle.iom_standing_walks.specs.Standing.{PointersUnchanged, StandingStays, StandingWalksAreOfNow}
 use Rattle.iom_page_table.specs.Trees.{IsTableAt}
 
 module _ (e : Entries) (kind : AccessKind) (page access : Cause) where
@@ -48,7 +48,7 @@ pub table_push : (e : Entries) (root table : ℕ) (done : List ℕ) → IsTableA
 table_push e root table [] same i next at = (next, subst (λ t. e (slot t i) ≡ Pointer next) same at, refl)
 table_push e root table (j ∷ done) (middle, there, rest) i next at = (middle, there, table_push e middle table done rest i next at)
 
-stays_from : (old new : Entries) (root : ℕ) → PointersStay old new root → (prefix : List ℕ) (here table : ℕ) (is : List ℕ) → IsTableAt old root prefix here → IsTableAt old here is table → IsTableAt new here is table
+stays_from : (old new : Entries) (root : ℕ) → PointersUnchanged old new root → (prefix : List ℕ) (here table : ℕ) (is : List ℕ) → IsTableAt old root prefix here → IsTableAt old here is table → IsTableAt new here is table
 stays_from old new root stay prefix here table [] before same = same
 stays_from old new root stay prefix here table (i ∷ is) before (next, at, rest) =
     (next, stay prefix here i next before at, stays_from old new root stay (prefix ++ i ∷ []) next table is (table_push old root here prefix before i next at) rest)

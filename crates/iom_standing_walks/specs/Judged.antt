@@ -25,7 +25,7 @@ use Rattle.iom_standing_walks.specs.Positions.{AtEntry, ToEntry, ToPage, rest_of
 -- the page has this leaf, which allows the access; or none that does, and the fault is this one
 abbrev pub IsJudgedBy : Option PageLeaf → AccessKind → WalkFault → Result Walked WalkFault → Type 0
 IsJudgedBy leaf kind fault (Ok walked) = (leaf ≡ Some (record { frame = walked.frame; rights = walked.rights })) × (allows walked.rights kind ≡ true)
-IsJudgedBy leaf kind fault (Err told) = (told ≡ fault) × ((own : PageLeaf) → leaf ≡ Some own → allows own.rights kind ≡ false)
+IsJudgedBy leaf kind fault (Err reply) = (reply ≡ fault) × ((own : PageLeaf) → leaf ≡ Some own → allows own.rights kind ≡ false)
 
 -- the leaf, if there is one, lies in memory
 abbrev pub LiesIn : List (List ℕ) → Option PageLeaf → Type 0

@@ -14,8 +14,8 @@ use Rattle.iom_walk_loads.specs.Loads.{Walk, Ends, after_load, made_from}
 use Rattle.iom_walk_loads.specs.Tables.{down, first_rest, first_walk, is_canonical, lead, lead_rest}
 
 -- no pointer of the tables under the root goes or changes: new ones may come, and leaves come and go
-abbrev pub PointersStay : Entries → Entries → ℕ → Type 0
-PointersStay old new root = (prefix : List ℕ) (table i next : ℕ)
+abbrev pub PointersUnchanged : Entries → Entries → ℕ → Type 0
+PointersUnchanged old new root = (prefix : List ℕ) (table i next : ℕ)
     → IsTableAt old root prefix table → old (slot table i) ≡ Pointer next → new (slot table i) ≡ Pointer next
 
 -- ONE LOAD IN TABLES THAT STAY: the walk goes on in the table that the entry names, or finds what a walk from the root reaches now, or stops as one would now.
@@ -53,5 +53,5 @@ SecondEndsAsNow = (memory : List (List ℕ)) (levels root : ℕ) (kind original 
 -- a table in hand stays so where no pointer goes, and the next one is so once its pointer is loaded
 abbrev pub StandingStays : Type 0
 StandingStays = (old new : Entries) (root table : ℕ) (done : List ℕ) → IsTableAt old root done table
-    → (PointersStay old new root → IsTableAt new root done table)
+    → (PointersUnchanged old new root → IsTableAt new root done table)
     × ((i next : ℕ) → old (slot table i) ≡ Pointer next → IsTableAt old root (done ++ i ∷ []) next)

@@ -5,7 +5,7 @@ use Rattle.iom_walk_loads.specs.Directory.{directory_walk}
 use Rattle.iom_walk_loads.specs.Tables.{first_rest, second_rest}
 use Rattle.iom_stepped_walk.specs.Directories.{directory_rest}
 use Rattle.iom_stepped_walk.specs.Positions.{address_of, entries_below, entry_index, in_both, indices_of, rest_of}
-use Rattle.iom_stepped_walk.specs.Told.{told}
+use Rattle.iom_stepped_walk.specs.Filled.{filled_places}
 use Rattle.iom_stepped_walk.specs.declared.directory.DirectoryWalk.{DirectoryWalk}
 use Rattle.iom_stepped_walk.specs.declared.guest.Both.{Both}
 use Rattle.iom_stepped_walk.specs.declared.guest.GuestEntry.{GuestEntry}
@@ -26,7 +26,7 @@ abbrev pub TowardEntryStands : Type 0
 TowardEntryStands = (frames : ℕ) (both : Both) (entry : GuestEntry) (place : Place)
     → rest_of frames (ToGuestEntry both entry place)
     ≡ position.rest_of (in_both frames both)
-    (position.ToEntry (told entry.loaded.frames) entry.table.number (entry_index entry both.asked.address) (entries_below entry both.asked.address)
+    (position.ToEntry (filled_places entry.loaded.frames) entry.table.number (entry_index entry both.asked.address) (entries_below entry both.asked.address)
     place.table.number (indices_of place (address_of entry both.asked.address)))
 
 -- at that entry
@@ -34,14 +34,14 @@ abbrev pub AtEntryStands : Type 0
 AtEntryStands = (frames : ℕ) (both : Both) (entry : GuestEntry) (frame : ℕ)
     → rest_of frames (InGuestTable both entry frame)
     ≡ position.rest_of (in_both frames both)
-    (position.AtEntry (told entry.loaded.frames) entry.table.number (entry_index entry both.asked.address) (entries_below entry both.asked.address) frame)
+    (position.AtEntry (filled_places entry.loaded.frames) entry.table.number (entry_index entry both.asked.address) (entries_below entry both.asked.address) frame)
 
 -- on the way to the page that the guest's tables gave
 abbrev pub TowardPageStands : Type 0
 TowardPageStands = (frames : ℕ) (both : Both) (page : GuestPage) (place : Place)
     → rest_of frames (ToGuestPage both page place)
     ≡ position.rest_of (in_both frames both)
-    (position.ToPage (told page.loaded.frames) page.number page.rights page.level place.table.number (indices_of place (guest_address page.number both.asked.address)))
+    (position.ToPage (filled_places page.loaded.frames) page.number page.rights page.level place.table.number (indices_of place (guest_address page.number both.asked.address)))
 
 -- in a page of the directory
 abbrev pub DirectoryStands : Type 0

@@ -31,7 +31,7 @@ pub fn standing_law()
     ensures now { StandingWalksAreOfNow }
     ensures first { FirstEndsAsNow }
     ensures second { SecondEndsAsNow }
-    ensures stays { StandingStays }
+    ensures unchanged { StandingStays }
 {}
 
 /// In a directory whose pages stay a load that ends a walk gives what the id's path has then, a context or a cause; and

@@ -2,7 +2,7 @@
 ghost use Rattle.std.specs.Prelude.{◌≡◌, ◌≢◌, ℕ};
 ghost use Rattle.iom_registers.specs.declared.directory.DirectoryMode.TheVariants.{Bare};
 ghost use Rattle.iom_stepped_walk.specs.Directories.{still_locating};
-ghost use Rattle.iom_tlb.specs.Content.{TranslationsStay};
+ghost use Rattle.iom_tlb.specs.Content.{TranslationsUnchanged};
 ghost use Rattle.iom_stepped_requests.specs.Serving.{begin, begun_anew, in_directory, way_to_context, without_directory};
 ghost use Rattle.iom_stepped_requests.specs.Standing.{request_of, still_serving};
 
@@ -47,7 +47,7 @@ pub(crate) fn in_directory<C: TransCache>(
 ) -> Serving
     ensures served { (frames : ℕ) → still_serving frames result
         ≡ in_directory frames anew (C.content translations.old) request (still_locating locating) }
-    ensures stays { TranslationsStay (C.content translations.old) (C.content translations.new) }
+    ensures unchanged { TranslationsUnchanged (C.content translations.old) (C.content translations.new) }
 {
     match locating {
         Locating::GoesOn(walk) => Serving::GoesOn(RequestWalk::InDirectory {
@@ -68,7 +68,7 @@ pub fn begin<C: TransCache>(
     request: Request,
 ) -> Serving
     ensures begun { (frames : ℕ) → still_serving frames result ≡ begin frames ddtp cached (C.content translations.old) request }
-    ensures stays { TranslationsStay (C.content translations.old) (C.content translations.new) }
+    ensures unchanged { TranslationsUnchanged (C.content translations.old) (C.content translations.new) }
 {
     if let Some(answer) = without_directory(ddtp.mode) {
         return Serving::Served(answer);

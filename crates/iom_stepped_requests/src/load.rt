@@ -2,7 +2,7 @@
 ghost use Rattle.std.specs.Prelude.{◌≡◌, ℕ, length};
 ghost use Rattle.iom_stepped_walk.specs.Directories.{still_locating};
 ghost use Rattle.iom_stepped_walk.specs.Positions.{remains};
-ghost use Rattle.iom_tlb.specs.Content.{TranslationsStay};
+ghost use Rattle.iom_tlb.specs.Content.{TranslationsUnchanged};
 ghost use Rattle.iom_stepped_requests.specs.Serving.{kept, kept_in_directory, kept_in_tables, load};
 ghost use Rattle.iom_stepped_requests.specs.Standing.{stands, still_serving};
 
@@ -63,7 +63,7 @@ impl RequestWalk {
         ensures serving { still_serving (length (B.frames_of memory.now)) result.serving
             ≡ load (B.frames_of memory.now) (C.content translations.old) (stands (length (B.frames_of memory.now)) self) }
         ensures kept { result.kept ≡ kept (B.frames_of memory.now) (stands (length (B.frames_of memory.now)) self) }
-        ensures stays { TranslationsStay (C.content translations.old) (C.content translations.new) }
+        ensures unchanged { TranslationsUnchanged (C.content translations.old) (C.content translations.new) }
     {
         match self {
             RequestWalk::InDirectory {

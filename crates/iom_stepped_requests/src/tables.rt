@@ -2,7 +2,7 @@
 ghost use Rattle.std.specs.Prelude.{◌≡◌, ℕ};
 ghost use Rattle.iom_stage_walk.specs.Both.{plain};
 ghost use Rattle.iom_stepped_walk.specs.Positions.{remains};
-ghost use Rattle.iom_tlb.specs.Content.{TranslationsStay};
+ghost use Rattle.iom_tlb.specs.Content.{TranslationsUnchanged};
 ghost use Rattle.iom_stepped_requests.specs.Serving.{answer_of, by_context, by_located, in_tables, looked_up, space_of};
 ghost use Rattle.iom_stepped_requests.specs.Standing.{still_serving};
 
@@ -93,7 +93,7 @@ fn look_up<C: TransCache>(
     context: &Context,
 ) -> Option<Translation>
     ensures found { result ≡ looked_up anew (C.content translations.old) request context.now }
-    ensures stays { TranslationsStay (C.content translations.old) (C.content translations.new) }
+    ensures unchanged { TranslationsUnchanged (C.content translations.old) (C.content translations.new) }
 {
     if anew {
         return None;
@@ -116,7 +116,7 @@ pub(crate) fn by_located<C: TransCache>(
     translations: &mut C,
 ) -> Serving
     ensures served { (frames : ℕ) → still_serving frames result ≡ by_located frames anew (C.content translations.old) request found }
-    ensures stays { TranslationsStay (C.content translations.old) (C.content translations.new) }
+    ensures unchanged { TranslationsUnchanged (C.content translations.old) (C.content translations.new) }
 {
     match found {
         Ok(context) => {

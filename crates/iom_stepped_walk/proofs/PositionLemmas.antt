@@ -23,7 +23,7 @@ use Rattle.iom_stepped_walk.specs.Indices.{indices_below, indices_from}
 use Rattle.iom_stepped_walk.specs.Positions.{NamesBelow, address_of, entries_below, entry_index, entry_rest, in_both, indices_of_entry, rest_of}
 use Rattle.iom_stepped_walk.specs.Roots.{BeginsFirst, BeginsSecond, lead_from}
 use Rattle.iom_stepped_walk.specs.Steps.{Makes, TableAnswer, resumed}
-use Rattle.iom_stepped_walk.specs.Told.{told}
+use Rattle.iom_stepped_walk.specs.Filled.{filled_places}
 use Rattle.iom_stepped_walk.specs.declared.guest.Both.{Both}
 use Rattle.iom_stepped_walk.specs.declared.guest.GuestEntry.{GuestEntry}
 use Rattle.iom_stepped_walk.specs.declared.guest.GuestPage.{GuestPage}
@@ -82,7 +82,7 @@ second_begins frames size root address kind begun begins = sym (begins frames ki
 pub to_entry_is : (frames : ℕ) (both : Both) (entry : GuestEntry) (guest : ℕ) (begun : Option Place) → guest ≡ address_of entry both.asked.address
     → BeginsSecond both.size both.second guest begun
     → lead_from frames Read both.asked.kind (entry_led frames both entry) (entry_unread frames both entry) (address_of entry both.asked.address) begun
-    ≡ guest_down (in_both frames both) (told entry.loaded.frames) entry.table.number (indices_of_entry entry both.asked.address)
+    ≡ guest_down (in_both frames both) (filled_places entry.loaded.frames) entry.table.number (indices_of_entry entry both.asked.address)
 to_entry_is frames both entry guest begun is begins =
     sym (subst (λ g. lead frames (levels_of both.size) both.second.number Read both.asked.kind (entry_led frames both entry) (entry_unread frames both entry) g
     ≡ lead_from frames Read both.asked.kind (entry_led frames both entry) (entry_unread frames both entry) g begun) is
@@ -91,11 +91,11 @@ to_entry_is frames both entry guest begun is begins =
 -- to the page that a guest's tables give
 pub to_page_is : (frames : ℕ) (both : Both) (page : GuestPage) (begun : Option Place)
     → BeginsSecond both.size both.second (guest_address page.number both.asked.address) begun
-    → lead_from frames both.asked.kind both.asked.kind (reached (in_both frames both) (told page.loaded.frames) page.rights page.level) (unreached (in_both frames both) page.number)
+    → lead_from frames both.asked.kind both.asked.kind (reached (in_both frames both) (filled_places page.loaded.frames) page.rights page.level) (unreached (in_both frames both) page.number)
     (guest_address page.number both.asked.address) begun
-    ≡ page_walk (in_both frames both) (told page.loaded.frames) page.number page.rights page.level
+    ≡ page_walk (in_both frames both) (filled_places page.loaded.frames) page.number page.rights page.level
 to_page_is frames both page begun begins =
-    sym (begins frames both.asked.kind both.asked.kind (reached (in_both frames both) (told page.loaded.frames) page.rights page.level) (unreached (in_both frames both) page.number))
+    sym (begins frames both.asked.kind both.asked.kind (reached (in_both frames both) (filled_places page.loaded.frames) page.rights page.level) (unreached (in_both frames both) page.number))
 
 -- one load on the way to an entry of a guest's table
 pub toward_entry_is : (m : List (List ℕ)) (both : Both) (entry : GuestEntry) (place : Place) (guest : ℕ) (step : Step) → guest ≡ address_of entry both.asked.address
@@ -111,38 +111,38 @@ toward_entry_is m both entry place guest step is makes =
 pub toward_page_is : (m : List (List ℕ)) (both : Both) (page : GuestPage) (place : Place) (step : Step)
     → Makes m both.asked.kind place (guest_address page.number both.asked.address / 4096) step
     → resumed (length m) both.asked.kind (guest_address page.number both.asked.address / 4096) (guest_page_fault_of both.asked.kind) (access_fault_of both.asked.kind)
-    (reached (in_both (length m) both) (told page.loaded.frames) page.rights page.level) (unreached (in_both (length m) both) page.number) step
+    (reached (in_both (length m) both) (filled_places page.loaded.frames) page.rights page.level) (unreached (in_both (length m) both) page.number) step
     ≡ after_load m (rest_of (length m) (ToGuestPage both page place))
 toward_page_is m both page place step makes =
     sym (makes (guest_page_fault_of both.asked.kind) (access_fault_of both.asked.kind)
-    (reached (in_both (length m) both) (told page.loaded.frames) page.rights page.level) (unreached (in_both (length m) both) page.number))
+    (reached (in_both (length m) both) (filled_places page.loaded.frames) page.rights page.level) (unreached (in_both (length m) both) page.number))
 
 -- what follows an entry of a guest's table
 abbrev pub down_from : InBoth → GuestEntry → ℕ → ℕ → Walk TableAnswer
-down_from w entry frame next = guest_down w (told entry.loaded.frames ++ frame ∷ []) next (entries_below entry w.address)
+down_from w entry frame next = guest_down w (filled_places entry.loaded.frames ++ frame ∷ []) next (entries_below entry w.address)
 
 -- the entry of the table that it names is the next one
 pub below_is : (w : InBoth) (entry lower : GuestEntry) (frame next : ℕ) → NamesBelow entry frame next (Some lower)
-    → guest_down w (told lower.loaded.frames) lower.table.number (indices_of_entry lower w.address) ≡ down_from w entry frame next
+    → guest_down w (filled_places lower.loaded.frames) lower.table.number (indices_of_entry lower w.address) ≡ down_from w entry frame next
 below_is w entry lower frame next (level, table, loaded) =
     let one_up : entry.level ≡ suc lower.level = omega (arith, level) in
     ap (λ fs. guest_down w fs lower.table.number (indices_of_entry lower w.address)) loaded
-    ∙ ap (λ t. guest_down w (told entry.loaded.frames ++ frame ∷ []) t (indices_of_entry lower w.address)) table
-    ∙ ap (λ is. guest_down w (told entry.loaded.frames ++ frame ∷ []) next is)
+    ∙ ap (λ t. guest_down w (filled_places entry.loaded.frames ++ frame ∷ []) t (indices_of_entry lower w.address)) table
+    ∙ ap (λ is. guest_down w (filled_places entry.loaded.frames ++ frame ∷ []) next is)
     (sym (indices_from_next lower.level (w.address / 4096)) ∙ ap (λ l. indices_below l (w.address / 4096)) (sym one_up))
 
 -- one load of an entry of a guest's table
 pub entry_load_is : (m : List (List ℕ)) (w : InBoth) (entry : GuestEntry) (frame : ℕ) (given : Entry) → given ≡ entries m (slot frame (entry_index entry w.address))
-    → at_guest_entry w (told entry.loaded.frames ++ frame ∷ []) (entries_below entry w.address) (down_from w entry frame) given ≡ after_load m (entry_rest w entry frame)
+    → at_guest_entry w (filled_places entry.loaded.frames ++ frame ∷ []) (entries_below entry w.address) (down_from w entry frame) given ≡ after_load m (entry_rest w entry frame)
 entry_load_is m w entry frame given is =
-    ap (at_guest_entry w (told entry.loaded.frames ++ frame ∷ []) (entries_below entry w.address) (down_from w entry frame))
+    ap (at_guest_entry w (filled_places entry.loaded.frames ++ frame ∷ []) (entries_below entry w.address) (down_from w entry frame))
     (is ∙ entries_are m (slot frame (entry_index entry w.address))
     ∙ ap (λ i. entry_read (word_at 8 m (8 * slot frame i))) (sym (slot_mod entry.table.number (w.address / 4096 / 512 ^ entry.level))))
 
 -- both stages, from the root of the guest's tables
 pub both_begins : (frames : ℕ) (both : Both) (entry : GuestEntry) (size : Size) (first : Ppn) (place : Place) → BeginsFirst size first both.asked.address (Some place)
-    → told entry.loaded.frames ≡ [] → entry.table.number ≡ place.table.number → entry.level ≡ place.level
-    → guest_down (in_both frames both) (told entry.loaded.frames) entry.table.number (indices_of_entry entry both.asked.address)
+    → filled_places entry.loaded.frames ≡ [] → entry.table.number ≡ place.table.number → entry.level ≡ place.level
+    → guest_down (in_both frames both) (filled_places entry.loaded.frames) entry.table.number (indices_of_entry entry both.asked.address)
     ≡ both_walk frames (levels_of size) (levels_of both.size) first.number both.second.number both.asked.address both.asked.kind
 both_begins frames both entry size first place (lawful, root, narrow, level, path) none table same =
     ap (λ fs. guest_down w fs entry.table.number (indices_of_entry entry both.asked.address)) none

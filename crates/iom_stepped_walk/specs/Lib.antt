@@ -1,4 +1,4 @@
-pub mod Told
+pub mod Filled
 pub mod Indices
 pub mod Steps
 pub mod Positions

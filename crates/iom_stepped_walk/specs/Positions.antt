@@ -9,7 +9,7 @@ use Rattle.iom_stage_walk.specs.declared.walked.WalkFault.{WalkFault}
 use Rattle.iom_walk_loads.specs.Loads.{Walk, Ends, after_load}
 use Rattle.iom_walk_loads.specs.Tables.{InBoth, first_rest, second_rest, lead_rest, guest_down, guest_load, reached, unreached, unread}
 use Rattle.iom_stepped_walk.specs.Indices.{index_at, indices_below, indices_from}
-use Rattle.iom_stepped_walk.specs.Told.{told}
+use Rattle.iom_stepped_walk.specs.Filled.{filled_places}
 use Rattle.iom_stepped_walk.specs.declared.guest.Both.{Both}
 use Rattle.iom_stepped_walk.specs.declared.guest.GuestEntry.{GuestEntry}
 use Rattle.iom_stepped_walk.specs.declared.place.Place.{Place}
@@ -42,13 +42,13 @@ indices_of_entry entry address = entry_index entry address ∷ entries_below ent
 abbrev pub NamesBelow : GuestEntry → ℕ → ℕ → Option GuestEntry → Type 0
 NamesBelow entry frame next None = entry.level ≡ 0
 NamesBelow entry frame next (Some lower) =
-    (lower.level + 1 ≡ entry.level) × (lower.table.number ≡ next) × (told lower.loaded.frames ≡ told entry.loaded.frames ++ frame ∷ [])
+    (lower.level + 1 ≡ entry.level) × (lower.table.number ≡ next) × (filled_places lower.loaded.frames ≡ filled_places entry.loaded.frames ++ frame ∷ [])
 
 -- what remains where the entry lies in this frame
 abbrev pub entry_rest : InBoth → GuestEntry → ℕ → Walk (Result Walked WalkFault)
 entry_rest w entry frame =
-    guest_load w (told entry.loaded.frames) entry.table.number (entry_index entry w.address) (entries_below entry w.address)
-    (λ next. guest_down w (told entry.loaded.frames ++ frame ∷ []) next (entries_below entry w.address)) frame
+    guest_load w (filled_places entry.loaded.frames) entry.table.number (entry_index entry w.address) (entries_below entry w.address)
+    (λ next. guest_down w (filled_places entry.loaded.frames ++ frame ∷ []) next (entries_below entry w.address)) frame
 
 -- the guest physical address of the entry
 abbrev pub address_of : GuestEntry → ℕ → ℕ
@@ -64,7 +64,7 @@ rest_of frames (ToGuestEntry both entry place) =
     place.table.number (indices_of place (address_of entry both.asked.address))
 rest_of frames (InGuestTable both entry frame) = entry_rest (in_both frames both) entry frame
 rest_of frames (ToGuestPage both page place) =
-    lead_rest frames both.asked.kind both.asked.kind (reached (in_both frames both) (told page.loaded.frames) page.rights page.level)
+    lead_rest frames both.asked.kind both.asked.kind (reached (in_both frames both) (filled_places page.loaded.frames) page.rights page.level)
     (unreached (in_both frames both) page.number)
     place.table.number (indices_of place (guest_address page.number both.asked.address))
 

@@ -3,7 +3,7 @@
 ghost use Rattle.std.specs.Prelude.{◌≡◌, ◌<◌, ◌+◌, ◌^◌, ℕ, length};
 ghost use Rattle.iom_base.specs.Tables.{table_entries};
 ghost use Rattle.iom_stage_walk.specs.Both.{rights_of_both};
-ghost use Rattle.iom_stepped_walk.specs.Told.{told};
+ghost use Rattle.iom_stepped_walk.specs.Filled.{filled_places};
 
 use crate::faults::{guest_page_fault, plain};
 use crate::frames::GuestFrames;
@@ -33,7 +33,7 @@ pub struct GuestEntry {
     pub(crate) level: u32,
     /// The frames from which entries of the guest's tables were loaded before.
     pub(crate) loaded: GuestFrames,
-    ghost room: { length (told loaded.frames) + level < 4 },
+    ghost room: { length (filled_places loaded.frames) + level < 4 },
 }
 
 /// What the guest's tables give.
@@ -120,7 +120,7 @@ impl Both {
     /// To an entry of a guest's table, and down from there.
     pub(crate) fn to_entry(self, entry: GuestEntry) -> Progress
         ensures { (frames : ℕ) → remains frames result
-            ≡ guest_down (in_both frames self) (told entry.loaded.frames) entry.table.number (indices_of_entry entry self.asked.address) }
+            ≡ guest_down (in_both frames self) (filled_places entry.loaded.frames) entry.table.number (indices_of_entry entry self.asked.address) }
     {
         let guest = entry.guest_address(self.asked.address);
         match second_root(self.size, self.second, guest) {
@@ -136,7 +136,7 @@ impl Both {
     /// To the page that the guest's tables give.
     fn to_page(self, page: GuestPage) -> Progress
         ensures { (frames : ℕ) → remains frames result
-            ≡ page_walk (in_both frames self) (told page.loaded.frames) page.number page.rights page.level }
+            ≡ page_walk (in_both frames self) (filled_places page.loaded.frames) page.number page.rights page.level }
     {
         let guest = PAGE_SIZE * page.number + self.asked.address % PAGE_SIZE;
         match second_root(self.size, self.second, guest) {
@@ -167,8 +167,8 @@ impl Both {
     fn after_entry(self, entry: GuestEntry, frame: u32, given: Entry) -> Progress
         requires { IsBounded given }
         ensures { (frames : ℕ) → remains frames result
-            ≡ at_guest_entry (in_both frames self) (told entry.loaded.frames ++ frame ∷ []) (entries_below entry self.asked.address)
-            (λ next. guest_down (in_both frames self) (told entry.loaded.frames ++ frame ∷ []) next (entries_below entry self.asked.address)) given }
+            ≡ at_guest_entry (in_both frames self) (filled_places entry.loaded.frames ++ frame ∷ []) (entries_below entry self.asked.address)
+            (λ next. guest_down (in_both frames self) (filled_places entry.loaded.frames ++ frame ∷ []) next (entries_below entry self.asked.address)) given }
     {
         let asked = self.asked;
         match given {

@@ -100,7 +100,7 @@ fn is_right(now: Progress, step: Step) -> bool {
     }
 }
 
-fn does(rt: &impl Abort, memory: &mut Memory, progress: Progress, step: Step) -> Progress {
+fn effect(rt: &impl Abort, memory: &mut Memory, progress: Progress, step: Step) -> Progress {
     if let Some((address, word)) = stored(step) {
         expect(rt, memory.store_u64(address, word).is_some());
         return progress;
@@ -113,7 +113,7 @@ fn does(rt: &impl Abort, memory: &mut Memory, progress: Progress, step: Step) ->
 fn takes(rt: &impl Abort, memory: &mut Memory, begun: Progress, steps: &[Step]) -> Progress {
     let mut progress = begun;
     for step in steps.iter() {
-        progress = does(rt, memory, progress, *step);
+        progress = effect(rt, memory, progress, *step);
     }
     progress
 }

@@ -9,9 +9,9 @@ use Rattle.iom_frame_set.specs.Sets.{Words, has, in_both, common_below}
 use Rattle.iom_ledger.specs.declared.ledger.Ledger.{Ledger}
 use Rattle.iom_ledger.specs.Shown.{IsFreeIn}
 use Rattle.iom_base.specs.declared.owner.Owner.{Owner}
-use Rattle.iom_table_frames.specs.Marks.{AreSoMany, IsFreeForTable, IsFreeInMemory}
+use Rattle.iom_table_frames.specs.Owners.{AreSoMany, IsFreeForTable, IsFreeInMemory}
 use Rattle.iom_table_frames.specs.Unreserved.{IsUnreservedSet}
-use Rattle.iom_table_frames.proofs.MarkLemmas.{unreserved_from_mark, mark_from_unreserved}
+use Rattle.iom_table_frames.proofs.OwnerLemmas.{unreserved_from_mark, mark_from_unreserved}
 
 -- numbers of one sort are those of another
 pub AreSoMany-same : (P Q : ℕ → Type 0) (count : ℕ) → ((n : ℕ) → P n ↔ Q n) → AreSoMany P count → AreSoMany Q count
@@ -59,20 +59,20 @@ common_is a b (suc limit) = by (in_both a b limit) refl (common_is a b limit)
     )
 
 -- the frames of memory in both sets are the free ones
-pub free_counted : (marks : List (Option Owner)) (ledger : Ledger) (unreserved free : Words) → IsUnreservedSet marks unreserved
-    → ((f : ℕ) → (has free f ≡ true) ↔ IsFreeIn ledger f) → (limit count : ℕ) → limit ≡ length marks → count ≡ length (common_below unreserved free limit)
-    → AreSoMany (IsFreeInMemory marks ledger) count
-free_counted marks ledger unreserved free is is_free limit count size counted =
+pub free_counted : (owners : List (Option Owner)) (ledger : Ledger) (unreserved free : Words) → IsUnreservedSet owners unreserved
+    → ((f : ℕ) → (has free f ≡ true) ↔ IsFreeIn ledger f) → (limit count : ℕ) → limit ≡ length owners → count ≡ length (common_below unreserved free limit)
+    → AreSoMany (IsFreeInMemory owners ledger) count
+free_counted owners ledger unreserved free is is_free limit count size counted =
     let (once, each, whole) = common_is unreserved free limit in
-    AreSoMany-same (λ n. (n < limit) × (in_both unreserved free n ≡ true)) (IsFreeInMemory marks ledger) count
+    AreSoMany-same (λ n. (n < limit) × (in_both unreserved free n ≡ true)) (IsFreeInMemory owners ledger) count
     (λ n. (
       (λ h.
           let both = and_parts (has unreserved n) (has free n) h.1 in (
             omega (arith, h.0),
-            record { other = λ same. cc; unmarked = mark_from_unreserved marks n (sym (is.has_unreserved n) ∙ both.0); ungranted = (is_free n).0 both.1 },
+            record { other = λ same. cc; unmarked = mark_from_unreserved owners n (sym (is.has_unreserved n) ∙ both.0); ungranted = (is_free n).0 both.1 },
           )),
       (λ it. (
         omega (arith, it.0),
-        and_from (has unreserved n) (has free n) (is.has_unreserved n ∙ unreserved_from_mark marks n it.0 it.1.unmarked) ((is_free n).1 it.1.ungranted),
+        and_from (has unreserved n) (has free n) (is.has_unreserved n ∙ unreserved_from_mark owners n it.0 it.1.unmarked) ((is_free n).1 it.1.ungranted),
       )),
     )) (common_below unreserved free limit, once, each, whole, sym counted)

@@ -4,7 +4,7 @@ use Rattle.std.proofs.lemmas.Bool.{cases_eq, cases_lt}
 use Rattle.std.proofs.lemmas.List.{length-set}
 use Rattle.iom_phys_mem.specs.Words.{zeroed}
 use Rattle.iom_base.specs.declared.owner.Owner.{Owner}
-use Rattle.iom_table_frames.specs.Marks.{GivesBack}
+use Rattle.iom_table_frames.specs.Owners.{GivesBack}
 
 -- of the frames below the number those of the owner's are given back
 pub record GivesBackBelow (n : ℕ) (owner : Owner) (old new : List (Option Owner)) (before after : List (List ℕ)) : Type 0 where
@@ -14,8 +14,8 @@ pub record GivesBackBelow (n : ℕ) (owner : Owner) (old new : List (Option Owne
   pub others : (frame : ℕ) → slice_get old frame ≢ Some (Some owner) → (slice_get new frame ≡ slice_get old frame) × (slice_get after frame ≡ slice_get before frame)
   pub above : (frame : ℕ) → n ≤ frame → (slice_get new frame ≡ slice_get old frame) × (slice_get after frame ≡ slice_get before frame)
 
-pub GivesBackBelow-none : (owner : Owner) (marks : List (Option Owner)) (memory : List (List ℕ)) → GivesBackBelow 0 owner marks marks memory memory
-GivesBackBelow-none owner marks memory = record {
+pub GivesBackBelow-none : (owner : Owner) (owners : List (Option Owner)) (memory : List (List ℕ)) → GivesBackBelow 0 owner owners owners memory memory
+GivesBackBelow-none owner owners memory = record {
   size = refl;
   memory_size = refl;
   own = λ frame below. absurd (omega arith);

@@ -1,6 +1,6 @@
 pub mod ChoiceLemmas
 pub mod CountLemmas
 pub mod GivingLemmas
-pub mod MarkLemmas
+pub mod OwnerLemmas
 pub mod FourLemmas
 pub mod SameLemmas

@@ -6,9 +6,9 @@ use Rattle.iom_base.specs.declared.owner.Owner.{Owner}
 
 -- whether it is a frame of memory that isn't reserved
 abbrev pub is_unreserved : List (Option Owner) → ℕ → Bool
-is_unreserved marks frame = option_map_or (λ mark. is_none mark) (slice_get marks frame) false
+is_unreserved owners frame = option_map_or (λ mark. is_none mark) (slice_get owners frame) false
 
 -- the set has the frames of memory that aren't reserved, and room for each frame of memory
-pub record IsUnreservedSet (marks : List (Option Owner)) (unreserved : Words) : Type 0 where
-  pub has_unreserved : (f : ℕ) → has unreserved f ≡ is_unreserved marks f
-  pub roomy : length marks ≤ room unreserved
+pub record IsUnreservedSet (owners : List (Option Owner)) (unreserved : Words) : Type 0 where
+  pub has_unreserved : (f : ℕ) → has unreserved f ≡ is_unreserved owners f
+  pub roomy : length owners ≤ room unreserved

@@ -48,7 +48,7 @@ impl TableFrames {
         requires { length self.old ≡ length memory.old }
         ensures found { MatchOption result (NoFourAreFree self.old ledger.now 0 (length self.old))
             (IsHighestFour self.old ledger.now (length self.old)) }
-        ensures marks { self.new ≡ option_map_or (λ first. with_four self.old first (Some owner)) result self.old }
+        ensures owners { self.new ≡ option_map_or (λ first. with_four self.old first (Some owner)) result self.old }
         ensures memory { memory.new ≡ option_map_or (λ first. with_four memory.old first zeroed) result memory.old }
         ensures size { (length self.new ≡ length self.old) × (length memory.new ≡ length memory.old) }
     {

@@ -1,7 +1,7 @@
 ghost use Rattle.std.specs.Prelude.{◌≡◌, ◌↔◌, ◌+◌, ◌-◌, ◌^◌, ◌<◌, ◌≤◌, length, replicate, IfOk, IsTrue, None, Some, slice_get, slice_set, MatchOption};
 ghost use Rattle.std.specs.Option.{option_map_or};
 ghost use Rattle.iom_phys_mem.specs.Words.{zeroed};
-ghost use Rattle.iom_table_frames.specs.Marks.{is_marked, owner_at, opening_marks, IsFreeForTable, NoneIsFree, IsHighestFree, HasFree, GivesBack, AreSoMany, IsFreeInMemory};
+ghost use Rattle.iom_table_frames.specs.Owners.{is_marked, owner_at, opening_owners, IsFreeForTable, NoneIsFree, IsHighestFree, HasFree, GivesBack, AreSoMany, IsFreeInMemory};
 
 use iom_base::{FRAME_SIZE, Owner};
 use iom_frame_set::FrameSet;
@@ -13,11 +13,11 @@ use std::marker::Model;
 /// How many frames at the end of memory are the system's from the start.
 const SYSTEM_FRAMES: u32 = 4;
 
-/// The mark of each frame: its owner, where it is reserved. Beside the marks stands the set of the frames
+/// The owner of each frame, where it is reserved. Beside the owners stands the set of the frames
 /// that aren't.
 #[derive(Drop)]
 pub struct TableFrames {
-    marks: Vec<Option<Owner>>,
+    owners: Vec<Option<Owner>>,
     unreserved: FrameSet,
 }
 
@@ -27,37 +27,37 @@ impl Model for TableFrames {
 
     ghost Value = { List (Option Owner) };
 
-    ghost view = { λ t. t.marks.items };
+    ghost view = { λ t. t.owners.items };
 
     ghost use Rattle.iom_table_frames.specs.Unreserved.{IsUnreservedSet};
 
-    ghost invariant = { λ t. IsUnreservedSet t.marks.items t.unreserved };
+    ghost invariant = { λ t. IsUnreservedSet t.owners.items t.unreserved };
 }
 
 impl TableFrames {
-    /// The marks of so many frames: the last four are the system's. Takes all its memory here.
+    /// The owners of so many frames: the last four are the system's. Takes all its memory here.
     pub fn new(alloc: Global, frames: u32) -> Result<TableFrames, AllocError>
         requires { 4 ≤ frames }
-        ensures { IfOk result (λ marks. marks ≡ opening_marks frames) }
+        ensures { IfOk result (λ owners. owners ≡ opening_owners frames) }
     {
-        let mut marks = Vec::with_capacity(alloc, frames as usize)?;
+        let mut owners = Vec::with_capacity(alloc, frames as usize)?;
         let mut unreserved = FrameSet::empty(alloc);
         unreserved.make_room(frames)?;
         for frame in 0..frames - SYSTEM_FRAMES {
-            marks.push(None)?;
+            owners.push(None)?;
             unreserved.insert(frame);
         }
         for fixed in 0..SYSTEM_FRAMES {
-            marks.push(Some(Owner::System))?;
+            owners.push(Some(Owner::System))?;
         }
-        Ok(TableFrames { marks, unreserved })
+        Ok(TableFrames { owners, unreserved })
     }
 
     /// Whether the frame is reserved; false outside memory.
     pub fn is_reserved(&self, frame: u32) -> bool
         ensures { result ≡ is_marked self.now frame }
     {
-        match self.marks.get(frame as usize) {
+        match self.owners.get(frame as usize) {
             None => false,
             Some(mark) => mark.is_some(),
         }
@@ -67,7 +67,7 @@ impl TableFrames {
     pub fn owner_of(&self, frame: u32) -> Option<Owner>
         ensures { result ≡ owner_at self.now frame }
     {
-        match self.marks.get(frame as usize) {
+        match self.owners.get(frame as usize) {
             None => None,
             Some(mark) => *mark,
         }
@@ -97,7 +97,7 @@ impl TableFrames {
         requires { length self.now < 2 ^ 32 }
         ensures { IsTrue result ↔ HasFree self.now ledger.now named count (length self.now) }
     {
-        let mut limit = self.marks.len() as u32;
+        let mut limit = self.owners.len() as u32;
         for counted in 0..count {
             match self.highest_free(ledger, limit, named) {
                 None => return false,
@@ -113,7 +113,7 @@ impl TableFrames {
         ensures { AreSoMany (IsFreeInMemory self.now ledger.now) result }
     {
         self.unreserved
-            .count_in_both(ledger.free_frames(), self.marks.len() as u32)
+            .count_in_both(ledger.free_frames(), self.owners.len() as u32)
     }
 
     /// Reserves the frame for the owner, and makes its bytes zero.
@@ -123,7 +123,7 @@ impl TableFrames {
         ensures mark { self.new ≡ slice_set self.old frame (Some owner) }
         ensures zero { memory.new ≡ slice_set memory.old frame zeroed }
     {
-        self.marks[frame as usize] = Some(owner);
+        self.owners[frame as usize] = Some(owner);
         self.unreserved.remove(frame);
         clear(memory, frame);
     }
@@ -140,7 +140,7 @@ impl TableFrames {
         requires { length self.old ≡ length memory.old }
         ensures found { MatchOption result (NoneIsFree self.old ledger.now named 0 (length self.old))
             (IsHighestFree self.old ledger.now named (length self.old)) }
-        ensures marks { self.new ≡ option_map_or (λ frame. slice_set self.old frame (Some owner)) result self.old }
+        ensures owners { self.new ≡ option_map_or (λ frame. slice_set self.old frame (Some owner)) result self.old }
         ensures memory { memory.new ≡ option_map_or (λ frame. slice_set memory.old frame zeroed) result memory.old }
         ensures size { (length self.new ≡ length self.old) × (length memory.new ≡ length memory.old) }
     {
@@ -153,7 +153,7 @@ impl TableFrames {
     fn is_owned_by(&self, frame: u32, owner: Owner) -> bool
         ensures { IsTrue result ↔ (slice_get self.now frame ≡ Some (Some owner)) }
     {
-        match self.marks.get(frame as usize) {
+        match self.owners.get(frame as usize) {
             Some(Some(own)) => *own == owner,
             _ => false,
         }
@@ -166,12 +166,12 @@ impl TableFrames {
         ensures mark { self.new ≡ slice_set self.old frame None }
         ensures zero { memory.new ≡ slice_set memory.old frame zeroed }
     {
-        self.marks[frame as usize] = None;
+        self.owners[frame as usize] = None;
         self.unreserved.insert(frame);
         clear(memory, frame);
     }
 
-    /// The frames of the owner are reserved no more, and their bytes become zero. Looks at each mark.
+    /// The frames of the owner are reserved no more, and their bytes become zero. Looks at each frame.
     pub fn give_back(&mut self, memory: &mut Memory, owner: Owner)
         requires { length self.old ≡ length memory.old }
         ensures { GivesBack owner self.old self.new memory.old memory.new }
@@ -183,12 +183,12 @@ impl TableFrames {
         }
     }
 
-    /// Whether both have the same marks.
-    // The set of unreserved frames is determined by the marks.
+    /// Whether both have the same owners.
+    // The set of unreserved frames is determined by the owners.
     pub fn is_same(&self, other: &TableFrames) -> bool
         ensures { IsTrue result ↔ (self.now ≡ other.now) }
     {
-        self.marks.as_slice() == other.marks.as_slice()
+        self.owners.as_slice() == other.owners.as_slice()
     }
 }
 

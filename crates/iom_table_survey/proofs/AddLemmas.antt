@@ -14,13 +14,13 @@ pub has_alike : (row : List ℕ) (one other : ℕ) → frame_place one ≡ frame
 has_alike row one other same there = ap (λ p. is_place_set row p) same ∙ there
 
 pub adds_nothing : (row : List ℕ) → GrowsBy row row (λ f. ⊥)
-adds_nothing row = record { stays = λ f had. had; added = λ f never. absurd never; sole = λ f had. inl had }
+adds_nothing row = record { unchanged = λ f had. had; added = λ f never. absurd never; sole = λ f had. inl had }
 
 -- the same, where what is new is the same up to the place
 pub adds_alike : (old new : List ℕ) (P Q : ℕ → Type 0) → GrowsBy old new P
     → ((f : ℕ) → Q f → (g : ℕ) × P g × (frame_place g ≡ frame_place f)) → ((f : ℕ) → P f → (g : ℕ) × Q g × (frame_place g ≡ frame_place f)) → GrowsBy old new Q
 adds_alike old new P Q adds to from = record {
-  stays = adds.stays;
+  unchanged = adds.unchanged;
   added = λ f q. let (g, p, same) = to f q in has_alike new f g (sym same) (adds.added g p);
   sole = λ f has_now. by f (adds.sole f has_now);
 }
@@ -35,13 +35,13 @@ adds_same old new P Q adds to from = adds_alike old new P Q adds (λ f q. (f, to
 -- one after another
 pub adds_then : (old between new : List ℕ) (P Q : ℕ → Type 0) → GrowsBy old between P → GrowsBy between new Q → GrowsBy old new (λ f. P f ⊎ Q f)
 adds_then old between new P Q first second = record {
-  stays = λ f had. second.stays f (first.stays f had);
+  unchanged = λ f had. second.unchanged f (first.unchanged f had);
   added = λ f it. either f it;
   sole = λ f has_now. last f (second.sole f has_now);
 }
   where
     either : (f : ℕ) → P f ⊎ Q f → row_has new f ≡ true
-    either f (inl p) = second.stays f (first.added f p)
+    either f (inl p) = second.unchanged f (first.added f p)
     either f (inr q) = second.added f q
 
     before : (f : ℕ) → (row_has old f ≡ true) ⊎ ((g : ℕ) × P g × (frame_place g ≡ frame_place f)) → (row_has old f ≡ true) ⊎ ((g : ℕ) × (P g ⊎ Q g) × (frame_place g ≡ frame_place f))
@@ -85,7 +85,7 @@ adds_next old between new P k before here =
 
 -- a loop over no numbers
 pub adds_none_yet : (row : List ℕ) (P : ℕ → ℕ → Type 0) → GrowsBy row row (λ f. (j : ℕ) × (j < 0) × P j f)
-adds_none_yet row P = record { stays = λ f had. had; added = λ f (j, never, p). absurd (omega arith); sole = λ f had. inl had }
+adds_none_yet row P = record { unchanged = λ f had. had; added = λ f (j, never, p). absurd (omega arith); sole = λ f had. inl had }
 
 -- frames from the first on, one after another, up to the place of those from 4,096 on
 pub adds_run : (old new : List ℕ) (first count end : ℕ) → 0 < count → end ≡ min (first + count) 4097
@@ -104,7 +104,7 @@ adds_run old new first count end some is adds = adds_alike old new (λ f. (min f
 
 -- runs, step by step
 pub adds_no_run : (row : List ℕ) (first start : ℕ) → start ≡ min first 4096 → GrowsBy row row (λ f. (min first 4096 ≤ f) × (f < start))
-adds_no_run row first start is = record { stays = λ f had. had; added = λ f (low, high). absurd (omega arith); sole = λ f had. inl had }
+adds_no_run row first start is = record { unchanged = λ f had. had; added = λ f (low, high). absurd (omega arith); sole = λ f had. inl had }
 
 pub adds_run_next : (old between new : List ℕ) (low k : ℕ) → low ≤ k → GrowsBy old between (λ f. (low ≤ f) × (f < k)) → GrowsBy between new (λ f. f ≡ k)
     → GrowsBy old new (λ f. (low ≤ f) × (f < k + 1))
@@ -125,19 +125,19 @@ pub adds_where : (old new : List ℕ) (P : ℕ → Type 0) (b : Bool) → b ≡ 
 adds_where old new P b holds adds = adds_same old new P (λ f. P f × (b ≡ true)) adds (λ f (p, so). p) (λ f p. (p, holds))
 
 pub adds_not : (row : List ℕ) (P : ℕ → Type 0) (b : Bool) → b ≡ false → GrowsBy row row (λ f. P f × (b ≡ true))
-adds_not row P b fails = record { stays = λ f had. had; added = λ f (p, so). absurd (false≢true (sym fails ∙ so)); sole = λ f had. inl had }
+adds_not row P b fails = record { unchanged = λ f had. had; added = λ f (p, so). absurd (false≢true (sym fails ∙ so)); sole = λ f had. inl had }
 
 -- where nothing is so
 pub adds_none : (row : List ℕ) (P : ℕ → Type 0) → ((f : ℕ) → P f → ⊥) → GrowsBy row row P
-adds_none row P none = record { stays = λ f had. had; added = λ f p. absurd (none f p); sole = λ f had. inl had }
+adds_none row P none = record { unchanged = λ f had. had; added = λ f p. absurd (none f p); sole = λ f had. inl had }
 
 -- everything
 pub adds_everything : (old new : List ℕ) → ((f : ℕ) → row_has new f ≡ true) → GrowsBy old new (λ f. ⊤)
-adds_everything old new all = record { stays = λ f had. all f; added = λ f so. all f; sole = λ f there. inr (f, tt, refl) }
+adds_everything old new all = record { unchanged = λ f had. all f; added = λ f so. all f; sole = λ f there. inr (f, tt, refl) }
 
 -- a set of frames, and what grew from nothing
 pub to_adds : (none row : List ℕ) (P : ℕ → Type 0) → ((f : ℕ) → row_has none f ≡ false) → IsOf row P → GrowsBy none row P
-to_adds none row P empty is_of = record { stays = λ f had. absurd (false≢true (sym (empty f) ∙ had)); added = is_of.all; sole = λ f there. inr (is_of.sole f there) }
+to_adds none row P empty is_of = record { unchanged = λ f had. absurd (false≢true (sym (empty f) ∙ had)); added = is_of.all; sole = λ f there. inr (is_of.sole f there) }
 
 -- a set that is filled in a loop
 pub of_none_yet : (row : List ℕ) (P : ℕ → ℕ → Type 0) → ((f : ℕ) → row_has row f ≡ false) → IsOf row (λ f. (j : ℕ) × (j < 0) × P j f)

@@ -31,7 +31,7 @@ pub inserts : (old row : List ℕ) (frame place now : ℕ) → row ≡ old → p
     → ((k : ℕ) → k ≢ place % 64 → bit_at now k ≡ bit_at (get_or row (place / 64) 0) k)
     → GrowsBy old (set row (place / 64) now) (λ f. f ≡ frame)
 inserts old row frame place now same at long one others = subst (λ r. GrowsBy r changed (λ f. f ≡ frame)) same (record {
-  stays = λ f had. by f (cases_eq (frame_place f) place) had;
+  unchanged = λ f had. by f (cases_eq (frame_place f) place) had;
   added = λ f is. ap (λ g. is_place_set changed (frame_place g)) is ∙ ap (λ p. is_place_set changed p) (sym at) ∙ here;
   sole = λ f now_has. from f (cases_eq (frame_place f) place) now_has;
 })
@@ -102,7 +102,7 @@ one_or a b low low' m is set = by (cases_eq a 1)
 pub union_of : (old row other new : List ℕ) → row ≡ old → ((k : ℕ) → k < 65 → get_or new k 0 ≡ bit_or (get_or row k 0) (get_or other k 0)) → GrowsBy old new (λ f. row_has other f ≡ true)
 unfolding is_place_set
 union_of old row other new same all = subst (λ r. GrowsBy r new (λ f. row_has other f ≡ true)) same (record {
-  stays = λ f had. left f had;
+  unchanged = λ f had. left f had;
   added = λ f had. right f had;
   sole = λ f there. by f (one_or _ _ (bit_at-lt (get_or row (frame_place f / 64) 0) (frame_place f % 64)) (bit_at-lt (get_or other (frame_place f / 64) 0) (frame_place f % 64)) _ (bits f) there);
 })

@@ -16,7 +16,7 @@ row_has row frame = is_place_set row (frame_place frame)
 
 -- the frames that are so go into the set, and no other; none goes out
 pub record GrowsBy (old new : List ℕ) (IsNew : ℕ → Type 0) : Type 0 where
-  pub stays : (frame : ℕ) → row_has old frame ≡ true → row_has new frame ≡ true
+  pub unchanged : (frame : ℕ) → row_has old frame ≡ true → row_has new frame ≡ true
   pub added : (frame : ℕ) → IsNew frame → row_has new frame ≡ true
   pub sole : (frame : ℕ) → row_has new frame ≡ true → (row_has old frame ≡ true) ⊎ ((other : ℕ) × IsNew other × (frame_place other ≡ frame_place frame))
 

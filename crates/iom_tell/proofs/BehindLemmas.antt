@@ -10,14 +10,14 @@ use Rattle.iom_machine.specs.declared.event.Event.TheVariants as events
 use Rattle.iom_machine.specs.declared.outcome.Outcome.{Outcome}
 use Rattle.iom_script.specs.Lines.{outcome_text}
 use Rattle.iom_trace_lines.specs.TraceLines.{is_accepted, takes_frames}
-use Rattle.iom_world.specs.Seen.{Seen}
+use Rattle.iom_world.specs.Shown.{Shown}
 use Rattle.iom_tell.specs.declared.behind.Behind.{Behind}
 use Rattle.iom_tell.specs.declared.behind.Behind.TheVariants.{Nothing, Tables, On, Began}
 use Rattle.iom_tell.specs.Told.{AreMarksOf, behind_of, behind_accepted, behind_asked, began_by, behind_text, is_reserved_in, may_take, newest_frame, shown_tables, is_taken_since, taken_below, taken_by, told_line}
 use Rattle.iom_tell.proofs.TakenLemmas.{same_taken}
 
 -- what was noted before is what was so before
-pub taken_as_noted : (marks : List Bool) (old new : Seen) → AreMarksOf marks old → taken_below (is_taken_since marks new) 4096 ≡ taken_by old new
+pub taken_as_noted : (marks : List Bool) (old new : Shown) → AreMarksOf marks old → taken_below (is_taken_since marks new) 4096 ≡ taken_by old new
 taken_as_noted marks old new noted =
     same_taken (is_taken_since marks new) (λ frame. is_reserved_in new frame && not (is_reserved_in old frame)) 4096
     (λ frame lt. ap (λ (b : Bool). is_reserved_in new frame && not b) (noted frame lt))
@@ -42,7 +42,7 @@ began_shows_none device frame None = tt
 began_shows_none device frame (Some access) = tt
 
 -- behind an `accepted` no tables are shown
-accepted_shows_none : (now : Seen) (event : Event) → ShowsNoTables (behind_accepted now event)
+accepted_shows_none : (now : Shown) (event : Event) → ShowsNoTables (behind_accepted now event)
 accepted_shows_none now (events.Plug device new) = tt
 accepted_shows_none now (events.Medium device disk) = tt
 accepted_shows_none now (events.Attach device mode ats) = tt
@@ -76,7 +76,7 @@ accepted_shows_none now (events.Poke address bytes) = tt
 accepted_shows_none now (events.Peek address len) = tt
 accepted_shows_none now (events.Free frame) = tt
 
-same_behind_by : (these those : List ℕ) (now : Seen) (event : Event) (takes accepts : Bool) → (takes ≡ true → these ≡ those)
+same_behind_by : (these those : List ℕ) (now : Shown) (event : Event) (takes accepts : Bool) → (takes ≡ true → these ≡ those)
     → behind_text these (if takes then Tables else (if accepts then behind_accepted now event else Nothing))
     ≡ behind_text those (if takes then Tables else (if accepts then behind_accepted now event else Nothing))
 same_behind_by these those now event true accepts same = ap shown_tables (same refl)
@@ -84,7 +84,7 @@ same_behind_by these those now event false true same = same_text these those (be
 same_behind_by these those now event false false same = refl
 
 -- what is shown is so, where the frames were noted before an event that takes some
-pub told_as_noted : (marks : List Bool) (old new : Seen) (event : Event) (outcome : Outcome) → (takes_frames event outcome ≡ true → AreMarksOf marks old)
+pub told_as_noted : (marks : List Bool) (old new : Shown) (event : Event) (outcome : Outcome) → (takes_frames event outcome ≡ true → AreMarksOf marks old)
     → behind_text (taken_below (is_taken_since marks new) 4096) (behind_of new event outcome) ≡ behind_text (taken_by old new) (behind_of new event outcome)
 told_as_noted marks old new event outcome noted =
     same_behind_by (taken_below (is_taken_since marks new) 4096) (taken_by old new) new event (takes_frames event outcome) (is_accepted outcome)
@@ -126,7 +126,7 @@ takes_if_it_may (events.Peek address len) outcome takes = takes
 takes_if_it_may (events.Free frame) outcome takes = takes
 
 -- the whole line
-pub line_as_noted : (marks : List Bool) (old new : Seen) (event : Event) (outcome : Outcome) (before after : List ℕ) → (may_take event ≡ true → AreMarksOf marks old)
+pub line_as_noted : (marks : List Bool) (old new : Shown) (event : Event) (outcome : Outcome) (before after : List ℕ) → (may_take event ≡ true → AreMarksOf marks old)
     → after ≡ before ++ (event_text event ++ codes " => " ++ outcome_text outcome ++ behind_text (taken_below (is_taken_since marks new) 4096) (behind_of new event outcome)) ++ 10 ∷ []
     → after ≡ before ++ told_line old event outcome new ++ 10 ∷ []
 line_as_noted marks old new event outcome before after noted is =

@@ -14,7 +14,7 @@ use Rattle.iom_machine.specs.declared.outcome.Outcome.{Outcome}
 use Rattle.iom_script.specs.Grammar.{IsEventLine}
 use Rattle.iom_script.specs.Lines.{outcome_text}
 use Rattle.iom_trace_lines.specs.TraceLines.{is_accepted, takes_frames, tables_text, IsStepLine, SaysLine}
-use Rattle.iom_world.specs.Seen.{Seen}
+use Rattle.iom_world.specs.Shown.{Shown}
 use Rattle.iom_tell.specs.declared.behind.Behind.{Behind}
 use Rattle.iom_tell.specs.declared.behind.Behind.TheVariants.{Nothing, Tables, On, Began}
 use Rattle.iom_tell.specs.Told.{asking, asking_so, behind_of, behind_accepted, behind_asked, began_by, behind_text, newest_frame, said_behind, told_line, told_said, taken_by, SaysBehind}
@@ -35,7 +35,7 @@ began_may : (outcome : Outcome) (device : ℕ) (frame : Option ℕ) (access : Op
 began_may outcome device frame None accepted = tt
 began_may outcome device frame (Some access) accepted = (device, access, refl, accepted, refl)
 
-accepted_may : (now : Seen) (event : Event) (outcome : Outcome) → is_accepted outcome ≡ true → MayBeShown event outcome (behind_accepted now event)
+accepted_may : (now : Shown) (event : Event) (outcome : Outcome) → is_accepted outcome ≡ true → MayBeShown event outcome (behind_accepted now event)
 accepted_may now (events.Plug device new) outcome accepted = tt
 accepted_may now (events.Medium device disk) outcome accepted = tt
 accepted_may now (events.Attach device mode ats) outcome accepted = tt
@@ -69,14 +69,14 @@ accepted_may now (events.Poke address bytes) outcome accepted = tt
 accepted_may now (events.Peek address len) outcome accepted = tt
 accepted_may now (events.Free frame) outcome accepted = tt
 
-may_by : (now : Seen) (event : Event) (outcome : Outcome) (takes accepts : Bool) → takes_frames event outcome ≡ takes → is_accepted outcome ≡ accepts
+may_by : (now : Shown) (event : Event) (outcome : Outcome) (takes accepts : Bool) → takes_frames event outcome ≡ takes → is_accepted outcome ≡ accepts
     → MayBeShown event outcome (if takes then Tables else (if accepts then behind_accepted now event else Nothing))
 may_by now event outcome true accepts takes_is accepts_is = takes_is
 may_by now event outcome false true takes_is accepts_is = accepted_may now event outcome accepts_is
 may_by now event outcome false false takes_is accepts_is = tt
 
 -- what a world shows may be shown there
-may_be_shown : (now : Seen) (event : Event) (outcome : Outcome) → MayBeShown event outcome (behind_of now event outcome)
+may_be_shown : (now : Shown) (event : Event) (outcome : Outcome) → MayBeShown event outcome (behind_of now event outcome)
 may_be_shown now event outcome = may_by now event outcome (takes_frames event outcome) (is_accepted outcome) refl refl
 
 -- the line of an event with something behind its answer
@@ -111,6 +111,6 @@ says_behind taken event outcome (Began asks on) says (device, access, is, accept
     (says_began taken event outcome device access access.kind on says is accepted (subst (λ (e : Event). IsEventLine (event_text e) e) asks_is asked))
 
 -- THE LINE says what is told
-pub says_told : (old new : Seen) (event : Event) (outcome : Outcome) → IsEventLine (event_text event) event → SaysBehind (behind_of new event outcome)
+pub says_told : (old new : Shown) (event : Event) (outcome : Outcome) → IsEventLine (event_text event) event → SaysBehind (behind_of new event outcome)
     → SaysLine (told_line old event outcome new) (told_said old event outcome new) (taken_by old new)
 says_told old new event outcome says asked = says_behind (taken_by old new) event outcome (behind_of new event outcome) says (may_be_shown new event outcome) asked

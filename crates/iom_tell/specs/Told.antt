@@ -15,20 +15,20 @@ use Rattle.iom_machine.specs.declared.event.Event.TheVariants as events
 use Rattle.iom_machine.specs.declared.outcome.Outcome.{Outcome}
 use Rattle.iom_script.specs.Grammar.{IsEventLine}
 use Rattle.iom_script.specs.Lines.{outcome_text}
-use Rattle.iom_table_frames.specs.Marks.{is_marked}
+use Rattle.iom_table_frames.specs.Owners.{is_marked}
 use Rattle.iom_trace_lines.specs.TraceLines.{Said, Step, access_text, is_accepted, on_text, tables_text, takes_frames}
-use Rattle.iom_world.specs.Seen.{Seen}
+use Rattle.iom_world.specs.Shown.{Shown}
 use Rattle.iom_tell.specs.declared.behind.Behind.{Behind}
 use Rattle.iom_tell.specs.declared.behind.Behind.TheVariants.{Nothing, Tables, On, Began}
 
 -- WHAT IS SHOWN of a world as it is after the event
 
 -- whether the frame is reserved, for tables or for the system
-abbrev pub is_reserved_in : Seen → ℕ → Bool
-is_reserved_in now frame = is_marked now.parts.driver.marks frame
+abbrev pub is_reserved_in : Shown → ℕ → Bool
+is_reserved_in now frame = is_marked now.parts.driver.owners frame
 
 -- the frame of the device's access that was accepted last, of those in flight
-abbrev pub newest_frame : Seen → ℕ → Option ℕ
+abbrev pub newest_frame : Shown → ℕ → Option ℕ
 newest_frame now id =
     option_map (λ (made : MadeAt). made.frame) (waiting_at (row_of (flights_of now.parts.iommu).rows id) (count_in (row_of (flights_of now.parts.iommu).rows id) - 1))
 
@@ -50,7 +50,7 @@ began_by device frame None = Nothing
 began_by device frame (Some access) = Began (asking device access) frame
 
 -- where an access was accepted: of a step the access and its frame; of a request its frame
-abbrev pub behind_accepted : Seen → Event → Behind
+abbrev pub behind_accepted : Shown → Event → Behind
 behind_accepted now (events.Step device) = began_by device (newest_frame now device) (wanted_of (block_with now.inside.blocks device))
 behind_accepted now (events.Read device address len) = behind_asked (newest_frame now device)
 behind_accepted now (events.Write device address bytes) = behind_asked (newest_frame now device)
@@ -61,7 +61,7 @@ behind_accepted now (events.WriteThroughCache device address bytes) = behind_ask
 behind_accepted now _ = Nothing
 
 -- behind the `ok` of an attach or a grant the tables; behind an `accepted` what was accepted; else nothing
-abbrev pub behind_of : Seen → Event → Outcome → Behind
+abbrev pub behind_of : Shown → Event → Outcome → Behind
 behind_of now event outcome =
     if takes_frames event outcome then Tables else (if is_accepted outcome then behind_accepted now event else Nothing)
 
@@ -73,7 +73,7 @@ taken_below is_taken zero = []
 taken_below is_taken (suc frame) = taken_below is_taken frame ++ (if is_taken frame then frame ∷ [] else [])
 
 -- those that weren't reserved before, and are now; no memory has more than 4,096 frames
-abbrev pub taken_by : Seen → Seen → List ℕ
+abbrev pub taken_by : Shown → Shown → List ℕ
 taken_by old new = taken_below (λ frame. is_reserved_in new frame && not (is_reserved_in old frame)) 4096
 
 -- `; tables` and the frames, or nothing where there is none
@@ -91,7 +91,7 @@ behind_text taken (On frame) = on_text (Some frame)
 behind_text taken (Began asks on) = access_text (event_text asks) on
 
 -- THE LINE THAT TELLS AN EVENT, without its line feed: the event, ` => `, what came of it, and what that doesn't show
-abbrev pub told_line : Seen → Event → Outcome → Seen → List ℕ
+abbrev pub told_line : Shown → Event → Outcome → Shown → List ℕ
 told_line old event outcome new =
     event_text event ++ codes " => " ++ outcome_text outcome ++ behind_text (taken_by old new) (behind_of new event outcome)
 
@@ -124,17 +124,17 @@ access_shown _ = None
 abbrev pub said_behind : List ℕ → Event → Outcome → Behind → Said
 said_behind taken event outcome behind = Step event outcome (shows_tables behind taken) (frame_shown behind) (access_shown behind)
 
-abbrev pub told_said : Seen → Event → Outcome → Seen → Said
+abbrev pub told_said : Shown → Event → Outcome → Shown → Said
 told_said old event outcome new = said_behind (taken_by old new) event outcome (behind_of new event outcome)
 
 -- FOR THE CALLS INSIDE: which frames were reserved is noted before the event
 
 -- so it is noted of each frame
-abbrev pub AreMarksOf : List Bool → Seen → Type 0
+abbrev pub AreMarksOf : List Bool → Shown → Type 0
 AreMarksOf marks now = (frame : ℕ) → frame < 4096 → get_or marks frame false ≡ is_reserved_in now frame
 
 -- the frame wasn't reserved when that was noted, and is now
-abbrev pub is_taken_since : List Bool → Seen → ℕ → Bool
+abbrev pub is_taken_since : List Bool → Shown → ℕ → Bool
 is_taken_since marks now frame = is_reserved_in now frame && not (get_or marks frame false)
 
 -- the event may take frames

@@ -1,6 +1,6 @@
 // Which frames are reserved at some time.
 ghost use Rattle.std.specs.Prelude.{◌≡◌, length};
-ghost use Rattle.iom_world.specs.Seen.{seen_of};
+ghost use Rattle.iom_world.specs.Shown.{shown_of};
 ghost use Rattle.iom_tell.specs.Told.{AreMarksOf};
 
 use iom_phys_mem::MAX_FRAMES;
@@ -28,7 +28,7 @@ impl Model for FrameMarks {
 /// Notes which frames of the world are reserved.
 fn note_each<D: Disk>(marks: &mut [bool], world: &World<D>)
     requires { length marks.old ≡ 4096 }
-    ensures noted { AreMarksOf marks.new (seen_of D.seen world.now) }
+    ensures noted { AreMarksOf marks.new (shown_of D.shown world.now) }
     ensures len { length marks.new ≡ 4096 }
 {
     for frame in 0..MAX_FRAMES {
@@ -47,7 +47,7 @@ impl FrameMarks {
 
     /// Notes which frames of the world are reserved.
     pub(crate) fn note<D: Disk>(&mut self, world: &World<D>)
-        ensures { AreMarksOf self.new (seen_of D.seen world.now) }
+        ensures { AreMarksOf self.new (shown_of D.shown world.now) }
     {
         note_each(&mut self.marks, world);
     }

@@ -4,7 +4,7 @@ ghost use Rattle.iom_block_devices.specs.Changes.{block_with};
 ghost use Rattle.iom_block_devices.specs.Wanted.{wanted_of};
 ghost use Rattle.iom_machine.specs.declared.event.Event.{Event};
 ghost use Rattle.iom_trace_lines.specs.TraceLines.{is_accepted, takes_frames};
-ghost use Rattle.iom_world.specs.Seen.{seen_of};
+ghost use Rattle.iom_world.specs.Shown.{shown_of};
 ghost use Rattle.iom_tell.specs.Told.{asking, began_by, behind_of, behind_accepted, behind_asked, newest_frame};
 
 use crate::behind::Behind;
@@ -48,7 +48,7 @@ fn asking(device: DeviceId, access: Access) -> Event
 
 /// The frame of the device's newest access.
 fn newest_frame<D: Disk>(world: &World<D>, device: DeviceId) -> Option<u32>
-    ensures { result ≡ newest_frame (seen_of D.seen world.now) device }
+    ensures { result ≡ newest_frame (shown_of D.shown world.now) device }
 {
     match world.newest(device) {
         None => None,
@@ -62,8 +62,8 @@ fn began_by<D: Disk>(
     world: &World<D>,
     device: DeviceId,
 ) -> Result<Behind, AllocError>
-    ensures { IfOk result (λ behind. behind ≡ began_by device (newest_frame (seen_of D.seen world.now) device)
-        (wanted_of (block_with (seen_of D.seen world.now).inside.blocks device))) }
+    ensures { IfOk result (λ behind. behind ≡ began_by device (newest_frame (shown_of D.shown world.now) device)
+        (wanted_of (block_with (shown_of D.shown world.now).inside.blocks device))) }
 {
     let on = newest_frame(world, device);
     match world.wanted(alloc, device)? {
@@ -74,7 +74,7 @@ fn began_by<D: Disk>(
 
 /// What is shown of the device's newest access: its frame.
 fn frame_of<D: Disk>(world: &World<D>, device: DeviceId) -> Behind
-    ensures { result ≡ behind_asked (newest_frame (seen_of D.seen world.now) device) }
+    ensures { result ≡ behind_asked (newest_frame (shown_of D.shown world.now) device) }
 {
     match newest_frame(world, device) {
         None => Behind::Nothing,
@@ -88,7 +88,7 @@ fn behind_accepted<D: Disk>(
     world: &World<D>,
     event: &Event,
 ) -> Result<Behind, AllocError>
-    ensures { IfOk result (λ behind. behind ≡ behind_accepted (seen_of D.seen world.now) event.now) }
+    ensures { IfOk result (λ behind. behind ≡ behind_accepted (shown_of D.shown world.now) event.now) }
 {
     match event {
         Event::Step { device } => began_by(alloc, world, *device),
@@ -109,7 +109,7 @@ pub(crate) fn behind_of<D: Disk>(
     event: &Event,
     outcome: &Outcome,
 ) -> Result<Behind, AllocError>
-    ensures { IfOk result (λ behind. behind ≡ behind_of (seen_of D.seen world.now) event.now outcome.now) }
+    ensures { IfOk result (λ behind. behind ≡ behind_of (shown_of D.shown world.now) event.now outcome.now) }
 {
     if takes_frames(event, outcome) {
         Ok(Behind::Tables)

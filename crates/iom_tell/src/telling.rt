@@ -5,7 +5,7 @@ ghost use Rattle.iom_script.specs.Grammar.{IsEventLine};
 ghost use Rattle.iom_script.specs.Lines.{outcome_text};
 ghost use Rattle.iom_trace_lines.specs.TraceLines.{access_text, on_text, SaysLine};
 ghost use Rattle.iom_world.specs.Happens.{Happens};
-ghost use Rattle.iom_world.specs.Seen.{seen_of};
+ghost use Rattle.iom_world.specs.Shown.{shown_of};
 ghost use Rattle.iom_tell.specs.Told.{AreMarksOf, IsSayableBehind, behind_of, behind_text, is_taken_since, may_take, SaysBehind, taken_below, taken_by, told_line, told_said};
 
 use crate::behind::Behind;
@@ -32,7 +32,7 @@ fn may_take(event: &Event) -> bool
 
 /// Notes which frames are reserved, where the event may take frames for tables.
 fn note_before<D: Disk>(world: &World<D>, before: &mut FrameMarks, event: &Event)
-    ensures { may_take event.now ≡ true → AreMarksOf before.new (seen_of D.seen world.now) }
+    ensures { may_take event.now ≡ true → AreMarksOf before.new (shown_of D.shown world.now) }
 {
     if !may_take(event) {
         return;
@@ -99,7 +99,7 @@ fn append_behind<D: Disk>(
 )
     requires sayable { IsSayableBehind behind.now }
     requires room { length out.old + 20600 ≤ BUFFER_SIZE }
-    ensures text { out.new ≡ out.old ++ behind_text (taken_below (is_taken_since before.now (seen_of D.seen world.now)) 4096) behind.now }
+    ensures text { out.new ≡ out.old ++ behind_text (taken_below (is_taken_since before.now (shown_of D.shown world.now)) 4096) behind.now }
     ensures says { SaysBehind behind.now }
     ensures short { length out.new ≤ length out.old + 20488 }
 {
@@ -124,7 +124,7 @@ fn append_told<D: Disk>(
     requires sayable_behind { IsSayableBehind behind.now }
     requires room { length out.old + TELL_ROOM ≤ BUFFER_SIZE }
     ensures text { out.new ≡ out.old ++ (event_text event.now ++ codes " => " ++ outcome_text outcome.now
-        ++ behind_text (taken_below (is_taken_since before.now (seen_of D.seen world.now)) 4096) behind.now) ++ 10 ∷ [] }
+        ++ behind_text (taken_below (is_taken_since before.now (shown_of D.shown world.now)) 4096) behind.now) ++ 10 ∷ [] }
     ensures says { IsEventLine (event_text event.now) event.now × SaysBehind behind.now }
     ensures short { length out.new ≤ length out.old + TELL_ROOM }
 {
@@ -144,11 +144,11 @@ fn append_outcome<D: Disk>(
 ) -> Result<(), TellFault>
     requires room { length out.old + TELL_ROOM ≤ BUFFER_SIZE }
     ensures told { OnOk result (out.new ≡ out.old ++ (event_text event.now ++ codes " => " ++ outcome_text outcome.now
-        ++ behind_text (taken_below (is_taken_since before.now (seen_of D.seen world.now)) 4096) (behind_of (seen_of D.seen world.now) event.now outcome.now)) ++ 10 ∷ []) }
-    ensures says { OnOk result (IsEventLine (event_text event.now) event.now × SaysBehind (behind_of (seen_of D.seen world.now) event.now outcome.now)) }
+        ++ behind_text (taken_below (is_taken_since before.now (shown_of D.shown world.now)) 4096) (behind_of (shown_of D.shown world.now) event.now outcome.now)) ++ 10 ∷ []) }
+    ensures says { OnOk result (IsEventLine (event_text event.now) event.now × SaysBehind (behind_of (shown_of D.shown world.now) event.now outcome.now)) }
     ensures kept { OnErr result (out.new ≡ out.old) }
     ensures short { length out.new ≤ length out.old + TELL_ROOM }
-    ensures fault { IfErr result (λ fault. fault ≡ TellFault.Unsayable → ¬ (IsSayable event.now × IsSayableBehind (behind_of (seen_of D.seen world.now) event.now outcome.now))) }
+    ensures fault { IfErr result (λ fault. fault ≡ TellFault.Unsayable → ¬ (IsSayable event.now × IsSayableBehind (behind_of (shown_of D.shown world.now) event.now outcome.now))) }
 {
     let Ok(behind) = behind_of(alloc, world, event, outcome) else {
         return Err(TellFault::Memory);
@@ -173,14 +173,14 @@ pub fn tell_event<D: Disk>(
 ) -> (Outcome, Result<(), TellFault>)
     requires count { world.old.hardware.board.events + 1 < 2 ^ 64 }
     requires room { length out.old + TELL_ROOM ≤ BUFFER_SIZE }
-    ensures happens { Happens (seen_of D.seen world.old) event.now result.0 (seen_of D.seen world.new) }
-    ensures told { OnOk result.1 (out.new ≡ out.old ++ told_line (seen_of D.seen world.old) event.now result.0 (seen_of D.seen world.new) ++ 10 ∷ []) }
-    ensures says { OnOk result.1 (SaysLine (told_line (seen_of D.seen world.old) event.now result.0 (seen_of D.seen world.new))
-        (told_said (seen_of D.seen world.old) event.now result.0 (seen_of D.seen world.new)) (taken_by (seen_of D.seen world.old) (seen_of D.seen world.new))) }
+    ensures happens { Happens (shown_of D.shown world.old) event.now result.0 (shown_of D.shown world.new) }
+    ensures told { OnOk result.1 (out.new ≡ out.old ++ told_line (shown_of D.shown world.old) event.now result.0 (shown_of D.shown world.new) ++ 10 ∷ []) }
+    ensures says { OnOk result.1 (SaysLine (told_line (shown_of D.shown world.old) event.now result.0 (shown_of D.shown world.new))
+        (told_said (shown_of D.shown world.old) event.now result.0 (shown_of D.shown world.new)) (taken_by (shown_of D.shown world.old) (shown_of D.shown world.new))) }
     ensures kept { OnErr result.1 (out.new ≡ out.old) }
     ensures short { length out.new ≤ length out.old + TELL_ROOM }
     ensures fault { IfErr result.1 (λ fault. fault ≡ TellFault.Unsayable
-        → ¬ (IsSayable event.now × IsSayableBehind (behind_of (seen_of D.seen world.new) event.now result.0))) }
+        → ¬ (IsSayable event.now × IsSayableBehind (behind_of (shown_of D.shown world.new) event.now result.0))) }
 {
     note_before(world, before, event);
     let outcome = world.step(event);

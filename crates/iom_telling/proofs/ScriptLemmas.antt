@@ -7,26 +7,26 @@ use Rattle.iom_script.specs.declared.script.ScriptLine.{ScriptLine}
 use Rattle.iom_script.specs.declared.script.WorldSize.{WorldSize}
 use Rattle.iom_virtio_blk.specs.DiskStates.{DiskState}
 use Rattle.iom_world.specs.PowerOn.{BeginsAt}
-use Rattle.iom_world.specs.Seen.{Seen}
+use Rattle.iom_world.specs.Shown.{Shown}
 use Rattle.iom_telling.specs.declared.fault.TellingFault.{TellingFault}
 use Rattle.iom_telling.specs.declared.fault.TellingFault.TheVariants.{Memory}
 use Rattle.iom_telling.specs.Scripts.{BeginsTold, TellsScript, WritesTold, world_text}
 use Rattle.iom_telling.specs.Tellers.{BeginsRun, WritesRun}
 
 -- the text is written
-written : (disks : List DiskState) (explains : Bool) (size : WorldSize) (lines : List ScriptLine) (old new : Option (List ℕ)) (first : Seen) → BeginsAt size.frames size.levels disks first
+written : (disks : List DiskState) (explains : Bool) (size : WorldSize) (lines : List ScriptLine) (old new : Option (List ℕ)) (first : Shown) → BeginsAt size.frames size.levels disks first
     → WritesRun first explains (world_text size) lines old new → WritesTold disks explains size lines old new
 written disks explains size lines old new first begins (last, tells, wrote) =
     (last.text, (record { now = first; text = world_text size; explains = explains }, last, begins, refl, refl, tells, refl), wrote)
 
 -- or a beginning of it
-begun : (disks : List DiskState) (explains : Bool) (size : WorldSize) (lines : List ScriptLine) (old new : Option (List ℕ)) (first : Seen) → BeginsAt size.frames size.levels disks first
+begun : (disks : List DiskState) (explains : Bool) (size : WorldSize) (lines : List ScriptLine) (old new : Option (List ℕ)) (first : Shown) → BeginsAt size.frames size.levels disks first
     → BeginsRun first explains (world_text size) lines old new → BeginsTold disks explains size lines old new
 begun disks explains size lines old new first begins (count, last, tells, front) =
     (count, last.text, (record { now = first; text = world_text size; explains = explains }, last, begins, refl, refl, tells, refl), front)
 
 -- A RUN of the script's lines tells it
-pub told_script : (disks : List DiskState) (explains : Bool) (script : Script) (size : WorldSize) (lines : List ScriptLine) (result : Result (Unit {0}) TellingFault) (old new : Option (List ℕ)) (first : Seen)
+pub told_script : (disks : List DiskState) (explains : Bool) (script : Script) (size : WorldSize) (lines : List ScriptLine) (result : Result (Unit {0}) TellingFault) (old new : Option (List ℕ)) (first : Shown)
     → script.world ≡ Some size → lines ≡ script.lines → BeginsAt size.frames size.levels disks first → OnOk result (WritesRun first explains (world_text size) lines old new)
     → OnErr result (BeginsRun first explains (world_text size) lines old new) → TellsScript disks explains script result old new
 told_script disks explains script size lines (Ok done) old new first is same begins told front =

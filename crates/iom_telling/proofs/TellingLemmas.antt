@@ -13,7 +13,7 @@ use Rattle.iom_settling.specs.Went.{Takes}
 use Rattle.iom_tell.specs.declared.tell_fault.TellFault.{TellFault}
 use Rattle.iom_virtio_blk.specs.declared.disk.Disk.{Ghosts}
 use Rattle.iom_virtio_blk.specs.DiskStates.{DiskState}
-use Rattle.iom_world.specs.Seen.{parts_of}
+use Rattle.iom_world.specs.Shown.{parts_of}
 use Rattle.iom_telling.specs.declared.fault.TellingFault.{TellingFault}
 use Rattle.iom_telling.specs.declared.teller.Teller.{Teller}
 use Rattle.iom_telling.specs.Faults.{fault_of}
@@ -90,35 +90,35 @@ told_more contents first old new text more (Some fault) after told (is, same) =
     (subst (λ (l : LineWriter _). BeginsText contents first (text ++ more) l) (sym same) (begins_longer contents first old text more told))
 
 -- EVENTS, one after another
-pub takes_told : {W D : Type 0} {d : Ghosts D} (contents : W → Option (List ℕ)) (seen : D → DiskState) (first : LineWriter W) (old new : Teller W D d) (events : List Event) (outcomes : List Outcome)
-    (text : List ℕ) → HasTold contents first text old.fault old.lines → Takes (TellerTakes contents seen) old events outcomes new
-    → (more : List ℕ) × Takes TellsOne (telling_of seen old text) events outcomes (telling_of seen new more) × HasTold contents first more new.fault new.lines
-takes_told {W} {D} {d} contents seen first old new [] [] text told same = (
+pub takes_told : {W D : Type 0} {d : Ghosts D} (contents : W → Option (List ℕ)) (shown : D → DiskState) (first : LineWriter W) (old new : Teller W D d) (events : List Event) (outcomes : List Outcome)
+    (text : List ℕ) → HasTold contents first text old.fault old.lines → Takes (TellerTakes contents shown) old events outcomes new
+    → (more : List ℕ) × Takes TellsOne (telling_of shown old text) events outcomes (telling_of shown new more) × HasTold contents first more new.fault new.lines
+takes_told {W} {D} {d} contents shown first old new [] [] text told same = (
   text,
-  ap (λ (t : Teller W D d). telling_of seen t text) same,
+  ap (λ (t : Teller W D d). telling_of shown t text) same,
   subst (λ (t : Teller W D d). HasTold contents first text t.fault t.lines) (sym same) told,
 )
-takes_told contents seen first old new [] (outcome ∷ outcomes) text told takes = absurd takes
-takes_told contents seen first old new (event ∷ events) [] text told takes = absurd takes
-takes_told contents seen first old new (event ∷ events) (outcome ∷ outcomes) text told (mid, takes, rest) =
-    let later = takes_told contents seen first mid new events outcomes (text ++ takes.line)
+takes_told contents shown first old new [] (outcome ∷ outcomes) text told takes = absurd takes
+takes_told contents shown first old new (event ∷ events) [] text told takes = absurd takes
+takes_told contents shown first old new (event ∷ events) (outcome ∷ outcomes) text told (mid, takes, rest) =
+    let later = takes_told contents shown first mid new events outcomes (text ++ takes.line)
     (told_more contents first old.lines mid.lines text takes.line old.fault mid.fault told takes.goes) rest in
-    let one : TellsOne (telling_of seen old text) event outcome (telling_of seen mid (text ++ takes.line)) =
+    let one : TellsOne (telling_of shown old text) event outcome (telling_of shown mid (text ++ takes.line)) =
     record { happens = takes.happens; line = takes.line; told = takes.told; text = refl; explains = takes.explains } in
-    (later.0, (telling_of seen mid (text ++ takes.line), one, later.1), later.2)
+    (later.0, (telling_of shown mid (text ++ takes.line), one, later.1), later.2)
 
 -- A SETTLING
-pub settled_told : {W D : Type 0} {d : Ghosts D} (contents : W → Option (List ℕ)) (seen : D → DiskState) (first : LineWriter W) (old new : Teller W D d) (answer : Result ℕ Refusal) (text : List ℕ)
-    → HasTold contents first text old.fault old.lines → Settled (λ (t : Teller W D d). parts_of t.world) (TellerTakes contents seen) old answer new
-    → (more : List ℕ) × Settled parts_in TellsOne (telling_of seen old text) answer (telling_of seen new more) × HasTold contents first more new.fault new.lines
-settled_told contents seen first old new (Ok count) text told (went, few, idle, confirmed) =
-    let all = takes_told contents seen first old new went.events went.outcomes text told went.takes in (
+pub settled_told : {W D : Type 0} {d : Ghosts D} (contents : W → Option (List ℕ)) (shown : D → DiskState) (first : LineWriter W) (old new : Teller W D d) (answer : Result ℕ Refusal) (text : List ℕ)
+    → HasTold contents first text old.fault old.lines → Settled (λ (t : Teller W D d). parts_of t.world) (TellerTakes contents shown) old answer new
+    → (more : List ℕ) × Settled parts_in TellsOne (telling_of shown old text) answer (telling_of shown new more) × HasTold contents first more new.fault new.lines
+settled_told contents shown first old new (Ok count) text told (went, few, idle, confirmed) =
+    let all = takes_told contents shown first old new went.events went.outcomes text told went.takes in (
       all.0,
       (record { events = went.events; outcomes = went.outcomes; takes = all.1; order = went.order; counted = went.counted }, few, idle, confirmed),
       all.2,
     )
-settled_told contents seen first old new (Err why) text told (used_up, (count, went), idle, unconfirmed, last) =
-    let all = takes_told contents seen first old new went.events went.outcomes text told went.takes in (
+settled_told contents shown first old new (Err why) text told (used_up, (count, went), idle, unconfirmed, last) =
+    let all = takes_told contents shown first old new went.events went.outcomes text told went.takes in (
       all.0,
       (used_up, (count, record { events = went.events; outcomes = went.outcomes; takes = all.1; order = went.order; counted = went.counted }), idle, unconfirmed, last),
       all.2,

@@ -17,14 +17,14 @@ use Rattle.iom_tell.specs.Told.{told_line}
 use Rattle.iom_virtio_blk.specs.DiskStates.{DiskState}
 use Rattle.iom_world.specs.Happens.{Happens}
 use Rattle.iom_world.specs.PowerOn.{BeginsAt}
-use Rattle.iom_world.specs.Seen.{Seen}
+use Rattle.iom_world.specs.Shown.{Shown}
 use Rattle.iom_world_effects.specs.Parts.{Parts}
 use Rattle.iom_telling.specs.declared.fault.TellingFault.{TellingFault}
 use Rattle.iom_telling.specs.declared.fault.TellingFault.TheVariants.{Memory}
 
 -- a world, the text that was told so far, and whether answers are explained
 pub record Telling : Type 0 where
-  pub now : Seen
+  pub now : Shown
   pub text : List ℕ
   pub explains : Bool
 

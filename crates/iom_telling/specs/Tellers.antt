@@ -11,7 +11,7 @@ use Rattle.iom_tell.specs.Told.{told_line}
 use Rattle.iom_virtio_blk.specs.declared.disk.Disk.{Ghosts}
 use Rattle.iom_virtio_blk.specs.DiskStates.{DiskState}
 use Rattle.iom_world.specs.Happens.{Happens}
-use Rattle.iom_world.specs.Seen.{Seen, seen_of}
+use Rattle.iom_world.specs.Shown.{Shown, shown_of}
 use Rattle.iom_telling.specs.declared.fault.TellingFault.{TellingFault}
 use Rattle.iom_telling.specs.declared.teller.Teller.{Teller}
 use Rattle.iom_telling.specs.Scripts.{Telling, IsToldLine, TellsLine, TellsLines}
@@ -42,53 +42,53 @@ AddsIf false old new = new ≡ old
 AddsIf true old new = AddsNotes old new
 
 -- THE TELLER TAKES AN EVENT
-pub record TellerTakes {W D : Type 0} {d : Ghosts D} (contents : W → Option (List ℕ)) (seen : D → DiskState) (old : Teller W D d) (event : Event) (outcome : Outcome) (new : Teller W D d) : Type 0 where
-  pub happens : Happens (seen_of seen old.world) event outcome (seen_of seen new.world)
+pub record TellerTakes {W D : Type 0} {d : Ghosts D} (contents : W → Option (List ℕ)) (shown : D → DiskState) (old : Teller W D d) (event : Event) (outcome : Outcome) (new : Teller W D d) : Type 0 where
+  pub happens : Happens (shown_of shown old.world) event outcome (shown_of shown new.world)
   pub line : List ℕ
-  pub told : IsToldLine old.explains (told_line (seen_of seen old.world) event outcome (seen_of seen new.world)) line
+  pub told : IsToldLine old.explains (told_line (shown_of shown old.world) event outcome (shown_of shown new.world)) line
   pub goes : GoesOnTelling contents old.fault old.lines line new.fault new.lines
   pub explains : new.explains ≡ old.explains
 
 -- WHAT IS TOLD OF LINES, for the calls inside this crate
 
 abbrev pub telling_of : {W D : Type 0} {d : Ghosts D} → (D → DiskState) → Teller W D d → List ℕ → Telling
-telling_of seen teller text = record { now = seen_of seen teller.world; text = text; explains = teller.explains }
+telling_of shown teller text = record { now = shown_of shown teller.world; text = text; explains = teller.explains }
 
 -- Whatever was told before, the teller goes on so, and what it told is what goes on by this.
 abbrev pub GoesBy : {W D : Type 0} {d : Ghosts D} → (Telling → Telling → Type 0) → (W → Option (List ℕ)) → (D → DiskState) → Teller W D d → Teller W D d → Type 0
-GoesBy {W} How contents seen old new =
+GoesBy {W} How contents shown old new =
     (first : LineWriter W) (text : List ℕ) → HasTold contents first text old.fault old.lines
-    → (more : List ℕ) × How (telling_of seen old text) (telling_of seen new more) × HasTold contents first more new.fault new.lines
+    → (more : List ℕ) × How (telling_of shown old text) (telling_of shown new more) × HasTold contents first more new.fault new.lines
 
 -- by a line, by all of them, and by the first of them
 abbrev pub GoesByLine : {W D : Type 0} {d : Ghosts D} → (W → Option (List ℕ)) → (D → DiskState) → Teller W D d → ScriptLine → Teller W D d → Type 0
-GoesByLine contents seen old line new = GoesBy (λ before after. TellsLine before line after) contents seen old new
+GoesByLine contents shown old line new = GoesBy (λ before after. TellsLine before line after) contents shown old new
 
 abbrev pub GoesByLines : {W D : Type 0} {d : Ghosts D} → (W → Option (List ℕ)) → (D → DiskState) → Teller W D d → List ScriptLine → Teller W D d → Type 0
-GoesByLines contents seen old lines new = GoesBy (λ before after. TellsLines before lines after) contents seen old new
+GoesByLines contents shown old lines new = GoesBy (λ before after. TellsLines before lines after) contents shown old new
 
 abbrev pub GoesByFirst : {W D : Type 0} {d : Ghosts D} → (W → Option (List ℕ)) → (D → DiskState) → Teller W D d → List ScriptLine → Teller W D d → Type 0
-GoesByFirst contents seen old lines new = (count : ℕ) × GoesByLines contents seen old (take count lines) new
+GoesByFirst contents shown old lines new = (count : ℕ) × GoesByLines contents shown old (take count lines) new
 
 -- Where a sink with an empty buffer took the text so far: all that is told is written; or a beginning of what the first lines tell
 abbrev pub WritesAll : {W D : Type 0} {d : Ghosts D} → (W → Option (List ℕ)) → (D → DiskState) → Teller W D d → List ScriptLine → Teller W D d → Type 0
-WritesAll {W} contents seen old lines new =
+WritesAll {W} contents shown old lines new =
     (first : LineWriter W) (text : List ℕ) → first.buffer ≡ [] → TakesText contents first text old.lines
     → KeepsWriter first new.lines
-    × (more : List ℕ) × TellsLines (telling_of seen old text) lines (telling_of seen new more)
+    × (more : List ℕ) × TellsLines (telling_of shown old text) lines (telling_of shown new more)
     × Appends (contents first.writer.now) (contents new.lines.writer.now) more
 
 abbrev pub BeginsAll : {W D : Type 0} {d : Ghosts D} → (W → Option (List ℕ)) → (D → DiskState) → Teller W D d → List ScriptLine → Teller W D d → Type 0
-BeginsAll {W} contents seen old lines new =
+BeginsAll {W} contents shown old lines new =
     (first : LineWriter W) (text : List ℕ) → first.buffer ≡ [] → TakesText contents first text old.lines
     → KeepsWriter first new.lines
-    × (count : ℕ) × (more : List ℕ) × TellsLines (telling_of seen old text) (take count lines) (telling_of seen new more)
+    × (count : ℕ) × (more : List ℕ) × TellsLines (telling_of shown old text) (take count lines) (telling_of shown new more)
     × AppendsFront (contents first.writer.now) (contents new.lines.writer.now) more
 
 -- the same without the teller, from this world and this text on
-abbrev pub WritesRun : Seen → Bool → List ℕ → List ScriptLine → Option (List ℕ) → Option (List ℕ) → Type 0
+abbrev pub WritesRun : Shown → Bool → List ℕ → List ScriptLine → Option (List ℕ) → Option (List ℕ) → Type 0
 WritesRun now explains text lines old new = (last : Telling) × TellsLines (record { now = now; text = text; explains = explains }) lines last × Appends old new last.text
 
-abbrev pub BeginsRun : Seen → Bool → List ℕ → List ScriptLine → Option (List ℕ) → Option (List ℕ) → Type 0
+abbrev pub BeginsRun : Shown → Bool → List ℕ → List ScriptLine → Option (List ℕ) → Option (List ℕ) → Type 0
 BeginsRun now explains text lines old new =
     (count : ℕ) × (last : Telling) × TellsLines (record { now = now; text = text; explains = explains }) (take count lines) last × AppendsFront old new last.text

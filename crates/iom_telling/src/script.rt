@@ -1,10 +1,10 @@
 // A script, told as a trace.
 ghost use Rattle.std.specs.Prelude.{◌≡◌, ◌+◌, ◌*◌, ◌<◌, ◌≤◌, ◌^◌, ◌++◌, ℕ, [], length, None, Some, OnOk, OnErr, IfOk, IfErr, IfSome};
-ghost use Rattle.iom_block_devices.specs.Seen.{states_of};
+ghost use Rattle.iom_block_devices.specs.Shown.{states_of};
 ghost use Rattle.iom_line_writer.specs.Writing.{KeepsWriter};
 ghost use Rattle.iom_script.specs.Grammar.{IsWorldSize};
 ghost use Rattle.iom_world.specs.PowerOn.{BeginsAt};
-ghost use Rattle.iom_world.specs.Seen.{seen_of};
+ghost use Rattle.iom_world.specs.Shown.{shown_of};
 ghost use Rattle.iom_telling.specs.Scripts.{world_text, TellsScript};
 ghost use Rattle.iom_telling.specs.Tellers.{GoesByLine, GoesByLines, GoesByFirst, WritesAll, BeginsAll, WritesRun, BeginsRun};
 
@@ -26,7 +26,7 @@ fn world_of<D: Disk>(
     disks: Vec<D>,
 ) -> Result<World<D>, TellingFault>
     requires { IsWorldSize size }
-    ensures begins { IfOk result (λ world. BeginsAt size.frames size.levels (states_of D.seen disks.items) (seen_of D.seen world)) }
+    ensures begins { IfOk result (λ world. BeginsAt size.frames size.levels (states_of D.shown disks.items) (shown_of D.shown world)) }
     ensures fault { IfErr result (λ fault. fault ≡ TellingFault.Memory) }
 {
     World::new(alloc, size.frames as u32, size.levels as u8, disks).map_err(
@@ -68,7 +68,7 @@ fn marks_of(alloc: Global) -> Result<FrameMarks, TellingFault>
 /// What the line says happens, and is told.
 fn tell_line<W: Write, D: Disk>(teller: &mut Teller<'_, W, D>, line: &ScriptLine)
     requires count { teller.old.world.hardware.board.events + 400 < 2 ^ 64 }
-    ensures told { GoesByLine W.contents D.seen teller.old line.now teller.new }
+    ensures told { GoesByLine W.contents D.shown teller.old line.now teller.new }
     ensures counted { teller.new.world.hardware.board.events ≤ teller.old.world.hardware.board.events + 400 }
 {
     match line {
@@ -88,9 +88,9 @@ fn tell_lines<W: Write, D: Disk>(
 ) -> Result<(), TellingFault>
     requires count { teller.old.world.hardware.board.events + 400 * length script.now < 2 ^ 64 }
     requires fresh { teller.old.fault ≡ None }
-    ensures ran { OnOk result (GoesByLines W.contents D.seen teller.old script.now teller.new) }
+    ensures ran { OnOk result (GoesByLines W.contents D.shown teller.old script.now teller.new) }
     ensures fresh { OnOk result (teller.new.fault ≡ None) }
-    ensures failed { IfErr result (λ fault. (teller.new.fault ≡ Some fault) × GoesByFirst W.contents D.seen teller.old script.now teller.new) }
+    ensures failed { IfErr result (λ fault. (teller.new.fault ≡ Some fault) × GoesByFirst W.contents D.shown teller.old script.now teller.new) }
 {
     for line in script {
         tell_line(teller, line);
@@ -109,8 +109,8 @@ fn tell_all<W: Write, D: Disk>(
 ) -> Result<(), TellingFault>
     requires count { teller.old.world.hardware.board.events + 400 * length script.now < 2 ^ 64 }
     requires fresh { teller.old.fault ≡ None }
-    ensures told { OnOk result (WritesAll W.contents D.seen teller.old script.now teller.new) }
-    ensures failed { OnErr result (BeginsAll W.contents D.seen teller.old script.now teller.new) }
+    ensures told { OnOk result (WritesAll W.contents D.shown teller.old script.now teller.new) }
+    ensures failed { OnErr result (BeginsAll W.contents D.shown teller.old script.now teller.new) }
 {
     tell_lines(teller, script)?;
     match teller.lines.write_out() {
@@ -146,8 +146,8 @@ fn tell_run<W: Write, D: Disk>(
     writer: &mut W,
 ) -> Result<(), TellingFault>
     requires count { world.hardware.board.events + 400 * length script.now < 2 ^ 64 }
-    ensures told { OnOk result (WritesRun (seen_of D.seen world) explains buffer script.now (W.contents writer.old) (W.contents writer.new)) }
-    ensures failed { OnErr result (BeginsRun (seen_of D.seen world) explains buffer script.now (W.contents writer.old) (W.contents writer.new)) }
+    ensures told { OnOk result (WritesRun (shown_of D.shown world) explains buffer script.now (W.contents writer.old) (W.contents writer.new)) }
+    ensures failed { OnErr result (BeginsRun (shown_of D.shown world) explains buffer script.now (W.contents writer.old) (W.contents writer.new)) }
 {
     let lines = LineWriter::new(buffer, writer, false);
     let mut teller = Teller {
@@ -185,7 +185,7 @@ pub fn tell<W: Write, D: Disk>(
 ) -> Result<(), TellingFault>
     requires world { IfSome script.now.world IsWorldSize }
     requires few { length script.now.lines ≤ 1048576 }
-    ensures { TellsScript (states_of D.seen disks.items) explains script.now result (W.contents writer.old) (W.contents writer.new) }
+    ensures { TellsScript (states_of D.shown disks.items) explains script.now result (W.contents writer.old) (W.contents writer.new) }
 {
     let Some(size) = script.world else {
         return Ok(());

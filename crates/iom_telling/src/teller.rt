@@ -4,8 +4,8 @@ ghost use Rattle.iom_line_writer.specs.Writing.{TakesText, FailsAt};
 ghost use Rattle.iom_settling.specs.Stages.{brief};
 ghost use Rattle.iom_tell.specs.Told.{told_line};
 ghost use Rattle.iom_world.specs.Happens.{Happens};
-ghost use Rattle.iom_world.specs.Seen.{disks_of, parts_of, seen_of};
-ghost use Rattle.iom_world_effects.proofs.DriverLemmas.{sound_driver};
+ghost use Rattle.iom_world.specs.Shown.{disks_of, parts_of, shown_of};
+ghost use Rattle.iom_world_effects.proofs.DriverLemmas.{driver_invariant};
 ghost use Rattle.iom_telling.specs.Tellers.{AddsIf, HasToldLine, TellerTakes};
 
 use crate::fault::{TellingFault, fault_of};
@@ -14,7 +14,7 @@ use iom_explain::{NOTES_ROOM, append_notes, explain};
 use iom_line_writer::{LineWriter, WriteFault};
 use iom_machine::{Event, Fetched, Outcome};
 use iom_script::{BUFFER_SIZE, LineBuffer};
-use iom_settling::{TakesEvents, Told};
+use iom_settling::{FetchReply, TakesEvents};
 use iom_tell::{FrameMarks, TELL_ROOM, tell_event};
 use iom_virtio_blk::Disk;
 use iom_world::World;
@@ -75,8 +75,8 @@ fn tell_in_room<W: Write, D: Disk>(
 ) -> Outcome
     requires count { world.old.hardware.board.events + 1 < 2 ^ 64 }
     requires room { length lines.old.buffer + TELL_ROOM + NOTES_ROOM ≤ BUFFER_SIZE }
-    ensures happens { Happens (seen_of D.seen world.old) event.now result (seen_of D.seen world.new) }
-    ensures told { HasToldLine W.contents lines.old explains (told_line (seen_of D.seen world.old) event.now result (seen_of D.seen world.new)) fault.new lines.new }
+    ensures happens { Happens (shown_of D.shown world.old) event.now result (shown_of D.shown world.new) }
+    ensures told { HasToldLine W.contents lines.old explains (told_line (shown_of D.shown world.old) event.now result (shown_of D.shown world.new)) fault.new lines.new }
 {
     let told = tell_event(alloc, world, before, event, &mut lines.buffer);
     *fault = fault_of(told.1);
@@ -98,8 +98,8 @@ fn tell_one<W: Write, D: Disk>(
     fault: &mut Option<TellingFault>,
 ) -> Outcome
     requires count { world.old.hardware.board.events + 1 < 2 ^ 64 }
-    ensures happens { Happens (seen_of D.seen world.old) event.now result (seen_of D.seen world.new) }
-    ensures told { HasToldLine W.contents lines.old explains (told_line (seen_of D.seen world.old) event.now result (seen_of D.seen world.new)) fault.new lines.new }
+    ensures happens { Happens (shown_of D.shown world.old) event.now result (shown_of D.shown world.new) }
+    ensures told { HasToldLine W.contents lines.old explains (told_line (shown_of D.shown world.old) event.now result (shown_of D.shown world.new)) fault.new lines.new }
 {
     match make_room(lines) {
         Err(WriteFault) => {
@@ -111,13 +111,13 @@ fn tell_one<W: Write, D: Disk>(
 }
 
 /// What settling wants to know of the outcome.
-fn brief(outcome: &Outcome) -> Told
+fn brief(outcome: &Outcome) -> FetchReply
     ensures { result ≡ brief outcome.now }
 {
     match outcome {
-        Outcome::Fetched(Fetched::Waiting) => Told::Waits,
-        Outcome::Fetched(Fetched::Empty) => Told::Empty,
-        _ => Told::Other,
+        Outcome::Fetched(Fetched::Waiting) => FetchReply::Waits,
+        Outcome::Fetched(Fetched::Empty) => FetchReply::Empty,
+        _ => FetchReply::Other,
     }
 }
 
@@ -125,7 +125,7 @@ impl<W: Write, D: Disk> Teller<'_, W, D> {
     /// One event, and its line, where nothing failed before.
     fn tell(&mut self, event: &Event) -> Outcome
         requires count { self.old.world.hardware.board.events + 1 < 2 ^ 64 }
-        ensures { TellerTakes W.contents D.seen self.old event.now result self.new }
+        ensures { TellerTakes W.contents D.shown self.old event.now result self.new }
     {
         match self.fault {
             Some(_) => self.world.step(event),
@@ -148,17 +148,17 @@ impl<W: Write, D: Disk> TakesEvents for Teller<'_, W, D> {
 
     ghost counted = { λ teller. teller.world.hardware.board.events };
 
-    ghost happens = { TellerTakes W.contents D.seen };
+    ghost happens = { TellerTakes W.contents D.shown };
 
-    ghost does = { λ old new event told happens. (disks_of old.world, happens.happens.does) };
+    ghost effect = { λ old new event told happens. (disks_of old.world, happens.happens.effect) };
 
     ghost commands = { λ old new event told happens. happens.happens.commands };
 
     ghost counts = { λ old new event told happens. happens.happens.events };
 
-    ghost sound = { λ teller. teller.world.sound };
+    ghost invariants = { λ teller. teller.world.invariants };
 
-    ghost own = { λ teller. sound_driver teller.world.driver };
+    ghost own = { λ teller. driver_invariant teller.world.driver };
 
     fn facts(&self) {
         self.world.facts();
@@ -180,7 +180,7 @@ impl<W: Write, D: Disk> TakesEvents for Teller<'_, W, D> {
         self.world.has_used_up()
     }
 
-    fn take(&mut self, event: &Event) -> Told {
+    fn take(&mut self, event: &Event) -> FetchReply {
         brief(&self.tell(event))
     }
 }

@@ -20,7 +20,7 @@ static PLUGGED: &str = "\
 
 /// What the run says of a script with one disk, whose call of this number fails: how requests ended and what was peeked at,
 /// with a comma behind each.
-fn told(alloc: Global, script: &str, fails_at: u64) -> Result<String, Fail> {
+fn reply(alloc: Global, script: &str, fails_at: u64) -> Result<String, Fail> {
     let mut disks = Vec::new(alloc);
     disks.push(MemoryDisk::new(alloc, 0, 64, Some(fails_at))?)?;
     let mut lines = Vec::new(alloc);
@@ -66,7 +66,7 @@ fn a_write_ends_at_the_sector_that_fails(rt: HostRuntime) -> Result<(), Fail> {
         let mut script = String::from_str(alloc, PLUGGED)?;
         script.push_str("poke 0x4008 10040000\n")?;
         request(alloc, &mut script, 1, accesses)?;
-        expect(&rt, told(alloc, &script, fails_at)?.as_str() == wanted);
+        expect(&rt, reply(alloc, &script, fails_at)?.as_str() == wanted);
     }
     Ok(())
 }
@@ -84,8 +84,8 @@ fn a_flush_that_fails_leaves_the_disk(rt: HostRuntime) -> Result<(), Fail> {
     script.push_str("peek 0x5a00 1\n")?;
     let flushed = "finished 0 1,bytes 00,finished 0 1,bytes 00,finished 0 513,bytes ab,bytes 00,";
     let failed = "finished 0 1,bytes 00,finished 0 1,bytes 01,finished 0 513,bytes ab,bytes 00,";
-    expect(&rt, told(alloc, &script, 4)?.as_str() == flushed);
-    expect(&rt, told(alloc, &script, 2)?.as_str() == failed);
+    expect(&rt, reply(alloc, &script, 4)?.as_str() == flushed);
+    expect(&rt, reply(alloc, &script, 2)?.as_str() == failed);
     Ok(())
 }
 
@@ -103,7 +103,7 @@ fn one_of_eight_requests_fails(rt: HostRuntime) -> Result<(), Fail> {
             wanted.push_str("finished 0 1,bytes 0")?;
             wanted.push_str(if number == fails_at { "1," } else { "0," })?;
         }
-        expect(&rt, told(alloc, &script, fails_at)? == wanted);
+        expect(&rt, reply(alloc, &script, fails_at)? == wanted);
     }
     Ok(())
 }

@@ -294,7 +294,7 @@ fn interruptions_are_outlasted(rt: HostRuntime) {
     expect(&rt, is_so(rt.alloc(), &play));
 }
 
-/// A message is lost, and its device cut off; then the world settles, twice.
+/// A message is lost, and its device quarantined; then the world settles, twice.
 static SETTLING: &[u8] = b"world 64 1\ndevice 000002 ats\nattach 000002 first ats\n\
     grant 000002 3 5 rw\nrelease 000002 3\nfetch\nfetch\ndrop 0\nquarantine 000002\nsettle\nfree 5\nsettle\n";
 
@@ -484,8 +484,8 @@ fn is_told(
     text: &str,
     status: u8,
 ) -> Result<(), Fail> {
-    let told = format!(in rt.alloc(); "{fault}")?;
-    expect(rt, told.as_str() == text && fault.status() == status);
+    let reply = format!(in rt.alloc(); "{fault}")?;
+    expect(rt, reply.as_str() == text && fault.status() == status);
     Ok(())
 }
 

@@ -95,7 +95,7 @@ fn settled(rt: &impl Abort, alloc: Global, lines: &[u8]) -> Option<(u32, u64)> {
 }
 
 /// Lines, and how many events settle the world to which they happened: nothing was done; eight accesses are in flight; a
-/// message was lost and the fence given up; a device is cut off while its message is lost.
+/// message was lost and the fence given up; a device is quarantined while its message is lost.
 static SETTLED: [(&[u8], u32, u64); 4] = [
     (b"world 64 1\n", 0, 0),
     (

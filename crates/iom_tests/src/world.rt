@@ -45,8 +45,8 @@ fn is_idle(world: &mut World<MemoryDisk>, device: DeviceId) -> bool {
     if world.events() >= 1000000 {
         return false;
     }
-    let told = world.step(&Event::Step { device });
-    matches!(told, Outcome::Stepped(BlockStep::Idle))
+    let reply = world.step(&Event::Step { device });
+    matches!(reply, Outcome::Stepped(BlockStep::Idle))
 }
 
 /// Whether the device is reset, by its status.
@@ -54,8 +54,8 @@ fn is_reset(world: &mut World<MemoryDisk>, device: DeviceId) -> bool {
     if world.events() >= 1000000 {
         return false;
     }
-    let told = world.step(&Event::Status { device });
-    matches!(told, Outcome::Status(0))
+    let reply = world.step(&Event::Status { device });
+    matches!(reply, Outcome::Status(0))
 }
 
 /// A block device without a queue rests, and is reset. A raw one does neither.

@@ -6,7 +6,7 @@ use Rattle.std.proofs.lemmas.Grind.{get_or-set_at}
 use Rattle.iom_tlb.specs.declared.trans_cache.Translation.{Translation}
 use Rattle.iom_tlb.specs.Content.{Key, HasNothing, left_by, DropsWhere}
 use Rattle.iom_tlb.specs.Ways.{Ways, is_space, in_set, no_ways, content_of_sets}
-use Rattle.iom_tlb.specs.WayCalls.{AreAtHome, AreSets, CountersStay}
+use Rattle.iom_tlb.specs.WayCalls.{AreAtHome, AreSets, CountersUnchanged}
 
 nothing_either : (b : Bool) → ◌≡◌ {A = Option Translation} (cond b None None) None
 nothing_either true = refl
@@ -49,9 +49,9 @@ same_left one two (Some t) same = ap (λ b. cond b None (Some t)) (same t refl)
 module _ (old : List Ways) (i : ℕ) (before after : Ways) (lt : i < length old) (here : before ≡ get_or old i no_ways) where
   -- the invariant stays true where the new set is as much at home
   pub sound_in_one : AreSets old → ((number : ℕ) → AreAtHome number before → AreAtHome number after) → AreSets (set old i after)
-  sound_in_one sound home = (
-    length-set old i after ∙ sound.0,
-    changed (λ k s. AreAtHome k s) old i after lt (home i (subst (λ s. AreAtHome i s) (sym here) (sound.1 i))) (λ k ne. sound.1 k),
+  sound_in_one invariants home = (
+    length-set old i after ∙ invariants.0,
+    changed (λ k s. AreAtHome k s) old i after lt (home i (subst (λ s. AreAtHome i s) (sym here) (invariants.1 i))) (λ k ne. invariants.1 k),
   )
 
   pub dropped_in_one : (goes is_out : Key → Translation → Bool) → DropsWhere goes (in_set before) (in_set after)
@@ -69,7 +69,7 @@ module _ (old : List Ways) (i : ℕ) (before after : Ways) (lt : i < length old)
         ∙ untouched (is_out key) (content_of_sets old key) (λ t is. none key t is ne.1)
   ]
 
-  pub counters_in_one : after.next ≡ before.next → CountersStay old (set old i after)
+  pub counters_in_one : after.next ≡ before.next → CountersUnchanged old (set old i after)
   counters_in_one same = changed (λ k s. s.next ≡ (get_or old k no_ways).next) old i after lt (same ∙ ap (λ (s : Ways). s.next) here) (λ k ne. refl)
 
 -- a drop in all

@@ -2,7 +2,7 @@
 -- none to which it doesn't apply.
 use Rattle.std.proofs.Common.{◌≡◌, ◌≢◌, ◌⊎◌, ◌∙◌, inl, inr, Bool, true, false, cond, Option, Some, None, refl, sym, ap}
 use Rattle.iom_tlb.specs.declared.trans_cache.Translation.{Translation}
-use Rattle.iom_tlb.specs.Content.{Key, Translations, TranslationsStay, Sets, Keeps, left_by, DropsWhere}
+use Rattle.iom_tlb.specs.Content.{Key, Translations, TranslationsUnchanged, Sets, Keeps, left_by, DropsWhere}
 use Rattle.iom_tlb.proofs.KeyLemmas.{one_or_other}
 
 -- what is left was there, and didn't pass the test
@@ -15,7 +15,7 @@ left_of is_out (Some u) t is = by (is_out u) refl is
     by false e f = let same : u ≡ t = cc in (ap is_out (sym same) ∙ e, f)
 
 module _ (old new : Translations) (key : Key) (t : Translation) (found : new key ≡ Some t) where
-  pub found_before_look : TranslationsStay old new → old key ≡ Some t
+  pub found_before_look : TranslationsUnchanged old new → old key ≡ Some t
   found_before_look same = sym (same key) ∙ found
 
   set_at : (at : Key) (kept : Translation) → Sets old at kept new → (key ≡ at) ⊎ (key ≢ at)

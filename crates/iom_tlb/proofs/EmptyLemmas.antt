@@ -76,7 +76,7 @@ module _ (is_out : Key → Translation → Bool) (pages : List ℕ) (translation
     -- a way that doesn't stays
     pub one_in : ((space : Space) → is_space space ≡ true → space_word space ≡ get_or new n 0 → (cached : Translation) → slice_get translations n ≡ Some cached → is_out (space, get_or pages n 0) cached ≡ false)
         → EmptiesBelow (n + 1) is_out pages translations old new
-    one_in stays = record {
+    one_in unchanged = record {
       as_many = so_far.as_many;
       rest = λ way le. so_far.rest way (omega arith);
       empty_or_same = so_far.empty_or_same;
@@ -89,4 +89,4 @@ module _ (is_out : Key → Translation → Bool) (pages : List ℕ) (translation
           → is_out (space, get_or pages way 0) cached ≡ false
       fails way space cached same own e at =
           ap (λ k. is_out (space, get_or pages k 0) cached) same
-          ∙ stays space own (sym e ∙ ap (λ k. get_or old k 0) same ∙ sym (so_far.rest n (omega arith))) cached (ap (λ k. slice_get translations k) (sym same) ∙ at)
+          ∙ unchanged space own (sym e ∙ ap (λ k. get_or old k 0) same ∙ sym (so_far.rest n (omega arith))) cached (ap (λ k. slice_get translations k) (sym same) ∙ at)

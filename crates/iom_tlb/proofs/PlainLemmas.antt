@@ -5,14 +5,14 @@ use Rattle.std.specs.Map.{keys_of, remove_entry}
 use Rattle.lru.specs.LruCache.{LruCache, lru_cache, put_entries, promoted, IsValid}
 use Rattle.iom_tlb.specs.declared.trans_cache.Translation.{Translation}
 use Rattle.iom_tlb.specs.declared.cover.Cover.{Cover}
-use Rattle.iom_tlb.specs.Content.{Key, TranslationsStay, Keeps, Sets, DropsWhere}
+use Rattle.iom_tlb.specs.Content.{Key, TranslationsUnchanged, Keeps, Sets, DropsWhere}
 use Rattle.iom_tlb.specs.Covers.{covers}
 use Rattle.iom_tlb.specs.Entries.{is_key, content_of, after_look, after_keep, KeepsInOrder, after_drop}
 use Rattle.iom_tlb.proofs.EntryLemmas as entries
 use Rattle.iom_tlb.proofs.KeyLemmas.{key_laws, one_key}
 
 -- an entry becomes the most recently used, and the content stays
-pub looked : (at : Key) (es : List (Key × Translation)) → IsDistinct is_key (keys_of es) → TranslationsStay (content_of es) (content_of (promoted (is_key at) es))
+pub looked : (at : Key) (es : List (Key × Translation)) → IsDistinct is_key (keys_of es) → TranslationsUnchanged (content_of es) (content_of (promoted (is_key at) es))
 looked at es d = λ key. entries.lookup-promoted is_key key_laws one_key at key es d
 
 sets : (c : LruCache Key Translation) (at : Key) (t : Translation) → IsValid is_key c → Sets (content_of c.entries) at t (content_of (put_entries is_key c at t))

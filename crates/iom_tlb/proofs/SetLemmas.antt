@@ -109,9 +109,9 @@ module _ (ways : Ways) (facts : AreWays ways) where
         | inr ne ↦ ne.1 (only_this key way has k (sym (space_else k ne.1) ∙ e, sym (page_else k ne.1) ∙ f))
       ]
 
-      stays : (is_space key.0 ≡ true → get_or ways.spaces way 0 ≡ space_word key.0 → get_or ways.pages way 0 ≢ key.1)
+      unchanged : (is_space key.0 ≡ true → get_or ways.spaces way 0 ≡ space_word key.0 → get_or ways.pages way 0 ≢ key.1)
           → in_set (with_way ways way (space_word at.0) at.1 t next) key ≡ in_set ways key
-      stays hasnt = guarded_same (is_space key.0) _ _ (λ own.
+      unchanged hasnt = guarded_same (is_space key.0) _ _ (λ own.
           put_other (space_word key.0) key.1 ways.spaces ways.pages ways.translations way (space_word at.0) at.1 t (differs own) (hasnt own))
 
       gone : is_space key.0 ≡ true → HasKey ways (space_word key.0) key.1 way → in_set (with_way ways way (space_word at.0) at.1 t next) key ≡ None
@@ -122,9 +122,9 @@ module _ (ways : Ways) (facts : AreWays ways) where
           ⊎ ((key ≡ out) × (in_set (with_way ways way (space_word at.0) at.1 t next) key ≡ None))
       either out is_out true own = elim (has_or_not ways (space_word key.0) key.1 way) [
         | inl has ↦ inr (is_out own has, gone own has)
-        | inr hasnt ↦ inl (stays (λ own. hasnt))
+        | inr hasnt ↦ inl (unchanged (λ own. hasnt))
       ]
-      either out is_out false own = inl (stays (λ true_too. absurd (cc)))
+      either out is_out false own = inl (unchanged (λ true_too. absurd (cc)))
 
     Others : Key → Type 0
     Others out = (key : Key) → key ≢ at → (in_set (with_way ways way (space_word at.0) at.1 t next) key ≡ in_set ways key)

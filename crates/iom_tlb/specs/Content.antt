@@ -16,8 +16,8 @@ abbrev pub HasNothing : Translations → Type 0
 HasNothing content = (key : Key) → content key ≡ None
 
 -- it has what it had
-abbrev pub TranslationsStay : Translations → Translations → Type 0
-TranslationsStay old new = (key : Key) → new key ≡ old key
+abbrev pub TranslationsUnchanged : Translations → Translations → Type 0
+TranslationsUnchanged old new = (key : Key) → new key ≡ old key
 
 -- it has this translation there. Elsewhere it has what it had, but for at most one place, where it has nothing
 pub record Sets (old : Translations) (at : Key) (translation : Translation) (new : Translations) : Type 0 where
@@ -27,7 +27,7 @@ pub record Sets (old : Translations) (at : Key) (translation : Translation) (new
 -- THE RELATION of a keep: it sets the translation. Or it is refused, and all stays: never in a cache that is sure, nor where there is one
 -- already, whose place is taken
 abbrev pub Keeps : Bool → Translations → Key → Translation → Translations → Type 0
-Keeps sure old at translation new = Sets old at translation new ⊎ ((sure ≡ false) × (old at ≡ None) × TranslationsStay old new)
+Keeps sure old at translation new = Sets old at translation new ⊎ ((sure ≡ false) × (old at ≡ None) × TranslationsUnchanged old new)
 
 -- what is left of what was there
 abbrev pub left_by : {A : Type 0} → (A → Bool) → Option A → Option A

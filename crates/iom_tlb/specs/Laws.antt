@@ -3,7 +3,7 @@ use Rattle.std.specs.Prelude.{◌≡◌, ◌≢◌, ◌⊎◌, Bool, true, false
 use Rattle.iom_command_queue.specs.declared.command.Command.TheVariants.{IotinvalVma, IotinvalGvma}
 use Rattle.iom_tlb.specs.declared.cover.Cover.{Cover}
 use Rattle.iom_tlb.specs.declared.trans_cache.Translation.{Translation}
-use Rattle.iom_tlb.specs.Content.{Key, Translations, HasNothing, TranslationsStay, Keeps, DropsWhere}
+use Rattle.iom_tlb.specs.Content.{Key, Translations, HasNothing, TranslationsUnchanged, Keeps, DropsWhere}
 use Rattle.iom_tlb.specs.Covers.{covers, are_covering}
 use Rattle.iom_tlb.specs.Invalidations.{covers_of}
 
@@ -16,14 +16,14 @@ pub data TranslationCacheCall : Type 0 where
 
 -- what the call does to the content, in a cache that is sure, or isn't
 abbrev pub CallsCache : Bool → Translations → TranslationCacheCall → Translations → Type 0
-CallsCache sure old (look key found) new = (found ≡ old key) × TranslationsStay old new
+CallsCache sure old (look key found) new = (found ≡ old key) × TranslationsUnchanged old new
 CallsCache sure old (keep key translation) new = Keeps sure old key translation new
 CallsCache sure old (drop_where cover) new = DropsWhere (covers cover) old new
 CallsCache sure old drop_all new = HasNothing new
 
 -- calls one after the other, the newest first
 abbrev pub RunsCache : Bool → Translations → List TranslationCacheCall → Translations → Type 0
-RunsCache sure old [] new = TranslationsStay old new
+RunsCache sure old [] new = TranslationsUnchanged old new
 RunsCache sure old (call ∷ earlier) new = (between : Translations) × RunsCache sure old earlier between × CallsCache sure between call new
 
 -- the translation was kept there by one of the calls; no later one kept another there, and none took it out

@@ -64,8 +64,8 @@ abbrev pub AreCountersAtZero : List Ways → Type 0
 AreCountersAtZero sets = (number : ℕ) → (get_or sets number no_ways).next ≡ 0
 
 -- they are as they were
-abbrev pub CountersStay : List Ways → List Ways → Type 0
-CountersStay old new = (number : ℕ) → (get_or new number no_ways).next ≡ (get_or old number no_ways).next
+abbrev pub CountersUnchanged : List Ways → List Ways → Type 0
+CountersUnchanged old new = (number : ℕ) → (get_or new number no_ways).next ≡ (get_or old number no_ways).next
 
 -- ways are empty now: each whose key and translation pass the test, and no other that had one
 pub record Empties (is_out : Key → Translation → Bool) (pages : List ℕ) (translations : List Translation) (old new : List ℕ) : Type 0 where

@@ -2,7 +2,7 @@
 // the length first, since from there on it is known that no two entries have one key.
 ghost use Rattle.std.specs.Prelude.{◌≡◌, ◌↔◌, false, IsTrue, option_map};
 ghost use Rattle.std.specs.List.{find as first_of};
-ghost use Rattle.iom_tlb.specs.Content.{TranslationsStay, Keeps, DropsWhere};
+ghost use Rattle.iom_tlb.specs.Content.{TranslationsUnchanged, Keeps, DropsWhere};
 ghost use Rattle.iom_tlb.specs.Covers.{covers};
 ghost use Rattle.iom_tlb.specs.Entries.{content_of, after_look, KeepsInOrder, after_drop};
 
@@ -46,7 +46,7 @@ pub(crate) fn find(
     key: (Space, u64),
 ) -> Option<Translation>
     ensures found { result ≡ content_of entries.old.entries key }
-    ensures stays { TranslationsStay (content_of entries.old.entries) (content_of entries.new.entries) }
+    ensures unchanged { TranslationsUnchanged (content_of entries.old.entries) (content_of entries.new.entries) }
     ensures order { entries.new.entries ≡ after_look key entries.old.entries }
     ensures capacity { entries.new.cap ≡ entries.old.cap }
 {

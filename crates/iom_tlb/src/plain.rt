@@ -1,5 +1,5 @@
 ghost use Rattle.std.specs.Prelude.{◌≡◌, [], IfOk, false};
-ghost use Rattle.iom_tlb.specs.Content.{HasNothing, TranslationsStay, Keeps, DropsWhere};
+ghost use Rattle.iom_tlb.specs.Content.{HasNothing, TranslationsUnchanged, Keeps, DropsWhere};
 ghost use Rattle.iom_tlb.specs.Covers.{covers};
 ghost use Rattle.iom_tlb.specs.Entries.{content_of, after_look, KeepsInOrder, after_drop};
 
@@ -60,7 +60,7 @@ impl TransCache for PlainCache {
 
     fn look(&mut self, space: Space, page: u64) -> Option<Translation>
         ensures found { result ≡ content_of self.old (space, page) }
-        ensures stays { TranslationsStay (content_of self.old) (content_of self.new) }
+        ensures unchanged { TranslationsUnchanged (content_of self.old) (content_of self.new) }
         ensures order { self.new ≡ after_look (space, page) self.old }
     {
         entries::find(&mut self.entries, (space, page))

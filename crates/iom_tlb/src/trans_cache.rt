@@ -1,5 +1,5 @@
 ghost use Rattle.std.specs.Prelude.{◌≡◌, ◌↔◌, Bool, IsTrue};
-ghost use Rattle.iom_tlb.specs.Content.{Translations, TranslationsStay, Keeps, DropsWhere, HasNothing};
+ghost use Rattle.iom_tlb.specs.Content.{Translations, TranslationsUnchanged, Keeps, DropsWhere, HasNothing};
 ghost use Rattle.iom_tlb.specs.Covers.{covers};
 
 use crate::cover::Cover;
@@ -41,7 +41,7 @@ pub trait TransCache {
     /// What is cached for the page, if something is. The content stays.
     fn look(&mut self, space: Space, page: u64) -> Option<Translation>
         ensures found { result ≡ content self.old (space, page) }
-        ensures stays { TranslationsStay (content self.old) (content self.new) };
+        ensures unchanged { TranslationsUnchanged (content self.old) (content self.new) };
 
     /// Caches a translation, in place of the page's old one, and takes out at most one other. Or it is refused, and
     /// all stays: never in a cache that is `SURE`, nor where the page has a translation already.

@@ -5,7 +5,7 @@ ghost use Rattle.iom_tlb.specs.declared.trans_cache.Translation.{Translation};
 ghost use Rattle.iom_tlb.specs.Ways.{in_set, no_ways, content_of_sets};
 ghost use Rattle.iom_tlb.specs.declared.cached_page.CachedPage.{CachedPage};
 ghost use Rattle.iom_tlb.specs.Places.{IsCached, IsCachedAt, HavePlaces};
-ghost use Rattle.iom_tlb.specs.WayCalls.{AreSets, AreAtHome, AreCountersAtZero, CountersStay, PutsInSet};
+ghost use Rattle.iom_tlb.specs.WayCalls.{AreSets, AreAtHome, AreCountersAtZero, CountersUnchanged, PutsInSet};
 
 use crate::cached_page::CachedPage;
 use crate::cover::Cover;
@@ -91,7 +91,7 @@ fn drop_in_all(sets: &mut [WaySet], cover: &Cover)
         (in_set (get_or sets.old number no_ways)) (in_set (get_or sets.new number no_ways)) }
     ensures home { (number : ℕ) → AreAtHome number (get_or sets.old number no_ways)
         → AreAtHome number (get_or sets.new number no_ways) }
-    ensures counters { CountersStay sets.old sets.new }
+    ensures counters { CountersUnchanged sets.old sets.new }
 {
     for number in 0..sets.len() {
         let set = &mut sets[number];
@@ -103,12 +103,12 @@ fn drop_in_all(sets: &mut [WaySet], cover: &Cover)
 /// the cover names are in one set.
 #[inline(always)]
 fn drop_small(sets: &mut [WaySet], cover: &Cover)
-    requires sound { AreSets sets.old }
+    requires invariants { AreSets sets.old }
     requires small { (key : Key) (cached : Translation) → content_of_sets sets.old key ≡ Some cached
         → covers cover.now key cached ≡ true → cached.level ≡ 0 }
     ensures dropped { DropsWhere (covers cover.now) (content_of_sets sets.old) (content_of_sets sets.new) }
-    ensures sound { AreSets sets.new }
-    ensures counters { CountersStay sets.old sets.new }
+    ensures invariants { AreSets sets.new }
+    ensures counters { CountersUnchanged sets.old sets.new }
 {
     if let Some((space, page)) = cover.only_key() {
         let set = &mut sets[set_of(page)];
@@ -125,7 +125,7 @@ fn drop_small(sets: &mut [WaySet], cover: &Cover)
 fn empty_all(sets: &mut [WaySet])
     ensures nothing { (number : ℕ) → HasNothing (in_set (get_or sets.new number no_ways)) }
     ensures home { (number : ℕ) → AreAtHome number (get_or sets.new number no_ways) }
-    ensures counters { CountersStay sets.old sets.new }
+    ensures counters { CountersUnchanged sets.old sets.new }
 {
     for number in 0..sets.len() {
         let set = &mut sets[number];
@@ -198,7 +198,7 @@ impl TransCache for WayCache {
     #[inline(always)]
     fn drop_where(&mut self, cover: &Cover)
         ensures dropped { DropsWhere (covers cover.now) (content_of_sets self.old) (content_of_sets self.new) }
-        ensures counters { CountersStay self.old self.new }
+        ensures counters { CountersUnchanged self.old self.new }
     {
         if self.large.may_be_among(cover) {
             drop_in_all(&mut self.sets, cover);
@@ -209,7 +209,7 @@ impl TransCache for WayCache {
 
     fn drop_all(&mut self)
         ensures empty { HasNothing (content_of_sets self.new) }
-        ensures counters { CountersStay self.old self.new }
+        ensures counters { CountersUnchanged self.old self.new }
     {
         empty_all(&mut self.sets);
         self.large = LargeLeaves::none();

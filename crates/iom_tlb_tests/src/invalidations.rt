@@ -99,8 +99,8 @@ fn fill<C: TransCache>(cache: &mut C) {
 
 /// Those of the address spaces have the page, and no others.
 fn has<C: TransCache>(rt: &impl Abort, cache: &mut C, page: u64, want: &[u8; 7]) {
-    for (space, stays) in SPACES.iter().zip(want.iter()) {
-        let expected = (*stays == 1).then_some(TRANSLATION);
+    for (space, unchanged) in SPACES.iter().zip(want.iter()) {
+        let expected = (*unchanged == 1).then_some(TRANSLATION);
         expect(rt, cache.look(*space, page) == expected);
     }
 }

@@ -89,7 +89,7 @@ fn looks_each<C: TransCache>(
 }
 
 /// Whether the step is done and answered so.
-fn does<C: TransCache>(cache: &mut C, step: &Step) -> bool {
+fn effect<C: TransCache>(cache: &mut C, step: &Step) -> bool {
     match *step {
         Step::Look(space, page, expected) => return looks(cache, space, page, expected),
         Step::FindEach(space, apart, from, to) => {
@@ -110,7 +110,7 @@ fn does<C: TransCache>(cache: &mut C, step: &Step) -> bool {
 /// The cache takes the steps, one after another.
 pub(crate) fn follow<C: TransCache>(rt: &impl Abort, cache: &mut C, steps: &[Step]) {
     for step in steps.iter() {
-        expect(rt, does(cache, step));
+        expect(rt, effect(cache, step));
     }
 }
 

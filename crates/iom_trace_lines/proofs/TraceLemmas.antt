@@ -109,8 +109,8 @@ take_says line said answered frame tables is named granted = handing_says (codes
 -- an access that was made, by a commit
 pub made_says : (said answered : List ℕ) (device : ℕ) (is_read : Bool) (tables : List ℕ) → IsEventLine said (events.Commit device) → answered ≡ made_text is_read
     → SaysLine (said ++ codes " => " ++ answered) (Made device is_read) tables
-made_says said answered device is_read tables (word, id, named) told =
-    (word, id, ap (λ (l : List ℕ). l ++ codes " => " ++ answered) named ∙ ap (λ (l : List ℕ). (codes "commit" ␣ word) ++ codes " => " ++ l) told)
+made_says said answered device is_read tables (word, id, named) reply =
+    (word, id, ap (λ (l : List ℕ). l ++ codes " => " ++ answered) named ∙ ap (λ (l : List ℕ). (codes "commit" ␣ word) ++ codes " => " ++ l) reply)
 
 -- pages side by side
 pub pages_say : (text first behind : List ℕ) (page count : ℕ) → text ≡ first ++ 43 ∷ behind → IsNumber first page → IsNumber behind count → 0 < count → page + count < 2 ^ 64 → IsPages text page count
@@ -158,8 +158,8 @@ joins_say said answered device other ats has_tables tables says is = (said, says
 
 pub releases_say : (said answered word : List ℕ) (device page count ticket : ℕ) (tables : List ℕ) → IsReleasesLine said device page count → IsNumber word ticket → answered ≡ codes "ticket " ++ word
     → SaysLine (said ++ codes " => " ++ answered) (Releases device page count ticket) tables
-releases_say said answered word device page count ticket tables says number told =
-    (said, word, says, number, ap (λ (l : List ℕ). said ++ codes " => " ++ l) told ∙ joined said (codes " => ") (codes "ticket ") word)
+releases_say said answered word device page count ticket tables says number reply =
+    (said, word, says, number, ap (λ (l : List ℕ). said ++ codes " => " ++ l) reply ∙ joined said (codes " => ") (codes "ticket ") word)
 
 -- how large the world is, with the word that says its limits behind
 pub world_says : (said sized answer : List ℕ) (size : WorldSize) (limits : WorldLimits) (tables : List ℕ) → said ≡ sized ++ limits_text limits → SaysSize limits sized size → answer ≡ codes "ok"

@@ -98,10 +98,10 @@ pub struct KeptOutcomes {
 
 /// The place, which is one of this kind, with this told.
 macro_rules! tell {
-    ($place:expr, $kind:path, $told:expr) => {{
-        let told = $told;
+    ($place:expr, $kind:path, $reply:expr) => {{
+        let reply = $reply;
         match &mut $place {
-            $kind(held) => *held = told,
+            $kind(held) => *held = reply,
             _ => return None,
         }
         Some(&$place)
@@ -121,9 +121,9 @@ macro_rules! tell_bytes {
 
 /// What is told beside the first of these starts that the text has, of what stands behind it.
 macro_rules! tell_behind {
-    ($text:expr, $rest:ident, $($start:literal => $told:expr,)+) => {
+    ($text:expr, $rest:ident, $($start:literal => $reply:expr,)+) => {
         $(if let Some($rest) = behind($text, $start) {
-            return $told;
+            return $reply;
         })+
     };
 }
@@ -134,7 +134,7 @@ fn if_printed<'a>(
     outcome: &'a Outcome,
     text: &[u8],
 ) -> Option<&'a Outcome>
-    ensures { IfSome result (λ told. line_of told.now ≡ text.now ++ 10 ∷ []) }
+    ensures { IfSome result (λ reply. line_of reply.now ≡ text.now ++ 10 ∷ []) }
 {
     printed.clear();
     printed.append_line(outcome);
@@ -390,6 +390,6 @@ pub fn read_outcome<'a>(
     if let Some(fetched) = fetched_of(text) {
         return tell!(kept.fetched, Outcome::Fetched, fetched);
     }
-    let told = kept.told_seldom(event, text)?;
-    if_printed(printed, told, text)
+    let reply = kept.told_seldom(event, text)?;
+    if_printed(printed, reply, text)
 }

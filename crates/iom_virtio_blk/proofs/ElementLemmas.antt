@@ -102,8 +102,8 @@ as_new : (old new then : QueueState) (wrote : List Byte) → new ≡ then → (t
 as_new old new then wrote is kept goes = subst (λ (q : QueueState). Writes old q wrote []) (sym is)
     (record { layout = kept.0; count = kept.1; bytes = goes.0; within = goes.1 })
 
-stays : (old new : QueueState) → new ≡ old → IsWithin old → Writes old new [] []
-stays old new same within = as_new old new old [] same (refl, refl) (append-nil (begun old), within)
+unchanged : (old new : QueueState) → new ≡ old → IsWithin old → Writes old new [] []
+unchanged old new same within = as_new old new old [] same (refl, refl) (append-nil (begun old), within)
 
 takes_on : (old new : Device) → TakesQueue old new → old.front.queue.phase ≢ Served → old.front.queue.phase ≢ UsedIndex → old.front.queue.phase ≢ Faulted
     → IsWithin old.front.queue → Writes old.front.queue new.front.queue (wrote_in old.front.queue.phase old.front.queue) []
@@ -114,9 +114,9 @@ takes_on old new takes served ended fault within =
 
 -- a request that goes on, or whose status is written
 served_in : (job : Job) (b : Front) → b.queue.phase ≡ Served → Writes b.queue (queue_in job b) [] []
-served_in Header b is = stays b.queue b.queue refl (subst IsWithinIn (sym is) tt)
-served_in Reading b is = stays b.queue b.queue refl (subst IsWithinIn (sym is) tt)
-served_in Writing b is = stays b.queue b.queue refl (subst IsWithinIn (sym is) tt)
+served_in Header b is = unchanged b.queue b.queue refl (subst IsWithinIn (sym is) tt)
+served_in Reading b is = unchanged b.queue b.queue refl (subst IsWithinIn (sym is) tt)
+served_in Writing b is = unchanged b.queue b.queue refl (subst IsWithinIn (sym is) tt)
 served_in (Ending end) b is = record {
   layout = refl;
   count = refl;
@@ -135,7 +135,7 @@ faulted_on : (old new : Device) → old.front.queue.phase ≡ Faulted → TakesQ
     → Writes old.front.queue new.front.queue (wrote_in old.front.queue.phase old.front.queue) []
 faulted_on old new is takes =
     subst (λ (wrote : List Byte). Writes old.front.queue new.front.queue wrote []) (sym (ap (λ (p : Phase). wrote_in p old.front.queue) is))
-    (stays old.front.queue new.front.queue
+    (unchanged old.front.queue new.front.queue
     (queue_then old new takes ∙ ap (λ (p : Phase). after_in p old.front.queue old.front.got.items) is) (subst IsWithinIn (sym is) tt))
 
 uses_on : (old new : Device) (phase : Phase) → old.front.queue.phase ≡ phase → UsesIn phase old new → new.front.queue.phase ≢ AvailableIndex → IsWithin old.front.queue
@@ -187,7 +187,7 @@ uses_on old new Faulted is used moved within = faulted_on old new is used
 
 goes_on : (old new : Device) (made : Bool) → GoesOnIn made old new → (made ≡ true → new.front.queue.phase ≢ AvailableIndex) → IsWithin old.front.queue
     → Writes old.front.queue new.front.queue (wrote_by made old.front.queue) []
-goes_on old new false same moved within = stays old.front.queue new.front.queue (ap (λ (d : Device). d.front.queue) same) within
+goes_on old new false same moved within = unchanged old.front.queue new.front.queue (ap (λ (d : Device). d.front.queue) same) within
 goes_on old new true used moved within = uses_on old new old.front.queue.phase refl used (moved refl) within
 
 -- what shows a fault is no element
@@ -225,8 +225,8 @@ finishes old new head len bytes is own count then =
 
 pub steps_write : (old new : Device) (outcome : Step) → BlockDeviceSteps old outcome new → IsWithin old.front.queue
     → Writes old.front.queue new.front.queue (wrote_at old outcome) (done_at outcome)
-steps_write old new Down steps within = stays old.front.queue new.front.queue (ap (λ (d : Device). d.front.queue) steps.1) within
-steps_write old new Idle (inl steps) within = stays old.front.queue new.front.queue (ap (λ (d : Device). d.front.queue) steps.2) within
+steps_write old new Down steps within = unchanged old.front.queue new.front.queue (ap (λ (d : Device). d.front.queue) steps.1) within
+steps_write old new Idle (inl steps) within = unchanged old.front.queue new.front.queue (ap (λ (d : Device). d.front.queue) steps.2) within
 steps_write old new Idle (inr (counts, takes)) within =
     as_new old.front.queue new.front.queue (after_in AvailableIndex old.front.queue old.front.got.items) []
     (queue_then old new takes ∙ ap (λ (p : Phase). after_in p old.front.queue old.front.got.items) counts.1)
@@ -242,7 +242,7 @@ steps_write old new Idle (inr (counts, takes)) within =
 
     three : AvailableIndex ≡ Faulted → ⊥
     three e = cc
-steps_write old new Waiting steps within = stays old.front.queue new.front.queue (ap (λ (d : Device). d.front.queue) steps.2) within
+steps_write old new Waiting steps within = unchanged old.front.queue new.front.queue (ap (λ (d : Device). d.front.queue) steps.2) within
 steps_write old new (Chain fault) steps within =
     as_new old.front.queue new.front.queue (with_phase old.front.queue Faulted) []
     (ap (λ (f : Front). f.queue) steps.4 ∙ ap (λ shown. after_fault shown old.front.queue old.front.got.items) steps.2)

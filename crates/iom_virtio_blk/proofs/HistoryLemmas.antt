@@ -49,8 +49,8 @@ pub IsDisk-failed : (history : List Entry) (map : List (List ℕ)) (first : ℕ)
 IsDisk-failed history map first xs disk n bytes at = elim (disk n bytes at) [ inl gives ↦ inl gives | inr other ↦ inr other.1 ]
 
 -- the disk failed at the next sector, which is old
-pub IsDisk-stays : (history : List Entry) (map : List (List ℕ)) (first : ℕ) (xs more : List ℕ) → IsDisk (gave first xs ∷ history) map → IsDisk (failed first (xs ++ more) ∷ history) map
-IsDisk-stays history map first xs more disk n bytes at = elim (disk n bytes at) [ inl gives ↦ inl (Gives-more first xs more n bytes gives) | inr other ↦ inr other.1 ]
+pub IsDisk-unchanged : (history : List Entry) (map : List (List ℕ)) (first : ℕ) (xs more : List ℕ) → IsDisk (gave first xs ∷ history) map → IsDisk (failed first (xs ++ more) ∷ history) map
+IsDisk-unchanged history map first xs more disk n bytes at = elim (disk n bytes at) [ inl gives ↦ inl (Gives-more first xs more n bytes gives) | inr other ↦ inr other.1 ]
 
 -- a list's last sector
 last_sector : (ys : List ℕ) (k : ℕ) → 512 * k + 512 ≡ length ys → take 512 (drop (512 * k) ys) ≡ drop (512 * k) ys
@@ -113,6 +113,6 @@ IsMap-tears history first xs more sector k at None (Some new) whole most is plac
 IsMap-tears history first xs more sector k at (Some old) None whole most is place tears map = absurd tears
 IsMap-tears history first xs more sector k at (Some old) (Some new) whole most is place tears map = by tears where
   by : (new.sectors ≡ old.sectors) ⊎ ((at < length old.sectors) × (new.sectors ≡ slice_set old.sectors at sector)) → IsDisk (failed first (xs ++ more) ∷ history) new.sectors
-  by (inl e) = subst (λ m. IsDisk (failed first (xs ++ more) ∷ history) m) (sym e) (IsDisk-stays history old.sectors first xs more map)
+  by (inl e) = subst (λ m. IsDisk (failed first (xs ++ more) ∷ history) m) (sym e) (IsDisk-unchanged history old.sectors first xs more map)
   by (inr did) =
       rw (did.1, place) (IsDisk-failed history (slice_set old.sectors (first + k) sector) first (xs ++ more) (IsDisk-write history old.sectors first xs more sector k whole most is (subst (λ a. a < length old.sectors) place did.0) map))

@@ -21,7 +21,7 @@ use Rattle.iom_virtio_blk.specs.Requests.{plan_of}
 use Rattle.iom_virtio_blk.specs.Serving.{unread, piece_in, piece_len, data_in, data_out, IsUnderWayIn}
 use Rattle.iom_virtio_blk.specs.Blocks.{IsBetweenCalls, IsTaking, planned, request_kind, sector_in, buffer_in, serving_in, call_in, queue_in}
 use Rattle.iom_virtio_blk.specs.Steps.{Device, device, Calls, settled, ServesWithDisk, TakesQueue, UsesIn, GoesOnIn, serving_from, BlockDeviceSteps}
-use Rattle.iom_virtio_blk.specs.Histories.{Entry, gave, failed, inserted, IsMap, InWork, TellsDisk, told, told_in, history_after}
+use Rattle.iom_virtio_blk.specs.Histories.{Entry, gave, failed, inserted, IsMap, InWork, TellsDisk, recorded, recorded_in, history_after}
 use Rattle.iom_virtio_blk.proofs.AccessLemmas.{IsData, data_came, piece-few}
 use Rattle.iom_virtio_blk.proofs.ToldLemmas.{Goes, IsGiving, header-goes, reading-goes, data-goes}
 
@@ -73,15 +73,15 @@ writing-case b disk new (gave first xs ∷ earlier) done now ready taking phase 
 
 -- a device that serves a request used the bytes of its access
 served-agrees : (history : List Entry) (old new : Device) → IsBetweenCalls old.front → IsTaking old.front → old.front.queue.phase ≡ Served → length old.front.buffer ≡ 512 → ServesWithDisk old new
-    → TellsDisk history old → TellsDisk (told old.front.serving.job new.front.serving.job new.front.serving.sector old.front.got.items history) new
+    → TellsDisk history old → TellsDisk (recorded old.front.serving.job new.front.serving.job new.front.serving.sector old.front.got.items history) new
 served-agrees history old new ready taking phase full serves agrees = by old.front.serving.job refl where
   goes : (job : Job) → old.front.serving.job ≡ job → Goes job old.front.got.items history new.disk (settled serves.0 (serving_in job old.front (sector_count old.disk))) new.front.buffer
-      → TellsDisk (told old.front.serving.job new.front.serving.job new.front.serving.sector old.front.got.items history) new
+      → TellsDisk (recorded old.front.serving.job new.front.serving.job new.front.serving.sector old.front.got.items history) new
   goes job e g = there same where
     same : new.front.serving ≡ settled serves.0 (serving_in job old.front (sector_count old.disk))
     same = ap (λ (f : Front). f.serving) serves.2 ∙ ap (λ (j : Job). settled serves.0 (serving_in j old.front (sector_count old.disk))) e
 
-    there : new.front.serving ≡ settled serves.0 (serving_in job old.front (sector_count old.disk)) → TellsDisk (told old.front.serving.job new.front.serving.job new.front.serving.sector old.front.got.items history) new
+    there : new.front.serving ≡ settled serves.0 (serving_in job old.front (sector_count old.disk)) → TellsDisk (recorded old.front.serving.job new.front.serving.job new.front.serving.sector old.front.got.items history) new
     there same =
         let now : Goes job old.front.got.items history new.disk new.front.serving new.front.buffer = subst (λ (t : Serving). Goes job old.front.got.items history new.disk t new.front.buffer) (sym same) g in
         let here : Goes old.front.serving.job old.front.got.items history new.disk new.front.serving new.front.buffer = subst (λ (j : Job). Goes j old.front.got.items history new.disk new.front.serving new.front.buffer) (sym e) now in
@@ -94,7 +94,7 @@ served-agrees history old new ready taking phase full serves agrees = by old.fro
   work job e = subst (λ (j : Job). InWork j old.front.serving old.front.buffer history old.disk) e (agrees.work taking.stage phase)
 
   ended : (end : RequestStatus) → old.front.serving.job ≡ Ending end → (done : Bool) → Calls None done old.disk old.front.buffer new.disk new.front.buffer
-      → TellsDisk (told old.front.serving.job new.front.serving.job new.front.serving.sector old.front.got.items history) new
+      → TellsDisk (recorded old.front.serving.job new.front.serving.job new.front.serving.sector old.front.got.items history) new
   ended end e false c = absurd c
   ended end e true c = rw e (record { map = rw c.0 agrees.map; work = λ stage served. absurd (later (sym moved ∙ served)) }) where
     moved : new.front.queue.phase ≡ UsedElement 0
@@ -103,7 +103,7 @@ served-agrees history old new ready taking phase full serves agrees = by old.fro
     later : UsedElement 0 ≡ Served → ⊥
     later x = cc
 
-  by : (job : Job) → old.front.serving.job ≡ job → TellsDisk (told old.front.serving.job new.front.serving.job new.front.serving.sector old.front.got.items history) new
+  by : (job : Job) → old.front.serving.job ≡ job → TellsDisk (recorded old.front.serving.job new.front.serving.job new.front.serving.sector old.front.got.items history) new
   by Header e = goes Header e (header-case old.front old.disk new.disk history serves.0 new.front.buffer ready phase e agrees.map (calls Header e))
   by Reading e = goes Reading e (reading-case old.front old.disk new.disk history serves.0 new.front.buffer ready phase e agrees.map (work Reading e) (calls Reading e))
   by Writing e = goes Writing e (writing-case old.front old.disk new.disk history serves.0 new.front.buffer ready taking phase full e agrees.map (work Writing e) (calls Writing e))
@@ -128,9 +128,9 @@ queue-agrees history old new takes agrees = record { map = rw takes.1 agrees.map
       subst (λ (s : Serving). InWork s.job s new.front.buffer history new.disk) (sym opens) tt
 
 -- the history of a device that doesn't serve a request
-other-told : (history : List Entry) (old new : Device) → old.front.queue.phase ≢ Served → told_in old.front.queue.phase old new history ≡ history
-other-told history old new other = by old.front.queue.phase refl where
-  by : (p : Phase) → old.front.queue.phase ≡ p → told_in p old new history ≡ history
+other-reply : (history : List Entry) (old new : Device) → old.front.queue.phase ≢ Served → recorded_in old.front.queue.phase old new history ≡ history
+other-reply history old new other = by old.front.queue.phase refl where
+  by : (p : Phase) → old.front.queue.phase ≡ p → recorded_in p old new history ≡ history
   by AvailableIndex e = refl
   by RingEntry e = refl
   by (Table index) e = refl
@@ -143,11 +143,11 @@ other-told history old new other = by old.front.queue.phase refl where
 unmade : (history : List Entry) (old new : Device) → old.front.is_made ≡ false → TellsDisk history new → TellsDisk (history_after old.front.is_made old new history) new
 unmade history old new none agrees = subst (λ (m : Bool). TellsDisk (history_after m old new history) new) (sym none) agrees
 
-made : (history : List Entry) (old new : Device) → old.front.is_made ≡ true → TellsDisk (told_in old.front.queue.phase old new history) new → TellsDisk (history_after old.front.is_made old new history) new
+made : (history : List Entry) (old new : Device) → old.front.is_made ≡ true → TellsDisk (recorded_in old.front.queue.phase old new history) new → TellsDisk (history_after old.front.is_made old new history) new
 made history old new is agrees = subst (λ (m : Bool). TellsDisk (history_after m old new history) new) (sym is) agrees
 
 unserved : (history : List Entry) (old new : Device) → old.front.is_made ≡ true → old.front.queue.phase ≢ Served → TellsDisk history new → TellsDisk (history_after old.front.is_made old new history) new
-unserved history old new is other agrees = made history old new is (subst (λ h. TellsDisk h new) (sym (other-told history old new other)) agrees)
+unserved history old new is other agrees = made history old new is (subst (λ h. TellsDisk h new) (sym (other-reply history old new other)) agrees)
 
 same-device : (history : List Entry) (old new : Device) → new ≡ old → TellsDisk history old → TellsDisk history new
 same-device history old new same agrees = subst (λ (d : Device). TellsDisk history d) (sym same) agrees
@@ -175,7 +175,7 @@ goes-agrees : (history : List Entry) (old new : Device) → IsBetweenCalls old.f
     → TellsDisk history old → TellsDisk (history_after m old new history) new
 goes-agrees history old new ready full false e taking goes agrees = same-device history old new goes agrees
 goes-agrees history old new ready full true e taking goes agrees = by old.front.queue.phase refl goes where
-  by : (p : Phase) → old.front.queue.phase ≡ p → UsesIn p old new → TellsDisk (told_in p old new history) new
+  by : (p : Phase) → old.front.queue.phase ≡ p → UsesIn p old new → TellsDisk (recorded_in p old new history) new
   by AvailableIndex e takes = queue-agrees history old new takes agrees
   by RingEntry e takes = queue-agrees history old new takes agrees
   by (Table index) e takes = queue-agrees history old new takes agrees
@@ -192,7 +192,7 @@ steps-agrees history old Down new ready full steps agrees =
       stops : NeedsReset ≡ DriverOk → ⊥
       stops e = cc
 steps-agrees history old Idle new ready full steps agrees = elim steps [
-  | inl stays ↦ unmade history old new (ready.quiet stays.0).made (same-device history old new stays.2 agrees)
+  | inl unchanged ↦ unmade history old new (ready.quiet unchanged.0).made (same-device history old new unchanged.2 agrees)
   | inr counts ↦ unserved history old new counts.0.0.made (λ e. reads_index (sym counts.0.1 ∙ e)) (queue-agrees history old new counts.1 agrees)
 ] where
   reads_index : AvailableIndex ≡ Served → ⊥

@@ -16,14 +16,14 @@ use Rattle.iom_virtio_blk.specs.DiskStates.{DiskState}
 use Rattle.iom_virtio_blk.specs.Serving.{begun_serving, disk_call_of, with_header, call_with_header, with_written, call_with_written, with_data, call_with_data, data_in, data_out}
 use Rattle.iom_virtio_blk.specs.Blocks.{overlaid}
 use Rattle.iom_virtio_blk.specs.Steps.{Calls, settled}
-use Rattle.iom_virtio_blk.specs.Histories.{Entry, gave, IsMap, InWork, told}
+use Rattle.iom_virtio_blk.specs.Histories.{Entry, gave, IsMap, InWork, recorded}
 use Rattle.iom_virtio_blk.proofs.HistoryLemmas.{IsMap-kept, IsMap-begun, IsMap-more, IsMap-write, IsMap-tears}
 use Rattle.iom_virtio_blk.proofs.SectorLemmas.{rest_grows, buffer_filled}
 
 -- what is to be said of a request that did `job` and used these bytes
 pub record Goes (job : Job) (got : List ℕ) (history : List Entry) (disk : Option DiskState) (s : Serving) (buffer : List ℕ) : Type 0 where
-  pub map : IsMap (told job s.job s.sector got history) disk
-  pub work : InWork s.job s buffer (told job s.job s.sector got history) disk
+  pub map : IsMap (recorded job s.job s.sector got history) disk
+  pub work : InWork s.job s buffer (recorded job s.job s.sector got history) disk
 
 -- the sector that was read is there, also in the disk as it is then
 DidRead-kept : (old new : Option DiskState) (sector : ℕ) (bytes : List ℕ) → KeepsSectors old new → DidRead old sector bytes → DidRead new sector bytes

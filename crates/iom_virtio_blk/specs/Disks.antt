@@ -2,10 +2,10 @@
 use Rattle.std.specs.Prelude.{◌≡◌, ℕ, zero, suc, ◌<◌, ◌≤◌, ◌⊎◌, Bool, true, false, List, [], ◌∷◌, length, slice_get, slice_set, Option, Some, None}
 use Rattle.iom_virtio_blk.specs.DiskStates.{DiskState}
 
--- what is seen of the disk that stands in a place, if there is one; `seen` is that of the disk's trait
+-- what is seen of the disk that stands in a place, if there is one; `shown` is that of the disk's trait
 abbrev pub disk_in : {T : Type 0} → (T → DiskState) → Option T → Option DiskState
-disk_in seen None = None
-disk_in seen (Some disk) = Some (seen disk)
+disk_in shown None = None
+disk_in shown (Some disk) = Some (shown disk)
 
 -- which disk it is, if there is one
 abbrev pub name_in : Option DiskState → Option ℕ

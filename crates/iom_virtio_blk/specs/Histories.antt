@@ -87,27 +87,27 @@ with_failure got (failed first «data» ∷ earlier) = failed first «data» ∷
 
 -- the history after a request used the bytes of its access, by what it did then and does now: an OUT begins once its header was read, its data grows
 -- by the bytes that came, and it fails where the disk failed
-abbrev pub told : Job → Job → ℕ → List ℕ → List Entry → List Entry
-told Header Header sector got history = history
-told Header Reading sector got history = history
-told Header Writing sector got history = gave sector [] ∷ history
-told Header (Ending end) sector got history = history
-told Reading job sector got history = history
-told Writing Header sector got history = history
-told Writing Reading sector got history = history
-told Writing Writing sector got history = with_more got history
-told Writing (Ending status.Ok) sector got history = with_more got history
-told Writing (Ending end) sector got history = with_failure got history
-told (Ending end) job sector got history = history
+abbrev pub recorded : Job → Job → ℕ → List ℕ → List Entry → List Entry
+recorded Header Header sector got history = history
+recorded Header Reading sector got history = history
+recorded Header Writing sector got history = gave sector [] ∷ history
+recorded Header (Ending end) sector got history = history
+recorded Reading job sector got history = history
+recorded Writing Header sector got history = history
+recorded Writing Reading sector got history = history
+recorded Writing Writing sector got history = with_more got history
+recorded Writing (Ending status.Ok) sector got history = with_more got history
+recorded Writing (Ending end) sector got history = with_failure got history
+recorded (Ending end) job sector got history = history
 
-abbrev pub told_in : Phase → Device → Device → List Entry → List Entry
-told_in Served old new history = told old.front.serving.job new.front.serving.job new.front.serving.sector old.front.got.items history
-told_in phase old new history = history
+abbrev pub recorded_in : Phase → Device → Device → List Entry → List Entry
+recorded_in Served old new history = recorded old.front.serving.job new.front.serving.job new.front.serving.sector old.front.got.items history
+recorded_in phase old new history = history
 
 -- the history after a step
 abbrev pub history_after : Bool → Device → Device → List Entry → List Entry
 history_after false old new history = history
-history_after true old new history = told_in old.front.queue.phase old new history
+history_after true old new history = recorded_in old.front.queue.phase old new history
 
 -- a history that tells the disk before goes on to one that tells it afterwards
 abbrev pub KeepsTelling : Device → Device → Type 0

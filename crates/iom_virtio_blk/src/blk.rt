@@ -46,7 +46,7 @@ impl<D: Disk> Blk<D> {
         ensures disk { self.new.drive.disk ≡ Some disk }
         ensures front { self.new.front ≡ self.old.front }
         ensures history { (history : List Entry) → TellsDisk history (device self.old.front None)
-            → TellsDisk (inserted (D.seen disk).sectors ∷ []) (device self.new.front (disk_in D.seen self.new.drive.disk)) }
+            → TellsDisk (inserted (D.shown disk).sectors ∷ []) (device self.new.front (disk_in D.shown self.new.drive.disk)) }
     {
         self.drive.insert(disk);
     }
@@ -145,10 +145,10 @@ impl<D: Disk> Blk<D> {
     /// A history that tells the disk before the step goes on to one that tells it afterwards: an OUT that ended OK is there with all of
     /// its data, and one that failed, or is in work, sector by sector. While an IN is served, what is written to memory is the disk's.
     pub fn step(&mut self) -> Step
-        ensures step { BlockDeviceSteps (device self.old.front (disk_in D.seen self.old.drive.disk)) result
-            (device self.new.front (disk_in D.seen self.new.drive.disk)) }
-        ensures history { KeepsTelling (device self.old.front (disk_in D.seen self.old.drive.disk))
-            (device self.new.front (disk_in D.seen self.new.drive.disk)) }
+        ensures step { BlockDeviceSteps (device self.old.front (disk_in D.shown self.old.drive.disk)) result
+            (device self.new.front (disk_in D.shown self.new.drive.disk)) }
+        ensures history { KeepsTelling (device self.old.front (disk_in D.shown self.old.drive.disk))
+            (device self.new.front (disk_in D.shown self.new.drive.disk)) }
     {
         match self.front.stage() {
             Stage::DriverOk => {}
@@ -172,8 +172,8 @@ impl<D: Disk> Blk<D> {
     fn serve(&mut self) -> Step
         requires taking { IsTaking self.old.front }
         requires phase { self.old.front.queue.phase ≡ Served }
-        ensures step { BlockDeviceSteps (device self.old.front (disk_in D.seen self.old.drive.disk)) result
-            (device self.new.front (disk_in D.seen self.new.drive.disk)) }
+        ensures step { BlockDeviceSteps (device self.old.front (disk_in D.shown self.old.drive.disk)) result
+            (device self.new.front (disk_in D.shown self.new.drive.disk)) }
     {
         if let Some(call) = self.front.take_served(self.drive.sectors()) {
             let done = self.call(call);
@@ -187,8 +187,8 @@ impl<D: Disk> Blk<D> {
     /// Calls the disk, and tells whether it did what was asked.
     fn call(&mut self, call: Call) -> bool
         requires { self.old.front.is_made ≡ false }
-        ensures calls { Calls (Some call) result (disk_in D.seen self.old.drive.disk) self.old.front.buffer
-            (disk_in D.seen self.new.drive.disk) self.new.front.buffer }
+        ensures calls { Calls (Some call) result (disk_in D.shown self.old.drive.disk) self.old.front.buffer
+            (disk_in D.shown self.new.drive.disk) self.new.front.buffer }
         ensures front { self.new.front ≡ record self.old.front { buffer = self.new.front.buffer } }
     {
         match call {

@@ -17,39 +17,39 @@ pub struct DiskFault;
 /// all others as they were.
 pub trait Disk: Drop {
     /// Its name, the bytes of each sector, how many calls failed, and which will, where that is settled.
-    ghost seen: { Self → DiskState };
+    ghost shown: { Self → DiskState };
 
     /// The name of the disk.
     fn name(&self) -> u64
-        ensures { result ≡ (seen self.now).name };
+        ensures { result ≡ (shown self.now).name };
 
     /// How many sectors the disk has.
     fn sectors(&self) -> u64
-        ensures { result ≡ length (seen self.now).sectors };
+        ensures { result ≡ length (shown self.now).sectors };
 
     /// How many calls failed so far.
     fn failures(&self) -> u64
-        ensures { result ≡ (seen self.now).failures };
+        ensures { result ≡ (shown self.now).failures };
 
     /// Reads a sector. What was written stays.
     fn read(&mut self, sector: u64, bytes: &mut [u8; 512]) -> Result<(), DiskFault>
-        requires { sector < length (seen self.old).sectors }
-        ensures ok { OnOk result (slice_get (seen self.old).sectors sector ≡ Some bytes.new) }
-        ensures same { (seen self.new).sectors ≡ (seen self.old).sectors }
-        ensures well { OnOk result (GoesWell (seen self.old) (seen self.new)) }
-        ensures fails { OnErr result (Fails (seen self.old) (seen self.new)) };
+        requires { sector < length (shown self.old).sectors }
+        ensures ok { OnOk result (slice_get (shown self.old).sectors sector ≡ Some bytes.new) }
+        ensures same { (shown self.new).sectors ≡ (shown self.old).sectors }
+        ensures well { OnOk result (GoesWell (shown self.old) (shown self.new)) }
+        ensures fails { OnErr result (Fails (shown self.old) (shown self.new)) };
 
     /// Writes a sector.
     fn write(&mut self, sector: u64, bytes: &[u8; 512]) -> Result<(), DiskFault>
-        requires { sector < length (seen self.old).sectors }
-        ensures ok { OnOk result ((seen self.new).sectors ≡ slice_set (seen self.old).sectors sector bytes.now) }
-        ensures err { OnErr result (IsOldOrNew (seen self.old).sectors sector bytes.now (seen self.new).sectors) }
-        ensures well { OnOk result (GoesWell (seen self.old) (seen self.new)) }
-        ensures fails { OnErr result (Fails (seen self.old) (seen self.new)) };
+        requires { sector < length (shown self.old).sectors }
+        ensures ok { OnOk result ((shown self.new).sectors ≡ slice_set (shown self.old).sectors sector bytes.now) }
+        ensures err { OnErr result (IsOldOrNew (shown self.old).sectors sector bytes.now (shown self.new).sectors) }
+        ensures well { OnOk result (GoesWell (shown self.old) (shown self.new)) }
+        ensures fails { OnErr result (Fails (shown self.old) (shown self.new)) };
 
     /// Makes what was written last.
     fn flush(&mut self) -> Result<(), DiskFault>
-        ensures same { (seen self.new).sectors ≡ (seen self.old).sectors }
-        ensures well { OnOk result (GoesWell (seen self.old) (seen self.new)) }
-        ensures fails { OnErr result (Fails (seen self.old) (seen self.new)) };
+        ensures same { (shown self.new).sectors ≡ (shown self.old).sectors }
+        ensures well { OnOk result (GoesWell (shown self.old) (shown self.new)) }
+        ensures fails { OnErr result (Fails (shown self.old) (shown self.new)) };
 }

@@ -5,7 +5,7 @@ use crate::disk::{Disk, DiskFault};
 
 /// A place for a disk, which may be empty.
 ///
-/// The definitions of its clauses take the disk's ghost member `seen`, and so speak of any disk.
+/// The definitions of its clauses take the disk's ghost member `shown`, and so speak of any disk.
 #[derive(Drop)]
 pub(crate) struct Drive<D: Disk> {
     disk: Option<D>,
@@ -36,7 +36,7 @@ impl<D: Disk> Drive<D> {
 
     /// The number of sectors, where there is a disk.
     pub(crate) fn sectors(&self) -> Option<u64>
-        ensures { result ≡ sector_count (disk_in D.seen self.now.disk) }
+        ensures { result ≡ sector_count (disk_in D.shown self.now.disk) }
     {
         match &self.disk {
             Some(disk) => Some(disk.sectors()),
@@ -46,10 +46,10 @@ impl<D: Disk> Drive<D> {
 
     /// Reads a sector.
     pub(crate) fn read(&mut self, sector: u64, bytes: &mut [u8; 512]) -> Result<(), DiskFault>
-        ensures ok { OnOk result (DidRead (disk_in D.seen self.old.disk) sector bytes.new) }
-        ensures same { KeepsSectors (disk_in D.seen self.old.disk) (disk_in D.seen self.new.disk) }
-        ensures called { OnOk result (CalledWell (disk_in D.seen self.old.disk) (disk_in D.seen self.new.disk)) }
-        ensures fault { OnErr result (HasReason (disk_in D.seen self.old.disk) sector (disk_in D.seen self.new.disk)) }
+        ensures ok { OnOk result (DidRead (disk_in D.shown self.old.disk) sector bytes.new) }
+        ensures same { KeepsSectors (disk_in D.shown self.old.disk) (disk_in D.shown self.new.disk) }
+        ensures called { OnOk result (CalledWell (disk_in D.shown self.old.disk) (disk_in D.shown self.new.disk)) }
+        ensures fault { OnErr result (HasReason (disk_in D.shown self.old.disk) sector (disk_in D.shown self.new.disk)) }
     {
         match self.disk.take() {
             Some(mut disk) => {
@@ -67,10 +67,10 @@ impl<D: Disk> Drive<D> {
 
     /// Writes a sector.
     pub(crate) fn write(&mut self, sector: u64, bytes: &[u8; 512]) -> Result<(), DiskFault>
-        ensures ok { OnOk result (DidWrite (disk_in D.seen self.old.disk) sector bytes.now (disk_in D.seen self.new.disk)) }
-        ensures err { OnErr result (Tears (disk_in D.seen self.old.disk) sector bytes.now (disk_in D.seen self.new.disk)) }
-        ensures called { OnOk result (CalledWell (disk_in D.seen self.old.disk) (disk_in D.seen self.new.disk)) }
-        ensures fault { OnErr result (HasReason (disk_in D.seen self.old.disk) sector (disk_in D.seen self.new.disk)) }
+        ensures ok { OnOk result (DidWrite (disk_in D.shown self.old.disk) sector bytes.now (disk_in D.shown self.new.disk)) }
+        ensures err { OnErr result (Tears (disk_in D.shown self.old.disk) sector bytes.now (disk_in D.shown self.new.disk)) }
+        ensures called { OnOk result (CalledWell (disk_in D.shown self.old.disk) (disk_in D.shown self.new.disk)) }
+        ensures fault { OnErr result (HasReason (disk_in D.shown self.old.disk) sector (disk_in D.shown self.new.disk)) }
     {
         match self.disk.take() {
             Some(mut disk) => {
@@ -88,10 +88,10 @@ impl<D: Disk> Drive<D> {
 
     /// Makes what was written last.
     pub(crate) fn flush(&mut self) -> Result<(), DiskFault>
-        ensures ok { OnOk result (IsThere (disk_in D.seen self.old.disk)) }
-        ensures same { KeepsSectors (disk_in D.seen self.old.disk) (disk_in D.seen self.new.disk) }
-        ensures called { OnOk result (CalledWell (disk_in D.seen self.old.disk) (disk_in D.seen self.new.disk)) }
-        ensures fault { OnErr result (HasFlushReason (disk_in D.seen self.old.disk) (disk_in D.seen self.new.disk)) }
+        ensures ok { OnOk result (IsThere (disk_in D.shown self.old.disk)) }
+        ensures same { KeepsSectors (disk_in D.shown self.old.disk) (disk_in D.shown self.new.disk) }
+        ensures called { OnOk result (CalledWell (disk_in D.shown self.old.disk) (disk_in D.shown self.new.disk)) }
+        ensures fault { OnErr result (HasFlushReason (disk_in D.shown self.old.disk) (disk_in D.shown self.new.disk)) }
     {
         match self.disk.take() {
             Some(mut disk) => {

@@ -88,7 +88,7 @@ impl MemoryDisk {
 }
 
 impl Disk for MemoryDisk {
-    ghost seen = { disk_state };
+    ghost shown = { disk_state };
 
     fn name(&self) -> u64 {
         self.name

@@ -13,4 +13,4 @@ mod memory;
 #[cfg(test)]
 mod queue;
 #[cfg(test)]
-mod seen;
+mod shown;

@@ -104,7 +104,7 @@ impl Memory {
 
     /// Two bytes are these.
     pub(crate) fn expect_half(&self, rt: &impl Abort, at: u16, expected: u16) {
-        let seen = u16::from_le_bytes([self.byte(at), self.byte(at.wrapping_add(1))]);
-        expect(rt, seen == expected);
+        let shown = u16::from_le_bytes([self.byte(at), self.byte(at.wrapping_add(1))]);
+        expect(rt, shown == expected);
     }
 }

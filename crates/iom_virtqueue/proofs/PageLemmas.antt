@@ -47,7 +47,7 @@ piece_long : (q : QueueState) (done : ℕ) → done < 8 → element_piece q done
 piece_long q done lt le = let long = element_long q in simp (length-take, length-drop) (omega arith)
 
 pub wanted-within : (q : QueueState) → IsLayout q.layout → IsChainSoFar q → wanted q ≢ nothing → LiesInPage (wanted q)
-wanted-within q layout sound = by q.phase sound where
+wanted-within q layout invariants = by q.phase invariants where
   by : (p : Phase) → IsChainSoFarIn p q → wanted_in p q ≢ nothing → LiesInPage (wanted_in p q)
   by AvailableIndex s some = (omega arith, even_within (q.layout.available_ring + 2) (idx_even q.layout.available_ring layout.available_ring))
   by RingEntry s some = (omega arith, even_within (q.layout.available_ring + (4 + 2 * (q.finished % q.layout.size))) (entry_even q.layout.available_ring (q.finished % q.layout.size) layout.available_ring))

@@ -42,10 +42,10 @@ pub entry_below : (q : QueueState) (bytes : List ℕ) → q.phase ≡ RingEntry 
 entry_below q bytes e none = below_size q.layout.size (number_at 2 0 bytes) (nat_le q.layout.size (number_at 2 0 bytes)) refl (subst (λ p. fault_in p q bytes ≡ None) e none)
 
 pub table_trail : (q : QueueState) (index : ℕ) → q.phase ≡ Table index → IsChainSoFar q → IsTrail q.layout.size q.head q.chain (Some index)
-table_trail q index e sound = subst (λ p. IsChainSoFarIn p q) e sound
+table_trail q index e invariants = subst (λ p. IsChainSoFarIn p q) e invariants
 
 pub table_none : (q : QueueState) (index : ℕ) (bytes : List ℕ) → q.phase ≡ Table index → chain_fault_of q bytes ≡ None → fault_at q.layout.size q.chain (record { index = index; descriptor = descriptor_of bytes }) ≡ None
 table_none q index bytes e none = subst (λ p. fault_in p q bytes ≡ None) e none
 
 pub table_room : (q : QueueState) (index : ℕ) → q.layout.size ≤ 256 → q.phase ≡ Table index → IsChainSoFar q → (length q.chain.readable < 256) × (length q.chain.writable < 256)
-table_room q index most e sound = room q.layout.size q.head q.chain index most (table_trail q index e sound)
+table_room q index most e invariants = room q.layout.size q.head q.chain index most (table_trail q index e invariants)

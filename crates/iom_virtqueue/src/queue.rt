@@ -116,7 +116,7 @@ impl Queue {
     /// chain, and from the time that it is served the whole of one; what is wanted lies in one page.
     pub fn facts(&self)
         ensures layout { IsLayout self.now.layout }
-        ensures sound { IsChainSoFar self.now }
+        ensures invariants { IsChainSoFar self.now }
         ensures within { wanted self.now ≢ nothing → LiesInPage (wanted self.now) }
     {
         let _phase = self.phase;

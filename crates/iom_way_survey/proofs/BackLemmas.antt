@@ -19,7 +19,7 @@ use Rattle.iom_device_dir.specs.declared.stages.SecondStage.{SecondStage as Seco
 use Rattle.iom_device_dir.specs.declared.stages.SecondStage.TheVariants as second
 use Rattle.iom_fabric.specs.declared.message.Message.{Message as Sent}
 use Rattle.iom_fabric.specs.declared.message.Message.TheVariants as sent
-use Rattle.iom_fabric.specs.declared.message.Translation.TheVariants as told
+use Rattle.iom_fabric.specs.declared.message.Translation.TheVariants as reply
 use Rattle.iom_board.specs.BoardParts.{BoardParts}
 use Rattle.iom_inflight.specs.declared.made.MadeAt.{MadeAt}
 use Rattle.iom_inflight.specs.Flights.{NumberedAccess, FlightRow, row_of, waiting_at, made_at}
@@ -207,9 +207,9 @@ module _ (trusted : ℕ → Bool) (parts : BoardParts) where
   told_way : (id epoch device : ℕ) (message : Sent) (kind : AccessKind) (frame : ℕ) → device ≡ id → AnswersSo epoch message kind frame
       → (page : ℕ) × (mapping : Mapping) × ((said_on device message ≡ Answer id epoch page mapping) × ServesKind mapping frame kind)
   told_way id epoch device (sent.Ask asked page) kind frame link never = absurd never
-  told_way id epoch device (sent.Answer asked page (told.Page own rights)) kind frame link (same, serves) =
+  told_way id epoch device (sent.Answer asked page (reply.Page own rights)) kind frame link (same, serves) =
       (page, mapping_from own rights, (ap (λ (d : ℕ). Answer d asked page (mapping_from own rights)) link ∙ ap (λ (e : ℕ). Answer id e page (mapping_from own rights)) same, serves))
-  told_way id epoch device (sent.Answer asked page (told.Refused cause)) kind frame link never = absurd never
+  told_way id epoch device (sent.Answer asked page (reply.Refused cause)) kind frame link never = absurd never
   told_way id epoch device (sent.InvReq serial range) kind frame link never = absurd never
   told_way id epoch device (sent.InvDone serial) kind frame link never = absurd never
 

@@ -6,11 +6,11 @@ use Rattle.iom_base.specs.declared.access.AccessKind.{AccessKind}
 use Rattle.iom_device.specs.Caches.{device_with}
 use Rattle.iom_device.specs.declared.device.Device.{Device}
 use Rattle.iom_board.specs.BoardParts.{BoardParts}
-use Rattle.iom_board.specs.Sound.{device_ids, flight_ids, IsSoundBoard}
+use Rattle.iom_board.specs.Invariant.{device_ids, flight_ids, BoardInvariant}
 use Rattle.iom_hardware_ways.specs.Scenes.{flights_in, waiting_places, scene_of}
 use Rattle.iom_hardware_ways.proofs.ListLemmas.{in_none}
 use Rattle.iom_inflight.specs.Flights.{FlightRow, row_of}
-use Rattle.iom_inflight.specs.Sound.{AreFlights}
+use Rattle.iom_inflight.specs.Invariant.{AreFlights}
 use Rattle.iom_inflight.proofs.Kept.{sound_row}
 use Rattle.iom_iommu.specs.Parts.{registers_of, flights_of}
 use Rattle.iom_reach.specs.Safe.{IsRead, HasWord}
@@ -97,10 +97,10 @@ way_plugged trusted parts id frame kind rows (ByContext context may through) = p
 way_plugged trusted parts id frame kind rows (OnTheWalk s table steps_to mapping there leads serves) =
     absurd (in_none (record { device = Some id; space = s; table = table; steps_to = steps_to }) there)
 
-pub ways_reached : (parts : BoardParts) (trusted : List ℕ) (rows : List DeviceReach) (events : ℕ) → IsSoundBoard parts events → AreFlights (flights_of parts.iommu) → AreRowsOf parts trusted rows
+pub ways_reached : (parts : BoardParts) (trusted : List ℕ) (rows : List DeviceReach) (events : ℕ) → BoardInvariant parts events → AreFlights (flights_of parts.iommu) → AreRowsOf parts trusted rows
     → (id frame : ℕ) (kind : AccessKind) → Way (scene_of (is_id_among trusted) parts) id frame kind → reaches_in_rows rows id kind frame ≡ true
-ways_reached parts trusted rows events sound flights are id frame kind way =
-    let (plug, found) = way_plugged (is_id_among trusted) parts id frame kind sound.rows way in
+ways_reached parts trusted rows events invariants flights are id frame kind way =
+    let (plug, found) = way_plugged (is_id_among trusted) parts id frame kind invariants.rows way in
     let (k, low, (here, same)) = device_place parts.devices id plug found in
     rows_reach parts trusted rows id plug kind frame are found
     (way_of (is_id_among trusted) parts plug frame kind (ap (device_with parts.devices) same ∙ found)
@@ -111,11 +111,11 @@ ways_reached parts trusted rows events sound flights are id frame kind way =
 
 pub all_read : (trusted : ℕ → Bool) (parts : BoardParts) (none tables directory all : List ℕ) → GrowsBy none tables (SomeTable parts) → GrowsBy tables directory (DirectoryReads parts)
     → GrowsBy directory all (IsFrameAmong (waiting_places (registers_of parts.iommu))) → (frame : ℕ) → IsRead (scene_of trusted parts) frame → row_has all frame ≡ true
-all_read trusted parts none tables directory all one two three frame (inl table) = three.stays frame (two.stays frame (one.added frame (tables_read trusted parts frame table)))
-all_read trusted parts none tables directory all one two three frame (inr (inl path)) = three.stays frame (two.added frame (directory_reads trusted parts frame path))
+all_read trusted parts none tables directory all one two three frame (inl table) = three.unchanged frame (two.unchanged frame (one.added frame (tables_read trusted parts frame table)))
+all_read trusted parts none tables directory all one two three frame (inr (inl path)) = three.unchanged frame (two.added frame (directory_reads trusted parts frame path))
 all_read trusted parts none tables directory all one two three frame (inr (inr (offset, there))) = three.added frame (record { frame = frame; offset = offset }, there, refl)
 
 pub all_stored : (trusted : ℕ → Bool) (parts : BoardParts) (none words all : List ℕ) → GrowsBy none words (IsWordAmong parts.memory (waiting_places (registers_of parts.iommu)))
     → GrowsBy words all (IsOfFaults (registers_of parts.iommu)) → (frame : ℕ) → Contains (scene_of trusted parts).fault_frames frame ⊎ HasWord (scene_of trusted parts) frame → row_has all frame ≡ true
 all_stored trusted parts none words all one two frame (inl fault) = two.added frame (fault_stored (registers_of parts.iommu) frame fault)
-all_stored trusted parts none words all one two frame (inr word) = two.stays frame (one.added frame word)
+all_stored trusted parts none words all one two frame (inr word) = two.unchanged frame (one.added frame word)

@@ -9,7 +9,7 @@ use Rattle.iom_hardware_ways.specs.Scenes.{place_at, places_from, waiting_places
 use Rattle.iom_hardware_ways.proofs.FetchLemmas.{apart, one_less, waiting_drops, head_there}
 use Rattle.iom_hardware_ways.proofs.ListLemmas.{in_none, cons_cases, map_cases}
 use Rattle.iom_reach.specs.Scene.{Place}
-use Rattle.iom_reach.proofs.OccurrenceLemmas.{contains_head, contains_tail}
+use Rattle.iom_reach.proofs.TransitionLemmas.{contains_head, contains_tail}
 use Rattle.iom_registers.specs.Queues.{command_base, command_entries, command_head, is_command_queue_on, with_command_done, fault_base, fault_entries, is_fault_queue_on}
 use Rattle.iom_registers.specs.declared.registers.Registers.{Registers}
 use Rattle.iom_table_survey.specs.Rows.{GrowsBy}

@@ -12,14 +12,14 @@ use Rattle.iom_device_dir.specs.Located.{loaded_entry}
 use Rattle.iom_device_dir.specs.Paths.{ddi, ids_below, fits_directory}
 use Rattle.iom_device_dir.specs.declared.entry.NonLeafEntry.{NonLeafEntry}
 use Rattle.iom_board.specs.BoardParts.{BoardParts}
-use Rattle.iom_board.specs.Sound.{AreOfOneId}
+use Rattle.iom_board.specs.Invariant.{AreOfOneId}
 use Rattle.iom_iommu.specs.Parts.{registers_of}
 use Rattle.iom_phys_mem.specs.Words.{word_at}
 use Rattle.iom_reach.specs.Memory.{Tables, WalkStep, Goes, ReadsFrame}
 use Rattle.iom_reach.specs.Safe.{IsOfDirectory, IsOfQueue, HasWord, IsRead}
 use Rattle.iom_reach.specs.Scene.{Place, At}
 use Rattle.iom_reach.specs.Ways.{Way}
-use Rattle.iom_reach.proofs.OccurrenceLemmas.{contains_head, contains_tail}
+use Rattle.iom_reach.proofs.TransitionLemmas.{contains_head, contains_tail}
 use Rattle.iom_registers.specs.Fields.{entry_count}
 use Rattle.iom_registers.specs.declared.queue_base.QueueBase.{QueueBase}
 use Rattle.iom_registers.specs.declared.directory.DirectoryMode.{DirectoryMode}

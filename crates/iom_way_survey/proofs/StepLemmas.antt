@@ -52,24 +52,24 @@ get_low (a ∷ xs) (suc k) x is = omega (arith, get_low xs k x is)
 
 -- what is so at least goes in, and what is so at most
 pub record Between (old new : Reach) (Least Most : AccessKind → ℕ → Type 0) : Type 0 where
-  pub stays : (kind : AccessKind) (f : ℕ) → row_has (frames_by old kind) f ≡ true → row_has (frames_by new kind) f ≡ true
+  pub unchanged : (kind : AccessKind) (f : ℕ) → row_has (frames_by old kind) f ≡ true → row_has (frames_by new kind) f ≡ true
   pub added : (kind : AccessKind) (f : ℕ) → Least kind f → row_has (frames_by new kind) f ≡ true
   pub sole : (kind : AccessKind) (f : ℕ) → row_has (frames_by new kind) f ≡ true → (row_has (frames_by old kind) f ≡ true) ⊎ ((g : ℕ) × Most kind g × (frame_place g ≡ frame_place f))
 
 pub between_none : (reach : Reach) (L : ℕ → AccessKind → ℕ → Type 0) (Most : AccessKind → ℕ → Type 0) → Between reach reach (λ kind f. (j : ℕ) × (j < 0) × L j kind f) Most
-between_none reach L Most = record { stays = λ kind f had. had; added = λ kind f (j, never, l). absurd (omega (arith, never)); sole = λ kind f had. inl had }
+between_none reach L Most = record { unchanged = λ kind f had. had; added = λ kind f (j, never, l). absurd (omega (arith, never)); sole = λ kind f had. inl had }
 
 pub between_next : (old between new : Reach) (L : ℕ → AccessKind → ℕ → Type 0) (Most N : AccessKind → ℕ → Type 0) (k : ℕ) → Between old between (λ kind f. (j : ℕ) × (j < k) × L j kind f) Most
     → AddsReach between new N → ((kind : AccessKind) (f : ℕ) → L k kind f → N kind f) → ((kind : AccessKind) (f : ℕ) → N kind f → Most kind f)
     → Between old new (λ kind f. (j : ℕ) × (j < k + 1) × L j kind f) Most
 between_next old between new L Most N k before here to from = record {
-  stays = λ kind f had. (here kind).stays f (before.stays kind f had);
+  unchanged = λ kind f had. (here kind).unchanged f (before.unchanged kind f had);
   added = λ kind f (j, low, l). at kind f j l (cases_lt j k) low;
   sole = λ kind f there. last kind f ((here kind).sole f there);
 }
   where
     at : (kind : AccessKind) (f j : ℕ) → L j kind f → (j < k) ⊎ (k ≤ j) → j < k + 1 → row_has (frames_by new kind) f ≡ true
-    at kind f j l (inl less) low = (here kind).stays f (before.added kind f (j, less, l))
+    at kind f j l (inl less) low = (here kind).unchanged f (before.added kind f (j, less, l))
     at kind f j l (inr more) low = let e : j ≡ k = omega (arith, more, low) in (here kind).added f (to kind f (subst (λ i. L i kind f) e l))
 
     last : (kind : AccessKind) (f : ℕ) → (row_has (frames_by between kind) f ≡ true) ⊎ ((g : ℕ) × N kind g × (frame_place g ≡ frame_place f))
@@ -92,7 +92,7 @@ cached_by sets own found is kind f (cached, there, serves) = (cached, subst (λ 
 pub between_all : (old new : Reach) (sets : List Ways) (own : Space) → HavePlaces sets
     → Between old new (λ kind f. (k : ℕ) × (k < 512) × StandsServing sets own k kind f) (IsCachedIn sets own) → AddsReach old new (IsCachedIn sets own)
 between_all old new sets own places between kind = record {
-  stays = between.stays kind;
+  unchanged = between.unchanged kind;
   added = λ f (cached, is, serves). let (k, low, stands) = places cached is in between.added kind f (k, low, (cached, stands, serves));
   sole = between.sole kind;
 }

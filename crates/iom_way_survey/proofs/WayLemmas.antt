@@ -19,7 +19,7 @@ use Rattle.iom_device_dir.specs.declared.stages.SecondStage.{SecondStage as Seco
 use Rattle.iom_device_dir.specs.declared.stages.SecondStage.TheVariants as second
 use Rattle.iom_fabric.specs.declared.message.Message.{Message as Sent}
 use Rattle.iom_fabric.specs.declared.message.Message.TheVariants as sent
-use Rattle.iom_fabric.specs.declared.message.Translation.TheVariants as told
+use Rattle.iom_fabric.specs.declared.message.Translation.TheVariants as reply
 use Rattle.iom_board.specs.BoardParts.{BoardParts}
 use Rattle.iom_inflight.specs.Flights.{NumberedAccess, FlightRow, row_of, waiting_at, made_at}
 use Rattle.iom_iommu.specs.Parts.{registers_of, contexts_of, translation_cache_of, translations_of, flights_of}
@@ -276,9 +276,9 @@ module _ (trusted : ℕ → Bool) (parts : BoardParts) where
   answers : (device id epoch : ℕ) (message : Sent) (mapping : Mapping) (kind : AccessKind) (frame : ℕ) → IsTold id epoch mapping (said_on device message)
       → ServesKind mapping frame kind → (device ≡ id) × AnswersSo epoch message kind frame
   answers device id epoch (sent.Ask asked page) mapping kind frame never serves = absurd never
-  answers device id epoch (sent.Answer asked page (told.Page own rights)) mapping kind frame (link, (same, is)) (place, allowed) =
+  answers device id epoch (sent.Answer asked page (reply.Page own rights)) mapping kind frame (link, (same, is)) (place, allowed) =
       (link, (same, (ap (λ (m : Mapping). m.frame) is ∙ place, ap (λ (m : Mapping). allows m.rights kind) is ∙ allowed)))
-  answers device id epoch (sent.Answer asked page (told.Refused cause)) mapping kind frame never serves = absurd never
+  answers device id epoch (sent.Answer asked page (reply.Refused cause)) mapping kind frame never serves = absurd never
   answers device id epoch (sent.InvReq serial range) mapping kind frame never serves = absurd never
   answers device id epoch (sent.InvDone serial) mapping kind frame never serves = absurd never
 

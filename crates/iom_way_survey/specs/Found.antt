@@ -20,7 +20,7 @@ use Rattle.iom_device.specs.declared.device.Device.{Device}
 use Rattle.iom_fabric.specs.declared.fabric.OnLink.{OnLink}
 use Rattle.iom_fabric.specs.declared.message.Message.{Message as Sent}
 use Rattle.iom_fabric.specs.declared.message.Message.TheVariants as sent
-use Rattle.iom_fabric.specs.declared.message.Translation.TheVariants as told
+use Rattle.iom_fabric.specs.declared.message.Translation.TheVariants as reply
 use Rattle.iom_board.specs.BoardParts.{BoardParts}
 use Rattle.iom_iommu.specs.Parts.{registers_of, contexts_of, translation_cache_of, flights_of}
 use Rattle.iom_iommu.specs.Stages.{space_through}
@@ -131,8 +131,8 @@ IsKeptAmong entries kind frame = (k : ℕ) × (k < length entries) × ((entry : 
 -- the message is an answer to a question of the device, of this epoch, and maps the frame
 abbrev pub AnswersSo : ℕ → Sent → AccessKind → ℕ → Type 0
 AnswersSo epoch (sent.Ask asked page) kind frame = ⊥
-AnswersSo epoch (sent.Answer asked page (told.Page own rights)) kind frame = (asked ≡ epoch) × ((own ≡ frame) × (allows rights kind ≡ true))
-AnswersSo epoch (sent.Answer asked page (told.Refused cause)) kind frame = ⊥
+AnswersSo epoch (sent.Answer asked page (reply.Page own rights)) kind frame = (asked ≡ epoch) × ((own ≡ frame) × (allows rights kind ≡ true))
+AnswersSo epoch (sent.Answer asked page (reply.Refused cause)) kind frame = ⊥
 AnswersSo epoch (sent.InvReq serial range) kind frame = ⊥
 AnswersSo epoch (sent.InvDone serial) kind frame = ⊥
 

@@ -1,7 +1,7 @@
 // A survey is made.
 ghost use Rattle.std.specs.Prelude.{◌≡◌, ◌≤◌, length, IfOk};
 ghost use Rattle.iom_board.specs.BoardParts.{board_parts};
-ghost use Rattle.iom_board.specs.Sound.{IsSoundBoard};
+ghost use Rattle.iom_board.specs.Invariant.{BoardInvariant};
 ghost use Rattle.iom_hardware_ways.specs.Scenes.{scene_of};
 ghost use Rattle.iom_way_survey.specs.Surveys.{is_id_among, IsOfNothing, Surveys, InventsNone};
 
@@ -27,11 +27,11 @@ impl Survey {
     }
 
     /// Looks at the hardware, of which software entrusts these devices with all memory. What was found before is forgotten.
-    /// The hardware has at most 4,096 frames, and is sound, as each of its calls leaves it. Nothing of it changes, and no
+    /// The hardware has at most 4,096 frames, and keeps its invariant, as each of its calls leaves it. Nothing of it changes, and no
     /// memory is taken.
     pub fn look(&mut self, hardware: &Board, trusted: &[DeviceId])
         requires size { length hardware.now.memory ≤ 4096 }
-        requires sound { IsSoundBoard (board_parts hardware.now) hardware.now.events }
+        requires invariants { BoardInvariant (board_parts hardware.now) hardware.now.events }
         ensures missed { Surveys self.new (scene_of (is_id_among trusted.now) (board_parts hardware.now)) }
         ensures invented { InventsNone self.new (scene_of (is_id_among trusted.now) (board_parts hardware.now)) }
     {

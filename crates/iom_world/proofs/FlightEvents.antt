@@ -18,7 +18,7 @@ use Rattle.iom_driver.specs.Appends.{AppendsAll, detach_commands, release_comman
 use Rattle.iom_driver.specs.Calls.{AnswersRelease}
 use Rattle.iom_driver.specs.Fences.{last_fence}
 use Rattle.iom_driver.specs.Layout.{completion_address, directory_frame}
-use Rattle.iom_driver.specs.Leaving.{DoesDetach}
+use Rattle.iom_driver.specs.Leaving.{DetachEffect}
 use Rattle.iom_driver.specs.Quarantines.{AnswersQuarantine, all_unmapped}
 use Rattle.iom_driver.specs.Reports.{AnswersFaults}
 use Rattle.iom_driver.specs.Restarts.{AnswersRestart, restart_commands, turned_off_and_on}
@@ -53,7 +53,7 @@ use Rattle.iom_tlb.specs.Content.{Translations}
 use Rattle.iom_tlb.specs.declared.trans_cache.Translation.{Translation as Cached}
 use Rattle.iom_world_effects.specs.BlockDevices.{AsksIfMissed, BeginsAccess, GoesToMemory, InsertsMedium, TakesBlockStep}
 use Rattle.iom_world_effects.specs.Deliveries.{Arrives, ArrivesIfAny}
-use Rattle.iom_world_effects.specs.Does.{AddsRow, Does}
+use Rattle.iom_world_effects.specs.Effect.{AddsRow, Effect}
 use Rattle.iom_world_effects.specs.Parts.{Parts}
 use Rattle.iom_world_effects.specs.Requests.{AsksAccess, AsksTranslated}
 use Rattle.iom_world_effects.specs.ThroughCache.{DeviceAsksThroughCache, FindsFrame, TriesCache, cached_frame}
@@ -83,7 +83,7 @@ released d d' memory memory' io io' id page (Ok ticket) (none, queues) =
 released d d' memory memory' io io' id page (Err why) refused = ap flights_of refused.3
 
 detached : (d d' : DriverState) (memory memory' : List (List ℕ)) (io io' : Iommu) (id : ℕ) (answer : Result Ticket Refusal)
-    → DoesDetach mmio d memory io id answer d' memory' io' → flights_of io' ≡ flights_of io
+    → DetachEffect mmio d memory io id answer d' memory' io' → flights_of io' ≡ flights_of io
 detached d d' memory memory' io io' id (Ok ticket) queues =
     flights_appended (detach_commands id queues.stage (completion_address (length memory)) (last_fence d + 1))
     (without_context memory (root_level d.levels) (directory_frame (length memory)) id) memory' io io' queues.queued
@@ -129,73 +129,73 @@ timed_out old new true call = ap flights_of call.1
 timed_out old new false call = ap flights_of call.1
 
 -- A REQUEST is accepted, or nothing is
-answered : (Served : Result Cached WalkFault → Translations → Type 0) (transaction : Transaction) (memory memory' : List (List ℕ)) (old new : Iommu) (id : ℕ) (access : Access) (told : Reply)
-    → Answers Served transaction memory old id access told memory' new → KeepsAllNumbers (flights_of old) (flights_of new)
+answered : (Served : Result Cached WalkFault → Translations → Type 0) (transaction : Transaction) (memory memory' : List (List ℕ)) (old new : Iommu) (id : ℕ) (access : Access) (given : Reply)
+    → Answers Served transaction memory old id access given memory' new → KeepsAllNumbers (flights_of old) (flights_of new)
 answered Served transaction memory memory' old new id access reply.BadSpan answers = same_numbers (flights_of old) (flights_of new) (ap flights_of answers.1)
 answered Served transaction memory memory' old new id access reply.Busy answers = same_numbers (flights_of old) (flights_of new) (ap flights_of answers.2)
 answered Served transaction memory memory' old new id access (reply.Accepted number) answers =
     keeps_accepted (flights_of old) (flights_of new) id (record { access = access; frame = answers.0.frame }) number answers.0.accepted
 answered Served transaction memory memory' old new id access (reply.Fault cause) refuses = same_numbers (flights_of old) (flights_of new) refuses.flights
 
-asked : (can : DeviceKind → Bool) (old new : Parts) (id : ℕ) (access : Access) (told : Outcome) → AsksAccess can old id access told new → Keeps old new
-asked can old new id access told (inl unknown) = same_parts old new unknown.same
-asked can old new id access told (inr (inl unable)) = same_parts old new unable.same
-asked can old new id access told (inr (inr (able, replied))) = answered _ _ old.memory new.memory old.iommu new.iommu id access replied.reply replied.call
+asked : (can : DeviceKind → Bool) (old new : Parts) (id : ℕ) (access : Access) (given : Outcome) → AsksAccess can old id access given new → Keeps old new
+asked can old new id access given (inl unknown) = same_parts old new unknown.same
+asked can old new id access given (inr (inl unable)) = same_parts old new unable.same
+asked can old new id access given (inr (inr (able, replied))) = answered _ _ old.memory new.memory old.iommu new.iommu id access replied.reply replied.call
 
-translated : (old new : Parts) (id : ℕ) (access : Access) (told : Outcome) → AsksTranslated old id access told new → Keeps old new
-translated old new id access told (inl unknown) = same_parts old new unknown.same
-translated old new id access told (inr (inl unable)) = same_parts old new unable.same
-translated old new id access told (inr (inr (able, replied))) = answered _ _ old.memory new.memory old.iommu new.iommu id access replied.reply replied.call
+translated : (old new : Parts) (id : ℕ) (access : Access) (given : Outcome) → AsksTranslated old id access given new → Keeps old new
+translated old new id access given (inl unknown) = same_parts old new unknown.same
+translated old new id access given (inr (inl unable)) = same_parts old new unable.same
+translated old new id access given (inr (inr (able, replied))) = answered _ _ old.memory new.memory old.iommu new.iommu id access replied.reply replied.call
 
-found : (frame : Option ℕ) (old new : Parts) (id : ℕ) (access : Access) (told : Outcome) → FindsFrame frame old id access told new → Keeps old new
-found None old new id access told finds = same_parts old new finds.1
-found (Some frame) old new id access told replied = answered _ _ old.memory new.memory old.iommu new.iommu id (at_frame frame access) replied.reply replied.call
+found : (frame : Option ℕ) (old new : Parts) (id : ℕ) (access : Access) (given : Outcome) → FindsFrame frame old id access given new → Keeps old new
+found None old new id access given finds = same_parts old new finds.1
+found (Some frame) old new id access given replied = answered _ _ old.memory new.memory old.iommu new.iommu id (at_frame frame access) replied.reply replied.call
 
-tried : (old new : Parts) (id : ℕ) (access : Access) (told : Outcome) → TriesCache old id access told new → Keeps old new
-tried old new id access told (inl bad) = same_parts old new bad.2
-tried old new id access told (inr (inl full)) = same_parts old new full.3
-tried old new id access told (inr (inr finds)) = found (cached_frame old id access) old new id access told finds.2
+tried : (old new : Parts) (id : ℕ) (access : Access) (given : Outcome) → TriesCache old id access given new → Keeps old new
+tried old new id access given (inl bad) = same_parts old new bad.2
+tried old new id access given (inr (inl full)) = same_parts old new full.3
+tried old new id access given (inr (inr finds)) = found (cached_frame old id access) old new id access given finds.2
 
-through_cache : (can : DeviceKind → Bool) (old new : Parts) (id : ℕ) (access : Access) (told : Outcome) → DeviceAsksThroughCache can old id access told new → Keeps old new
-through_cache can old new id access told (inl unknown) = same_parts old new unknown.same
-through_cache can old new id access told (inr (inl unable)) = same_parts old new unable.same
-through_cache can old new id access told (inr (inr (able, tries))) = tried old new id access told tries
+through_cache : (can : DeviceKind → Bool) (old new : Parts) (id : ℕ) (access : Access) (given : Outcome) → DeviceAsksThroughCache can old id access given new → Keeps old new
+through_cache can old new id access given (inl unknown) = same_parts old new unknown.same
+through_cache can old new id access given (inr (inl unable)) = same_parts old new unable.same
+through_cache can old new id access given (inr (inr (able, tries))) = tried old new id access given tries
 
 -- A BLOCK DEVICE'S STEP
-missed : (first : Outcome) (old mid new : Parts) (id : ℕ) (access : Access) (told : Outcome) → Keeps old mid → AsksIfMissed first mid id access told new → Keeps old new
-missed outcome.Miss old mid new id access told keeps asks = λ other number own at.
+missed : (first : Outcome) (old mid new : Parts) (id : ℕ) (access : Access) (given : Outcome) → Keeps old mid → AsksIfMissed first mid id access given new → Keeps old new
+missed outcome.Miss old mid new id access given keeps asks = λ other number own at.
     same_iommu mid new (ap (λ (p : Parts). p.iommu) asks.1) other number own (keeps other number own at)
-missed first old mid new id access told keeps asks = λ other number own at. same_parts mid new asks.1 other number own (keeps other number own at)
+missed first old mid new id access given keeps asks = λ other number own at. same_parts mid new asks.1 other number own (keeps other number own at)
 
-to_memory : (has_cache : Bool) (old new : Parts) (id : ℕ) (access : Access) (told : Outcome) → GoesToMemory has_cache old id access told new → Keeps old new
-to_memory false old new id access told asks = asked is_block_device old new id access told asks
-to_memory true old new id access told goes =
-    missed goes.first old goes.between new id access told (through_cache is_block_device old goes.between id access goes.first goes.tries) goes.asks
+to_memory : (has_cache : Bool) (old new : Parts) (id : ℕ) (access : Access) (given : Outcome) → GoesToMemory has_cache old id access given new → Keeps old new
+to_memory false old new id access given asks = asked is_block_device old new id access given asks
+to_memory true old new id access given goes =
+    missed goes.first old goes.between new id access given (through_cache is_block_device old goes.between id access goes.first goes.tries) goes.asks
 
-begun : (old new : Parts) (id : ℕ) (access : Access) (told : Outcome) → BeginsAccess old id access told new → Keeps old new
-begun old new id access told begins = to_memory (caches_translations (kind_in old.devices id)) old new id access told begins
+begun : (old new : Parts) (id : ℕ) (access : Access) (given : Outcome) → BeginsAccess old id access given new → Keeps old new
+begun old new id access given begins = to_memory (caches_translations (kind_in old.devices id)) old new id access given begins
 
-stepped : (old new : Parts) (id : ℕ) (told : Outcome) → TakesBlockStep old id told new → Keeps old new
-stepped old new id told (inl wants) = begun old new id wants.0 told wants.3
-stepped old new id told (inr (step, is, inl unknown)) = same_parts old new unknown.same
-stepped old new id told (inr (step, is, inr (inl unable))) = same_parts old new unable.same
-stepped old new id told (inr (step, is, inr (inr rests))) = same_parts old new rests.2
+stepped : (old new : Parts) (id : ℕ) (given : Outcome) → TakesBlockStep old id given new → Keeps old new
+stepped old new id given (inl wants) = begun old new id wants.0 given wants.3
+stepped old new id given (inr (step, is, inl unknown)) = same_parts old new unknown.same
+stepped old new id given (inr (step, is, inr (inl unable))) = same_parts old new unable.same
+stepped old new id given (inr (step, is, inr (inr rests))) = same_parts old new rests.2
 
 -- A MESSAGE arrives
 question : (old new : Parts) (device page : ℕ) (answer : Translation) → AnswersQuestion old.memory old.iommu device page answer new.memory new.iommu → flights_of new.iommu ≡ flights_of old.iommu
 question old new device page (translation.Page frame rights) answers = answers.0.flights
 question old new device page (translation.Refused cause) refuses = refuses.flights
 
-arrived : (message : Message) (old new : Parts) (device : ℕ) (others : List OnLink) (told : Outcome) → Arrives message old device others told new → Keeps old new
-arrived (sent.Ask epoch page) old new device others told answers =
+arrived : (message : Message) (old new : Parts) (device : ℕ) (others : List OnLink) (given : Outcome) → Arrives message old device others given new → Keeps old new
+arrived (sent.Ask epoch page) old new device others given answers =
     same_numbers (flights_of old.iommu) (flights_of new.iommu) (question old new device page answers.answer answers.call)
-arrived (sent.Answer epoch page answer) old new device others told takes = same_iommu old new (ap (λ (p : Parts). p.iommu) takes.rest)
-arrived (sent.InvReq serial range) old new device others told obeys = same_iommu old new (ap (λ (p : Parts). p.iommu) obeys.rest)
-arrived (sent.InvDone serial) old new device others told hears = same_numbers (flights_of old.iommu) (flights_of new.iommu) (ap flights_of hears.call.left)
+arrived (sent.Answer epoch page answer) old new device others given takes = same_iommu old new (ap (λ (p : Parts). p.iommu) takes.rest)
+arrived (sent.InvReq serial range) old new device others given obeys = same_iommu old new (ap (λ (p : Parts). p.iommu) obeys.rest)
+arrived (sent.InvDone serial) old new device others given hears = same_numbers (flights_of old.iommu) (flights_of new.iommu) (ap flights_of hears.call.left)
 
-delivered : (on : Option OnLink) (old new : Parts) (others : List OnLink) (told : Outcome) → ArrivesIfAny on old others told new → Keeps old new
-delivered None old new others told none = same_parts old new none.1
-delivered (Some on) old new others told arrives = arrived on.message old new on.device others told arrives
+delivered : (on : Option OnLink) (old new : Parts) (others : List OnLink) (given : Outcome) → ArrivesIfAny on old others given new → Keeps old new
+delivered None old new others given none = same_parts old new none.1
+delivered (Some on) old new others given arrives = arrived on.message old new on.device others given arrives
 
 -- A DEVICE IS PLUGGED IN
 added : (answer : Result (Unit {0}) Refusal) (old new : Iommu) (id : ℕ) → AddsRow answer old id new → KeepsAllNumbers (flights_of old) (flights_of new)
@@ -203,66 +203,66 @@ added (Ok done) old new id adds = keeps_added (flights_of old) (flights_of new) 
 added (Err why) old new id same = same_numbers (flights_of old) (flights_of new) (ap flights_of same)
 
 -- what the events of block devices leave of the IOMMU
-inserted : (disks : List ℕ) (old new : Parts) (id disk : ℕ) (told : Outcome) → InsertsMedium disks old id disk told new → Keeps old new
-inserted disks old new id disk told (inl unknown) = same_parts old new unknown.same
-inserted disks old new id disk told (inr (inl unable)) = same_parts old new unable.same
-inserted disks old new id disk told (inr (inr (device, is, inl puts))) = same_iommu old new (ap (λ (p : Parts). p.iommu) puts.2)
-inserted disks old new id disk told (inr (inr (device, is, inr refused))) = same_parts old new refused.2
+inserted : (disks : List ℕ) (old new : Parts) (id disk : ℕ) (given : Outcome) → InsertsMedium disks old id disk given new → Keeps old new
+inserted disks old new id disk given (inl unknown) = same_parts old new unknown.same
+inserted disks old new id disk given (inr (inl unable)) = same_parts old new unable.same
+inserted disks old new id disk given (inr (inr (device, is, inl puts))) = same_iommu old new (ap (λ (p : Parts). p.iommu) puts.2)
+inserted disks old new id disk given (inr (inr (device, is, inr refused))) = same_parts old new refused.2
 
 -- THE EVENT is no commit
 abbrev pub MakesNothing : Event → Type 0
 MakesNothing (events.Commit id) = ⊥
 MakesNothing event = Unit {0}
 
-pub keeps_all : (disks : List ℕ) (old new : Parts) (event : Event) (told : Outcome) → MakesNothing event → Does disks old event told new → Keeps old new
-keeps_all disks old new (events.Plug id what) told none (inl lacks) = same_parts old new lacks.same
-keeps_all disks old new (events.Plug id what) told none (inr plugs) = added plugs.answer old.iommu new.iommu id plugs.row
-keeps_all disks old new (events.Medium id disk) told none does = inserted disks old new id disk told does
-keeps_all disks old new (events.Attach id mode ats) told none does = same_iommu old new does.iommu
-keeps_all disks old new (events.Grant id page frame rights) told none does = same_iommu old new does.iommu
-keeps_all disks old new (events.Release id page) told none does =
-    same_numbers (flights_of old.iommu) (flights_of new.iommu) (released old.driver new.driver old.memory new.memory old.iommu new.iommu id page does.answer does.call)
-keeps_all disks old new (events.Detach id) told none does =
-    same_numbers (flights_of old.iommu) (flights_of new.iommu) (detached old.driver new.driver old.memory new.memory old.iommu new.iommu id does.answer does.call.effect)
-keeps_all disks old new (events.Quarantine id) told none does =
-    same_numbers (flights_of old.iommu) (flights_of new.iommu) (cut_off old.driver new.driver old.memory new.memory old.iommu new.iommu id does.answer does.call)
-keeps_all disks old new (events.Revive id) told none does = same_iommu old new does.iommu
-keeps_all disks old new events.Restart told none does =
-    same_numbers (flights_of old.iommu) (flights_of new.iommu) (restarted old.driver new.driver old.memory new.memory old.iommu new.iommu does.answer does.call)
-keeps_all disks old new events.Fetch told none does =
+pub keeps_all : (disks : List ℕ) (old new : Parts) (event : Event) (given : Outcome) → MakesNothing event → Effect disks old event given new → Keeps old new
+keeps_all disks old new (events.Plug id what) given none (inl lacks) = same_parts old new lacks.same
+keeps_all disks old new (events.Plug id what) given none (inr plugs) = added plugs.answer old.iommu new.iommu id plugs.row
+keeps_all disks old new (events.Medium id disk) given none effect = inserted disks old new id disk given effect
+keeps_all disks old new (events.Attach id mode ats) given none effect = same_iommu old new effect.iommu
+keeps_all disks old new (events.Grant id page frame rights) given none effect = same_iommu old new effect.iommu
+keeps_all disks old new (events.Release id page) given none effect =
+    same_numbers (flights_of old.iommu) (flights_of new.iommu) (released old.driver new.driver old.memory new.memory old.iommu new.iommu id page effect.answer effect.call)
+keeps_all disks old new (events.Detach id) given none effect =
+    same_numbers (flights_of old.iommu) (flights_of new.iommu) (detached old.driver new.driver old.memory new.memory old.iommu new.iommu id effect.answer effect.call.effect)
+keeps_all disks old new (events.Quarantine id) given none effect =
+    same_numbers (flights_of old.iommu) (flights_of new.iommu) (cut_off old.driver new.driver old.memory new.memory old.iommu new.iommu id effect.answer effect.call)
+keeps_all disks old new (events.Revive id) given none effect = same_iommu old new effect.iommu
+keeps_all disks old new events.Restart given none effect =
+    same_numbers (flights_of old.iommu) (flights_of new.iommu) (restarted old.driver new.driver old.memory new.memory old.iommu new.iommu effect.answer effect.call)
+keeps_all disks old new events.Fetch given none effect =
     same_numbers (flights_of old.iommu) (flights_of new.iommu)
-    (fetched old.memory new.memory old.iommu new.iommu does.answer (by_answer old.memory new.memory old.iommu new.iommu does.answer does.call))
-keeps_all disks old new events.Timeout told none does =
-    same_numbers (flights_of old.iommu) (flights_of new.iommu) (timed_out old.iommu new.iommu does.answer does.call)
-keeps_all disks old new events.Poll told none does = same_iommu old new does.iommu
-keeps_all disks old new events.Faults told none does =
-    same_numbers (flights_of old.iommu) (flights_of new.iommu) (reported old.driver old.memory old.iommu new.iommu does.answer does.call)
-keeps_all disks old new (events.Read id address len) told none does = asked _ old new id (read_of address len) told does
-keeps_all disks old new (events.Write id address bytes) told none does = asked _ old new id (write_of address bytes) told does
-keeps_all disks old new (events.Commit id) told none does = absurd none
-keeps_all disks old new (events.ReadTranslated id address len) told none does = translated old new id (read_of address len) told does
-keeps_all disks old new (events.WriteTranslated id address bytes) told none does = translated old new id (write_of address bytes) told does
-keeps_all disks old new (events.ReadThroughCache id address len) told none does = through_cache _ old new id (read_of address len) told does
-keeps_all disks old new (events.WriteThroughCache id address bytes) told none does = through_cache _ old new id (write_of address bytes) told does
-keeps_all disks old new (events.Ask id page) told none (inl unknown) = same_parts old new unknown.same
-keeps_all disks old new (events.Ask id page) told none (inr (inl unable)) = same_parts old new unable.same
-keeps_all disks old new (events.Ask id page) told none (inr (inr sends)) = same_iommu old new (ap (λ (p : Parts). p.iommu) sends.1.sent)
-keeps_all disks old new (events.Forge id serial) told none (inl unknown) = same_parts old new unknown.same
-keeps_all disks old new (events.Forge id serial) told none (inr (inl unable)) = same_parts old new unable.same
-keeps_all disks old new (events.Forge id serial) told none (inr (inr sends)) = same_iommu old new (ap (λ (p : Parts). p.iommu) sends.1.sent)
-keeps_all disks old new (events.Deliver place) told none does = delivered (slice_get old.fabric place) old new (remove old.fabric place) told does
-keeps_all disks old new (events.Drop place) told none does = same_iommu old new (ap (λ (p : Parts). p.iommu) does.dropped)
-keeps_all disks old new (events.Repeat place) told none does = same_iommu old new (ap (λ (p : Parts). p.iommu) does.repeated)
-keeps_all disks old new (events.Reset id) told none (inl unknown) = same_parts old new unknown.same
-keeps_all disks old new (events.Reset id) told none (inr resets) = same_iommu old new (ap (λ (p : Parts). p.iommu) resets.2)
-keeps_all disks old new (events.Queue id size descriptors available used) told none (inl unknown) = same_parts old new unknown.same
-keeps_all disks old new (events.Queue id size descriptors available used) told none (inr (inl unable)) = same_parts old new unable.same
-keeps_all disks old new (events.Queue id size descriptors available used) told none (inr (inr (able, inl sets))) = same_iommu old new (ap (λ (p : Parts). p.iommu) sets.2)
-keeps_all disks old new (events.Queue id size descriptors available used) told none (inr (inr (able, inr refused))) = same_parts old new refused.2
-keeps_all disks old new (events.Step id) told none does = stepped old new id told does
-keeps_all disks old new (events.Status id) told none (status, inl unknown) = same_parts old new unknown.same
-keeps_all disks old new (events.Status id) told none (status, inr (inl unable)) = same_parts old new unable.same
-keeps_all disks old new (events.Status id) told none (status, inr (inr tells)) = same_parts old new tells.2
-keeps_all disks old new (events.Poke address bytes) told none does = same_iommu old new does.iommu
-keeps_all disks old new (events.Peek address len) told none does = same_parts old new does.1
-keeps_all disks old new (events.Free frame) told none does = same_parts old new does.1
+    (fetched old.memory new.memory old.iommu new.iommu effect.answer (by_answer old.memory new.memory old.iommu new.iommu effect.answer effect.call))
+keeps_all disks old new events.Timeout given none effect =
+    same_numbers (flights_of old.iommu) (flights_of new.iommu) (timed_out old.iommu new.iommu effect.answer effect.call)
+keeps_all disks old new events.Poll given none effect = same_iommu old new effect.iommu
+keeps_all disks old new events.Faults given none effect =
+    same_numbers (flights_of old.iommu) (flights_of new.iommu) (reported old.driver old.memory old.iommu new.iommu effect.answer effect.call)
+keeps_all disks old new (events.Read id address len) given none effect = asked _ old new id (read_of address len) given effect
+keeps_all disks old new (events.Write id address bytes) given none effect = asked _ old new id (write_of address bytes) given effect
+keeps_all disks old new (events.Commit id) given none effect = absurd none
+keeps_all disks old new (events.ReadTranslated id address len) given none effect = translated old new id (read_of address len) given effect
+keeps_all disks old new (events.WriteTranslated id address bytes) given none effect = translated old new id (write_of address bytes) given effect
+keeps_all disks old new (events.ReadThroughCache id address len) given none effect = through_cache _ old new id (read_of address len) given effect
+keeps_all disks old new (events.WriteThroughCache id address bytes) given none effect = through_cache _ old new id (write_of address bytes) given effect
+keeps_all disks old new (events.Ask id page) given none (inl unknown) = same_parts old new unknown.same
+keeps_all disks old new (events.Ask id page) given none (inr (inl unable)) = same_parts old new unable.same
+keeps_all disks old new (events.Ask id page) given none (inr (inr sends)) = same_iommu old new (ap (λ (p : Parts). p.iommu) sends.1.sent)
+keeps_all disks old new (events.Forge id serial) given none (inl unknown) = same_parts old new unknown.same
+keeps_all disks old new (events.Forge id serial) given none (inr (inl unable)) = same_parts old new unable.same
+keeps_all disks old new (events.Forge id serial) given none (inr (inr sends)) = same_iommu old new (ap (λ (p : Parts). p.iommu) sends.1.sent)
+keeps_all disks old new (events.Deliver place) given none effect = delivered (slice_get old.fabric place) old new (remove old.fabric place) given effect
+keeps_all disks old new (events.Drop place) given none effect = same_iommu old new (ap (λ (p : Parts). p.iommu) effect.dropped)
+keeps_all disks old new (events.Repeat place) given none effect = same_iommu old new (ap (λ (p : Parts). p.iommu) effect.repeated)
+keeps_all disks old new (events.Reset id) given none (inl unknown) = same_parts old new unknown.same
+keeps_all disks old new (events.Reset id) given none (inr resets) = same_iommu old new (ap (λ (p : Parts). p.iommu) resets.2)
+keeps_all disks old new (events.Queue id size descriptors available used) given none (inl unknown) = same_parts old new unknown.same
+keeps_all disks old new (events.Queue id size descriptors available used) given none (inr (inl unable)) = same_parts old new unable.same
+keeps_all disks old new (events.Queue id size descriptors available used) given none (inr (inr (able, inl sets))) = same_iommu old new (ap (λ (p : Parts). p.iommu) sets.2)
+keeps_all disks old new (events.Queue id size descriptors available used) given none (inr (inr (able, inr refused))) = same_parts old new refused.2
+keeps_all disks old new (events.Step id) given none effect = stepped old new id given effect
+keeps_all disks old new (events.Status id) given none (status, inl unknown) = same_parts old new unknown.same
+keeps_all disks old new (events.Status id) given none (status, inr (inl unable)) = same_parts old new unable.same
+keeps_all disks old new (events.Status id) given none (status, inr (inr tells)) = same_parts old new tells.2
+keeps_all disks old new (events.Poke address bytes) given none effect = same_iommu old new effect.iommu
+keeps_all disks old new (events.Peek address len) given none effect = same_parts old new effect.1
+keeps_all disks old new (events.Free frame) given none effect = same_parts old new effect.1

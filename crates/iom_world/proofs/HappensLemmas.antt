@@ -14,16 +14,16 @@ use Rattle.iom_world.specs.declared.world.World.{World}
 use Rattle.iom_world_effects.specs.Below.{LawsBelow, AddressFits}
 use Rattle.iom_base.specs.DeviceKinds.{sends_untranslated, sends_through_cache}
 use Rattle.iom_virtqueue.specs.Layouts.{layout_of}
-use Rattle.iom_world_effects.specs.Does.{Does, disks_after}
+use Rattle.iom_world_effects.specs.Effect.{Effect, disks_after}
 use Rattle.iom_world.specs.Happens.{Happens}
 use Rattle.iom_world_effects.specs.Parts.{Parts}
 use Rattle.iom_world_effects.specs.Recovery.{RestartsQueue}
 use Rattle.iom_virtio_blk.specs.declared.disk.Disk.{Ghosts}
 use Rattle.iom_virtio_blk.specs.DiskStates.{DiskState}
-use Rattle.iom_world.specs.Blocks.{DoesToBlocks}
-use Rattle.iom_world.specs.Seen.{parts_of, disks_of, seen_of}
+use Rattle.iom_world.specs.Blocks.{EffectOnBlocks}
+use Rattle.iom_world.specs.Shown.{parts_of, disks_of, shown_of}
 use Rattle.iom_world_effects.specs.Shows.{PartsShow}
-use Rattle.iom_world_effects.specs.Sound.{AreSound}
+use Rattle.iom_world_effects.specs.Invariant.{PartsInvariant}
 use Rattle.iom_world_refinement.proofs.AttachStep.{attach_step}
 use Rattle.iom_world_refinement.proofs.BlockSteps.{medium_step, queue_step, begin_step, rest_step, status_step}
 use Rattle.iom_world_refinement.proofs.CommandsStay.{commands_stay}
@@ -31,7 +31,7 @@ use Rattle.iom_world_refinement.proofs.CommitStep.{commit_step}
 use Rattle.iom_world_refinement.proofs.DeliverStep.{delivered_step}
 use Rattle.iom_world_refinement.proofs.DetachStep.{detach_step}
 use Rattle.iom_world_refinement.proofs.DiskLemmas.{step_disks}
-use Rattle.iom_world_effects.proofs.DriverLemmas.{IsSoundDriver, sound_driver}
+use Rattle.iom_world_effects.proofs.DriverLemmas.{DriverInvariant, driver_invariant}
 use Rattle.iom_world_refinement.proofs.FetchStep.{fetch_step}
 use Rattle.iom_world_refinement.proofs.FlightMay.{each_may}
 use Rattle.iom_world_refinement.proofs.GrantStep.{grant_step}
@@ -58,105 +58,105 @@ use Rattle.iom_world_effects.proofs.PartsLemmas.{StaysReported, reported_of}
 use Rattle.iom_world_invariant.proofs.ReportKeeps.{taken_step}
 
 -- a restart leaves memory as large as it was
-restart_size : (old new : Parts) (before counted : ℕ) (told : Outcome) → AreSound old before → AreSound new counted → RestartsQueue old told new → length new.memory ≡ length old.memory
-restart_size old new before counted told sound sound' does = by does.answer does.call
+restart_size : (old new : Parts) (before counted : ℕ) (reply : Outcome) → PartsInvariant old before → PartsInvariant new counted → RestartsQueue old reply new → length new.memory ≡ length old.memory
+restart_size old new before counted reply invariants invariants' effect = by effect.answer effect.call
   where
     by : (answer : Result (Unit {0}) Refusal) → AnswersRestart mmio old.driver old.memory old.iommu answer new.driver new.memory new.iommu → length new.memory ≡ length old.memory
-    by (Ok done) (admitted, queues) = sound'.ready.stand.size ∙ ap (λ (d : DriverState). length d.marks) queues.driver ∙ sym sound.ready.stand.size
+    by (Ok done) (admitted, queues) = invariants'.ready.stand.size ∙ ap (λ (d : DriverState). length d.owners) queues.driver ∙ sym invariants.ready.stand.size
     by (Err why) (refused, driver, memory, iommu) = ap (λ m. length m) memory
 
 -- a step by the event
-module _ (laws : ServiceLaws) (disks : List ℕ) (old new : Parts) (counted before : ℕ) (sound : AreSound old before) (own : IsSoundDriver old.driver) (reported : StaysReported old.driver) (sound' : AreSound new counted) where
-  steps : (event : Event) (told : Outcome) → AddressFits event → Does disks old event told new → (state : State) → PartsShow old state → state.disks ≡ disks → (next : State) × Step state event told next × PartsShow new next
-  steps (events.Plug id what) told fits does state shows at_hand =
-      let step = plug_step disks old new before id what told sound does state shows at_hand in (step.0, (no_choice, step.1), step.2)
-  steps (events.Medium id disk) told fits does state shows at_hand =
-      let step = medium_step disks old new id disk told does state shows at_hand in (step.0, (no_choice, step.1), step.2)
-  steps (events.Attach id mode ats) told fits does state shows at_hand =
-      let step = attach_step old new before id mode ats told sound own does state shows in (step.2, (pages_taken step.0 step.1, step.3), step.4)
-  steps (events.Detach id) told fits does state shows at_hand =
-      let step = detach_step old new before id told sound own does state shows in (step.0, (no_choice, step.1), step.2)
-  steps (events.Grant id page frame rights) told fits does state shows at_hand =
-      let step = grant_step old new before id page frame rights told sound does state shows in (step.1, (frames_taken step.0, step.2), step.3)
-  steps (events.Release id page) told fits does state shows at_hand =
-      let step = release_step old new before id page told sound own does state shows in (step.0, (no_choice, step.1), step.2)
-  steps (events.Quarantine id) told fits does state shows at_hand =
-      let step = quarantine_step old new before id told sound own does state shows in (step.0, (no_choice, step.1), step.2)
-  steps (events.Revive id) told fits does state shows at_hand =
-      let step = revival_step old new before id told sound own does state shows in (step.0, (no_choice, step.1), step.2)
-  steps events.Restart told fits does state shows at_hand =
-      let step = restart_step old new before told sound own (restart_size old new before counted told sound sound' does) does state shows in (state, (no_choice, step.0), step.1)
-  steps events.Timeout told fits does state shows at_hand = let step = timeout_step old new told does state shows in (state, (no_choice, step.0), step.1)
-  steps (events.Reset id) told fits does state shows at_hand = let step = reset_step old new id told does state shows in (state, (no_choice, step.0), step.1)
-  steps events.Fetch told fits does state shows at_hand =
-      let step = fetch_step old new before told sound own does state shows in (step.0, (no_choice, step.1), step.2)
-  steps events.Poll told fits does state shows at_hand =
-      let step = poll_step old new before counted told sound own sound' does (each_may new counted sound') state shows in (step.0, (no_choice, step.1), step.2)
-  steps events.Faults told fits does state shows at_hand =
-      let step = taken_step old new before told sound does state shows in (state, (no_choice, step.0), step.1)
-  steps (events.Read id address len) told fits does state shows at_hand =
-      let step = request_step sends_untranslated laws old new before id (read_of address len) told sound own reported fits does state shows in (step.1, (frame_chosen step.0, step.2), step.3)
-  steps (events.Write id address bytes) told fits does state shows at_hand =
-      let step = request_step sends_untranslated laws old new before id (write_of address bytes) told sound own reported fits does state shows in (step.1, (frame_chosen step.0, step.2), step.3)
-  steps (events.Commit id) told fits does state shows at_hand =
-      let step = commit_step old new before id told sound does state shows in (step.0, (no_choice, step.1), step.2)
-  steps (events.Poke address bytes) told fits does state shows at_hand =
-      let step = poked_step old new before address bytes told sound does state shows in (step.0, (no_choice, step.1), step.2)
-  steps (events.Peek address len) told fits does state shows at_hand =
-      (state, (no_choice, peeked_step old before address len told sound does.0 state shows), rw does.1 shows)
-  steps (events.Free frame) told fits does state shows at_hand =
-      (state, (no_choice, asked_free_step old before frame told sound does.0 state shows), rw does.1 shows)
-  steps (events.ReadTranslated id address len) told fits does state shows at_hand =
-      let step = translated_step laws old new before id (read_of address len) told sound own reported does state shows in (state, (no_choice, step.0), step.1)
-  steps (events.WriteTranslated id address bytes) told fits does state shows at_hand =
-      let step = translated_step laws old new before id (write_of address bytes) told sound own reported does state shows in (state, (no_choice, step.0), step.1)
-  steps (events.ReadThroughCache id address len) told fits does state shows at_hand =
-      let step = through_cache_step sends_through_cache laws old new before id (read_of address len) told sound own reported does state shows in (step.1, (frame_chosen step.0, step.2), step.3)
-  steps (events.WriteThroughCache id address bytes) told fits does state shows at_hand =
-      let step = through_cache_step sends_through_cache laws old new before id (write_of address bytes) told sound own reported does state shows in (step.1, (frame_chosen step.0, step.2), step.3)
-  steps (events.Ask id page) told fits does state shows at_hand = let step = question_step old new id page told does state shows in (state, (no_choice, step.0), step.1)
-  steps (events.Forge id serial) told fits does state shows at_hand = let step = forged_step old new id serial told does state shows in (state, (no_choice, step.0), step.1)
-  steps (events.Deliver place) told fits does state shows at_hand =
-      let step = delivered_step laws old new before place told sound own reported does state shows in (state, (question_chosen step.0 step.1, step.2), step.3)
-  steps (events.Drop place) told fits does state shows at_hand = let step = dropped_step old new place told does state shows in (state, (no_choice, step.0), step.1)
-  steps (events.Repeat place) told fits does state shows at_hand = let step = repeated_step old new place told does state shows in (state, (no_choice, step.0), step.1)
-  steps (events.Queue id size descriptors available used) told fits does state shows at_hand =
-      let step = queue_step old new id (layout_of size descriptors available used) told does state shows in (state, (no_choice, step.0), step.1)
-  steps (events.Step id) told fits (inl (access, low, may, begins)) state shows at_hand =
-      let step = begin_step laws old new before id access told sound own reported low may begins state shows in (step.1, (access_chosen access step.0, step.2), step.3)
-  steps (events.Step id) told fits (inr (block, rest, rests)) state shows at_hand =
-      let step = rest_step old new id block told rest rests state shows in (state, (no_choice, step.0), step.1)
-  steps (events.Status id) told fits does state shows at_hand = let step = status_step old new id does.0 told does.1 state shows in (state, (no_choice, step.0), step.1)
+module _ (laws : ServiceLaws) (disks : List ℕ) (old new : Parts) (counted before : ℕ) (invariants : PartsInvariant old before) (own : DriverInvariant old.driver) (reported : StaysReported old.driver) (invariants' : PartsInvariant new counted) where
+  steps : (event : Event) (reply : Outcome) → AddressFits event → Effect disks old event reply new → (state : State) → PartsShow old state → state.disks ≡ disks → (next : State) × Step state event reply next × PartsShow new next
+  steps (events.Plug id what) reply fits effect state shows at_hand =
+      let step = plug_step disks old new before id what reply invariants effect state shows at_hand in (step.0, (no_choice, step.1), step.2)
+  steps (events.Medium id disk) reply fits effect state shows at_hand =
+      let step = medium_step disks old new id disk reply effect state shows at_hand in (step.0, (no_choice, step.1), step.2)
+  steps (events.Attach id mode ats) reply fits effect state shows at_hand =
+      let step = attach_step old new before id mode ats reply invariants own effect state shows in (step.2, (pages_taken step.0 step.1, step.3), step.4)
+  steps (events.Detach id) reply fits effect state shows at_hand =
+      let step = detach_step old new before id reply invariants own effect state shows in (step.0, (no_choice, step.1), step.2)
+  steps (events.Grant id page frame rights) reply fits effect state shows at_hand =
+      let step = grant_step old new before id page frame rights reply invariants effect state shows in (step.1, (frames_taken step.0, step.2), step.3)
+  steps (events.Release id page) reply fits effect state shows at_hand =
+      let step = release_step old new before id page reply invariants own effect state shows in (step.0, (no_choice, step.1), step.2)
+  steps (events.Quarantine id) reply fits effect state shows at_hand =
+      let step = quarantine_step old new before id reply invariants own effect state shows in (step.0, (no_choice, step.1), step.2)
+  steps (events.Revive id) reply fits effect state shows at_hand =
+      let step = revival_step old new before id reply invariants own effect state shows in (step.0, (no_choice, step.1), step.2)
+  steps events.Restart reply fits effect state shows at_hand =
+      let step = restart_step old new before reply invariants own (restart_size old new before counted reply invariants invariants' effect) effect state shows in (state, (no_choice, step.0), step.1)
+  steps events.Timeout reply fits effect state shows at_hand = let step = timeout_step old new reply effect state shows in (state, (no_choice, step.0), step.1)
+  steps (events.Reset id) reply fits effect state shows at_hand = let step = reset_step old new id reply effect state shows in (state, (no_choice, step.0), step.1)
+  steps events.Fetch reply fits effect state shows at_hand =
+      let step = fetch_step old new before reply invariants own effect state shows in (step.0, (no_choice, step.1), step.2)
+  steps events.Poll reply fits effect state shows at_hand =
+      let step = poll_step old new before counted reply invariants own invariants' effect (each_may new counted invariants') state shows in (step.0, (no_choice, step.1), step.2)
+  steps events.Faults reply fits effect state shows at_hand =
+      let step = taken_step old new before reply invariants effect state shows in (state, (no_choice, step.0), step.1)
+  steps (events.Read id address len) reply fits effect state shows at_hand =
+      let step = request_step sends_untranslated laws old new before id (read_of address len) reply invariants own reported fits effect state shows in (step.1, (frame_chosen step.0, step.2), step.3)
+  steps (events.Write id address bytes) reply fits effect state shows at_hand =
+      let step = request_step sends_untranslated laws old new before id (write_of address bytes) reply invariants own reported fits effect state shows in (step.1, (frame_chosen step.0, step.2), step.3)
+  steps (events.Commit id) reply fits effect state shows at_hand =
+      let step = commit_step old new before id reply invariants effect state shows in (step.0, (no_choice, step.1), step.2)
+  steps (events.Poke address bytes) reply fits effect state shows at_hand =
+      let step = poked_step old new before address bytes reply invariants effect state shows in (step.0, (no_choice, step.1), step.2)
+  steps (events.Peek address len) reply fits effect state shows at_hand =
+      (state, (no_choice, peeked_step old before address len reply invariants effect.0 state shows), rw effect.1 shows)
+  steps (events.Free frame) reply fits effect state shows at_hand =
+      (state, (no_choice, asked_free_step old before frame reply invariants effect.0 state shows), rw effect.1 shows)
+  steps (events.ReadTranslated id address len) reply fits effect state shows at_hand =
+      let step = translated_step laws old new before id (read_of address len) reply invariants own reported effect state shows in (state, (no_choice, step.0), step.1)
+  steps (events.WriteTranslated id address bytes) reply fits effect state shows at_hand =
+      let step = translated_step laws old new before id (write_of address bytes) reply invariants own reported effect state shows in (state, (no_choice, step.0), step.1)
+  steps (events.ReadThroughCache id address len) reply fits effect state shows at_hand =
+      let step = through_cache_step sends_through_cache laws old new before id (read_of address len) reply invariants own reported effect state shows in (step.1, (frame_chosen step.0, step.2), step.3)
+  steps (events.WriteThroughCache id address bytes) reply fits effect state shows at_hand =
+      let step = through_cache_step sends_through_cache laws old new before id (write_of address bytes) reply invariants own reported effect state shows in (step.1, (frame_chosen step.0, step.2), step.3)
+  steps (events.Ask id page) reply fits effect state shows at_hand = let step = question_step old new id page reply effect state shows in (state, (no_choice, step.0), step.1)
+  steps (events.Forge id serial) reply fits effect state shows at_hand = let step = forged_step old new id serial reply effect state shows in (state, (no_choice, step.0), step.1)
+  steps (events.Deliver place) reply fits effect state shows at_hand =
+      let step = delivered_step laws old new before place reply invariants own reported effect state shows in (state, (question_chosen step.0 step.1, step.2), step.3)
+  steps (events.Drop place) reply fits effect state shows at_hand = let step = dropped_step old new place reply effect state shows in (state, (no_choice, step.0), step.1)
+  steps (events.Repeat place) reply fits effect state shows at_hand = let step = repeated_step old new place reply effect state shows in (state, (no_choice, step.0), step.1)
+  steps (events.Queue id size descriptors available used) reply fits effect state shows at_hand =
+      let step = queue_step old new id (layout_of size descriptors available used) reply effect state shows in (state, (no_choice, step.0), step.1)
+  steps (events.Step id) reply fits (inl (access, low, may, begins)) state shows at_hand =
+      let step = begin_step laws old new before id access reply invariants own reported low may begins state shows in (step.1, (access_chosen access step.0, step.2), step.3)
+  steps (events.Step id) reply fits (inr (block, rest, rests)) state shows at_hand =
+      let step = rest_step old new id block reply rest rests state shows in (state, (no_choice, step.0), step.1)
+  steps (events.Status id) reply fits effect state shows at_hand = let step = status_step old new id effect.0 reply effect.1 state shows in (state, (no_choice, step.0), step.1)
 
 -- WHAT HAPPENS
-pub happens : {D : Type 0} {d : Ghosts D} (seen : D → DiskState) → LawsBelow → (old new : World D d) (event : Event) (told : Outcome) → AddressFits event
-    → Does (disks_of old) (parts_of old) event told (parts_of new) → disks_of new ≡ disks_after event told (disks_of old) → DoesToBlocks (seen_of seen old) event told (seen_of seen new)
-    → new.hardware.board.events ≡ old.hardware.board.events + 1 → Happens (seen_of seen old) event told (seen_of seen new)
-happens seen laws old new event told fits does disks blocks counted =
+pub happens : {D : Type 0} {d : Ghosts D} (shown : D → DiskState) → LawsBelow → (old new : World D d) (event : Event) (reply : Outcome) → AddressFits event
+    → Effect (disks_of old) (parts_of old) event reply (parts_of new) → disks_of new ≡ disks_after event reply (disks_of old) → EffectOnBlocks (shown_of shown old) event reply (shown_of shown new)
+    → new.hardware.board.events ≡ old.hardware.board.events + 1 → Happens (shown_of shown old) event reply (shown_of shown new)
+happens shown laws old new event reply fits effect disks blocks counted =
     let service = service_laws laws in
     let reported = reported_of laws.reported old.driver in
     let before = old.hardware.board.events in
     let after = new.hardware.board.events in
     record {
       step = λ state shows.
-          let next = steps service (disks_of old) (parts_of old) (parts_of new) after before old.sound (sound_driver old.driver) reported new.sound event told fits does state shows.0 shows.1 in (
+          let next = steps service (disks_of old) (parts_of old) (parts_of new) after before old.invariants (driver_invariant old.driver) reported new.invariants event reply fits effect state shows.0 shows.1 in (
             next.0,
             next.1,
-            (next.2, step_disks state next.0 event told next.1 ∙ ap (disks_after event told) shows.1 ∙ sym disks),
+            (next.2, step_disks state next.0 event reply next.1 ∙ ap (disks_after event reply) shows.1 ∙ sym disks),
           );
-      does = does;
+      effect = effect;
       disks = disks;
       blocks = blocks;
-      commands = commands_stay (disks_of old) (parts_of old) (parts_of new) before event told old.sound (sound_driver old.driver) reported does;
-      guest = λ state shows id access. reads_guest_tables service (parts_of old) before old.sound (sound_driver old.driver) state shows.0 id access;
-      stopped = λ stopped. stays_stopped (parts_of old) (parts_of new) before after old.sound (sound_driver old.driver) reported new.sound stopped (disks_of old) event told does;
-      refused = refused_same (disks_of old) (parts_of old) (parts_of new) event told does;
+      commands = commands_stay (disks_of old) (parts_of old) (parts_of new) before event reply old.invariants (driver_invariant old.driver) reported effect;
+      guest = λ state shows id access. reads_guest_tables service (parts_of old) before old.invariants (driver_invariant old.driver) state shows.0 id access;
+      stopped = λ stopped. stays_stopped (parts_of old) (parts_of new) before after old.invariants (driver_invariant old.driver) reported new.invariants stopped (disks_of old) event reply effect;
+      refused = refused_same (disks_of old) (parts_of old) (parts_of new) event reply effect;
       events = counted;
     }
 
 -- the same of an event that is of this form
-pub happens_at : {D : Type 0} {d : Ghosts D} (seen : D → DiskState) → LawsBelow → (old new : World D d) (event form : Event) (told : Outcome) → event ≡ form → AddressFits form
-    → Does (disks_of old) (parts_of old) form told (parts_of new) → disks_of new ≡ disks_after form told (disks_of old) → DoesToBlocks (seen_of seen old) form told (seen_of seen new)
-    → new.hardware.board.events ≡ old.hardware.board.events + 1 → Happens (seen_of seen old) event told (seen_of seen new)
-happens_at seen laws old new event form told is fits does disks blocks counted =
-    subst (λ (e : Event). Happens (seen_of seen old) e told (seen_of seen new)) (sym is) (happens seen laws old new form told fits does disks blocks counted)
+pub happens_at : {D : Type 0} {d : Ghosts D} (shown : D → DiskState) → LawsBelow → (old new : World D d) (event form : Event) (reply : Outcome) → event ≡ form → AddressFits form
+    → Effect (disks_of old) (parts_of old) form reply (parts_of new) → disks_of new ≡ disks_after form reply (disks_of old) → EffectOnBlocks (shown_of shown old) form reply (shown_of shown new)
+    → new.hardware.board.events ≡ old.hardware.board.events + 1 → Happens (shown_of shown old) event reply (shown_of shown new)
+happens_at shown laws old new event form reply is fits effect disks blocks counted =
+    subst (λ (e : Event). Happens (shown_of shown old) e reply (shown_of shown new)) (sym is) (happens shown laws old new form reply fits effect disks blocks counted)

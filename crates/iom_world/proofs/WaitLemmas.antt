@@ -36,13 +36,13 @@ use Rattle.iom_virtqueue.specs.Queues.{fresh_queue}
 use Rattle.iom_world_effects.specs.Commits.{CommitsAccess, TellsKind, TellsMade}
 use Rattle.iom_world_effects.specs.Parts.{Parts}
 use Rattle.iom_block_devices.specs.Changes.{block_with, ChangesIfThere, ChangesOne, Changes, HasDisk, IsGivenUp, IsPluggedIn, IsPutIn, IsReset, SetsUp, HearsMade, HearsRefusal}
-use Rattle.iom_block_devices.specs.Seen.{BlockSeen, BlocksSeen}
+use Rattle.iom_block_devices.specs.Shown.{ShownBlock, ShownBlocks}
 use Rattle.iom_block_devices.specs.Wanted.{wanted_access}
-use Rattle.iom_hardware.specs.Blocks.{BringsRefusal, HearsAnswer, HearsOldest, Stay, oldest_number, refused_page}
+use Rattle.iom_hardware.specs.Blocks.{BringsRefusal, HearsAnswer, HearsOldest, BlocksUnchanged, oldest_number, refused_page}
 use Rattle.iom_world.specs.Blocks.{reply_of, CommitsOf, DeliversTo, IfDone, PlugsBlock, InsertsIntoBlock, LeavesBlock, ResetsBlock, SetsQueueOf, StepsOnce, EndsStep, BeginsWantedAccess}
 use Rattle.iom_world.specs.Waiting.{in_flight_as, IsOwnAccess, WaitsFor, WaitsInFlight}
 use Rattle.iom_world.specs.Happens.{Happens}
-use Rattle.iom_world.specs.Seen.{Seen}
+use Rattle.iom_world.specs.Shown.{Shown}
 use Rattle.iom_world.specs.EachWaits.{front_of, EachWaitsInFlight}
 use Rattle.iom_world.proofs.BegunLemmas.{accepted_as_wanted}
 use Rattle.iom_block_devices.proofs.BlockChanges.{other_stays, there_still}
@@ -73,37 +73,37 @@ at_rest : (front : Front) (row : Option FlightRow) → front.waits ≡ None → 
 at_rest front row none = subst (λ (n : Option ℕ). WaitsFor n front row) (sym none) tt
 
 -- ONE OF THE DEVICES CHANGES
-abbrev pub front_in : Option BlockSeen → Option Front
-front_in found = option_map (λ (block : BlockSeen). block.device.front) found
+abbrev pub front_in : Option ShownBlock → Option Front
+front_in found = option_map (λ (block : ShownBlock). block.device.front) found
 
-record FrontChanges (How : Device → Device → Type 0) (old new : List BlockSeen) (other id : ℕ) : Type 0 where
+record FrontChanges (How : Device → Device → Type 0) (old new : List ShownBlock) (other id : ℕ) : Type 0 where
   same : other ≡ id
-  block : BlockSeen
+  block : ShownBlock
   there : block_with old id ≡ Some block
   after : Device
   changed : How block.device after
   front : front_of new id ≡ Some after.front
 
 -- the device with the id is as it was, since another changed or there is none; or it is the one
-changed_front : (How : Device → Device → Type 0) (old new : List BlockSeen) (other id : ℕ) → ChangesOne How old other new
+changed_front : (How : Device → Device → Type 0) (old new : List ShownBlock) (other id : ℕ) → ChangesOne How old other new
     → (((other ≢ id) ⊎ (front_of old id ≡ None)) × (front_of new id ≡ front_of old id)) ⊎ FrontChanges How old new other id
 changed_front How old new other id changes = by (cases_eq other id)
   where
-    here : (found : Option BlockSeen) → block_with old id ≡ found → other ≡ id → ChangesIfThere found How old id new
+    here : (found : Option ShownBlock) → block_with old id ≡ found → other ≡ id → ChangesIfThere found How old id new
         → (((other ≢ id) ⊎ (front_of old id ≡ None)) × (front_of new id ≡ front_of old id)) ⊎ FrontChanges How old new other id
-    here None none same is = inl (inr (ap front_in none), ap (λ (blocks : List BlockSeen). front_of blocks id) is)
+    here None none same is = inl (inr (ap front_in none), ap (λ (blocks : List ShownBlock). front_of blocks id) is)
     here (Some block) there same (after, how, is) = inr (record {
       same = same;
       block = block;
       there = there;
       after = after;
       changed = how;
-      front = ap front_in (ap (λ (blocks : List BlockSeen). block_with blocks id) is ∙ there_still old id after block there);
+      front = ap front_in (ap (λ (blocks : List ShownBlock). block_with blocks id) is ∙ there_still old id after block there);
     })
 
-    elsewhere : (found : Option BlockSeen) → other ≢ id → ChangesIfThere found How old other new → front_of new id ≡ front_of old id
-    elsewhere None differ is = ap (λ (blocks : List BlockSeen). front_of blocks id) is
-    elsewhere (Some found) differ (after, how, is) = ap front_in (ap (λ (blocks : List BlockSeen). block_with blocks id) is ∙ other_stays old id other after differ)
+    elsewhere : (found : Option ShownBlock) → other ≢ id → ChangesIfThere found How old other new → front_of new id ≡ front_of old id
+    elsewhere None differ is = ap (λ (blocks : List ShownBlock). front_of blocks id) is
+    elsewhere (Some found) differ (after, how, is) = ap front_in (ap (λ (blocks : List ShownBlock). block_with blocks id) is ∙ other_stays old id other after differ)
 
     by : (other ≡ id) ⊎ (other ≡ id → ⊥) → (((other ≢ id) ⊎ (front_of old id ≡ None)) × (front_of new id ≡ front_of old id)) ⊎ FrontChanges How old new other id
     by (inl same) = here (block_with old id) refl same (subst (λ (n : ℕ). ChangesOne How old n new) same changes)
@@ -141,7 +141,7 @@ pub quiet_refusal : (page : ℕ) → IsQuietChange (HearsRefusal page)
 quiet_refusal page before after (inl (asked, is)) = inr (ap (λ d. d.front.waits) is)
 quiet_refusal page before after (inr (never, is)) = inl (ap (λ d. d.front) is)
 
-module _ (old new : Seen) (each : EachWaitsInFlight old) where
+module _ (old new : Shown) (each : EachWaitsInFlight old) where
   -- the device is as it was
   kept : (id : ℕ) → KeepsNumbers (row_in old.parts id) (row_in new.parts id) → front_of new.inside.blocks id ≡ front_of old.inside.blocks id
       → WaitsInFlight (front_of new.inside.blocks id) (row_in new.parts id)
@@ -155,12 +155,12 @@ module _ (old new : Seen) (each : EachWaitsInFlight old) where
   becomes id front is waits = subst (λ (f : Option Front). WaitsInFlight f (row_in new.parts id)) (sym is) waits
 
   -- what it waited for before
-  waited : (id : ℕ) (block : BlockSeen) → block_with old.inside.blocks id ≡ Some block → WaitsInFlight (Some block.device.front) (row_in old.parts id)
+  waited : (id : ℕ) (block : ShownBlock) → block_with old.inside.blocks id ≡ Some block → WaitsInFlight (Some block.device.front) (row_in old.parts id)
   waited id block there = subst (λ (f : Option Front). WaitsInFlight f (row_in old.parts id)) (ap front_in there) (each id)
 
   module _ (keeps : Keeps old.parts new.parts) where
-    after_stay : Stay old.inside new.inside → EachWaitsInFlight new
-    after_stay stay id = kept id (keeps id) (ap (λ (blocks : List BlockSeen). front_of blocks id) (ap (λ (inside : BlocksSeen). inside.blocks) stay))
+    after_stay : BlocksUnchanged old.inside new.inside → EachWaitsInFlight new
+    after_stay stay id = kept id (keeps id) (ap (λ (blocks : List ShownBlock). front_of blocks id) (ap (λ (inside : ShownBlocks). inside.blocks) stay))
 
     -- one of them is as it was, or waits for nothing
     pub after_changes : (How : Device → Device → Type 0) (other : ℕ) → IsQuietChange How → ChangesOne How old.inside.blocks other new.inside.blocks → EachWaitsInFlight new
@@ -173,47 +173,47 @@ module _ (old new : Seen) (each : EachWaitsInFlight old) where
 
         by : (((other ≢ id) ⊎ (front_of old.inside.blocks id ≡ None)) × (front_of new.inside.blocks id ≡ front_of old.inside.blocks id)) ⊎ FrontChanges How old.inside.blocks new.inside.blocks other id
             → WaitsInFlight (front_of new.inside.blocks id) (row_in new.parts id)
-        by (inl stays) = kept id (keeps id) stays.1
+        by (inl unchanged) = kept id (keeps id) unchanged.1
         by (inr is) = rests is (quiet is.block.device is.after is.changed)
 
     -- A PLUG
-    pub after_plug : (one : BlockSeen) → one.device.front.waits ≡ None → new.inside.blocks ≡ old.inside.blocks ++ one ∷ [] → EachWaitsInFlight new
+    pub after_plug : (one : ShownBlock) → one.device.front.waits ≡ None → new.inside.blocks ≡ old.inside.blocks ++ one ∷ [] → EachWaitsInFlight new
     after_plug one none is id = by (behind old.inside.blocks)
       where
-        behind : (blocks : List BlockSeen) → (front_of (blocks ++ one ∷ []) id ≡ front_of blocks id) ⊎ (front_of (blocks ++ one ∷ []) id ≡ Some one.device.front)
+        behind : (blocks : List ShownBlock) → (front_of (blocks ++ one ∷ []) id ≡ front_of blocks id) ⊎ (front_of (blocks ++ one ∷ []) id ≡ Some one.device.front)
         behind [] = elim (eqb_tells one.id id) [ inl e ↦ inr (rw e.0 refl) | inr ne ↦ inl (rw ne.0 refl) ]
         behind (first ∷ others) = elim (eqb_tells first.id id) [ inl e ↦ inl (rw e.0 refl) | inr ne ↦ rw ne.0 (behind others) ]
 
         by : (front_of (old.inside.blocks ++ one ∷ []) id ≡ front_of old.inside.blocks id) ⊎ (front_of (old.inside.blocks ++ one ∷ []) id ≡ Some one.device.front)
             → WaitsInFlight (front_of new.inside.blocks id) (row_in new.parts id)
-        by (inl same) = kept id (keeps id) (ap (λ (blocks : List BlockSeen). front_of blocks id) is ∙ same)
+        by (inl same) = kept id (keeps id) (ap (λ (blocks : List ShownBlock). front_of blocks id) is ∙ same)
         by (inr own) =
-            becomes id one.device.front (ap (λ (blocks : List BlockSeen). front_of blocks id) is ∙ own) (at_rest one.device.front (row_in new.parts id) none)
+            becomes id one.device.front (ap (λ (blocks : List ShownBlock). front_of blocks id) is ∙ own) (at_rest one.device.front (row_in new.parts id) none)
 
     -- where the event is told as done
-    if_done : (told : Outcome) (HappensToThem : Type 0) → (HappensToThem → EachWaitsInFlight new) → IfDone told HappensToThem old.inside new.inside → EachWaitsInFlight new
+    if_done : (answer : Outcome) (HappensToThem : Type 0) → (HappensToThem → EachWaitsInFlight new) → IfDone answer HappensToThem old.inside new.inside → EachWaitsInFlight new
     if_done outcome.Done HappensToThem leads happens = leads happens
-    if_done told HappensToThem leads stay = after_stay stay
+    if_done answer HappensToThem leads stay = after_stay stay
 
-    plugs : (number : Option ℕ) (id : ℕ) (told : Outcome) → PlugsBlock number old.inside id told new.inside → EachWaitsInFlight new
-    plugs None id told stay = after_stay stay
-    plugs (Some number) id told plugged =
-        if_done told (IsPluggedIn number id old.inside.blocks old.inside.at_hand new.inside.blocks new.inside.at_hand)
+    plugs : (number : Option ℕ) (id : ℕ) (answer : Outcome) → PlugsBlock number old.inside id answer new.inside → EachWaitsInFlight new
+    plugs None id answer stay = after_stay stay
+    plugs (Some number) id answer plugged =
+        if_done answer (IsPluggedIn number id old.inside.blocks old.inside.at_hand new.inside.blocks new.inside.at_hand)
         (λ is. after_plug (record { id = id; device = is.after }) is.is_new.quiet.waits is.behind) plugged
 
-    inserts : (number id : ℕ) (told : Outcome) → InsertsIntoBlock number old.inside id told new.inside → EachWaitsInFlight new
-    inserts number id told put =
-        if_done told (IsPutIn number id old.inside.blocks old.inside.at_hand new.inside.blocks new.inside.at_hand) (λ is. after_changes (HasDisk is.disk) id (quiet_disk is.disk) is.changed) put
+    inserts : (number id : ℕ) (answer : Outcome) → InsertsIntoBlock number old.inside id answer new.inside → EachWaitsInFlight new
+    inserts number id answer put =
+        if_done answer (IsPutIn number id old.inside.blocks old.inside.at_hand new.inside.blocks new.inside.at_hand) (λ is. after_changes (HasDisk is.disk) id (quiet_disk is.disk) is.changed) put
 
-    leaves : (id : ℕ) (told : Outcome) → LeavesBlock old.inside id told new.inside → EachWaitsInFlight new
+    leaves : (id : ℕ) (answer : Outcome) → LeavesBlock old.inside id answer new.inside → EachWaitsInFlight new
     leaves id (outcome.Ticket ticket) changes = after_changes IsGivenUp id quiet_leave changes.0
-    leaves id told stay = after_stay stay
+    leaves id answer stay = after_stay stay
 
-    resets : (id : ℕ) (told : Outcome) → ResetsBlock old.inside id told new.inside → EachWaitsInFlight new
-    resets id told changes = if_done told (Changes IsReset old.inside id new.inside) (λ is. after_changes IsReset id quiet_reset is.0) changes
+    resets : (id : ℕ) (answer : Outcome) → ResetsBlock old.inside id answer new.inside → EachWaitsInFlight new
+    resets id answer changes = if_done answer (Changes IsReset old.inside id new.inside) (λ is. after_changes IsReset id quiet_reset is.0) changes
 
-    queues : (layout : Layout) (id : ℕ) (told : Outcome) → SetsQueueOf layout old.inside id told new.inside → EachWaitsInFlight new
-    queues layout id told changes = if_done told (Changes (SetsUp layout) old.inside id new.inside) (λ is. after_changes (SetsUp layout) id (quiet_queue layout) is.0) changes
+    queues : (layout : Layout) (id : ℕ) (answer : Outcome) → SetsQueueOf layout old.inside id answer new.inside → EachWaitsInFlight new
+    queues layout id answer changes = if_done answer (Changes (SetsUp layout) old.inside id new.inside) (λ is. after_changes (SetsUp layout) id (quiet_queue layout) is.0) changes
 
     hears : (page : Option ℕ) (id : ℕ) → HearsAnswer page old.inside id new.inside → EachWaitsInFlight new
     hears None id stay = after_stay stay
@@ -223,9 +223,9 @@ module _ (old new : Seen) (each : EachWaitsInFlight old) where
     brings None stay = after_stay stay
     brings (Some on) heard = hears (refused_page on.message) on.device heard
 
-    delivers : (place : ℕ) (told : Outcome) → DeliversTo (slice_get old.parts.fabric place) old.inside told new.inside → EachWaitsInFlight new
+    delivers : (place : ℕ) (answer : Outcome) → DeliversTo (slice_get old.parts.fabric place) old.inside answer new.inside → EachWaitsInFlight new
     delivers place outcome.AnswerRefused brought = brings (slice_get old.parts.fabric place) brought
-    delivers place told stay = after_stay stay
+    delivers place answer stay = after_stay stay
 
 -- A STEP
 wanted_stays : (b : Front) (waits asked : Option ℕ) → wanted_by (record b { waits = waits; asked = asked }) ≡ wanted_by b
@@ -235,74 +235,74 @@ wanted_stays b waits asked = by b.queue.phase
     by Served = refl
     by phase = refl
 
-only_accepted : (access : Access) (told : Outcome) (number : ℕ) → reply_of access told ≡ reply.Accepted number → told ≡ outcome.Accepted number
+only_accepted : (access : Access) (answer : Outcome) (number : ℕ) → reply_of access answer ≡ reply.Accepted number → answer ≡ outcome.Accepted number
 only_accepted access (outcome.Accepted other) number is = let same : other ≡ number = cc in ap (λ (n : ℕ). outcome.Accepted n) same
 only_accepted access outcome.Busy number is = cc
 only_accepted access (outcome.Stepped rest.Asked) number is = cc
-only_accepted access told number is = cc
+only_accepted access answer number is = cc
 
-module _ (old new : Parts) (id : ℕ) (told : Outcome) (before after : Device) (keeps : KeepsNumbers (row_in old id) (row_in new id))
+module _ (old new : Parts) (id : ℕ) (answer : Outcome) (before after : Device) (keeps : KeepsNumbers (row_in old id) (row_in new id))
     (waits : WaitsInFlight (Some before.front) (row_in old id)) where
   -- it goes on as it was
-  stays : after.front ≡ before.front → WaitsInFlight (Some after.front) (row_in new id)
-  stays same =
+  unchanged : after.front ≡ before.front → WaitsInFlight (Some after.front) (row_in new id)
+  unchanged same =
       subst (λ (f : Front). WaitsInFlight (Some f) (row_in new id)) (sym same) (keeps_waiting (Some before.front) (row_in old id) (row_in new id) keeps waits)
 
-  begins : (between : Device) → between.front.waits ≡ None → BeginsWantedAccess old id between told new after → WaitsInFlight (Some after.front) (row_in new id)
-  begins between none is = by (reply_of is.access told) refl
+  begins : (between : Device) → between.front.waits ≡ None → BeginsWantedAccess old id between answer new after → WaitsInFlight (Some after.front) (row_in new id)
+  begins between none is = by (reply_of is.access answer) refl
     where
-      heard : (r : Reply) → reply_of is.access told ≡ r → after.front ≡ replied r between.front
+      heard : (r : Reply) → reply_of is.access answer ≡ r → after.front ≡ replied r between.front
       heard r same = ap (λ d. d.front) is.hears ∙ ap (λ (x : Reply). replied x between.front) same
 
-      accepted : (number : ℕ) → reply_of is.access told ≡ reply.Accepted number → WaitsInFlight (Some (replied (reply.Accepted number) between.front)) (row_in new id)
+      accepted : (number : ℕ) → reply_of is.access answer ≡ reply.Accepted number → WaitsInFlight (Some (replied (reply.Accepted number) between.front)) (row_in new id)
       accepted number same =
-          let own = accepted_as_wanted old new id is.access told number (only_accepted is.access told number same) is.begun in
+          let own = accepted_as_wanted old new id is.access answer number (only_accepted is.access answer number same) is.begun in
           subst (λ (a : Option Access). IsOwnAccess (in_flight_as (row_in new id) number) a)
           (sym (ap wanted_access (wanted_stays between.front (Some number) None) ∙ is.named))
           (subst (λ (o : Option AcceptedAccess). IsOwnAccess o (Some is.access)) (sym own.1) own.2)
 
-      by : (r : Reply) → reply_of is.access told ≡ r → WaitsInFlight (Some after.front) (row_in new id)
+      by : (r : Reply) → reply_of is.access answer ≡ r → WaitsInFlight (Some after.front) (row_in new id)
       by (reply.Accepted number) same = subst (λ (f : Front). WaitsInFlight (Some f) (row_in new id)) (sym (heard (reply.Accepted number) same)) (accepted number same)
       by reply.Busy same = at_rest after.front (row_in new id) (ap (λ (f : Front). f.waits) (heard reply.Busy same) ∙ none)
       by (reply.Asked page) same = at_rest after.front (row_in new id) (ap (λ (f : Front). f.waits) (heard (reply.Asked page) same) ∙ none)
       by reply.Fault same = at_rest after.front (row_in new id) (ap (λ (f : Front). f.waits) (heard reply.Fault same))
 
-  steps : StepsOnce old id told new before after → WaitsInFlight (Some after.front) (row_in new id)
+  steps : StepsOnce old id answer new before after → WaitsInFlight (Some after.front) (row_in new id)
   steps once = by once.taken once.steps once.ends
     where
-      by : (taken : Step) → BlockDeviceSteps before taken once.between → EndsStep taken old id once.between told new after → WaitsInFlight (Some after.front) (row_in new id)
-      by step.Idle (inl rests) ends = stays (ap (λ d. d.front) (ends.2 ∙ rests.2))
+      by : (taken : Step) → BlockDeviceSteps before taken once.between → EndsStep taken old id once.between answer new after → WaitsInFlight (Some after.front) (row_in new id)
+      by step.Idle (inl rests) ends = unchanged (ap (λ d. d.front) (ends.2 ∙ rests.2))
       by step.Idle (inr (counts, takes)) ends =
           at_rest after.front (row_in new id) (ap (λ d. d.front.waits) ends.2 ∙ ap (λ (f : Front). f.waits) takes.2 ∙ counts.0.waits)
-      by step.Waiting happens ends = stays (ap (λ d. d.front) (ends.2 ∙ happens.2))
-      by step.Down happens ends = stays (ap (λ d. d.front) (ends.2 ∙ happens.1))
+      by step.Waiting happens ends = unchanged (ap (λ d. d.front) (ends.2 ∙ happens.2))
+      by step.Down happens ends = unchanged (ap (λ d. d.front) (ends.2 ∙ happens.1))
       by (step.Chain fault) happens ends = at_rest after.front (row_in new id) (ap (λ d. d.front.waits) ends.2 ∙ ap (λ (f : Front). f.waits) happens.4)
       by (step.Finished head len) (taking, phase, own, long, takes) ends =
           at_rest after.front (row_in new id) (ap (λ d. d.front.waits) ends.2 ∙ ap (λ (f : Front). f.waits) takes.2 ∙ taking.waits)
       by (step.Wants want) happens ends = begins once.between happens.2.waits ends
 
-pub after_step : (old new : Seen) (id : ℕ) (told : Outcome) → Keeps old.parts new.parts
-    → Changes (StepsOnce old.parts id told new.parts) old.inside id new.inside → EachWaitsInFlight old → EachWaitsInFlight new
-after_step old new other told keeps changes each id =
-    by (changed_front (StepsOnce old.parts other told new.parts) old.inside.blocks new.inside.blocks other id changes.0)
+pub after_step : (old new : Shown) (id : ℕ) (answer : Outcome) → Keeps old.parts new.parts
+    → Changes (StepsOnce old.parts id answer new.parts) old.inside id new.inside → EachWaitsInFlight old → EachWaitsInFlight new
+after_step old new other answer keeps changes each id =
+    by (changed_front (StepsOnce old.parts other answer new.parts) old.inside.blocks new.inside.blocks other id changes.0)
   where
     by : (((other ≢ id) ⊎ (front_of old.inside.blocks id ≡ None)) × (front_of new.inside.blocks id ≡ front_of old.inside.blocks id))
-        ⊎ FrontChanges (StepsOnce old.parts other told new.parts) old.inside.blocks new.inside.blocks other id
+        ⊎ FrontChanges (StepsOnce old.parts other answer new.parts) old.inside.blocks new.inside.blocks other id
         → WaitsInFlight (front_of new.inside.blocks id) (row_in new.parts id)
     by (inl same) = kept old new each id (keeps id) same.1
     by (inr is) =
         becomes old new each id is.after.front is.front
-        (steps old.parts new.parts id told is.block.device is.after (keeps id) (waited old new each id is.block is.there)
-        (subst (λ (n : ℕ). StepsOnce old.parts n told new.parts is.block.device is.after) is.same is.changed))
+        (steps old.parts new.parts id answer is.block.device is.after (keeps id) (waited old new each id is.block is.there)
+        (subst (λ (n : ℕ). StepsOnce old.parts n answer new.parts is.block.device is.after) is.same is.changed))
 
 -- A COMMIT
 waits_no_more : (old new : Front) (bytes : List ℕ) → EndsWaiting old bytes new → new.waits ≡ None
 waits_no_more old new bytes (inl takes) = ap (λ (f : Front). f.waits) takes.1.rest
 waits_no_more old new bytes (inr down) = ap (λ (f : Front). f.waits) down.1
 
-module _ (old new : Seen) (id : ℕ) (each : EachWaitsInFlight old) where
+module _ (old new : Shown) (id : ℕ) (each : EachWaitsInFlight old) where
   -- nothing was made
-  nothing_made : flights_of new.parts.iommu ≡ flights_of old.parts.iommu → Stay old.inside new.inside → EachWaitsInFlight new
+  nothing_made : flights_of new.parts.iommu ≡ flights_of old.parts.iommu → BlocksUnchanged old.inside new.inside → EachWaitsInFlight new
   nothing_made same stay = after_stay old new each (same_numbers (flights_of old.parts.iommu) (flights_of new.parts.iommu) same) stay
 
   -- the oldest was, and its device heard of it
@@ -348,50 +348,50 @@ module _ (old new : Seen) (id : ℕ) (each : EachWaitsInFlight old) where
         apart same = cc
     oldest_heard (Some number) bytes some changes = heard number bytes some changes
 
-    told_kind : (kind : AccessKind) (told : Outcome) → TellsKind old.parts.memory made kind told → CommitsOf (oldest_number (row_in old.parts id)) old.inside id told new.inside → EachWaitsInFlight new
-    told_kind Read told tells commits =
-        let bytes = tells.told_so in
+    told_kind : (kind : AccessKind) (answer : Outcome) → TellsKind old.parts.memory made kind answer → CommitsOf (oldest_number (row_in old.parts id)) old.inside id answer new.inside → EachWaitsInFlight new
+    told_kind Read answer tells commits =
+        let bytes = tells.reply_is in
         oldest_heard (oldest_number (row_in old.parts id)) bytes.0.items refl (subst (λ (t : Outcome). CommitsOf (oldest_number (row_in old.parts id)) old.inside id t new.inside) bytes.1 commits)
-    told_kind Write told tells commits =
+    told_kind Write answer tells commits =
         oldest_heard (oldest_number (row_in old.parts id)) [] refl (subst (λ (t : Outcome). CommitsOf (oldest_number (row_in old.parts id)) old.inside id t new.inside) tells commits)
 
-  told_made : (made : Option MadeAt) (told : Outcome) → TellsMade old.parts.memory made told
+  told_made : (made : Option MadeAt) (answer : Outcome) → TellsMade old.parts.memory made answer
       → MakesOldestInFlight old.parts.memory (flights_of old.parts.iommu) id made new.parts.memory (flights_of new.parts.iommu)
-      → CommitsOf (oldest_number (row_in old.parts id)) old.inside id told new.inside → EachWaitsInFlight new
-  told_made None told tells makes commits = nothing_made makes.2 (subst (λ (t : Outcome). CommitsOf (oldest_number (row_in old.parts id)) old.inside id t new.inside) tells commits)
-  told_made (Some made) told tells makes commits = told_kind made makes made.kind told tells commits
+      → CommitsOf (oldest_number (row_in old.parts id)) old.inside id answer new.inside → EachWaitsInFlight new
+  told_made None answer tells makes commits = nothing_made makes.2 (subst (λ (t : Outcome). CommitsOf (oldest_number (row_in old.parts id)) old.inside id t new.inside) tells commits)
+  told_made (Some made) answer tells makes commits = told_kind made makes made.kind answer tells commits
 
-  after_commit : (told : Outcome) → CommitsAccess old.parts id told new.parts → CommitsOf (oldest_number (row_in old.parts id)) old.inside id told new.inside → EachWaitsInFlight new
-  after_commit told (inl unknown) commits =
-      nothing_made (ap (λ (p : Parts). flights_of p.iommu) unknown.same) (subst (λ (t : Outcome). CommitsOf (oldest_number (row_in old.parts id)) old.inside id t new.inside) unknown.told_so commits)
-  after_commit told (inr makes) commits = told_made makes.made told makes.told_so makes.call.makes commits
+  after_commit : (answer : Outcome) → CommitsAccess old.parts id answer new.parts → CommitsOf (oldest_number (row_in old.parts id)) old.inside id answer new.inside → EachWaitsInFlight new
+  after_commit answer (inl unknown) commits =
+      nothing_made (ap (λ (p : Parts). flights_of p.iommu) unknown.same) (subst (λ (t : Outcome). CommitsOf (oldest_number (row_in old.parts id)) old.inside id t new.inside) unknown.reply_is commits)
+  after_commit answer (inr makes) commits = told_made makes.made answer makes.reply_is makes.call.makes commits
 
 -- ANY EVENT
-pub each_after : (old new : Seen) (event : Event) (told : Outcome) → Happens old event told new → EachWaitsInFlight old → EachWaitsInFlight new
-each_after old new (events.Commit id) told happens each = after_commit old new id each told happens.does happens.blocks
-each_after old new (events.Plug id what) told happens each =
-    plugs old new each (keeps_all old.disks old.parts new.parts (events.Plug id what) told tt happens.does) (disk_of what) id told happens.blocks
-each_after old new (events.Medium id number) told happens each =
-    inserts old new each (keeps_all old.disks old.parts new.parts (events.Medium id number) told tt happens.does) number id told happens.blocks
-each_after old new (events.Detach id) told happens each =
-    leaves old new each (keeps_all old.disks old.parts new.parts (events.Detach id) told tt happens.does) id told happens.blocks
-each_after old new (events.Revive id) told happens each =
-    resets old new each (keeps_all old.disks old.parts new.parts (events.Revive id) told tt happens.does) id told happens.blocks
-each_after old new (events.Reset id) told happens each =
-    resets old new each (keeps_all old.disks old.parts new.parts (events.Reset id) told tt happens.does) id told happens.blocks
-each_after old new (events.Queue id size descriptors available used) told happens each =
-    queues old new each (keeps_all old.disks old.parts new.parts (events.Queue id size descriptors available used) told tt happens.does)
-    (layout_of size descriptors available used) id told happens.blocks
-each_after old new (events.Deliver place) told happens each =
-    delivers old new each (keeps_all old.disks old.parts new.parts (events.Deliver place) told tt happens.does) place told happens.blocks
-each_after old new (events.Step id) told happens each =
-    after_step old new id told (keeps_all old.disks old.parts new.parts (events.Step id) told tt happens.does) happens.blocks.1 each
-each_after old new (events.Status id) told happens each =
-    after_stay old new each (keeps_all old.disks old.parts new.parts (events.Status id) told tt happens.does) happens.blocks.2
-each_after old new event told happens each =
-    after_stay old new each (keeps_all old.disks old.parts new.parts event told tt happens.does) happens.blocks
+pub each_after : (old new : Shown) (event : Event) (answer : Outcome) → Happens old event answer new → EachWaitsInFlight old → EachWaitsInFlight new
+each_after old new (events.Commit id) answer happens each = after_commit old new id each answer happens.effect happens.blocks
+each_after old new (events.Plug id what) answer happens each =
+    plugs old new each (keeps_all old.disks old.parts new.parts (events.Plug id what) answer tt happens.effect) (disk_of what) id answer happens.blocks
+each_after old new (events.Medium id number) answer happens each =
+    inserts old new each (keeps_all old.disks old.parts new.parts (events.Medium id number) answer tt happens.effect) number id answer happens.blocks
+each_after old new (events.Detach id) answer happens each =
+    leaves old new each (keeps_all old.disks old.parts new.parts (events.Detach id) answer tt happens.effect) id answer happens.blocks
+each_after old new (events.Revive id) answer happens each =
+    resets old new each (keeps_all old.disks old.parts new.parts (events.Revive id) answer tt happens.effect) id answer happens.blocks
+each_after old new (events.Reset id) answer happens each =
+    resets old new each (keeps_all old.disks old.parts new.parts (events.Reset id) answer tt happens.effect) id answer happens.blocks
+each_after old new (events.Queue id size descriptors available used) answer happens each =
+    queues old new each (keeps_all old.disks old.parts new.parts (events.Queue id size descriptors available used) answer tt happens.effect)
+    (layout_of size descriptors available used) id answer happens.blocks
+each_after old new (events.Deliver place) answer happens each =
+    delivers old new each (keeps_all old.disks old.parts new.parts (events.Deliver place) answer tt happens.effect) place answer happens.blocks
+each_after old new (events.Step id) answer happens each =
+    after_step old new id answer (keeps_all old.disks old.parts new.parts (events.Step id) answer tt happens.effect) happens.blocks.1 each
+each_after old new (events.Status id) answer happens each =
+    after_stay old new each (keeps_all old.disks old.parts new.parts (events.Status id) answer tt happens.effect) happens.blocks.2
+each_after old new event answer happens each =
+    after_stay old new each (keeps_all old.disks old.parts new.parts event answer tt happens.effect) happens.blocks
 
 -- where there are no block devices, none waits
-pub no_blocks_wait : (seen : Seen) → seen.inside.blocks ≡ [] → EachWaitsInFlight seen
-no_blocks_wait seen none id =
-    subst (λ (f : Option Front). WaitsInFlight f (row_in seen.parts id)) (sym (ap (λ (blocks : List BlockSeen). front_of blocks id) none)) tt
+pub no_blocks_wait : (shown : Shown) → shown.inside.blocks ≡ [] → EachWaitsInFlight shown
+no_blocks_wait shown none id =
+    subst (λ (f : Option Front). WaitsInFlight f (row_in shown.parts id)) (sym (ap (λ (blocks : List ShownBlock). front_of blocks id) none)) tt

@@ -3,8 +3,8 @@ use Rattle.std.specs.Prelude.{◌≡◌, length}
 use Rattle.iom_machine.specs.declared.outcome.Trace.{Trace}
 use Rattle.iom_machine.specs.declared.state.State.{State}
 use Rattle.iom_machine.specs.Traces.{IsTrace}
-use Rattle.iom_world.specs.Seen.{Seen}
+use Rattle.iom_world.specs.Shown.{Shown}
 
 -- the counts are those of the state; the messages, of which the machine knows nothing, are those that are under way in the world
-abbrev pub IsTraceOf : State → Seen → Trace → Type 0
-IsTraceOf state seen trace = IsTrace state trace × (trace.messages ≡ length seen.parts.fabric)
+abbrev pub IsTraceOf : State → Shown → Trace → Type 0
+IsTraceOf state shown trace = IsTrace state trace × (trace.messages ≡ length shown.parts.fabric)

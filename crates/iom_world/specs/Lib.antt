@@ -1,4 +1,4 @@
-pub mod Seen
+pub mod Shown
 pub mod Shows
 pub mod PowerOn
 pub mod Blocks

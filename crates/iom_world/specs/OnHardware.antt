@@ -15,49 +15,49 @@ use Rattle.iom_hardware.specs.declared.steps.Stepped.TheVariants.{Began, Asked, 
 use Rattle.iom_machine.specs.declared.outcome.BlockStep.TheVariants as rest
 use Rattle.iom_machine.specs.declared.outcome.Outcome.{Outcome}
 use Rattle.iom_machine.specs.declared.outcome.Outcome.TheVariants as outcome
-use Rattle.iom_world_effects.specs.Deliveries.{taken_told}
+use Rattle.iom_world_effects.specs.Deliveries.{outcome_of_taking}
 use Rattle.iom_world_effects.specs.Parts.{Parts}
-use Rattle.iom_world_effects.specs.Requests.{reply_told_of}
+use Rattle.iom_world_effects.specs.Requests.{outcome_of_reply}
 
 -- all of it but the driver
 abbrev pub hardware_of : Parts → BoardParts
 hardware_of parts = record { memory = parts.memory; iommu = parts.iommu; devices = parts.devices; fabric = parts.fabric }
 
 -- what a device's call is told as, by what comes of it where it isn't refused
-abbrev pub told_unless : {A : Type 0} → (A → Outcome) → Result A Refusal → Outcome
-told_unless told_as (Ok given) = told_as given
-told_unless told_as (Err why) = outcome.Refused why
+abbrev pub outcome_unless : {A : Type 0} → (A → Outcome) → Result A Refusal → Outcome
+outcome_unless told_as (Ok given) = told_as given
+outcome_unless told_as (Err why) = outcome.Refused why
 
-abbrev pub cache_reply_told : CacheReply → Outcome
-cache_reply_told Miss = outcome.Miss
-cache_reply_told (Replied reply) = reply_told_of reply
+abbrev pub outcome_of_cache_reply : CacheReply → Outcome
+outcome_of_cache_reply Miss = outcome.Miss
+outcome_of_cache_reply (Replied reply) = outcome_of_reply reply
 
-abbrev pub sending_told : Bool → Outcome
-sending_told is_sent = if is_sent then outcome.Sent else outcome.Lost
+abbrev pub outcome_of_sending : Bool → Outcome
+outcome_of_sending is_sent = if is_sent then outcome.Sent else outcome.Lost
 
 -- what bytes without a place in memory are told as
-abbrev pub no_place_told : NoPlace → Outcome
-no_place_told BadSpan = outcome.BadSpan
-no_place_told OutsideMemory = outcome.Refused FrameOutOfRange
+abbrev pub outcome_of_no_place : NoPlace → Outcome
+outcome_of_no_place BadSpan = outcome.BadSpan
+outcome_of_no_place OutsideMemory = outcome.Refused FrameOutOfRange
 
-abbrev pub delivered_told : Delivered → Outcome
-delivered_told delivered.NoMessage = outcome.NoMessage
-delivered_told (delivered.Answered answer) = outcome.Answered answer
-delivered_told (delivered.Taken taking) = taken_told taking
-delivered_told delivered.Ignored = outcome.Ignored
-delivered_told (delivered.Invalidated serial) = outcome.Invalidated serial
-delivered_told (delivered.Closed serial) = outcome.Closed serial
-delivered_told (delivered.NotClosed serial) = outcome.NotClosed serial
+abbrev pub outcome_of_delivery : Delivered → Outcome
+outcome_of_delivery delivered.NoMessage = outcome.NoMessage
+outcome_of_delivery (delivered.Answered answer) = outcome.Answered answer
+outcome_of_delivery (delivered.Taken taking) = outcome_of_taking taking
+outcome_of_delivery delivered.Ignored = outcome.Ignored
+outcome_of_delivery (delivered.Invalidated serial) = outcome.Invalidated serial
+outcome_of_delivery (delivered.Closed serial) = outcome.Closed serial
+outcome_of_delivery (delivered.NotClosed serial) = outcome.NotClosed serial
 
-abbrev pub status_told : ℕ → Outcome
-status_told status = outcome.Status status
+abbrev pub outcome_of_status : ℕ → Outcome
+outcome_of_status status = outcome.Status status
 
 -- what a step of a block device is told as
-abbrev pub step_told : Stepped → Outcome
-step_told (Began answer) = reply_told_of answer
-step_told Asked = outcome.Stepped rest.Asked
-step_told Idle = outcome.Stepped rest.Idle
-step_told Waiting = outcome.Stepped rest.Waiting
-step_told Down = outcome.Stepped rest.Down
-step_told (Chain fault) = outcome.Stepped (rest.Chain fault)
-step_told (Finished head len) = outcome.Stepped (rest.Finished head len)
+abbrev pub outcome_of_step : Stepped → Outcome
+outcome_of_step (Began answer) = outcome_of_reply answer
+outcome_of_step Asked = outcome.Stepped rest.Asked
+outcome_of_step Idle = outcome.Stepped rest.Idle
+outcome_of_step Waiting = outcome.Stepped rest.Waiting
+outcome_of_step Down = outcome.Stepped rest.Down
+outcome_of_step (Chain fault) = outcome.Stepped (rest.Chain fault)
+outcome_of_step (Finished head len) = outcome.Stepped (rest.Finished head len)

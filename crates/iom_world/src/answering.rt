@@ -2,12 +2,12 @@
 ghost use Rattle.std.specs.Prelude.{◌≡◌, ◌+◌, ◌≤◌, ◌^◌, if◌then◌else◌};
 ghost use Rattle.iom_answers.specs.Answers.{outcome_of};
 ghost use Rattle.iom_machine.specs.declared.outcome.Outcome.TheVariants as outcome;
-ghost use Rattle.iom_world_effects.specs.Answers.{told_of, ticket_told_of};
-ghost use Rattle.iom_world_effects.specs.Deliveries.{taken_told};
-ghost use Rattle.iom_world_effects.specs.Does.{polled_told_of, report_told_of};
-ghost use Rattle.iom_world_effects.specs.Messages.{repeat_told};
-ghost use Rattle.iom_world_effects.specs.Requests.{reply_told_of};
-ghost use Rattle.iom_world.specs.OnHardware.{told_unless, status_told, sending_told, delivered_told, cache_reply_told, no_place_told, step_told};
+ghost use Rattle.iom_world_effects.specs.Answers.{outcome_of_done, outcome_of_ticket};
+ghost use Rattle.iom_world_effects.specs.Deliveries.{outcome_of_taking};
+ghost use Rattle.iom_world_effects.specs.Effect.{outcome_of_poll, outcome_of_report};
+ghost use Rattle.iom_world_effects.specs.Messages.{outcome_of_repeat};
+ghost use Rattle.iom_world_effects.specs.Requests.{outcome_of_reply};
+ghost use Rattle.iom_world.specs.OnHardware.{outcome_unless, outcome_of_status, outcome_of_sending, outcome_of_delivery, outcome_of_cache_reply, outcome_of_no_place, outcome_of_step};
 
 use iom_answers::Answer;
 use iom_ats_cache::Taken;
@@ -21,7 +21,7 @@ use iom_machine::BlockStep;
 
 /// What an answer of the driver that gives nothing is told as.
 pub(crate) fn done_answer(answer: Result<(), Refusal>) -> Answer<'static>
-    ensures { outcome_of result ≡ told_of answer }
+    ensures { outcome_of result ≡ outcome_of_done answer }
 {
     match answer {
         Ok(()) => Answer::Done,
@@ -31,7 +31,7 @@ pub(crate) fn done_answer(answer: Result<(), Refusal>) -> Answer<'static>
 
 /// What an answer of the driver that gives a ticket is told as.
 pub(crate) fn ticket_answer(answer: Result<Ticket, Refusal>) -> Answer<'static>
-    ensures { outcome_of result ≡ ticket_told_of answer }
+    ensures { outcome_of result ≡ outcome_of_ticket answer }
 {
     match answer {
         Ok(ticket) => Answer::Ticket(ticket.0),
@@ -42,7 +42,7 @@ pub(crate) fn ticket_answer(answer: Result<Ticket, Refusal>) -> Answer<'static>
 /// What a poll is told as.
 pub(crate) fn poll_answer(polled: Polled) -> Answer<'static>
     requires { polled.first + polled.count ≤ 2 ^ 32 }
-    ensures { outcome_of result ≡ polled_told_of (Ok polled) }
+    ensures { outcome_of result ≡ outcome_of_poll (Ok polled) }
 {
     let timed_out = polled.timed_out;
     if polled.count == 0 {
@@ -57,7 +57,7 @@ pub(crate) fn poll_answer(polled: Polled) -> Answer<'static>
 
 /// What the status of a block device is told as.
 pub(crate) fn status_answer(answer: Result<u8, Refusal>) -> Answer<'static>
-    ensures { outcome_of result ≡ told_unless status_told answer }
+    ensures { outcome_of result ≡ outcome_unless outcome_of_status answer }
 {
     match answer {
         Ok(status) => Answer::Status(status),
@@ -78,7 +78,7 @@ pub(crate) fn timeout_answer(has_effect: bool) -> Answer<'static>
 
 /// What an answer of the IOMMU is told as.
 pub(crate) fn reply_answer(reply: Reply) -> Answer<'static>
-    ensures { outcome_of result ≡ reply_told_of reply }
+    ensures { outcome_of result ≡ outcome_of_reply reply }
 {
     match reply {
         Reply::Accepted(number) => Answer::Accepted(number),
@@ -90,7 +90,7 @@ pub(crate) fn reply_answer(reply: Reply) -> Answer<'static>
 
 /// What an access through a device's own cache is told as.
 pub(crate) fn cached_answer(answer: Result<CacheReply, Refusal>) -> Answer<'static>
-    ensures { outcome_of result ≡ told_unless cache_reply_told answer }
+    ensures { outcome_of result ≡ outcome_unless outcome_of_cache_reply answer }
 {
     match answer {
         Ok(CacheReply::Miss) => Answer::Miss,
@@ -101,7 +101,7 @@ pub(crate) fn cached_answer(answer: Result<CacheReply, Refusal>) -> Answer<'stat
 
 /// What is told of a message that a device sends.
 pub(crate) fn send_answer(answer: Result<bool, Refusal>) -> Answer<'static>
-    ensures { outcome_of result ≡ told_unless sending_told answer }
+    ensures { outcome_of result ≡ outcome_unless outcome_of_sending answer }
 {
     match answer {
         Ok(true) => Answer::Sent,
@@ -112,7 +112,7 @@ pub(crate) fn send_answer(answer: Result<bool, Refusal>) -> Answer<'static>
 
 /// What is told of a message that was repeated.
 pub(crate) fn repeat_answer(repeat: Repeat) -> Answer<'static>
-    ensures { outcome_of result ≡ repeat_told repeat }
+    ensures { outcome_of result ≡ outcome_of_repeat repeat }
 {
     match repeat {
         Repeat::Repeated => Answer::Repeated,
@@ -123,7 +123,7 @@ pub(crate) fn repeat_answer(repeat: Repeat) -> Answer<'static>
 
 /// What is told of an answer, by what the device does with it.
 pub(crate) fn taken_answer(taken: Taken) -> Answer<'static>
-    ensures { outcome_of result ≡ taken_told taken }
+    ensures { outcome_of result ≡ outcome_of_taking taken }
 {
     match taken {
         Taken::Kept => Answer::Kept,
@@ -134,7 +134,7 @@ pub(crate) fn taken_answer(taken: Taken) -> Answer<'static>
 
 /// What is told of a message that arrives.
 pub(crate) fn delivery_answer(delivered: Delivered) -> Answer<'static>
-    ensures { outcome_of result ≡ delivered_told delivered }
+    ensures { outcome_of result ≡ outcome_of_delivery delivered }
 {
     match delivered {
         Delivered::NoMessage => Answer::NoMessage,
@@ -149,7 +149,7 @@ pub(crate) fn delivery_answer(delivered: Delivered) -> Answer<'static>
 
 /// What bytes without a place in memory are told as.
 pub(crate) fn no_place_answer(why: NoPlace) -> Answer<'static>
-    ensures { outcome_of result ≡ no_place_told why }
+    ensures { outcome_of result ≡ outcome_of_no_place why }
 {
     match why {
         NoPlace::BadSpan => Answer::BadSpan,
@@ -160,7 +160,7 @@ pub(crate) fn no_place_answer(why: NoPlace) -> Answer<'static>
 /// What came of a request is told so.
 #[inline(always)]
 pub(crate) fn request_answer(answer: Result<Reply, Refusal>) -> Answer<'static>
-    ensures { outcome_of result ≡ told_unless reply_told_of answer }
+    ensures { outcome_of result ≡ outcome_unless outcome_of_reply answer }
 {
     match answer {
         Ok(reply) => reply_answer(reply),
@@ -171,7 +171,7 @@ pub(crate) fn request_answer(answer: Result<Reply, Refusal>) -> Answer<'static>
 /// What a step of a block device was is told so.
 #[inline(always)]
 pub(crate) fn step_answer(answer: Result<Stepped, Refusal>) -> Answer<'static>
-    ensures { outcome_of result ≡ told_unless step_told answer }
+    ensures { outcome_of result ≡ outcome_unless outcome_of_step answer }
 {
     match answer {
         Ok(Stepped::Began(reply)) => reply_answer(reply),

@@ -7,10 +7,10 @@ ghost use Rattle.iom_device.specs.Calls.{with_block_reset};
 ghost use Rattle.iom_machine.specs.declared.event.Event.TheVariants as events;
 ghost use Rattle.iom_virtqueue.specs.Layouts.{layout_of};
 ghost use Rattle.iom_world_effects.specs.BlockDevices.{InsertsMedium, SetsBlockQueue, TakesBlockStep, TellsBlockStatus};
-ghost use Rattle.iom_world_effects.specs.Does.{disks_after};
+ghost use Rattle.iom_world_effects.specs.Effect.{disks_after};
 ghost use Rattle.iom_world.specs.Blocks.{InsertsIntoBlock, SetsQueueOf, TakesStepOf, TellsStatusOf};
-ghost use Rattle.iom_world.specs.OnHardware.{status_told, told_unless};
-ghost use Rattle.iom_world.specs.Seen.{parts_of, disks_of, inside_of};
+ghost use Rattle.iom_world.specs.OnHardware.{outcome_of_status, outcome_unless};
+ghost use Rattle.iom_world.specs.Shown.{parts_of, disks_of, inside_of};
 ghost use Rattle.iom_answers.specs.Answers.{outcome_of};
 
 use crate::answering::{done_answer, status_answer, step_answer};
@@ -75,9 +75,9 @@ impl<D: Disk> World<D> {
     #[inline(never)]
     pub(crate) fn medium(&mut self, id: DeviceId, disk: u64) -> Answer<'static>
         requires count { self.old.hardware.board.events + 1 < 2 ^ 64 }
-        ensures does { InsertsMedium (disks_of self.old) (parts_of self.old) id disk (outcome_of result) (parts_of self.new) }
+        ensures effect { InsertsMedium (disks_of self.old) (parts_of self.old) id disk (outcome_of result) (parts_of self.new) }
         ensures disks { disks_of self.new ≡ disks_after (events.Medium id disk) (outcome_of result) (disks_of self.old) }
-        ensures inside { InsertsIntoBlock disk (inside_of D.seen self.old) id (outcome_of result) (inside_of D.seen self.new) }
+        ensures inside { InsertsIntoBlock disk (inside_of D.shown self.old) id (outcome_of result) (inside_of D.shown self.new) }
         ensures events { self.new.hardware.board.events ≡ self.old.hardware.board.events + 1 }
         ensures made { self.new.made ≡ self.old.made }
     {
@@ -96,9 +96,9 @@ impl<D: Disk> World<D> {
         used: u64,
     ) -> Answer<'static>
         requires count { self.old.hardware.board.events + 1 < 2 ^ 64 }
-        ensures does { SetsBlockQueue (parts_of self.old) id (layout_of size descriptors available used) (outcome_of result) (parts_of self.new) }
+        ensures effect { SetsBlockQueue (parts_of self.old) id (layout_of size descriptors available used) (outcome_of result) (parts_of self.new) }
         ensures disks { disks_of self.new ≡ disks_of self.old }
-        ensures inside { SetsQueueOf (layout_of size descriptors available used) (inside_of D.seen self.old) id (outcome_of result) (inside_of D.seen self.new) }
+        ensures inside { SetsQueueOf (layout_of size descriptors available used) (inside_of D.shown self.old) id (outcome_of result) (inside_of D.shown self.new) }
         ensures events { self.new.hardware.board.events ≡ self.old.hardware.board.events + 1 }
         ensures made { self.new.made ≡ self.old.made }
     {
@@ -109,9 +109,9 @@ impl<D: Disk> World<D> {
     #[inline(never)]
     pub(crate) fn block_status(&mut self, id: DeviceId) -> Answer<'static>
         requires count { self.old.hardware.board.events + 1 < 2 ^ 64 }
-        ensures does { (status : ℕ) × TellsBlockStatus (parts_of self.old) id status (outcome_of result) (parts_of self.new) }
+        ensures effect { (status : ℕ) × TellsBlockStatus (parts_of self.old) id status (outcome_of result) (parts_of self.new) }
         ensures disks { disks_of self.new ≡ disks_of self.old }
-        ensures inside { TellsStatusOf (parts_of self.old) (inside_of D.seen self.old) id (outcome_of result) (parts_of self.new) (inside_of D.seen self.new) }
+        ensures inside { TellsStatusOf (parts_of self.old) (inside_of D.shown self.old) id (outcome_of result) (parts_of self.new) (inside_of D.shown self.new) }
         ensures events { self.new.hardware.board.events ≡ self.old.hardware.board.events + 1 }
         ensures made { self.new.made ≡ self.old.made }
     {
@@ -124,9 +124,9 @@ impl<D: Disk> World<D> {
     #[inline(never)]
     pub(crate) fn step_block(&mut self, id: DeviceId) -> Answer<'static>
         requires count { self.old.hardware.board.events + 1 < 2 ^ 64 }
-        ensures does { TakesBlockStep (parts_of self.old) id (outcome_of result) (parts_of self.new) }
+        ensures effect { TakesBlockStep (parts_of self.old) id (outcome_of result) (parts_of self.new) }
         ensures disks { disks_of self.new ≡ disks_of self.old }
-        ensures inside { TakesStepOf (parts_of self.old) (inside_of D.seen self.old) id (outcome_of result) (parts_of self.new) (inside_of D.seen self.new) }
+        ensures inside { TakesStepOf (parts_of self.old) (inside_of D.shown self.old) id (outcome_of result) (parts_of self.new) (inside_of D.shown self.new) }
         ensures events { self.new.hardware.board.events ≡ self.old.hardware.board.events + 1 }
         ensures made { self.new.made ≡ self.old.made }
     {

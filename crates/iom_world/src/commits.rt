@@ -10,7 +10,7 @@ ghost use Rattle.iom_inflight.specs.Flights.{row_of};
 ghost use Rattle.iom_iommu.specs.Parts.{flights_of};
 ghost use Rattle.iom_answers.specs.Answers.{outcome_of};
 ghost use Rattle.iom_world.specs.Blocks.{CommitsOf};
-ghost use Rattle.iom_world.specs.Seen.{parts_of, disks_of, inside_of};
+ghost use Rattle.iom_world.specs.Shown.{parts_of, disks_of, inside_of};
 
 use crate::world::World;
 use iom_answers::{Answer, Lent};
@@ -28,7 +28,7 @@ impl<D: Disk> World<D> {
         ensures* happens { sem 𝓛 (follows_so (the_row D.row D.Disk) (the_row D.row D.Disk) self.entry.ghost_name none (λ _ _. ⊤) (λ v.
             CommitsAccess (parts_of self.old) id (outcome_of result) (parts_of v)
             × (disks_of v ≡ disks_of self.old)
-            × CommitsOf (oldest_number (row_of (flights_of self.old.hardware.board.iommu).rows id)) (inside_of D.seen self.old) id (outcome_of result) (inside_of D.seen v)
+            × CommitsOf (oldest_number (row_of (flights_of self.old.hardware.board.iommu).rows id)) (inside_of D.shown self.old) id (outcome_of result) (inside_of D.shown v)
             × (v.hardware.board.events ≡ self.old.hardware.board.events + 1)
             × (v.made ≡ self.old.made))) }
     {

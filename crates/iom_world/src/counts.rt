@@ -1,13 +1,13 @@
 // What a world tells of itself, beside the outcomes of its events.
 ghost use Rattle.std.specs.Prelude.{◌≡◌, ◌==◌, ◌≤◌, length, nat_le, nat_lt, slice_get};
 ghost use Rattle.iom_driver.specs.Fences.{last_fence};
-ghost use Rattle.iom_driver.specs.Seen.{state_of};
+ghost use Rattle.iom_driver.specs.StateOf.{state_of};
 ghost use Rattle.iom_inflight.specs.Flights.{first_busy, oldest_in, row_of};
-ghost use Rattle.iom_inflight.specs.Sound.{AreFlights};
+ghost use Rattle.iom_inflight.specs.Invariant.{AreFlights};
 ghost use Rattle.iom_iommu.specs.Parts.{flights_of};
 ghost use Rattle.iom_machine.specs.declared.state.State.{State};
 ghost use Rattle.iom_world.specs.Counts.{IsTraceOf};
-ghost use Rattle.iom_world.specs.Seen.{seen_of};
+ghost use Rattle.iom_world.specs.Shown.{shown_of};
 ghost use Rattle.iom_world.specs.Shows.{Shows};
 
 use crate::world::World;
@@ -72,7 +72,7 @@ impl<D: Disk> World<D> {
     /// The counts that stand beside an outcome: tickets given and not confirmed, accesses in flight over all
     /// devices, messages under way, and frames that are free. Counting these goes through memory's frames.
     pub fn trace(&self) -> Trace
-        ensures { (state : State) → Shows (seen_of D.seen self.now) state → IsTraceOf state (seen_of D.seen self.now) result }
+        ensures { (state : State) → Shows (shown_of D.shown self.now) state → IsTraceOf state (shown_of D.shown self.now) result }
     {
         self.hardware.board.iommu.facts();
         Trace {

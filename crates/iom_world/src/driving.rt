@@ -4,10 +4,10 @@ ghost use Rattle.std.specs.Borrow.{sem};
 ghost use mathlib.Core.Option.{none};
 ghost use Rattle.iom_world.specs.contracts.world.World.{the_row};
 ghost use Rattle.std.specs.Prelude.{⊤, ◌≡◌, ◌+◌, ◌<◌, ◌≤◌, ◌^◌, ℕ};
-ghost use Rattle.iom_world_effects.specs.Answers.{told_of, ticket_told_of};
+ghost use Rattle.iom_world_effects.specs.Answers.{outcome_of_done, outcome_of_ticket};
 ghost use Rattle.iom_device.specs.Caches.{epoch_in};
-ghost use Rattle.iom_world_effects.specs.Does.{polled_told_of, report_told_of, AttachesDevice, GrantsPage, ReleasesPage, DetachesDevice, PollsTickets, TakesReport};
-ghost use Rattle.iom_world.specs.Seen.{parts_of, disks_of, inside_of};
+ghost use Rattle.iom_world_effects.specs.Effect.{outcome_of_poll, outcome_of_report, AttachesDevice, GrantsPage, ReleasesPage, DetachesDevice, PollsTickets, TakesReport};
+ghost use Rattle.iom_world.specs.Shown.{parts_of, disks_of, inside_of};
 ghost use Rattle.iom_world.specs.Blocks.{LeavesBlock};
 ghost use Rattle.iom_answers.specs.Answers.{outcome_of};
 
@@ -27,9 +27,9 @@ impl<D: Disk> World<D> {
     #[inline(never)]
     pub(crate) fn attach(&mut self, id: DeviceId, mode: Mode, ats: bool) -> Answer<'static>
         requires count { self.old.hardware.board.events + 1 < 2 ^ 64 }
-        ensures does { AttachesDevice (parts_of self.old) id mode ats (outcome_of result) (parts_of self.new) }
+        ensures effect { AttachesDevice (parts_of self.old) id mode ats (outcome_of result) (parts_of self.new) }
         ensures disks { disks_of self.new ≡ disks_of self.old }
-        ensures inside { inside_of D.seen self.new ≡ inside_of D.seen self.old }
+        ensures inside { inside_of D.shown self.new ≡ inside_of D.shown self.old }
         ensures events { self.new.hardware.board.events ≡ self.old.hardware.board.events + 1 }
         ensures made { self.new.made ≡ self.old.made }
     {
@@ -44,9 +44,9 @@ impl<D: Disk> World<D> {
     #[inline(never)]
     pub(crate) fn grant(&mut self, id: DeviceId, mapping: Mapping) -> Answer<'static>
         requires count { self.old.hardware.board.events + 1 < 2 ^ 64 }
-        ensures does { GrantsPage (parts_of self.old) id mapping.page mapping.frame mapping.rights (outcome_of result) (parts_of self.new) }
+        ensures effect { GrantsPage (parts_of self.old) id mapping.page mapping.frame mapping.rights (outcome_of result) (parts_of self.new) }
         ensures disks { disks_of self.new ≡ disks_of self.old }
-        ensures inside { inside_of D.seen self.new ≡ inside_of D.seen self.old }
+        ensures inside { inside_of D.shown self.new ≡ inside_of D.shown self.old }
         ensures events { self.new.hardware.board.events ≡ self.old.hardware.board.events + 1 }
         ensures made { self.new.made ≡ self.old.made }
     {
@@ -61,9 +61,9 @@ impl<D: Disk> World<D> {
     #[inline(never)]
     pub(crate) fn release(&mut self, id: DeviceId, page: u64) -> Answer<'static>
         requires count { self.old.hardware.board.events + 1 < 2 ^ 64 }
-        ensures does { ReleasesPage (parts_of self.old) id page (outcome_of result) (parts_of self.new) }
+        ensures effect { ReleasesPage (parts_of self.old) id page (outcome_of result) (parts_of self.new) }
         ensures disks { disks_of self.new ≡ disks_of self.old }
-        ensures inside { inside_of D.seen self.new ≡ inside_of D.seen self.old }
+        ensures inside { inside_of D.shown self.new ≡ inside_of D.shown self.old }
         ensures events { self.new.hardware.board.events ≡ self.old.hardware.board.events + 1 }
         ensures made { self.new.made ≡ self.old.made }
     {
@@ -81,9 +81,9 @@ impl<D: Disk> World<D> {
     #[inline(never)]
     pub(crate) fn detach(&mut self, id: DeviceId) -> Answer<'static>
         requires count { self.old.hardware.board.events + 1 < 2 ^ 64 }
-        ensures does { DetachesDevice (parts_of self.old) id (outcome_of result) (parts_of self.new) }
+        ensures effect { DetachesDevice (parts_of self.old) id (outcome_of result) (parts_of self.new) }
         ensures disks { disks_of self.new ≡ disks_of self.old }
-        ensures inside { LeavesBlock (inside_of D.seen self.old) id (outcome_of result) (inside_of D.seen self.new) }
+        ensures inside { LeavesBlock (inside_of D.shown self.old) id (outcome_of result) (inside_of D.shown self.new) }
         ensures events { self.new.hardware.board.events ≡ self.old.hardware.board.events + 1 }
         ensures made { self.new.made ≡ self.old.made }
     {
@@ -106,9 +106,9 @@ impl<D: Disk> World<D> {
     #[inline(never)]
     pub(crate) fn poll(&mut self) -> Answer<'static>
         requires count { self.old.hardware.board.events + 1 < 2 ^ 64 }
-        ensures does { PollsTickets (parts_of self.old) (outcome_of result) (parts_of self.new) }
+        ensures effect { PollsTickets (parts_of self.old) (outcome_of result) (parts_of self.new) }
         ensures disks { disks_of self.new ≡ disks_of self.old }
-        ensures inside { inside_of D.seen self.new ≡ inside_of D.seen self.old }
+        ensures inside { inside_of D.shown self.new ≡ inside_of D.shown self.old }
         ensures events { self.new.hardware.board.events ≡ self.old.hardware.board.events + 1 }
         ensures made { self.new.made ≡ self.old.made }
     {
@@ -127,7 +127,7 @@ impl<D: Disk> World<D> {
         ensures* happens { sem 𝓛 (follows_so (the_row D.row D.Disk) (the_row D.row D.Disk) self.entry.ghost_name none (λ _ _. ⊤) (λ v.
             TakesReport (parts_of self.old) (outcome_of result) (parts_of v)
             × (disks_of v ≡ disks_of self.old)
-            × (inside_of D.seen v ≡ inside_of D.seen self.old)
+            × (inside_of D.shown v ≡ inside_of D.shown self.old)
             × (v.hardware.board.events ≡ self.old.hardware.board.events + 1)
             × (v.made ≡ self.old.made))) }
     {

@@ -3,8 +3,8 @@ ghost use Rattle.std.specs.Prelude.{◌≡◌, ◌+◌, ◌<◌, ◌^◌};
 ghost use Rattle.iom_answers.specs.Answers.{outcome_of};
 ghost use Rattle.iom_iommu.specs.Fetches.{IsAtCommand};
 ghost use Rattle.iom_machine.specs.declared.outcome.Outcome.TheVariants as outcome;
-ghost use Rattle.iom_world_effects.specs.Does.{name_of_command, fetch_named, FetchesNext};
-ghost use Rattle.iom_world.specs.Seen.{parts_of, disks_of, inside_of};
+ghost use Rattle.iom_world_effects.specs.Effect.{name_of_command, fetch_named, FetchesNext};
+ghost use Rattle.iom_world.specs.Shown.{parts_of, disks_of, inside_of};
 
 use crate::world::World;
 use iom_answers::Answer;
@@ -46,9 +46,9 @@ impl<D: Disk> World<D> {
     #[inline(always)]
     pub(crate) fn fetch(&mut self) -> Answer<'static>
         requires count { self.old.hardware.board.events + 1 < 2 ^ 64 }
-        ensures does { FetchesNext (parts_of self.old) (outcome_of result) (parts_of self.new) }
+        ensures effect { FetchesNext (parts_of self.old) (outcome_of result) (parts_of self.new) }
         ensures disks { disks_of self.new ≡ disks_of self.old }
-        ensures inside { inside_of D.seen self.new ≡ inside_of D.seen self.old }
+        ensures inside { inside_of D.shown self.new ≡ inside_of D.shown self.old }
         ensures events { self.new.hardware.board.events ≡ self.old.hardware.board.events + 1 }
         ensures made { self.new.made ≡ self.old.made }
     {
@@ -65,9 +65,9 @@ impl<D: Disk> World<D> {
     fn fetch_next(&mut self) -> Fetched
         requires count { self.old.hardware.board.events + 1 < 2 ^ 64 }
         requires waits { IsAtCommand self.old.hardware.board.iommu }
-        ensures does { FetchesNext (parts_of self.old) (outcome.Fetched result) (parts_of self.new) }
+        ensures effect { FetchesNext (parts_of self.old) (outcome.Fetched result) (parts_of self.new) }
         ensures disks { disks_of self.new ≡ disks_of self.old }
-        ensures inside { inside_of D.seen self.new ≡ inside_of D.seen self.old }
+        ensures inside { inside_of D.shown self.new ≡ inside_of D.shown self.old }
         ensures events { self.new.hardware.board.events ≡ self.old.hardware.board.events + 1 }
         ensures made { self.new.made ≡ self.old.made }
     {

@@ -3,11 +3,11 @@
 ghost use Rattle.std.specs.Prelude.{◌≡◌, ◌-◌, length, IfOk};
 ghost use Rattle.iom_block_devices.specs.Changes.{block_with};
 ghost use Rattle.iom_block_devices.specs.Wanted.{wanted_of};
-ghost use Rattle.iom_driver.specs.Seen.{state_of};
+ghost use Rattle.iom_driver.specs.StateOf.{state_of};
 ghost use Rattle.iom_inflight.specs.Flights.{count_in, row_of, waiting_at};
 ghost use Rattle.iom_iommu.specs.Parts.{flights_of};
-ghost use Rattle.iom_table_frames.specs.Marks.{is_marked};
-ghost use Rattle.iom_world.specs.Seen.{inside_of};
+ghost use Rattle.iom_table_frames.specs.Owners.{is_marked};
+ghost use Rattle.iom_world.specs.Shown.{inside_of};
 
 use crate::world::World;
 use iom_base::{Access, DeviceId};
@@ -45,7 +45,7 @@ impl<D: Disk> World<D> {
     /// The access that the block device wants, or waits for where it began that. None where it wants none, or no block
     /// device has the id.
     pub fn wanted(&self, alloc: Global, id: DeviceId) -> Result<Option<Access>, AllocError>
-        ensures { IfOk result (λ access. access ≡ wanted_of (block_with (inside_of D.seen self.now).blocks id)) }
+        ensures { IfOk result (λ access. access ≡ wanted_of (block_with (inside_of D.shown self.now).blocks id)) }
     {
         self.hardware.wanted(alloc, id)
     }
@@ -59,7 +59,7 @@ impl<D: Disk> World<D> {
 
     /// Whether the frame is reserved, for tables or for the system; false outside memory.
     pub fn is_reserved(&self, frame: u32) -> bool
-        ensures { result ≡ is_marked (state_of self.now.driver).marks frame }
+        ensures { result ≡ is_marked (state_of self.now.driver).owners frame }
     {
         self.driver.is_reserved(frame)
     }

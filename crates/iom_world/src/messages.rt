@@ -2,10 +2,10 @@
 // 10, "Address Translation Services"), and what becomes of it on the way.
 ghost use Rattle.std.specs.Prelude.{◌≡◌, ◌+◌, ◌<◌, ◌^◌, slice_get};
 ghost use Rattle.iom_ats_cache.specs.declared.taken.Taken.{Taken};
-ghost use Rattle.iom_world_effects.specs.Deliveries.{taken_told, DeliversMessage};
-ghost use Rattle.iom_world_effects.specs.Messages.{repeat_told, AsksQuestion, ForgesCompletion, DropsMessage, RepeatsMessage};
-ghost use Rattle.iom_world.specs.OnHardware.{told_unless, sending_told, delivered_told};
-ghost use Rattle.iom_world.specs.Seen.{parts_of, disks_of, inside_of};
+ghost use Rattle.iom_world_effects.specs.Deliveries.{outcome_of_taking, DeliversMessage};
+ghost use Rattle.iom_world_effects.specs.Messages.{outcome_of_repeat, AsksQuestion, ForgesCompletion, DropsMessage, RepeatsMessage};
+ghost use Rattle.iom_world.specs.OnHardware.{outcome_unless, outcome_of_sending, outcome_of_delivery};
+ghost use Rattle.iom_world.specs.Shown.{parts_of, disks_of, inside_of};
 ghost use Rattle.iom_world.specs.Blocks.{DeliversTo};
 ghost use Rattle.iom_answers.specs.Answers.{outcome_of};
 
@@ -25,9 +25,9 @@ impl<D: Disk> World<D> {
     #[inline(never)]
     pub(crate) fn ask(&mut self, id: DeviceId, page: PageNumber) -> Answer<'static>
         requires count { self.old.hardware.board.events + 1 < 2 ^ 64 }
-        ensures does { AsksQuestion (parts_of self.old) id page (outcome_of result) (parts_of self.new) }
+        ensures effect { AsksQuestion (parts_of self.old) id page (outcome_of result) (parts_of self.new) }
         ensures disks { disks_of self.new ≡ disks_of self.old }
-        ensures inside { inside_of D.seen self.new ≡ inside_of D.seen self.old }
+        ensures inside { inside_of D.shown self.new ≡ inside_of D.shown self.old }
         ensures events { self.new.hardware.board.events ≡ self.old.hardware.board.events + 1 }
         ensures made { self.new.made ≡ self.old.made }
     {
@@ -41,9 +41,9 @@ impl<D: Disk> World<D> {
     #[inline(never)]
     pub(crate) fn forge(&mut self, id: DeviceId, serial: u64) -> Answer<'static>
         requires count { self.old.hardware.board.events + 1 < 2 ^ 64 }
-        ensures does { ForgesCompletion (parts_of self.old) id serial (outcome_of result) (parts_of self.new) }
+        ensures effect { ForgesCompletion (parts_of self.old) id serial (outcome_of result) (parts_of self.new) }
         ensures disks { disks_of self.new ≡ disks_of self.old }
-        ensures inside { inside_of D.seen self.new ≡ inside_of D.seen self.old }
+        ensures inside { inside_of D.shown self.new ≡ inside_of D.shown self.old }
         ensures events { self.new.hardware.board.events ≡ self.old.hardware.board.events + 1 }
         ensures made { self.new.made ≡ self.old.made }
     {
@@ -57,9 +57,9 @@ impl<D: Disk> World<D> {
     #[inline(never)]
     pub(crate) fn deliver(&mut self, place: u64) -> Answer<'static>
         requires count { self.old.hardware.board.events + 1 < 2 ^ 64 }
-        ensures does { DeliversMessage (parts_of self.old) place (outcome_of result) (parts_of self.new) }
+        ensures effect { DeliversMessage (parts_of self.old) place (outcome_of result) (parts_of self.new) }
         ensures disks { disks_of self.new ≡ disks_of self.old }
-        ensures inside { DeliversTo (slice_get self.old.hardware.board.fabric place) (inside_of D.seen self.old) (outcome_of result) (inside_of D.seen self.new) }
+        ensures inside { DeliversTo (slice_get self.old.hardware.board.fabric place) (inside_of D.shown self.old) (outcome_of result) (inside_of D.shown self.new) }
         ensures events { self.new.hardware.board.events ≡ self.old.hardware.board.events + 1 }
         ensures made { self.new.made ≡ self.old.made }
     {
@@ -71,9 +71,9 @@ impl<D: Disk> World<D> {
     #[inline(never)]
     pub(crate) fn drop_message(&mut self, place: u64) -> Answer<'static>
         requires count { self.old.hardware.board.events + 1 < 2 ^ 64 }
-        ensures does { DropsMessage (parts_of self.old) place (outcome_of result) (parts_of self.new) }
+        ensures effect { DropsMessage (parts_of self.old) place (outcome_of result) (parts_of self.new) }
         ensures disks { disks_of self.new ≡ disks_of self.old }
-        ensures inside { inside_of D.seen self.new ≡ inside_of D.seen self.old }
+        ensures inside { inside_of D.shown self.new ≡ inside_of D.shown self.old }
         ensures events { self.new.hardware.board.events ≡ self.old.hardware.board.events + 1 }
         ensures made { self.new.made ≡ self.old.made }
     {
@@ -89,9 +89,9 @@ impl<D: Disk> World<D> {
     #[inline(never)]
     pub(crate) fn repeat(&mut self, place: u64) -> Answer<'static>
         requires count { self.old.hardware.board.events + 1 < 2 ^ 64 }
-        ensures does { RepeatsMessage (parts_of self.old) place (outcome_of result) (parts_of self.new) }
+        ensures effect { RepeatsMessage (parts_of self.old) place (outcome_of result) (parts_of self.new) }
         ensures disks { disks_of self.new ≡ disks_of self.old }
-        ensures inside { inside_of D.seen self.new ≡ inside_of D.seen self.old }
+        ensures inside { inside_of D.shown self.new ≡ inside_of D.shown self.old }
         ensures events { self.new.hardware.board.events ≡ self.old.hardware.board.events + 1 }
         ensures made { self.new.made ≡ self.old.made }
     {

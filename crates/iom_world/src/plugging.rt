@@ -2,8 +2,8 @@
 ghost use Rattle.std.specs.Prelude.{◌≡◌, ◌↔◌, ◌+◌, ◌<◌, ◌^◌, IsTrue, option_map};
 ghost use Rattle.iom_machine.specs.declared.event.Event.TheVariants as events;
 ghost use Rattle.iom_device.specs.Caches.{kind_in, device_with, epoch_in};
-ghost use Rattle.iom_world_effects.specs.Does.{PlugsDevice, disks_after};
-ghost use Rattle.iom_world.specs.Seen.{parts_of, disks_of, inside_of};
+ghost use Rattle.iom_world_effects.specs.Effect.{PlugsDevice, disks_after};
+ghost use Rattle.iom_world.specs.Shown.{parts_of, disks_of, inside_of};
 ghost use Rattle.iom_world_effects.specs.Places.{IsPresent};
 ghost use Rattle.iom_base.specs.DeviceKinds.{disk_of};
 ghost use Rattle.iom_world.specs.Blocks.{PlugsBlock};
@@ -67,9 +67,9 @@ impl<D: Disk> World<D> {
     #[inline(never)]
     pub(crate) fn plug(&mut self, id: DeviceId, what: NewDevice) -> Answer<'static>
         requires count { self.old.hardware.board.events + 1 < 2 ^ 64 }
-        ensures does { PlugsDevice (disks_of self.old) (parts_of self.old) id what (outcome_of result) (parts_of self.new) }
+        ensures effect { PlugsDevice (disks_of self.old) (parts_of self.old) id what (outcome_of result) (parts_of self.new) }
         ensures disks { disks_of self.new ≡ disks_after (events.Plug id what) (outcome_of result) (disks_of self.old) }
-        ensures inside { PlugsBlock (disk_of what) (inside_of D.seen self.old) id (outcome_of result) (inside_of D.seen self.new) }
+        ensures inside { PlugsBlock (disk_of what) (inside_of D.shown self.old) id (outcome_of result) (inside_of D.shown self.new) }
         ensures events { self.new.hardware.board.events ≡ self.old.hardware.board.events + 1 }
         ensures made { self.new.made ≡ self.old.made }
     {

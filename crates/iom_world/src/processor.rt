@@ -5,9 +5,9 @@ ghost use mathlib.Core.Option.{none};
 ghost use Rattle.iom_world.specs.contracts.world.World.{the_row};
 ghost use Rattle.std.specs.Prelude.{⊤, ◌≡◌, ◌+◌, ◌<◌, ◌≤◌, ◌^◌, length};
 ghost use Rattle.iom_base.specs.Bytes.{with_bytes};
-ghost use Rattle.iom_world.specs.Seen.{parts_of, disks_of, inside_of};
+ghost use Rattle.iom_world.specs.Shown.{parts_of, disks_of, inside_of};
 ghost use Rattle.iom_world_effects.specs.Processor.{PokesBytes, PeeksBytes, AsksFree};
-ghost use Rattle.iom_world.specs.OnHardware.{no_place_told};
+ghost use Rattle.iom_world.specs.OnHardware.{outcome_of_no_place};
 ghost use Rattle.iom_answers.specs.Answers.{outcome_of};
 
 use crate::answering::no_place_answer;
@@ -34,9 +34,9 @@ impl<D: Disk> World<D> {
     #[inline(never)]
     pub(crate) fn poke(&mut self, address: u64, bytes: &[u8]) -> Answer<'static>
         requires count { self.old.hardware.board.events + 1 < 2 ^ 64 }
-        ensures does { PokesBytes (parts_of self.old) address bytes.now (outcome_of result) (parts_of self.new) }
+        ensures effect { PokesBytes (parts_of self.old) address bytes.now (outcome_of result) (parts_of self.new) }
         ensures disks { disks_of self.new ≡ disks_of self.old }
-        ensures inside { inside_of D.seen self.new ≡ inside_of D.seen self.old }
+        ensures inside { inside_of D.shown self.new ≡ inside_of D.shown self.old }
         ensures events { self.new.hardware.board.events ≡ self.old.hardware.board.events + 1 }
         ensures made { self.new.made ≡ self.old.made }
     {
@@ -65,7 +65,7 @@ impl<D: Disk> World<D> {
         ensures* happens { sem 𝓛 (follows_so (the_row D.row D.Disk) (the_row D.row D.Disk) self.entry.ghost_name none (λ _ _. ⊤) (λ v.
             (PeeksBytes (parts_of self.old) address len (outcome_of result) × (parts_of v ≡ parts_of self.old))
             × (disks_of v ≡ disks_of self.old)
-            × (inside_of D.seen v ≡ inside_of D.seen self.old)
+            × (inside_of D.shown v ≡ inside_of D.shown self.old)
             × (v.hardware.board.events ≡ self.old.hardware.board.events + 1)
             × (v.made ≡ self.old.made))) }
     {
@@ -81,9 +81,9 @@ impl<D: Disk> World<D> {
     #[inline(never)]
     pub(crate) fn free(&mut self, frame: u64) -> Answer<'static>
         requires count { self.old.hardware.board.events + 1 < 2 ^ 64 }
-        ensures does { AsksFree (parts_of self.old) frame (outcome_of result) × (parts_of self.new ≡ parts_of self.old) }
+        ensures effect { AsksFree (parts_of self.old) frame (outcome_of result) × (parts_of self.new ≡ parts_of self.old) }
         ensures disks { disks_of self.new ≡ disks_of self.old }
-        ensures inside { inside_of D.seen self.new ≡ inside_of D.seen self.old }
+        ensures inside { inside_of D.shown self.new ≡ inside_of D.shown self.old }
         ensures events { self.new.hardware.board.events ≡ self.old.hardware.board.events + 1 }
         ensures made { self.new.made ≡ self.old.made }
     {

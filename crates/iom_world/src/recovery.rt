@@ -2,7 +2,7 @@
 ghost use Rattle.std.specs.Prelude.{◌≡◌, ◌+◌, ◌<◌, ◌^◌, if◌then◌else◌};
 ghost use Rattle.iom_machine.specs.declared.outcome.Outcome.TheVariants as outcome;
 ghost use Rattle.iom_world_effects.specs.Recovery.{QuarantinesDevice, RevivesDevice, RestartsQueue, TimesOutFence, ResetsDevice};
-ghost use Rattle.iom_world.specs.Seen.{parts_of, disks_of, inside_of};
+ghost use Rattle.iom_world.specs.Shown.{parts_of, disks_of, inside_of};
 ghost use Rattle.iom_world.specs.Blocks.{ResetsBlock};
 ghost use Rattle.iom_answers.specs.Answers.{outcome_of};
 
@@ -15,13 +15,13 @@ use iom_revival::revive;
 use iom_virtio_blk::Disk;
 
 impl<D: Disk> World<D> {
-    /// A device is cut off: what it holds lingers until the ticket is confirmed.
+    /// A device is quarantined: what it holds lingers until the ticket is confirmed.
     #[inline(never)]
     pub(crate) fn quarantine(&mut self, id: DeviceId) -> Answer<'static>
         requires count { self.old.hardware.board.events + 1 < 2 ^ 64 }
-        ensures does { QuarantinesDevice (parts_of self.old) id (outcome_of result) (parts_of self.new) }
+        ensures effect { QuarantinesDevice (parts_of self.old) id (outcome_of result) (parts_of self.new) }
         ensures disks { disks_of self.new ≡ disks_of self.old }
-        ensures inside { inside_of D.seen self.new ≡ inside_of D.seen self.old }
+        ensures inside { inside_of D.shown self.new ≡ inside_of D.shown self.old }
         ensures events { self.new.hardware.board.events ≡ self.old.hardware.board.events + 1 }
         ensures made { self.new.made ≡ self.old.made }
     {
@@ -34,14 +34,14 @@ impl<D: Disk> World<D> {
         ticket_answer(answer)
     }
 
-    /// A device that was cut off is reset, and then attached again: else its cache might still have translations
+    /// A device that was quarantined is reset, and then attached again: else its cache might still have translations
     /// from before, of pages that others have by now.
     #[inline(never)]
     pub(crate) fn revive(&mut self, id: DeviceId) -> Answer<'static>
         requires count { self.old.hardware.board.events + 1 < 2 ^ 64 }
-        ensures does { RevivesDevice (parts_of self.old) id (outcome_of result) (parts_of self.new) }
+        ensures effect { RevivesDevice (parts_of self.old) id (outcome_of result) (parts_of self.new) }
         ensures disks { disks_of self.new ≡ disks_of self.old }
-        ensures inside { ResetsBlock (inside_of D.seen self.old) id (outcome_of result) (inside_of D.seen self.new) }
+        ensures inside { ResetsBlock (inside_of D.shown self.old) id (outcome_of result) (inside_of D.shown self.new) }
         ensures events { self.new.hardware.board.events ≡ self.old.hardware.board.events + 1 }
         ensures made { self.new.made ≡ self.old.made }
     {
@@ -63,9 +63,9 @@ impl<D: Disk> World<D> {
     #[inline(never)]
     pub(crate) fn restart(&mut self) -> Answer<'static>
         requires count { self.old.hardware.board.events + 1 < 2 ^ 64 }
-        ensures does { RestartsQueue (parts_of self.old) (outcome_of result) (parts_of self.new) }
+        ensures effect { RestartsQueue (parts_of self.old) (outcome_of result) (parts_of self.new) }
         ensures disks { disks_of self.new ≡ disks_of self.old }
-        ensures inside { inside_of D.seen self.new ≡ inside_of D.seen self.old }
+        ensures inside { inside_of D.shown self.new ≡ inside_of D.shown self.old }
         ensures events { self.new.hardware.board.events ≡ self.old.hardware.board.events + 1 }
         ensures made { self.new.made ≡ self.old.made }
     {
@@ -82,9 +82,9 @@ impl<D: Disk> World<D> {
     #[inline(never)]
     pub(crate) fn timeout(&mut self) -> Answer<'static>
         requires count { self.old.hardware.board.events + 1 < 2 ^ 64 }
-        ensures does { TimesOutFence (parts_of self.old) (outcome_of result) (parts_of self.new) }
+        ensures effect { TimesOutFence (parts_of self.old) (outcome_of result) (parts_of self.new) }
         ensures disks { disks_of self.new ≡ disks_of self.old }
-        ensures inside { inside_of D.seen self.new ≡ inside_of D.seen self.old }
+        ensures inside { inside_of D.shown self.new ≡ inside_of D.shown self.old }
         ensures events { self.new.hardware.board.events ≡ self.old.hardware.board.events + 1 }
         ensures made { self.new.made ≡ self.old.made }
     {
@@ -95,9 +95,9 @@ impl<D: Disk> World<D> {
     #[inline(never)]
     pub(crate) fn reset(&mut self, device: DeviceId) -> Answer<'static>
         requires count { self.old.hardware.board.events + 1 < 2 ^ 64 }
-        ensures does { ResetsDevice (parts_of self.old) device (outcome_of result) (parts_of self.new) }
+        ensures effect { ResetsDevice (parts_of self.old) device (outcome_of result) (parts_of self.new) }
         ensures disks { disks_of self.new ≡ disks_of self.old }
-        ensures inside { ResetsBlock (inside_of D.seen self.old) device (outcome_of result) (inside_of D.seen self.new) }
+        ensures inside { ResetsBlock (inside_of D.shown self.old) device (outcome_of result) (inside_of D.shown self.new) }
         ensures events { self.new.hardware.board.events ≡ self.old.hardware.board.events + 1 }
         ensures made { self.new.made ≡ self.old.made }
     {

@@ -3,11 +3,11 @@ ghost use Rattle.std.specs.Prelude.{◌≡◌, ◌+◌, ◌<◌, ◌^◌};
 ghost use Rattle.iom_base.specs.Accesses.{read_of, write_of};
 ghost use Rattle.iom_base.specs.DeviceKinds.{sends_untranslated};
 ghost use Rattle.iom_board.specs.Senders.{untranslated_by};
-ghost use Rattle.iom_inflight.specs.Sound.{CarriesBytes};
+ghost use Rattle.iom_inflight.specs.Invariant.{CarriesBytes};
 ghost use Rattle.iom_iommu.specs.Requests.{access_of};
-ghost use Rattle.iom_world_effects.specs.Requests.{AsksAccess, AsksTranslated, reply_told_of};
-ghost use Rattle.iom_world.specs.OnHardware.{told_unless};
-ghost use Rattle.iom_world.specs.Seen.{parts_of, disks_of, inside_of};
+ghost use Rattle.iom_world_effects.specs.Requests.{AsksAccess, AsksTranslated, outcome_of_reply};
+ghost use Rattle.iom_world.specs.OnHardware.{outcome_unless};
+ghost use Rattle.iom_world.specs.Shown.{parts_of, disks_of, inside_of};
 ghost use Rattle.iom_answers.specs.Answers.{outcome_of};
 
 use crate::answering::request_answer;
@@ -35,11 +35,11 @@ impl<D: Disk> World<D> {
     ) -> Result<Reply, Refusal>
         requires count { self.old.hardware.board.events + 1 < 2 ^ 64 }
         requires carries { CarriesBytes kind len bytes.now }
-        ensures does { AsksAccess (untranslated_by sender) (parts_of self.old) id (access_of address len kind bytes.now)
-            (told_unless reply_told_of result) (parts_of self.new) }
+        ensures effect { AsksAccess (untranslated_by sender) (parts_of self.old) id (access_of address len kind bytes.now)
+            (outcome_unless outcome_of_reply result) (parts_of self.new) }
         ensures fits { address < 2 ^ 64 }
         ensures disks { disks_of self.new ≡ disks_of self.old }
-        ensures inside { inside_of D.seen self.new ≡ inside_of D.seen self.old }
+        ensures inside { inside_of D.shown self.new ≡ inside_of D.shown self.old }
         ensures events { self.new.hardware.board.events ≡ self.old.hardware.board.events + 1 }
         ensures made { self.new.made ≡ self.old.made }
     {
@@ -53,10 +53,10 @@ impl<D: Disk> World<D> {
     #[inline(never)]
     pub(crate) fn read(&mut self, id: DeviceId, address: u64, len: u64) -> Answer<'static>
         requires count { self.old.hardware.board.events + 1 < 2 ^ 64 }
-        ensures does { AsksAccess sends_untranslated (parts_of self.old) id (read_of address len) (outcome_of result) (parts_of self.new) }
+        ensures effect { AsksAccess sends_untranslated (parts_of self.old) id (read_of address len) (outcome_of result) (parts_of self.new) }
         ensures fits { address < 2 ^ 64 }
         ensures disks { disks_of self.new ≡ disks_of self.old }
-        ensures inside { inside_of D.seen self.new ≡ inside_of D.seen self.old }
+        ensures inside { inside_of D.shown self.new ≡ inside_of D.shown self.old }
         ensures events { self.new.hardware.board.events ≡ self.old.hardware.board.events + 1 }
         ensures made { self.new.made ≡ self.old.made }
     {
@@ -67,11 +67,11 @@ impl<D: Disk> World<D> {
     #[inline(never)]
     pub(crate) fn write(&mut self, id: DeviceId, address: u64, bytes: &[u8]) -> Answer<'static>
         requires count { self.old.hardware.board.events + 1 < 2 ^ 64 }
-        ensures does { AsksAccess sends_untranslated (parts_of self.old) id (write_of address bytes.now)
+        ensures effect { AsksAccess sends_untranslated (parts_of self.old) id (write_of address bytes.now)
             (outcome_of result) (parts_of self.new) }
         ensures fits { address < 2 ^ 64 }
         ensures disks { disks_of self.new ≡ disks_of self.old }
-        ensures inside { inside_of D.seen self.new ≡ inside_of D.seen self.old }
+        ensures inside { inside_of D.shown self.new ≡ inside_of D.shown self.old }
         ensures events { self.new.hardware.board.events ≡ self.old.hardware.board.events + 1 }
         ensures made { self.new.made ≡ self.old.made }
     {
@@ -91,9 +91,9 @@ impl<D: Disk> World<D> {
     ) -> Result<Reply, Refusal>
         requires count { self.old.hardware.board.events + 1 < 2 ^ 64 }
         requires carries { CarriesBytes kind len bytes.now }
-        ensures does { AsksTranslated (parts_of self.old) id (access_of address len kind bytes.now) (told_unless reply_told_of result) (parts_of self.new) }
+        ensures effect { AsksTranslated (parts_of self.old) id (access_of address len kind bytes.now) (outcome_unless outcome_of_reply result) (parts_of self.new) }
         ensures disks { disks_of self.new ≡ disks_of self.old }
-        ensures inside { inside_of D.seen self.new ≡ inside_of D.seen self.old }
+        ensures inside { inside_of D.shown self.new ≡ inside_of D.shown self.old }
         ensures events { self.new.hardware.board.events ≡ self.old.hardware.board.events + 1 }
         ensures made { self.new.made ≡ self.old.made }
     {
@@ -112,9 +112,9 @@ impl<D: Disk> World<D> {
         len: u64,
     ) -> Answer<'static>
         requires count { self.old.hardware.board.events + 1 < 2 ^ 64 }
-        ensures does { AsksTranslated (parts_of self.old) id (read_of address len) (outcome_of result) (parts_of self.new) }
+        ensures effect { AsksTranslated (parts_of self.old) id (read_of address len) (outcome_of result) (parts_of self.new) }
         ensures disks { disks_of self.new ≡ disks_of self.old }
-        ensures inside { inside_of D.seen self.new ≡ inside_of D.seen self.old }
+        ensures inside { inside_of D.shown self.new ≡ inside_of D.shown self.old }
         ensures events { self.new.hardware.board.events ≡ self.old.hardware.board.events + 1 }
         ensures made { self.new.made ≡ self.old.made }
     {
@@ -130,9 +130,9 @@ impl<D: Disk> World<D> {
         bytes: &[u8],
     ) -> Answer<'static>
         requires count { self.old.hardware.board.events + 1 < 2 ^ 64 }
-        ensures does { AsksTranslated (parts_of self.old) id (write_of address bytes.now) (outcome_of result) (parts_of self.new) }
+        ensures effect { AsksTranslated (parts_of self.old) id (write_of address bytes.now) (outcome_of result) (parts_of self.new) }
         ensures disks { disks_of self.new ≡ disks_of self.old }
-        ensures inside { inside_of D.seen self.new ≡ inside_of D.seen self.old }
+        ensures inside { inside_of D.shown self.new ≡ inside_of D.shown self.old }
         ensures events { self.new.hardware.board.events ≡ self.old.hardware.board.events + 1 }
         ensures made { self.new.made ≡ self.old.made }
     {

@@ -5,7 +5,7 @@ ghost use Rattle.iom_machine.specs.declared.outcome.Trace as counts;
 ghost use Rattle.iom_machine.specs.declared.state.State.{State};
 ghost use Rattle.iom_world.specs.Happens.{Happens};
 ghost use Rattle.iom_world.specs.Runs.{AreCounts, RunsTo, FailsAfter};
-ghost use Rattle.iom_world.specs.Seen.{seen_of};
+ghost use Rattle.iom_world.specs.Shown.{shown_of};
 ghost use Rattle.iom_world.specs.Shows.{Shows};
 
 use crate::world::World;
@@ -18,7 +18,7 @@ impl<D: Disk> World<D> {
     #[inline(always)]
     fn trace_if(&self, wanted: bool) -> Option<Trace>
         ensures wanted { is_some result ≡ wanted }
-        ensures counts { (state : State) → Shows (seen_of D.seen self.now) state → AreCounts state (seen_of D.seen self.now) result }
+        ensures counts { (state : State) → Shows (shown_of D.shown self.now) state → AreCounts state (shown_of D.shown self.now) result }
     {
         if wanted { Some(self.trace()) } else { None }
     }
@@ -27,7 +27,7 @@ impl<D: Disk> World<D> {
     #[inline(always)]
     pub fn trace_for<S: AnswerSink>(&self, sink: &S) -> Option<Trace>
         ensures wanted { is_some result ≡ S.wants sink.now }
-        ensures counts { (state : State) → Shows (seen_of D.seen self.now) state → AreCounts state (seen_of D.seen self.now) result }
+        ensures counts { (state : State) → Shows (shown_of D.shown self.now) state → AreCounts state (shown_of D.shown self.now) result }
     {
         self.trace_if(sink.wants_trace())
     }
@@ -42,9 +42,9 @@ impl<D: Disk> World<D> {
     ) -> Result<(), S::Fault>
         requires count { self.old.hardware.board.events + 1 < 2 ^ 64 }
         requires wants { S.wants sink.old ≡ true }
-        ensures { (outcome : spec.Outcome) × Happens (seen_of D.seen self.old) event.now outcome (seen_of D.seen self.new)
+        ensures { (outcome : spec.Outcome) × Happens (shown_of D.shown self.old) event.now outcome (shown_of D.shown self.new)
             × (trace : Option counts.Trace) × (is_some trace ≡ S.wants sink.old)
-            × ((state : State) → Shows (seen_of D.seen self.new) state → AreCounts state (seen_of D.seen self.new) trace)
+            × ((state : State) → Shows (shown_of D.shown self.new) state → AreCounts state (shown_of D.shown self.new) trace)
             × OnOk result (S.takes sink.old outcome trace sink.new) × OnErr result (S.fails sink.old outcome trace sink.new) }
     {
         let outcome = self.step(event);
@@ -58,9 +58,9 @@ impl<D: Disk> World<D> {
     #[inline(always)]
     pub fn run_one<S: AnswerSink>(&mut self, event: &Event, sink: &mut S) -> Result<(), S::Fault>
         requires count { self.old.hardware.board.events + 1 < 2 ^ 64 }
-        ensures { (outcome : spec.Outcome) × Happens (seen_of D.seen self.old) event.now outcome (seen_of D.seen self.new)
+        ensures { (outcome : spec.Outcome) × Happens (shown_of D.shown self.old) event.now outcome (shown_of D.shown self.new)
             × (trace : Option counts.Trace) × (is_some trace ≡ S.wants sink.old)
-            × ((state : State) → Shows (seen_of D.seen self.new) state → AreCounts state (seen_of D.seen self.new) trace)
+            × ((state : State) → Shows (shown_of D.shown self.new) state → AreCounts state (shown_of D.shown self.new) trace)
             × OnOk result (S.takes sink.old outcome trace sink.new) × OnErr result (S.fails sink.old outcome trace sink.new) }
     {
         if sink.wants_trace() {
@@ -73,9 +73,9 @@ impl<D: Disk> World<D> {
     /// The same, for a sink that takes outcomes.
     fn run_event<S: Sink>(&mut self, event: &Event, sink: &mut S) -> Result<(), S::Fault>
         requires count { self.old.hardware.board.events + 1 < 2 ^ 64 }
-        ensures { (outcome : spec.Outcome) × Happens (seen_of D.seen self.old) event.now outcome (seen_of D.seen self.new)
+        ensures { (outcome : spec.Outcome) × Happens (shown_of D.shown self.old) event.now outcome (shown_of D.shown self.new)
             × (trace : Option counts.Trace) × (is_some trace ≡ S.wants sink.old)
-            × ((state : State) → Shows (seen_of D.seen self.new) state → AreCounts state (seen_of D.seen self.new) trace)
+            × ((state : State) → Shows (shown_of D.shown self.new) state → AreCounts state (shown_of D.shown self.new) trace)
             × OnOk result (S.takes sink.old outcome trace sink.new) × OnErr result (S.fails sink.old outcome trace sink.new) }
     {
         let outcome = self.step(event);
@@ -93,11 +93,11 @@ impl<D: Disk> World<D> {
     /// it is granted.
     pub fn run<S: Sink>(&mut self, events: &[Event], sink: &mut S) -> Result<(), S::Fault>
         requires count { self.old.hardware.board.events + length events.now < 2 ^ 64 }
-        ensures ran { (state : State) → Shows (seen_of D.seen self.old) state
-            → OnOk result (RunsTo S.wants S.takes state (seen_of D.seen self.old) events.now sink.old sink.new (seen_of D.seen self.new)) }
-        ensures failed { (state : State) → Shows (seen_of D.seen self.old) state
-            → OnErr result (FailsAfter S.wants S.takes S.fails state (seen_of D.seen self.old) events.now sink.old sink.new
-            (seen_of D.seen self.new)) }
+        ensures ran { (state : State) → Shows (shown_of D.shown self.old) state
+            → OnOk result (RunsTo S.wants S.takes state (shown_of D.shown self.old) events.now sink.old sink.new (shown_of D.shown self.new)) }
+        ensures failed { (state : State) → Shows (shown_of D.shown self.old) state
+            → OnErr result (FailsAfter S.wants S.takes S.fails state (shown_of D.shown self.old) events.now sink.old sink.new
+            (shown_of D.shown self.new)) }
         ensures counted { OnOk result (self.new.hardware.board.events ≡ self.old.hardware.board.events + length events.now) }
         ensures counted_at_most { OnErr result (self.new.hardware.board.events ≤ self.old.hardware.board.events + length events.now) }
     {

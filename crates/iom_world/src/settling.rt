@@ -1,26 +1,26 @@
 // Settling: events of the driver and the hardware alone, after which no ticket is unconfirmed.
 ghost use Rattle.std.specs.Prelude.{◌≡◌, ◌+◌, ◌<◌, ◌≤◌, ◌^◌};
-ghost use Rattle.iom_world_effects.proofs.DriverLemmas.{sound_driver};
+ghost use Rattle.iom_world_effects.proofs.DriverLemmas.{driver_invariant};
 ghost use Rattle.iom_answers.specs.Answers.{outcome_of};
 ghost use Rattle.iom_world.specs.Happens.{Happens};
 ghost use Rattle.iom_settling.specs.Stages.{Settled, brief};
-ghost use Rattle.iom_world.specs.Seen.{disks_of, parts_of, seen_of};
+ghost use Rattle.iom_world.specs.Shown.{disks_of, parts_of, shown_of};
 
 use crate::world::World;
 use iom_answers::Answer;
 use iom_base::{DeviceId, Refusal};
 use iom_machine::{Event, Fetched};
-use iom_settling::{TakesEvents, Told, settle};
+use iom_settling::{FetchReply, TakesEvents, settle};
 use iom_virtio_blk::Disk;
 
 /// What settling wants to know of the outcome.
-fn brief(answer: Answer<'_>) -> Told
+fn brief(answer: Answer<'_>) -> FetchReply
     ensures { result ≡ brief (outcome_of answer.entry) }
 {
     match answer {
-        Answer::Fetched(Fetched::Waiting) => Told::Waits,
-        Answer::Fetched(Fetched::Empty) => Told::Empty,
-        _ => Told::Other,
+        Answer::Fetched(Fetched::Waiting) => FetchReply::Waits,
+        Answer::Fetched(Fetched::Empty) => FetchReply::Empty,
+        _ => FetchReply::Other,
     }
 }
 
@@ -30,17 +30,17 @@ impl<D: Disk> TakesEvents for World<D> {
 
     ghost counted = { λ world. world.hardware.board.events };
 
-    ghost happens = { λ old event told new. Happens (seen_of D.seen old) event told (seen_of D.seen new) };
+    ghost happens = { λ old event reply new. Happens (shown_of D.shown old) event reply (shown_of D.shown new) };
 
-    ghost does = { λ old new event told happens. (disks_of old, happens.does) };
+    ghost effect = { λ old new event reply happens. (disks_of old, happens.effect) };
 
-    ghost commands = { λ old new event told happens. happens.commands };
+    ghost commands = { λ old new event reply happens. happens.commands };
 
-    ghost counts = { λ old new event told happens. happens.events };
+    ghost counts = { λ old new event reply happens. happens.events };
 
-    ghost sound = { λ world. world.sound };
+    ghost invariants = { λ world. world.invariants };
 
-    ghost own = { λ world. sound_driver world.driver };
+    ghost own = { λ world. driver_invariant world.driver };
 
     fn facts(&self) {
         self.facts();
@@ -62,7 +62,7 @@ impl<D: Disk> TakesEvents for World<D> {
         self.has_used_up()
     }
 
-    fn take(&mut self, event: &Event) -> Told {
+    fn take(&mut self, event: &Event) -> FetchReply {
         brief(self.take(event))
     }
 }
@@ -77,7 +77,7 @@ impl<D: Disk> World<D> {
     pub fn settle(&mut self) -> Result<u32, Refusal>
         requires count { self.old.hardware.board.events + 400 < 2 ^ 64 }
         ensures settled { Settled (λ world. parts_of world)
-            (λ old event told new. Happens (seen_of D.seen old) event told (seen_of D.seen new)) self.old result self.new }
+            (λ old event reply new. Happens (shown_of D.shown old) event reply (shown_of D.shown new)) self.old result self.new }
         ensures counted { self.new.hardware.board.events ≤ self.old.hardware.board.events + 341 }
     {
         settle(self)

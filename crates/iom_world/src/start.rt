@@ -1,11 +1,11 @@
 // A world at power-on.
 ghost use Rattle.std.specs.Prelude.{◌≡◌, ◌↔◌, ◌≤◌, None, IfOk, IsErrOf, IsTrue};
-ghost use Rattle.iom_block_devices.specs.Seen.{states_of};
+ghost use Rattle.iom_block_devices.specs.Shown.{states_of};
 ghost use Rattle.iom_driver.specs.Layout.{IsLevels};
 ghost use Rattle.iom_phys_mem.specs.Sizes.{IsMemorySize};
 ghost use Rattle.iom_phys_mem.specs.declared.memory.MemError.TheVariants.{BadSize};
 ghost use Rattle.iom_world.specs.PowerOn.{BeginsAt, BeginsFrom};
-ghost use Rattle.iom_world.specs.Seen.{seen_of};
+ghost use Rattle.iom_world.specs.Shown.{shown_of};
 
 use crate::world::World;
 use iom_driver::Driver;
@@ -32,7 +32,7 @@ impl<D: Disk> World<D> {
     /// among these as its number, from 0. `BadSize` exactly where the frames aren't 64 to 4,096 or the levels aren't 1 to 3
     /// (IOMMU specification, section 2.1, "Device-Directory-Table (DDT)"); else `OutOfMemory` where an allocation is refused.
     pub fn new(alloc: Global, frames: u32, levels: u8, disks: Vec<D>) -> Result<World<D>, MemError>
-        ensures begins { IfOk result (λ world. BeginsAt frames levels (states_of D.seen disks.items) (seen_of D.seen world)) }
+        ensures begins { IfOk result (λ world. BeginsAt frames levels (states_of D.shown disks.items) (shown_of D.shown world)) }
         ensures made { IfOk result (λ world. world.made ≡ None) }
         ensures size { IfOk result (λ world. IsMemorySize frames × IsLevels levels) }
         ensures bad_size { (IsErrOf result BadSize) ↔ ¬ (IsMemorySize frames × IsLevels levels) }
@@ -50,7 +50,7 @@ impl<D: Disk> World<D> {
         disks: Vec<D>,
     ) -> Result<World<D>, MemError>
         requires first { 1 ≤ first_fence }
-        ensures begins { IfOk result (λ world. BeginsFrom first_fence frames levels (states_of D.seen disks.items) (seen_of D.seen world)) }
+        ensures begins { IfOk result (λ world. BeginsFrom first_fence frames levels (states_of D.shown disks.items) (shown_of D.shown world)) }
         ensures made { IfOk result (λ world. world.made ≡ None) }
         ensures size { IfOk result (λ world. IsMemorySize frames × IsLevels levels) }
         ensures bad_size { (IsErrOf result BadSize) ↔ ¬ (IsMemorySize frames × IsLevels levels) }

@@ -7,7 +7,7 @@ ghost use Rattle.std.specs.Prelude.{⊤, ◌≡◌, ◌+◌, ◌<◌, ◌^◌};
 ghost use Rattle.iom_answers.specs.Answers.{outcome_of};
 ghost use Rattle.iom_world.specs.Happens.{Happens};
 ghost use Rattle.iom_world.specs.Made.{made_by};
-ghost use Rattle.iom_world.specs.Seen.{parts_of, disks_of, seen_of};
+ghost use Rattle.iom_world.specs.Shown.{parts_of, disks_of, shown_of};
 
 use crate::world::World;
 use iom_answers::Answer;
@@ -25,7 +25,7 @@ impl<D: Disk> World<D> {
     pub fn take(&mut self, event: &Event) -> Answer<'_>
         requires count { self.old.hardware.board.events + 1 < 2 ^ 64 }
         ensures* happens { sem 𝓛 (follows_so (the_row D.row D.Disk) (the_row D.row D.Disk) self.entry.ghost_name none (λ _ _. ⊤) (λ v.
-            Happens (seen_of D.seen self.old) event.now (outcome_of result) (seen_of D.seen v) × (v.made ≡ self.old.made))) }
+            Happens (shown_of D.shown self.old) event.now (outcome_of result) (shown_of D.shown v) × (v.made ≡ self.old.made))) }
     {
         laws_below();
         match event {
@@ -119,7 +119,7 @@ impl<D: Disk> World<D> {
     /// one device, once.
     pub fn step(&mut self, event: &Event) -> Outcome
         requires count { self.old.hardware.board.events + 1 < 2 ^ 64 }
-        ensures happens { Happens (seen_of D.seen self.old) event.now result (seen_of D.seen self.new) }
+        ensures happens { Happens (shown_of D.shown self.old) event.now result (shown_of D.shown self.new) }
         ensures made { self.new.made ≡ made_by (parts_of self.old) event.now }
     {
         let made = self.would_make(event);

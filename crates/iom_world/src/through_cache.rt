@@ -4,11 +4,11 @@ ghost use Rattle.std.specs.Prelude.{◌≡◌, ◌+◌, ◌<◌, ◌^◌};
 ghost use Rattle.iom_base.specs.Accesses.{read_of, write_of};
 ghost use Rattle.iom_base.specs.DeviceKinds.{sends_through_cache};
 ghost use Rattle.iom_board.specs.Senders.{cached_by};
-ghost use Rattle.iom_inflight.specs.Sound.{CarriesBytes};
+ghost use Rattle.iom_inflight.specs.Invariant.{CarriesBytes};
 ghost use Rattle.iom_iommu.specs.Requests.{access_of};
 ghost use Rattle.iom_world_effects.specs.ThroughCache.{DeviceAsksThroughCache};
-ghost use Rattle.iom_world.specs.OnHardware.{told_unless, cache_reply_told};
-ghost use Rattle.iom_world.specs.Seen.{parts_of, disks_of, inside_of};
+ghost use Rattle.iom_world.specs.OnHardware.{outcome_unless, outcome_of_cache_reply};
+ghost use Rattle.iom_world.specs.Shown.{parts_of, disks_of, inside_of};
 ghost use Rattle.iom_answers.specs.Answers.{outcome_of};
 
 use crate::answering::cached_answer;
@@ -34,10 +34,10 @@ impl<D: Disk> World<D> {
     ) -> Answer<'static>
         requires count { self.old.hardware.board.events + 1 < 2 ^ 64 }
         requires carries { CarriesBytes kind len bytes.now }
-        ensures does { DeviceAsksThroughCache (cached_by sender) (parts_of self.old) id (access_of address len kind bytes.now)
+        ensures effect { DeviceAsksThroughCache (cached_by sender) (parts_of self.old) id (access_of address len kind bytes.now)
             (outcome_of result) (parts_of self.new) }
         ensures disks { disks_of self.new ≡ disks_of self.old }
-        ensures inside { inside_of D.seen self.new ≡ inside_of D.seen self.old }
+        ensures inside { inside_of D.shown self.new ≡ inside_of D.shown self.old }
         ensures events { self.new.hardware.board.events ≡ self.old.hardware.board.events + 1 }
         ensures made { self.new.made ≡ self.old.made }
     {
@@ -58,9 +58,9 @@ impl<D: Disk> World<D> {
         len: u64,
     ) -> Answer<'static>
         requires count { self.old.hardware.board.events + 1 < 2 ^ 64 }
-        ensures does { DeviceAsksThroughCache sends_through_cache (parts_of self.old) id (read_of address len) (outcome_of result) (parts_of self.new) }
+        ensures effect { DeviceAsksThroughCache sends_through_cache (parts_of self.old) id (read_of address len) (outcome_of result) (parts_of self.new) }
         ensures disks { disks_of self.new ≡ disks_of self.old }
-        ensures inside { inside_of D.seen self.new ≡ inside_of D.seen self.old }
+        ensures inside { inside_of D.shown self.new ≡ inside_of D.shown self.old }
         ensures events { self.new.hardware.board.events ≡ self.old.hardware.board.events + 1 }
         ensures made { self.new.made ≡ self.old.made }
     {
@@ -76,9 +76,9 @@ impl<D: Disk> World<D> {
         bytes: &[u8],
     ) -> Answer<'static>
         requires count { self.old.hardware.board.events + 1 < 2 ^ 64 }
-        ensures does { DeviceAsksThroughCache sends_through_cache (parts_of self.old) id (write_of address bytes.now) (outcome_of result) (parts_of self.new) }
+        ensures effect { DeviceAsksThroughCache sends_through_cache (parts_of self.old) id (write_of address bytes.now) (outcome_of result) (parts_of self.new) }
         ensures disks { disks_of self.new ≡ disks_of self.old }
-        ensures inside { inside_of D.seen self.new ≡ inside_of D.seen self.old }
+        ensures inside { inside_of D.shown self.new ≡ inside_of D.shown self.old }
         ensures events { self.new.hardware.board.events ≡ self.old.hardware.board.events + 1 }
         ensures made { self.new.made ≡ self.old.made }
     {

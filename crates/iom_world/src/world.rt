@@ -2,8 +2,8 @@ ghost use Rattle.std.specs.Prelude.{◌≤◌, vec_capacity};
 ghost use Rattle.iom_base.specs.Sizes.{device_limit};
 ghost use Rattle.iom_hardware.specs.Agreement.{AgreesWith};
 ghost use Rattle.iom_hardware.specs.AgreementIsFact.{agrees_prop};
-ghost use Rattle.iom_world_effects.specs.Sound.{IsSoundWorld};
-ghost use Rattle.iom_world_effects.specs.SoundIsFact.{sound_world_prop};
+ghost use Rattle.iom_world_effects.specs.Invariant.{WorldInvariant};
+ghost use Rattle.iom_world_effects.specs.InvariantIsFact.{world_invariant_prop};
 
 use iom_driver::Driver;
 use iom_hardware::Hardware;
@@ -22,7 +22,7 @@ pub struct World<D: Disk> {
     pub(crate) record: FaultRecord,
     /// The access that the last event made, if it made one.
     pub(crate) made: Option<MadeAt>,
-    ghost sound: { IsSoundWorld hardware.board.memory hardware.board.iommu driver hardware.board.devices.items hardware.board.fabric hardware.board.events } by { sound_world_prop hardware.board.memory hardware.board.iommu driver hardware.board.devices.items hardware.board.fabric hardware.board.events },
+    ghost invariants: { WorldInvariant hardware.board.memory hardware.board.iommu driver hardware.board.devices.items hardware.board.fabric hardware.board.events } by { world_invariant_prop hardware.board.memory hardware.board.iommu driver hardware.board.devices.items hardware.board.fabric hardware.board.events },
     ghost agrees: { AgreesWith hardware.board.devices.items hardware.board.disks.items hardware.blocks.items hardware.at_hand.items } by { agrees_prop hardware.board.devices.items hardware.board.disks.items hardware.blocks.items hardware.at_hand.items },
     ghost room: { device_limit ≤ vec_capacity hardware.blocks },
 }

@@ -15,9 +15,9 @@ use Rattle.iom_driver.specs.State.{DriverState}
 use Rattle.iom_iommu.specs.Parts.{registers_of, contexts_of}
 use Rattle.iom_iommu.specs.Service.{found_context, context_or_cause, letting_ats, ats_context_in, ats_context_for}
 use Rattle.iom_world_effects.specs.Parts.{Parts}
-use Rattle.iom_world_effects.specs.Sound.{AreSound}
+use Rattle.iom_world_effects.specs.Invariant.{PartsInvariant}
 use Rattle.iom_world_effects.proofs.CutOffLemmas.{IsPending, pending_cached}
-use Rattle.iom_world_effects.proofs.DriverLemmas.{IsSoundDriver}
+use Rattle.iom_world_effects.proofs.DriverLemmas.{DriverInvariant}
 use Rattle.iom_world_effects.proofs.ServedLemmas.{ServiceLaws, cause_at, located_as, found_as}
 
 -- the context of these stages, where they have ATS
@@ -64,26 +64,26 @@ by_attachment d id (Leaving ticket stage) None true_for pends = inl refl
 by_attachment d id (Leaving ticket stage) (Some context) true_for pends = inr (cached_ats stage context (true_for context refl))
 
 -- WHAT IS FOUND
-found_for : ServiceLaws → (parts : Parts) (events : ℕ) → AreSound parts events → IsSoundDriver parts.driver → (id : ℕ)
+found_for : ServiceLaws → (parts : Parts) (events : ℕ) → PartsInvariant parts events → DriverInvariant parts.driver → (id : ℕ)
     → ats_context_for parts.memory (registers_of parts.iommu) (contexts_of parts.iommu) id
     ≡ letting_ats (found_context (contexts_of parts.iommu id) (located_as parts.driver.levels id (stages_of parts.driver.devices id)))
-found_for laws parts events sound own id =
+found_for laws parts events invariants own id =
     let found = context_or_cause parts.memory (registers_of parts.iommu) (contexts_of parts.iommu) id in
-    ap (λ m. ats_context_in m found) (sound.ready.directory sound.started).mode ∙ ats_in parts.driver.levels own.sizes.in_range found ∙ ap letting_ats (found_as laws parts events sound own id)
+    ap (λ m. ats_context_in m found) (invariants.ready.directory invariants.started).mode ∙ ats_in parts.driver.levels own.sizes.in_range found ∙ ap letting_ats (found_as laws parts events invariants own id)
 
-pub finds_ats : ServiceLaws → (parts : Parts) (events : ℕ) → AreSound parts events → IsSoundDriver parts.driver → (id : ℕ)
+pub finds_ats : ServiceLaws → (parts : Parts) (events : ℕ) → PartsInvariant parts events → DriverInvariant parts.driver → (id : ℕ)
     → FindsAts (attachment_by_id parts.driver.devices id) parts.driver id (ats_context_for parts.memory (registers_of parts.iommu) (contexts_of parts.iommu) id)
-finds_ats laws parts events sound own id =
-    subst (FindsAts (attachment_by_id parts.driver.devices id) parts.driver id) (sym (found_for laws parts events sound own id))
-    (by_attachment parts.driver id (attachment_by_id parts.driver.devices id) (contexts_of parts.iommu id) (λ context is. sound.contexts id context is)
-    (λ there. pending_cached parts events sound id there))
+finds_ats laws parts events invariants own id =
+    subst (FindsAts (attachment_by_id parts.driver.devices id) parts.driver id) (sym (found_for laws parts events invariants own id))
+    (by_attachment parts.driver id (attachment_by_id parts.driver.devices id) (contexts_of parts.iommu id) (λ context is. invariants.contexts id context is)
+    (λ there. pending_cached parts events invariants id there))
 
 -- of a device that isn't attached only a cached context is found
-module _ (laws : ServiceLaws) (parts : Parts) (events : ℕ) (sound : AreSound parts events) (own : IsSoundDriver parts.driver) (id : ℕ) (away : stages_of parts.driver.devices id ≡ None) where
+module _ (laws : ServiceLaws) (parts : Parts) (events : ℕ) (invariants : PartsInvariant parts events) (own : DriverInvariant parts.driver) (id : ℕ) (away : stages_of parts.driver.devices id ≡ None) where
   found_away : (cached : Option Context) → contexts_of parts.iommu id ≡ cached
       → ats_context_for parts.memory (registers_of parts.iommu) (contexts_of parts.iommu) id ≡ letting_ats (found_context cached (Err (cause_at parts.driver.levels id)))
   found_away cached at =
-      found_for laws parts events sound own id
+      found_for laws parts events invariants own id
       ∙ ap (λ s. letting_ats (found_context (contexts_of parts.iommu id) (located_as parts.driver.levels id s))) away
       ∙ ap (λ c. letting_ats (found_context c (Err (cause_at parts.driver.levels id)))) at
 
@@ -92,4 +92,4 @@ module _ (laws : ServiceLaws) (parts : Parts) (events : ℕ) (sound : AreSound p
 
   pub finds_cached : (stage : Stages) → owned_stages_of parts.driver.devices id ≡ Some stage → (context : Context) → contexts_of parts.iommu id ≡ Some context
       → ats_context_for parts.memory (registers_of parts.iommu) (contexts_of parts.iommu) id ≡ ats_context stage
-  finds_cached stage owned context at = found_away (Some context) at ∙ cached_ats stage context (ap (option_map context_for) (sym owned) ∙ sound.contexts id context at)
+  finds_cached stage owned context at = found_away (Some context) at ∙ cached_ats stage context (ap (option_map context_for) (sym owned) ∙ invariants.contexts id context at)

@@ -10,14 +10,14 @@ use Rattle.iom_base.specs.declared.device_kind.NewDevice.{NewDevice}
 use Rattle.iom_base.specs.DeviceKinds.{kind_of, disk_of, has_cache}
 use Rattle.iom_device.specs.declared.device.Device.{Device}
 use Rattle.iom_device.specs.Caches.{device_with, kind_in, cache_in, HasItsCache}
-use Rattle.iom_world_effects.specs.Does.{new_device}
+use Rattle.iom_world_effects.specs.Effect.{new_device}
 use Rattle.iom_world_effects.specs.Traffic.{entries_by, entries_in}
 use Rattle.iom_device.specs.Caches.{epoch_in}
 use Rattle.std.proofs.lemmas.Bool.Decides.{eqb_tells}
 use Rattle.iom_fabric.specs.declared.fabric.OnLink.{OnLink}
 use Rattle.iom_fabric.specs.declared.message.Message.{Message}
 use Rattle.iom_fabric.specs.declared.message.Message.TheVariants as sent
-use Rattle.iom_world_effects.specs.Sound.{IsAsked, HasAsker}
+use Rattle.iom_world_effects.specs.Invariant.{IsAsked, HasAsker}
 
 -- none of the devices has the id
 abbrev pub HaveNot : List Device → ℕ → Type 0

@@ -16,7 +16,7 @@ use Rattle.iom_inflight.specs.Flights.{FlightRow}
 use Rattle.iom_device.specs.declared.device.Device.{Device}
 use Rattle.iom_world_effects.specs.Devices.{shown_device, shown_devices}
 use Rattle.iom_device.specs.Caches.{device_with, kind_in, cache_in, cache_of, epoch_of, epoch_in, with_cache, HasItsCache, HaveTheirCaches}
-use Rattle.iom_world_effects.specs.Sound.{HaveDistinctIds, HasAsker, IsAsked, plugged_ids}
+use Rattle.iom_world_effects.specs.Invariant.{HaveDistinctIds, HasAsker, IsAsked, plugged_ids}
 use Rattle.iom_world_effects.specs.Traffic.{entry_copy, entries_by, entries_in}
 
 -- a device that is found, with this cache where it is the one

@@ -10,7 +10,7 @@ use Rattle.iom_registers.specs.Queues.{command_status}
 use Rattle.iom_world_effects.specs.Parts.{Parts}
 use Rattle.iom_world_effects.specs.Read.{space_in, space_at, values_of}
 use Rattle.iom_world_effects.proofs.SceneCalls.{KeepsCached}
-use Rattle.iom_world_effects.proofs.SoundLemmas.{traffic_kept}
+use Rattle.iom_world_effects.proofs.InvariantLemmas.{traffic_kept}
 
 -- the IOMMU is the same, and so are devices and messages; and who has an address space keeps it
 pub same_cached : (old new : Parts) → new.iommu ≡ old.iommu → new.devices ≡ old.devices → new.fabric ≡ old.fabric

@@ -32,9 +32,9 @@ use Rattle.iom_world_effects.specs.Parts.{Parts}
 use Rattle.iom_world_effects.specs.Read.{space_in, space_at, values_of}
 use Rattle.iom_world_effects.specs.Scenes.{copy_of, IsSceneOf}
 use Rattle.iom_world_effects.specs.Shows.{PartsShow}
-use Rattle.iom_world_effects.specs.Sound.{AreSound}
+use Rattle.iom_world_effects.specs.Invariant.{PartsInvariant}
 use Rattle.iom_world_effects.proofs.CutOffLemmas.{IsPending, accept_formerly, cut_off_holds}
-use Rattle.iom_world_effects.proofs.DriverLemmas.{IsSoundDriver}
+use Rattle.iom_world_effects.proofs.DriverLemmas.{DriverInvariant}
 use Rattle.iom_world_effects.proofs.HistoryMay.{may_merely, facts_of_history}
 use Rattle.iom_world_effects.proofs.SceneCalls.{none_cached}
 
@@ -73,7 +73,7 @@ same_number (Both size) (First other) n m same = cc
 same_number (Both size) (Second other) n m same = cc
 
 -- whose address space it is: no two devices have the same
-pub one_space : (d : DriverState) → IsSoundDriver d → (id other : ℕ) (stage : Stages) → owned_stages_of d.devices id ≡ Some stage
+pub one_space : (d : DriverState) → DriverInvariant d → (id other : ℕ) (stage : Stages) → owned_stages_of d.devices id ≡ Some stage
     → space_at d.devices other ≡ Some (space_in stage.mode stage.number) → other ≡ id
 one_space d own id other stage owned at = by (owned_stages_of d.devices other) refl at
   where
@@ -86,7 +86,7 @@ one_space d own id other stage owned at = by (owned_stages_of d.devices other) r
         own.numbers.own other id s stage is owned (same_number s.mode stage.mode s.number stage.number (some_same (space_in s.mode s.number) (space_in stage.mode stage.number) named))
 
 -- a translation that is cached of a page of the device
-module _ (parts : Parts) (events : ℕ) (state : State) (id page : ℕ) (stage : Stages) (translation : Translation) (sound : AreSound parts events) (own : IsSoundDriver parts.driver)
+module _ (parts : Parts) (events : ℕ) (state : State) (id page : ℕ) (stage : Stages) (translation : Translation) (invariants : PartsInvariant parts events) (own : DriverInvariant parts.driver)
     (shows : PartsShow parts state) (owned : owned_stages_of parts.driver.devices id ≡ Some stage)
     (cached : translations_of parts.iommu (space_in stage.mode stage.number, page) ≡ Some translation) where
   -- the scene has the translation as one of the device's
@@ -111,7 +111,7 @@ module _ (parts : Parts) (events : ℕ) (state : State) (id page : ℕ) (stage :
   -- none is cached of a device that leaves
   pub leaves_none : (ticket : ℕ) (s : Stages) → attachment_by_id parts.driver.devices id ≡ driver.Leaving ticket s → ⊥
   leaves_none ticket s is =
-      not_there sound.copies (λ (scene, shown, facts).
+      not_there invariants.copies (λ (scene, shown, facts).
       none_cached scene (copy_of id page translation) (Leaving ticket s.mode s.ats) parts.driver.confirmed parts.driver.given facts (shown.attachments id ∙ ap shown_attachment is)
       (own.leaving id ticket s is) (there_in scene shown))
 
@@ -122,13 +122,13 @@ module _ (parts : Parts) (events : ℕ) (state : State) (id page : ℕ) (stage :
       none_some : ◌≡◌ {A = Option Stages} None (Some stage) → ⊥
       none_some same = cc
 
-module _ (parts : Parts) (events : ℕ) (state : State) (id : ℕ) (access : Access) (stage : Stages) (translation : Translation) (sound : AreSound parts events)
-    (own : IsSoundDriver parts.driver) (shows : PartsShow parts state) (owned : owned_stages_of parts.driver.devices id ≡ Some stage)
+module _ (parts : Parts) (events : ℕ) (state : State) (id : ℕ) (access : Access) (stage : Stages) (translation : Translation) (invariants : PartsInvariant parts events)
+    (own : DriverInvariant parts.driver) (shows : PartsShow parts state) (owned : owned_stages_of parts.driver.devices id ≡ Some stage)
     (cached : translations_of parts.iommu (space_in stage.mode stage.number, access.address / 4096) ≡ Some translation) (allowed : allows translation.rights access.kind ≡ true)
     (pending : IsPending parts.driver id) where
   reach_in : (both_stages : Bool) → in_both_stages (shown_attachment (attachment_by_id parts.driver.devices id)) ≡ both_stages → (scene : Scene) → IsSceneOf (values_of parts) scene
       → IsFaithful scene → IsReachable both_stages state.history (copy_of id (access.address / 4096) translation)
-  reach_in both_stages is scene shown facts = reachable_in parts events state id (access.address / 4096) stage translation sound own shows owned cached both_stages is scene shown facts
+  reach_in both_stages is scene shown facts = reachable_in parts events state id (access.address / 4096) stage translation invariants own shows owned cached both_stages is scene shown facts
 
   -- in one stage it is what is held at the page, or what lingers there
   accept_in : in_both_stages (shown_attachment (attachment_by_id parts.driver.devices id)) ≡ false → (scene : Scene) → IsSceneOf (values_of parts) scene → IsFaithful scene
@@ -137,7 +137,7 @@ module _ (parts : Parts) (events : ℕ) (state : State) (id : ℕ) (access : Acc
       elim (reach_in false one scene shown facts) [
         | inl held ↦ inl (translation.rights, held, allowed)
         | inr lingers ↦ inr (
-          (λ other holds. (in_history parts events state id (access.address / 4096) stage translation sound own shows owned cached scene shown facts).order.apart id (access.address / 4096) lingers.0
+          (λ other holds. (in_history parts events state id (access.address / 4096) stage translation invariants own shows owned cached scene shown facts).order.apart id (access.address / 4096) lingers.0
               (other, holds.0) (translation.frame, translation.rights) holds.1 lingers.1),
           (translation.rights, lingers, allowed),
         )
@@ -149,26 +149,26 @@ module _ (parts : Parts) (events : ℕ) (state : State) (id : ℕ) (access : Acc
   may_in both scene shown facts = reach_in true both scene shown facts access.kind allowed
 
   by_mode : (mode : Mode) (ats : Bool) → in_both_stages (shown_attachment (attachment_by_id parts.driver.devices id)) ≡ is_both mode → MayAccept (Attached mode ats) state id access translation.frame
-  by_mode (First size) ats is = accept_merely state.history id translation.frame access (∥∥₁_map sound.copies (λ (scene, shown, facts). accept_in is scene shown facts))
-  by_mode (Second size) ats is = accept_merely state.history id translation.frame access (∥∥₁_map sound.copies (λ (scene, shown, facts). accept_in is scene shown facts))
-  by_mode (Both size) ats is = may_merely state.history id translation.frame access.kind (∥∥₁_map sound.copies (λ (scene, shown, facts). may_in is scene shown facts))
+  by_mode (First size) ats is = accept_merely state.history id translation.frame access (∥∥₁_map invariants.copies (λ (scene, shown, facts). accept_in is scene shown facts))
+  by_mode (Second size) ats is = accept_merely state.history id translation.frame access (∥∥₁_map invariants.copies (λ (scene, shown, facts). accept_in is scene shown facts))
+  by_mode (Both size) ats is = may_merely state.history id translation.frame access.kind (∥∥₁_map invariants.copies (λ (scene, shown, facts). may_in is scene shown facts))
 
-  -- of a device that is cut off it is what lingers
+  -- of a device that is quarantined it is what lingers
   cut_off : (ticket : ℕ) (s : Stages) → attachment_by_id parts.driver.devices id ≡ driver.Quarantined ticket s → MayAccept (shown_attachment (driver.Quarantined ticket s)) state id access translation.frame
   cut_off ticket s is = (
     shows.none_later ticket (pending ticket s is),
     accept_formerly state.history id (access.address / 4096) translation.frame translation.rights (cut_off_holds parts.driver own state.history shows.ledger id ticket s is) s.mode access refl allowed
-        (∥∥₁_map sound.copies (λ (scene, shown, facts). reach_in (is_both s.mode) (ap (λ a. in_both_stages (shown_attachment a)) is) scene shown facts)),
+        (∥∥₁_map invariants.copies (λ (scene, shown, facts). reach_in (is_both s.mode) (ap (λ a. in_both_stages (shown_attachment a)) is) scene shown facts)),
   )
 
   by_attachment : (a : Attachment) → attachment_by_id parts.driver.devices id ≡ a → MayAccept (shown_attachment a) state id access translation.frame
-  by_attachment driver.Detached is = absurd (detached_none parts events state id (access.address / 4096) stage translation sound own shows owned cached is)
+  by_attachment driver.Detached is = absurd (detached_none parts events state id (access.address / 4096) stage translation invariants own shows owned cached is)
   by_attachment (driver.Attached s) is = by_mode s.mode s.ats (ap (λ a. in_both_stages (shown_attachment a)) is)
   by_attachment (driver.Quarantined ticket s) is = cut_off ticket s is
-  by_attachment (driver.Leaving ticket s) is = absurd (leaves_none parts events state id (access.address / 4096) stage translation sound own shows owned cached ticket s is)
+  by_attachment (driver.Leaving ticket s) is = absurd (leaves_none parts events state id (access.address / 4096) stage translation invariants own shows owned cached ticket s is)
 
-pub cached_accept : (parts : Parts) (events : ℕ) (state : State) (id : ℕ) (access : Access) (stage : Stages) (translation : Translation) → AreSound parts events → IsSoundDriver parts.driver
+pub cached_accept : (parts : Parts) (events : ℕ) (state : State) (id : ℕ) (access : Access) (stage : Stages) (translation : Translation) → PartsInvariant parts events → DriverInvariant parts.driver
     → PartsShow parts state → owned_stages_of parts.driver.devices id ≡ Some stage → translations_of parts.iommu (space_in stage.mode stage.number, access.address / 4096) ≡ Some translation
     → allows translation.rights access.kind ≡ true → IsPending parts.driver id → MayAccept (shown_attachment (attachment_by_id parts.driver.devices id)) state id access translation.frame
-cached_accept parts events state id access stage translation sound own shows owned cached allowed pending =
-    by_attachment parts events state id access stage translation sound own shows owned cached allowed pending (attachment_by_id parts.driver.devices id) refl
+cached_accept parts events state id access stage translation invariants own shows owned cached allowed pending =
+    by_attachment parts events state id access stage translation invariants own shows owned cached allowed pending (attachment_by_id parts.driver.devices id) refl

@@ -1,4 +1,4 @@
--- A device that is cut off: while its context is cached its ticket isn't confirmed, and it holds nothing, so that what it may still reach lingers.
+-- A device that is quarantined: while its context is cached its ticket isn't confirmed, and it holds nothing, so that what it may still reach lingers.
 use Rattle.std.proofs.Common.{◌≡◌, ◌<◌, ◌/◌, ◌⊎◌, ◌∙◌, inl, inr, ℕ, Bool, true, false, suc, nat_lt, is_some, Option, None, Some, refl, sym, ap, subst, arith}
 use Rattle.std.specs.List.{list_any}
 use Rattle.std.proofs.Math.Logic.{∥∥₁_map}
@@ -31,16 +31,16 @@ use Rattle.iom_world_effects.specs.Devices.{shown_attachment}
 use Rattle.iom_world_effects.specs.Parts.{Parts}
 use Rattle.iom_world_effects.specs.Read.{values_of}
 use Rattle.iom_world_effects.specs.Scenes.{copy_of, IsSceneOf}
-use Rattle.iom_world_effects.specs.Sound.{AreSound}
-use Rattle.iom_world_effects.proofs.DriverLemmas.{IsSoundDriver}
+use Rattle.iom_world_effects.specs.Invariant.{PartsInvariant}
+use Rattle.iom_world_effects.proofs.DriverLemmas.{DriverInvariant}
 
--- a device that is cut off is so under a ticket that isn't confirmed
+-- a device that is quarantined is so under a ticket that isn't confirmed
 abbrev pub IsPending : DriverState → ℕ → Type 0
 IsPending d id = (ticket : ℕ) (stage : Stages) → attachment_by_id d.devices id ≡ driver.Quarantined ticket stage → d.confirmed < ticket
 
 -- that is so while its context is cached
-pub pending_cached : (parts : Parts) (events : ℕ) → AreSound parts events → (id : ℕ) → is_some (contexts_of parts.iommu id) ≡ true → IsPending parts.driver id
-pending_cached parts events sound id there ticket stage is = by (nat_lt parts.driver.confirmed ticket) refl
+pub pending_cached : (parts : Parts) (events : ℕ) → PartsInvariant parts events → (id : ℕ) → is_some (contexts_of parts.iommu id) ≡ true → IsPending parts.driver id
+pending_cached parts events invariants id there ticket stage is = by (nat_lt parts.driver.confirmed ticket) refl
   where
     above : (scene : Scene) → IsSceneOf (values_of parts) scene → IsFaithful scene → parts.driver.confirmed < ticket
     above scene shown facts =
@@ -50,11 +50,11 @@ pending_cached parts events sound id there ticket stage is = by (nat_lt parts.dr
 
     by : (b : Bool) → nat_lt parts.driver.confirmed ticket ≡ b → parts.driver.confirmed < ticket
     by true low = leb-true (suc parts.driver.confirmed) ticket low
-    by false high = absurd (not_there sound.copies (λ (scene, shown, facts).
+    by false high = absurd (not_there invariants.copies (λ (scene, shown, facts).
         let low = above scene shown facts in let most = leb-false (suc parts.driver.confirmed) ticket high in omega (arith, low, most)))
 
 -- it holds nothing
-pub cut_off_holds : (d : DriverState) → IsSoundDriver d → (history : History) → Agrees d.ledger history → (id ticket : ℕ) (stage : Stages)
+pub cut_off_holds : (d : DriverState) → DriverInvariant d → (history : History) → Agrees d.ledger history → (id ticket : ℕ) (stage : Stages)
     → attachment_by_id d.devices id ≡ driver.Quarantined ticket stage → (page : ℕ) → held_at history id page ≡ None
 cut_off_holds d own history agrees id ticket stage is page = (agrees.pages id page).holds ∙ own.holders id page (ap attached_stages is)
 

@@ -14,7 +14,7 @@ use Rattle.iom_driver.proofs.Lists.{differs}
 use Rattle.iom_machine.specs.declared.state.Attachment as machine
 use Rattle.iom_machine.specs.declared.state.Attachment.TheVariants as shown
 use Rattle.iom_world_effects.specs.Devices.{shown_attachment}
-use Rattle.iom_world_effects.specs.Sound.{known_ids}
+use Rattle.iom_world_effects.specs.Invariant.{known_ids}
 use Rattle.iom_world_effects.proofs.ConfirmScenes.{left_after}
 
 -- how an attachment is once the tickets up to a number are confirmed

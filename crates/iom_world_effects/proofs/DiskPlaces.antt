@@ -14,7 +14,7 @@ use Rattle.iom_machine.specs.Devices.{replaced_device}
 use Rattle.iom_device.specs.declared.device.Device.{Device}
 use Rattle.iom_device.specs.Caches.{device_with, kind_in, cache_in, epoch_of, epoch_in, with_has_disk, HasItsCache, HaveTheirCaches}
 use Rattle.iom_world_effects.specs.Devices.{shown_device, shown_devices}
-use Rattle.iom_world_effects.specs.Sound.{HaveDistinctIds, HasAsker, IsAsked, plugged_ids}
+use Rattle.iom_world_effects.specs.Invariant.{HaveDistinctIds, HasAsker, IsAsked, plugged_ids}
 use Rattle.iom_world_effects.specs.Traffic.{entries_by, entries_in}
 use Rattle.iom_world_effects.proofs.RowPlaces.{found_of, shown_of}
 

@@ -34,7 +34,7 @@ use Rattle.iom_driver.specs.declared.device.Attachment.TheVariants as driver
 use Rattle.iom_driver.specs.declared.device.Stages.{Stages}
 use Rattle.iom_driver.specs.Devices.{attachment_by_id, attached_stages, owned_stages}
 use Rattle.iom_driver.specs.Directory.{context_for}
-use Rattle.iom_driver.specs.Sound.{IsGrant}
+use Rattle.iom_driver.specs.Invariant.{IsGrant}
 use Rattle.iom_driver.proofs.Lists.{get_within}
 use Rattle.iom_iommu.specs.Parts.{registers_of, contexts_of}
 use Rattle.iom_iommu.specs.Service.{own_page, ats_context_for}
@@ -54,11 +54,11 @@ use Rattle.iom_world_effects.specs.Parts.{Parts}
 use Rattle.iom_world_effects.specs.Read.{values_of}
 use Rattle.iom_world_effects.specs.Scenes.{copy_of, IsSceneOf}
 use Rattle.iom_world_effects.specs.Shows.{PartsShow}
-use Rattle.iom_world_effects.specs.Sound.{AreSound}
+use Rattle.iom_world_effects.specs.Invariant.{PartsInvariant}
 use Rattle.iom_world_effects.specs.Traffic.{Traffic, entry_copy, entries_by, entries_in}
 use Rattle.iom_world_effects.proofs.AtsContexts.{FindsAts, ats_context, finds_ats, finds_cached}
 use Rattle.iom_world_effects.proofs.CutOffLemmas.{pending_cached, accept_formerly, cut_off_holds}
-use Rattle.iom_world_effects.proofs.DriverLemmas.{IsSoundDriver}
+use Rattle.iom_world_effects.proofs.DriverLemmas.{DriverInvariant}
 use Rattle.iom_world_effects.proofs.HistoryMay.{may_merely, facts_of_history}
 use Rattle.iom_world_effects.proofs.MadeFrames.{lingers_in}
 use Rattle.iom_world_effects.proofs.ServedLemmas.{ServiceLaws}
@@ -103,12 +103,12 @@ found_entry devices id page kind frame found = by (cache_of devices id) refl fou
               (subst (λ f. Contains (entries_in devices) (copy_of id one.0.page (record { frame = f; rights = one.0.rights; level = 0 }))) one.2 (entries_there devices id cache is one.0 one.4));
         }
 
--- what the device's cache has may be used: the device isn't cut off, or its context is cached
+-- what the device's cache has may be used: the device isn't quarantined, or its context is cached
 abbrev pub IsUsable : Parts → ℕ → Type 0
 IsUsable parts id = (ticket : ℕ) (stage : Stages) → attachment_by_id parts.driver.devices id ≡ driver.Quarantined ticket stage
     → (context : Context) × (contexts_of parts.iommu id ≡ Some context)
 
--- or else the device is cut off, and no context of it is cached
+-- or else the device is quarantined, and no context of it is cached
 abbrev pub IsForgotten : Parts → ℕ → Type 0
 IsForgotten parts id = (ticket : ℕ) × (stage : Stages) × (attachment_by_id parts.driver.devices id ≡ driver.Quarantined ticket stage) × (contexts_of parts.iommu id ≡ None)
 
@@ -160,7 +160,7 @@ own_found memory address frame kind same inside =
     ap (λ (n : ℕ). if nat_lt n (length memory) then Ok (record { frame = n; rights = of_rights.rw; level = 0 }) else Err (plain (access_fault_of kind))) same
     ∙ ap (λ (b : Bool). if b then Ok (record { frame = frame; rights = of_rights.rw; level = 0 }) else Err (plain (access_fault_of kind))) (le-leb (suc frame) (length memory) inside)
 
-module _ (parts : Parts) (events id : ℕ) (access : Access) (frame : ℕ) (sound : AreSound parts events) (own : IsSoundDriver parts.driver)
+module _ (parts : Parts) (events id : ℕ) (access : Access) (frame : ℕ) (invariants : PartsInvariant parts events) (own : DriverInvariant parts.driver)
     (entry : HasEntry parts.devices id (page_of access) access.kind frame) (usable : IsUsable parts id) where
   abbrev copy : Copy
   copy = copy_of id (page_of access) (record { frame = frame; rights = entry.rights; level = 0 })
@@ -177,7 +177,7 @@ module _ (parts : Parts) (events id : ℕ) (access : Access) (frame : ℕ) (soun
 
   -- who leaves holds nothing, and nothing lingers for it
   never_leaving : (ticket : ℕ) (stage : Stages) → attachment_by_id parts.driver.devices id ≡ driver.Leaving ticket stage → ⊥
-  never_leaving ticket stage is = not_there sound.copies (λ (scene, shown, facts).
+  never_leaving ticket stage is = not_there invariants.copies (λ (scene, shown, facts).
       let fits : GrantsFit scene.history id (Leaving ticket stage.mode stage.ats) = subst (GrantsFit scene.history id) (shown.attachments id ∙ ap shown_attachment is) (facts.order.grants id) in
       let backed = (facts.entries copy (entry_in scene shown) (used_in scene shown)).1 in
       elim backed.3 [
@@ -194,12 +194,12 @@ module _ (parts : Parts) (events id : ℕ) (access : Access) (frame : ℕ) (soun
     where
       by : (b : Bool) → has_ats (shown_attachment a) ≡ b → has_ats (shown_attachment a) ≡ true
       by true same = same
-      by false none = absurd (not_there sound.copies (λ (scene, shown, facts).
+      by false none = absurd (not_there invariants.copies (λ (scene, shown, facts).
           false≢true (sym (ap has_ats (shown.attachments id ∙ ap shown_attachment is) ∙ none) ∙ faithful_in scene shown facts)))
 
   -- so its context lets it through
   pub entry_context : ServiceLaws → (stage : Stages) × (ats_context_for parts.memory (registers_of parts.iommu) (contexts_of parts.iommu) id ≡ Ok (context_for stage))
-  entry_context laws = by (attachment_by_id parts.driver.devices id) refl (finds_ats laws parts events sound own id)
+  entry_context laws = by (attachment_by_id parts.driver.devices id) refl (finds_ats laws parts events invariants own id)
     where
       let_through : (stage : Stages) → stage.ats ≡ true → ats_context stage ≡ Ok (context_for stage)
       let_through stage ats = ap (λ (b : Bool). if b then Ok (context_for stage) else Err TransactionTypeDisallowed) ats
@@ -215,15 +215,15 @@ module _ (parts : Parts) (events id : ℕ) (access : Access) (frame : ℕ) (soun
       )
       by (driver.Quarantined ticket stage) is finds =
           let cached = usable ticket stage is in
-          (stage, finds_cached laws parts events sound own id (ap attached_stages is) stage (ap owned_stages is) cached.0 cached.1 ∙ let_through stage (with_ats (driver.Quarantined ticket stage) is))
+          (stage, finds_cached laws parts events invariants own id (ap attached_stages is) stage (ap owned_stages is) cached.0 cached.1 ∙ let_through stage (with_ats (driver.Quarantined ticket stage) is))
       by (driver.Leaving ticket stage) is finds = absurd (never_leaving ticket stage is)
 
   -- the frame is one of memory
   pub entry_inside : frame < length parts.memory
   entry_inside = by (nat_lt frame (length parts.memory)) refl
     where
-      of_grant : (page : ℕ) → IsGrant parts.driver.marks page frame → frame < length parts.memory
-      of_grant page grant = subst (λ n. frame < n) (sym sound.ready.stand.size) (get_within parts.driver.marks frame None grant.unreserved)
+      of_grant : (page : ℕ) → IsGrant parts.driver.owners page frame → frame < length parts.memory
+      of_grant page grant = subst (λ n. frame < n) (sym invariants.ready.stand.size) (get_within parts.driver.owners frame None grant.unreserved)
 
       in_scene : (scene : Scene) → IsSceneOf (values_of parts) scene → IsFaithful scene → frame < length parts.memory
       in_scene scene shown facts =
@@ -238,7 +238,7 @@ module _ (parts : Parts) (events id : ℕ) (access : Access) (frame : ℕ) (soun
       by true is = leb-true (suc frame) (length parts.memory) is
       by false is =
           let high : length parts.memory < suc frame = leb-false (suc frame) (length parts.memory) is in
-          absurd (not_there sound.copies (λ (scene, shown, facts). let low = in_scene scene shown facts in absurd (omega (arith, high, low))))
+          absurd (not_there invariants.copies (λ (scene, shown, facts). let low = in_scene scene shown facts in absurd (omega (arith, high, low))))
 
   -- so the translated request that the device makes of it is let through, on that frame
   pub entry_page : ServiceLaws → physical_page (ats_context_for parts.memory (registers_of parts.iommu) (contexts_of parts.iommu) id) parts.memory (at_frame frame access).address access.kind
@@ -264,16 +264,16 @@ module _ (parts : Parts) (events id : ℕ) (access : Access) (frame : ℕ) (soun
     ]
 
     by_mode : (mode : Mode) (ats : Bool) → in_both_stages (shown_attachment (attachment_by_id parts.driver.devices id)) ≡ is_both mode → MayGoThrough (Attached mode ats) state id access frame
-    by_mode (First size) ats is = have_merely state.history id frame access (∥∥₁_map sound.copies (λ (scene, shown, facts). have_in is scene shown facts))
-    by_mode (Second size) ats is = have_merely state.history id frame access (∥∥₁_map sound.copies (λ (scene, shown, facts). have_in is scene shown facts))
-    by_mode (Both size) ats is = may_merely state.history id frame access.kind (∥∥₁_map sound.copies (λ (scene, shown, facts). reachable_in true is scene shown facts access.kind entry.allowed))
+    by_mode (First size) ats is = have_merely state.history id frame access (∥∥₁_map invariants.copies (λ (scene, shown, facts). have_in is scene shown facts))
+    by_mode (Second size) ats is = have_merely state.history id frame access (∥∥₁_map invariants.copies (λ (scene, shown, facts). have_in is scene shown facts))
+    by_mode (Both size) ats is = may_merely state.history id frame access.kind (∥∥₁_map invariants.copies (λ (scene, shown, facts). reachable_in true is scene shown facts access.kind entry.allowed))
 
-    -- of a device that is cut off it is what lingers
+    -- of a device that is quarantined it is what lingers
     cut_off : (ticket : ℕ) (stage : Stages) → attachment_by_id parts.driver.devices id ≡ driver.Quarantined ticket stage → MayGoThrough (shown_attachment (driver.Quarantined ticket stage)) state id access frame
     cut_off ticket stage is = (
-      shows.none_later ticket (pending_cached parts events sound id (ap is_some (usable ticket stage is).1) ticket stage is),
+      shows.none_later ticket (pending_cached parts events invariants id (ap is_some (usable ticket stage is).1) ticket stage is),
       accept_formerly state.history id (page_of access) frame entry.rights (cut_off_holds parts.driver own state.history shows.ledger id ticket stage is) stage.mode access refl entry.allowed
-          (∥∥₁_map sound.copies (λ (scene, shown, facts). reachable_in (is_both stage.mode) (ap (λ a. in_both_stages (shown_attachment a)) is) scene shown facts)),
+          (∥∥₁_map invariants.copies (λ (scene, shown, facts). reachable_in (is_both stage.mode) (ap (λ a. in_both_stages (shown_attachment a)) is) scene shown facts)),
     )
 
     -- and the machine lets the access go through

@@ -6,11 +6,11 @@ use Rattle.std.specs.Option.{option_map_or}
 use Rattle.iom_machine.specs.declared.state.Frame.{Frame}
 use Rattle.iom_machine.specs.Frames.{is_reserved, with_frame, reserved_for}
 use Rattle.iom_base.specs.declared.owner.Owner.{Owner}
-use Rattle.iom_table_frames.specs.Marks as marks
+use Rattle.iom_table_frames.specs.Owners as owners
 use Rattle.iom_world_effects.specs.Frames.{ShowsFrames}
 use Rattle.iom_driver.specs.Choices.{marked_for}
 use Rattle.iom_driver.proofs.Lists.{get_set_same, get_set_other, get_within, get_there}
-use Rattle.iom_driver.proofs.Marks.{all_head, all_tail}
+use Rattle.iom_driver.proofs.Owners.{all_head, all_tail}
 
 -- a frame of the machine where an owner takes it
 abbrev pub owned : Owner → Frame → Frame
@@ -47,11 +47,11 @@ shows_reserved memory memory' marked frames n owner shows lt long same size =
     let there = get_there frames n inside in
     record {
       size = length-with_frame frames n (owned owner) inside ∙ shows.size ∙ sym size;
-      owners = λ k. elim (eqb_tells k n) [
+      same_owners = λ k. elim (eqb_tells k n) [
         | inl e ↦ subst (λ j. option_map (λ (f : Frame). f.owner) (slice_get (with_frame frames n (owned owner)) j) ≡ slice_get (slice_set marked n (Some owner)) j) (sym e.1)
             (ap (option_map (λ (f : Frame). f.owner)) (get_with_frame_same frames n (owned owner) there.0 there.1)
             ∙ sym (get_set_same marked n (Some owner) (rw long lt)))
-        | inr ne ↦ ap (option_map (λ (f : Frame). f.owner)) (get_with_frame_other frames n k (owned owner) inside ne.1) ∙ shows.owners k
+        | inr ne ↦ ap (option_map (λ (f : Frame). f.owner)) (get_with_frame_other frames n k (owned owner) inside ne.1) ∙ shows.same_owners k
             ∙ sym (get_set_other marked n k (Some owner) ne.1)
       ];
       bytes = λ k free. elim (eqb_tells k n) [
@@ -79,13 +79,13 @@ pub shows_kept : (memory memory' : List (List ℕ)) (marked : List (Option Owner
     → ShowsFrames memory' marked frames
 shows_kept memory memory' marked frames shows same size = record {
   size = shows.size ∙ sym size;
-  owners = shows.owners;
+  same_owners = shows.same_owners;
   bytes = λ k free. shows.bytes k free ∙ sym (same k free);
 }
 
 -- a frame is reserved in the machine exactly where it is marked
-pub reserved_shown : (memory : List (List ℕ)) (marked : List (Option Owner)) (frames : List Frame) (n : ℕ) → ShowsFrames memory marked frames → is_reserved frames n ≡ marks.is_marked marked n
-reserved_shown memory marked frames n shows = by (slice_get frames n) (slice_get marked n) (shows.owners n)
+pub reserved_shown : (memory : List (List ℕ)) (marked : List (Option Owner)) (frames : List Frame) (n : ℕ) → ShowsFrames memory marked frames → is_reserved frames n ≡ owners.is_marked marked n
+reserved_shown memory marked frames n shows = by (slice_get frames n) (slice_get marked n) (shows.same_owners n)
   where
     by : (f : Option Frame) (m : Option (Option Owner)) → option_map (λ (g : Frame). g.owner) f ≡ m
         → option_map_or (λ (g : Frame). is_some g.owner) f false ≡ option_map_or (λ (k : Option Owner). is_some k) m false

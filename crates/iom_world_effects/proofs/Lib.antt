@@ -27,8 +27,8 @@ pub mod SceneCalls
 pub mod SceneSteps
 pub mod ServedLemmas
 pub mod SoundFrom
-pub mod SoundLemmas
-pub mod StayLemmas
+pub mod InvariantLemmas
+pub mod UnchangedLemmas
 pub mod TakenLemmas
 pub mod RestartLists
 pub mod RestartScenes

@@ -9,7 +9,7 @@ use Rattle.iom_base.specs.declared.owner.Owner.{Owner}
 use Rattle.iom_coherence.specs.Scene.{AccessInFlight}
 use Rattle.iom_coherence.proofs.ListLemmas.{cons_cases, contains_head, contains_map, in_none}
 use Rattle.iom_coherence.proofs.SourceLemmas.{accesses_may}
-use Rattle.iom_driver.specs.Sound.{IsGrant}
+use Rattle.iom_driver.specs.Invariant.{IsGrant}
 use Rattle.iom_inflight.specs.declared.made.MadeAt.{MadeAt}
 use Rattle.iom_inflight.specs.Calls.{IsMade, MakesOldestInFlight, Performs}
 use Rattle.iom_inflight.specs.Flights.{Flights}
@@ -18,12 +18,12 @@ use Rattle.iom_ledger.specs.declared.ledger.Ledger.{Ledger}
 use Rattle.iom_ledger.specs.History.{History, Pair, Lingers, May}
 use Rattle.iom_ledger.specs.Shown.{Agrees, lingering_in, released_in}
 use Rattle.iom_machine.specs.declared.outcome.Outcome.{Outcome}
-use Rattle.iom_table_frames.specs.Marks.{is_marked}
+use Rattle.iom_table_frames.specs.Owners.{is_marked}
 use Rattle.iom_world_effects.specs.Commits.{TellsRead, TellsKind}
 use Rattle.iom_world_effects.specs.Parts.{Parts}
 use Rattle.iom_world_effects.specs.Read.{access_in_flight, accesses_of}
-use Rattle.iom_world_effects.specs.Sound.{AreSound}
-use Rattle.iom_world_effects.proofs.DriverLemmas.{IsSoundDriver}
+use Rattle.iom_world_effects.specs.Invariant.{PartsInvariant}
+use Rattle.iom_world_effects.proofs.DriverLemmas.{DriverInvariant}
 use Rattle.iom_world_effects.proofs.RowLemmas.{row_accesses}
 
 -- what the history says to linger the ledger has as lingering
@@ -39,40 +39,40 @@ lingers_in ledger h device page pair agrees (ticket, there) =
     ]
 
 -- a frame that may be reached isn't reserved
-may_unreserved : (parts : Parts) (h : History) (device frame : ℕ) (kind : AccessKind) → IsSoundDriver parts.driver → Agrees parts.driver.ledger h → May h device frame kind
-    → is_marked parts.driver.marks frame ≡ false
+may_unreserved : (parts : Parts) (h : History) (device frame : ℕ) (kind : AccessKind) → DriverInvariant parts.driver → Agrees parts.driver.ledger h → May h device frame kind
+    → is_marked parts.driver.owners frame ≡ false
 may_unreserved parts h device frame kind own agrees (page, rights, holds, allowed) = elim holds [
   | inl held ↦ unmarked (own.grants.held device page frame rights (sym (agrees.pages device page).holds ∙ held))
   | inr lingers ↦ unmarked (own.grants.lingering device page frame rights (lingers_in parts.driver.ledger h device page (frame, rights) agrees lingers))
 ]
   where
-    unmarked : IsGrant parts.driver.marks page frame → is_marked parts.driver.marks frame ≡ false
+    unmarked : IsGrant parts.driver.owners page frame → is_marked parts.driver.owners frame ≡ false
     unmarked grant = ap (λ o. option_map_or (λ (mark : Option Owner). is_some mark) o false) grant.unreserved
 
 -- nor is that of an access in flight
-access_unreserved : (parts : Parts) (events : ℕ) (access : AccessInFlight) → AreSound parts events → IsSoundDriver parts.driver → Contains (accesses_of (flights_of parts.iommu).rows) access
-    → is_marked parts.driver.marks access.frame ≡ false
-access_unreserved parts events access sound own there =
-    ∥∥₁_elim sound.copies (a_fact (is_marked parts.driver.marks access.frame))
+access_unreserved : (parts : Parts) (events : ℕ) (access : AccessInFlight) → PartsInvariant parts events → DriverInvariant parts.driver → Contains (accesses_of (flights_of parts.iommu).rows) access
+    → is_marked parts.driver.owners access.frame ≡ false
+access_unreserved parts events access invariants own there =
+    ∥∥₁_elim invariants.copies (a_fact (is_marked parts.driver.owners access.frame))
     (λ (scene, shows, facts). may_unreserved parts scene.history access.device access.frame access.kind own shows.ledger
     (accesses_may scene facts access (subst (λ l. Contains l access) (sym shows.in_flight) there)))
   where
     a_fact : (b : Bool) → IsProp (b ≡ false)
     a_fact b = hlevel props
 
-pub made_unreserved : (parts : Parts) (events id : ℕ) (made : Option MadeAt) (memory : List (List ℕ)) (now : Flights) → AreSound parts events → IsSoundDriver parts.driver
-    → MakesOldestInFlight parts.memory (flights_of parts.iommu) id made memory now → IfSome made (λ it. is_marked parts.driver.marks it.frame ≡ false)
-made_unreserved parts events id None memory now sound own makes = tt
-made_unreserved parts events id (Some made) memory now sound own makes =
+pub made_unreserved : (parts : Parts) (events id : ℕ) (made : Option MadeAt) (memory : List (List ℕ)) (now : Flights) → PartsInvariant parts events → DriverInvariant parts.driver
+    → MakesOldestInFlight parts.memory (flights_of parts.iommu) id made memory now → IfSome made (λ it. is_marked parts.driver.owners it.frame ≡ false)
+made_unreserved parts events id None memory now invariants own makes = tt
+made_unreserved parts events id (Some made) memory now invariants own makes =
     let row = makes.row in
     let there : Contains row.waiting makes.oldest = subst (λ l. Contains l makes.oldest) (sym makes.waiting) (contains_head makes.oldest makes.later) in
     let among = row_accesses (flights_of parts.iommu).rows id row makes.stands (access_in_flight row.device makes.oldest) (contains_map (access_in_flight row.device) row.waiting makes.oldest there) in
-    ap (λ (m : MadeAt). is_marked parts.driver.marks m.frame) makes.told ∙ access_unreserved parts events (access_in_flight row.device makes.oldest) sound own among
+    ap (λ (m : MadeAt). is_marked parts.driver.owners m.frame) makes.reply ∙ access_unreserved parts events (access_in_flight row.device makes.oldest) invariants own among
 
 -- a read leaves memory, so what it tells stood there before
-pub read_told : (old memory : List (List ℕ)) (flights : Flights) (id : ℕ) (made : MadeAt) (now : Flights) (told : Outcome) → IsMade old flights id made memory now → made.kind ≡ Read
-    → TellsRead memory made told → TellsKind old made made.kind told
-read_told old memory flights id made now told makes reads tells =
-    let kind : makes.oldest.accepted.access.kind ≡ Read = ap (λ (m : MadeAt). m.kind) (sym makes.told) ∙ reads in
-    let stays : memory ≡ old = subst (λ k. Performs k old makes.oldest.accepted memory) kind makes.performed in
-    subst (λ k. TellsKind old made k told) (sym reads) (subst (λ m. TellsRead m made told) stays tells)
+pub read_told : (old memory : List (List ℕ)) (flights : Flights) (id : ℕ) (made : MadeAt) (now : Flights) (reply : Outcome) → IsMade old flights id made memory now → made.kind ≡ Read
+    → TellsRead memory made reply → TellsKind old made made.kind reply
+read_told old memory flights id made now reply makes reads tells =
+    let kind : makes.oldest.accepted.access.kind ≡ Read = ap (λ (m : MadeAt). m.kind) (sym makes.reply) ∙ reads in
+    let unchanged : memory ≡ old = subst (λ k. Performs k old makes.oldest.accepted memory) kind makes.performed in
+    subst (λ k. TellsKind old made k reply) (sym reads) (subst (λ m. TellsRead m made reply) unchanged tells)

@@ -15,7 +15,7 @@ use Rattle.iom_world_effects.specs.Messages.{with_sent}
 use Rattle.iom_world_effects.specs.Traffic.{message_on, messages_in, invalidation_by, extent_of_range}
 use Rattle.iom_device.specs.declared.device.Device.{Device}
 use Rattle.iom_device.specs.Caches.{device_with}
-use Rattle.iom_world_effects.specs.Sound.{IsAsked, HasAsker}
+use Rattle.iom_world_effects.specs.Invariant.{IsAsked, HasAsker}
 
 pub messages_pushed : (fabric : List OnLink) (one : OnLink) → messages_in (fabric ++ one ∷ []) ≡ messages_in fabric ++ message_on one.device one.message
 messages_pushed fabric one =

@@ -6,7 +6,7 @@ use Rattle.iom_fault_queue.specs.declared.ring.Put.{Put}
 use Rattle.iom_fault_queue.specs.Calls.{PutsRecord}
 use Rattle.iom_fault_queue.specs.Fields.{Fields}
 use Rattle.iom_driver.specs.Ready.{IsReady}
-use Rattle.iom_driver.specs.Seen.{state_of}
+use Rattle.iom_driver.specs.StateOf.{state_of}
 use Rattle.iom_driver.specs.State.{DriverState}
 use Rattle.iom_iommu.specs.OwnIommu.{Iommu}
 use Rattle.iom_registers.specs.declared.registers.Registers.{Registers}

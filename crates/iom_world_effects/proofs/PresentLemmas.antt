@@ -9,7 +9,7 @@ use Rattle.iom_driver.proofs.Lists.{differs}
 use Rattle.iom_inflight.specs.Flights.{FlightRow, row_of}
 use Rattle.iom_device.specs.declared.device.Device.{Device}
 use Rattle.iom_world_effects.specs.Places.{IsAbsent, IsPresent}
-use Rattle.iom_world_effects.specs.Sound.{plugged_ids, known_ids, row_ids}
+use Rattle.iom_world_effects.specs.Invariant.{plugged_ids, known_ids, row_ids}
 use Rattle.iom_base.specs.declared.device_kind.DeviceKind.{DeviceKind}
 use Rattle.iom_device.specs.Caches.{kind_in}
 

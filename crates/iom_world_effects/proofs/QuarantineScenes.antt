@@ -35,7 +35,7 @@ other_leaves fence_of scene id number d (Quarantined ticket mode ats) other goes
 other_leaves fence_of scene id number d (Leaving ticket mode ats) other goes =
     come_on d (fence_of ticket) scene.waiting (leave_commands id ++ Fence number ∷ []) goes ((λ same. absurd (other same)), tt)
 
--- and the device that is cut off doesn't leave
+-- and the device that is quarantined doesn't leave
 all_leave : (old new : Values) (scene : Scene) (id number : ℕ) (mode : Mode) (ats : Bool) → IsSceneOf old scene → AttachesOne old new id (Quarantined (old.given + 1) mode ats)
     → new.fence_of ≡ old.fence_of → (d : ℕ) → GoesInOrder new.fence_of d (new.attachment_of d) (scene.waiting ++ (leave_commands id ++ Fence number ∷ []))
 all_leave old new scene id number mode ats shows cut fences d = elim (eqb_tells id d) [

@@ -17,13 +17,13 @@ use Rattle.iom_machine.specs.Requests.{IsPageFaultOf}
 use Rattle.iom_stage_walk.specs.declared.walked.WalkFault.{WalkFault}
 use Rattle.iom_stage_walk.specs.Both.{plain}
 use Rattle.iom_tlb.specs.declared.trans_cache.Translation.{Translation}
-use Rattle.iom_tlb.specs.Content.{Translations, TranslationsStay}
+use Rattle.iom_tlb.specs.Content.{Translations, TranslationsUnchanged}
 use Rattle.iom_world_effects.specs.Devices.{shown_attachment}
 use Rattle.iom_world_effects.specs.Parts.{Parts}
-use Rattle.iom_world_effects.specs.Sound.{AreSound}
+use Rattle.iom_world_effects.specs.Invariant.{PartsInvariant}
 use Rattle.iom_world_effects.proofs.AtsContexts.{FindsAts, finds_ats}
 use Rattle.iom_world_effects.proofs.CutOffLemmas.{IsPending}
-use Rattle.iom_world_effects.proofs.DriverLemmas.{IsSoundDriver}
+use Rattle.iom_world_effects.proofs.DriverLemmas.{DriverInvariant}
 use Rattle.iom_world_effects.proofs.ServedLemmas.{ServiceLaws, FaultsAs, IsAnswered, cause_at, of_attached, of_cut_off, of_leaving}
 use Rattle.iom_world_effects.proofs.WalkLemmas.{FaultsBy}
 
@@ -43,9 +43,9 @@ RefusedAs (Leaving ticket stage) d id address cause = (cause ≡ cause_at d.leve
 abbrev pub IsToldOf : Bool → DriverState → ℕ → ℕ → Translations → Result Translation WalkFault → Translations → Type 0
 IsToldOf sure d id address old (Ok answer) new =
     (has_ats (shown_attachment (attachment_by_id d.devices id)) ≡ true) × IsAnswered sure d id address Read old (Ok answer) new
-IsToldOf sure d id address old (Err fault) new = RefusedAs (attachment_by_id d.devices id) d id address fault.cause × TranslationsStay old new
+IsToldOf sure d id address old (Err fault) new = RefusedAs (attachment_by_id d.devices id) d id address fault.cause × TranslationsUnchanged old new
 
-module _ (laws : ServiceLaws) (parts : Parts) (events : ℕ) (sound : AreSound parts events) (own : IsSoundDriver parts.driver) (id address : ℕ) (fits : address < 2 ^ 64)
+module _ (laws : ServiceLaws) (parts : Parts) (events : ℕ) (invariants : PartsInvariant parts events) (own : DriverInvariant parts.driver) (id address : ℕ) (fits : address < 2 ^ 64)
     (sure : Bool) (old new : Translations) where
   abbrev d : DriverState
   d = parts.driver
@@ -57,19 +57,19 @@ module _ (laws : ServiceLaws) (parts : Parts) (events : ℕ) (sound : AreSound p
   Told answer = IsToldOf sure parts.driver id address old answer new
 
   -- without a context that lets it through
-  refused_for : (answer : Result Translation WalkFault) (cause : Cause) → RefusedAs (attachment_by_id d.devices id) d id address cause → answer ≡ Err (plain cause) → TranslationsStay old new → Told answer
-  refused_for (Ok answer) cause refused same stays = cc
-  refused_for (Err fault) cause refused same stays =
+  refused_for : (answer : Result Translation WalkFault) (cause : Cause) → RefusedAs (attachment_by_id d.devices id) d id address cause → answer ≡ Err (plain cause) → TranslationsUnchanged old new → Told answer
+  refused_for (Ok answer) cause refused same unchanged = cc
+  refused_for (Err fault) cause refused same unchanged =
       let c : fault ≡ plain cause = cc in
-      (subst (RefusedAs (attachment_by_id d.devices id) d id address) (sym (ap (λ (f : WalkFault). f.cause) c)) refused, stays)
+      (subst (RefusedAs (attachment_by_id d.devices id) d id address) (sym (ap (λ (f : WalkFault). f.cause) c)) refused, unchanged)
 
   -- with one
   told_attached : (stage : Stages) (answer : Result Translation WalkFault) → attachment_by_id d.devices id ≡ Attached stage → stage.ats ≡ true
       → IsAnswered sure d id address Read old answer new → Told answer
   told_attached stage (Ok answer) is ats answered = (ap (λ a. has_ats (shown_attachment a)) is ∙ ats, answered)
-  told_attached stage (Err fault) is ats (faults, stays) = (
+  told_attached stage (Err fault) is ats (faults, unchanged) = (
     subst (λ a. RefusedAs a d id address fault.cause) (sym is) (inl (ats, subst (λ a. FaultsAs a d id address Read fault.cause) is faults)),
-    stays,
+    unchanged,
   )
 
   cut_off : (ticket : ℕ) (stage : Stages) (cause : Cause) → stage.ats ≡ true → ((d.confirmed < ticket) × IsPageFaultOf stage.mode Read cause) ⊎ (cause ≡ cause_at d.levels id)
@@ -80,9 +80,9 @@ module _ (laws : ServiceLaws) (parts : Parts) (events : ℕ) (sound : AreSound p
   told_cut_off : (ticket : ℕ) (stage : Stages) (answer : Result Translation WalkFault) → attachment_by_id d.devices id ≡ Quarantined ticket stage → stage.ats ≡ true
       → IsAnswered sure d id address Read old answer new → Told answer
   told_cut_off ticket stage (Ok answer) is ats answered = (ap (λ a. has_ats (shown_attachment a)) is ∙ ats, answered)
-  told_cut_off ticket stage (Err fault) is ats (faults, stays) = (
+  told_cut_off ticket stage (Err fault) is ats (faults, unchanged) = (
     subst (λ a. RefusedAs a d id address fault.cause) (sym is) (cut_off ticket stage fault.cause ats (subst (λ a. FaultsAs a d id address Read fault.cause) is faults)),
-    stays,
+    unchanged,
   )
 
   left : (stage : Stages) (cause : Cause) → stage.ats ≡ true → IsPageFaultOf stage.mode Read cause ⊎ (cause ≡ cause_at d.levels id)
@@ -93,29 +93,29 @@ module _ (laws : ServiceLaws) (parts : Parts) (events : ℕ) (sound : AreSound p
   told_leaving : (ticket : ℕ) (stage : Stages) (answer : Result Translation WalkFault) → attachment_by_id d.devices id ≡ Leaving ticket stage → stage.ats ≡ true
       → IsAnswered sure d id address Read old answer new → Told answer
   told_leaving ticket stage (Ok answer) is ats answered = (ap (λ a. has_ats (shown_attachment a)) is ∙ ats, answered)
-  told_leaving ticket stage (Err fault) is ats (faults, stays) = (
+  told_leaving ticket stage (Err fault) is ats (faults, unchanged) = (
     subst (λ a. RefusedAs a d id address fault.cause) (sym is) (left stage fault.cause ats (subst (λ a. FaultsAs a d id address Read fault.cause) is faults)),
-    stays,
+    unchanged,
   )
 
   -- by whether the context of its stages lets it through
   by_attached : (stage : Stages) (answer : Result Translation WalkFault) → attachment_by_id d.devices id ≡ Attached stage → (b : Bool) → stage.ats ≡ b
       → Served (if b then Ok (context_for stage) else Err TransactionTypeDisallowed) answer → Told answer
-  by_attached stage answer is true ats served = told_attached stage answer is ats (of_attached laws parts events sound own id address Read fits sure old new stage answer is served)
+  by_attached stage answer is true ats served = told_attached stage answer is ats (of_attached laws parts events invariants own id address Read fits sure old new stage answer is served)
   by_attached stage answer is false none served =
       refused_for answer TransactionTypeDisallowed (subst (λ a. RefusedAs a d id address TransactionTypeDisallowed) (sym is) (inr (none, refl))) served.0 served.1
 
   by_cut_off : (ticket : ℕ) (stage : Stages) (answer : Result Translation WalkFault) → attachment_by_id d.devices id ≡ Quarantined ticket stage → IsPending parts.driver id → (b : Bool) → stage.ats ≡ b
       → Served (if b then Ok (context_for stage) else Err TransactionTypeDisallowed) answer → Told answer
   by_cut_off ticket stage answer is pending true ats served =
-      told_cut_off ticket stage answer is ats (of_cut_off laws parts events sound own id address Read fits sure old new ticket stage answer is pending served)
+      told_cut_off ticket stage answer is ats (of_cut_off laws parts events invariants own id address Read fits sure old new ticket stage answer is pending served)
   by_cut_off ticket stage answer is pending false none served =
       refused_for answer TransactionTypeDisallowed (subst (λ a. RefusedAs a d id address TransactionTypeDisallowed) (sym is) (inr (pending ticket stage is, inr (none, refl)))) served.0 served.1
 
   by_leaving : (ticket : ℕ) (stage : Stages) (answer : Result Translation WalkFault) → attachment_by_id d.devices id ≡ Leaving ticket stage → (b : Bool) → stage.ats ≡ b
       → Served (if b then Ok (context_for stage) else Err TransactionTypeDisallowed) answer → Told answer
   by_leaving ticket stage answer is true ats served =
-      told_leaving ticket stage answer is ats (of_leaving laws parts events sound own id address Read fits sure old new ticket stage answer is served)
+      told_leaving ticket stage answer is ats (of_leaving laws parts events invariants own id address Read fits sure old new ticket stage answer is served)
   by_leaving ticket stage answer is false none served =
       refused_for answer TransactionTypeDisallowed (subst (λ a. RefusedAs a d id address TransactionTypeDisallowed) (sym is) (inr (inr (none, refl)))) served.0 served.1
 
@@ -136,10 +136,10 @@ module _ (laws : ServiceLaws) (parts : Parts) (events : ℕ) (sound : AreSound p
   by_found (Leaving ticket stage) found answer is (inr finds) served = by_leaving ticket stage answer is stage.ats refl (subst (λ f. Served f answer) finds served)
 
 -- WHAT A QUESTION IS ANSWERED
-pub told_of : ServiceLaws → (parts : Parts) (events : ℕ) → AreSound parts events → IsSoundDriver parts.driver → (id address : ℕ) (sure : Bool) (old new : Translations)
+pub outcome_of_done : ServiceLaws → (parts : Parts) (events : ℕ) → PartsInvariant parts events → DriverInvariant parts.driver → (id address : ℕ) (sure : Bool) (old new : Translations)
     (answer : Result Translation WalkFault) → address < 2 ^ 64
     → ServesBy sure (ats_context_for parts.memory (registers_of parts.iommu) (contexts_of parts.iommu) id) parts.memory address Read old answer new
     → IsToldOf sure parts.driver id address old answer new
-told_of laws parts events sound own id address sure old new answer fits served =
-    by_found laws parts events sound own id address fits sure old new (attachment_by_id parts.driver.devices id) (ats_context_for parts.memory (registers_of parts.iommu) (contexts_of parts.iommu) id)
-    answer refl (finds_ats laws parts events sound own id) served
+outcome_of_done laws parts events invariants own id address sure old new answer fits served =
+    by_found laws parts events invariants own id address fits sure old new (attachment_by_id parts.driver.devices id) (ats_context_for parts.memory (registers_of parts.iommu) (contexts_of parts.iommu) id)
+    answer refl (finds_ats laws parts events invariants own id) served

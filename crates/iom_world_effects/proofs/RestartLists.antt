@@ -22,7 +22,7 @@ use Rattle.iom_tlb.specs.declared.space.Space.{Space}
 use Rattle.iom_world_effects.specs.Devices.{shown_attachment}
 use Rattle.iom_world_effects.specs.Queued.{AreQueuedAs}
 use Rattle.iom_world_effects.specs.Read.{space_in, space_at}
-use Rattle.iom_world_effects.specs.Sound.{known_ids}
+use Rattle.iom_world_effects.specs.Invariant.{known_ids}
 use Rattle.iom_world_effects.proofs.QueuedLemmas.{queued_append, queued_space}
 
 -- the address space of a device that is attached so

@@ -17,7 +17,7 @@ use Rattle.iom_world_effects.proofs.QueuedLemmas.{queued_still}
 use Rattle.iom_world_effects.proofs.ResetScenes.{reset_traffic}
 use Rattle.iom_world_effects.proofs.SceneCalls.{AttachesOne, attached_leaves}
 
--- A device that was cut off under a ticket that is confirmed is attached as before, and reset. Nothing else changes, but that less may be cached.
+-- A device that was quarantined under a ticket that is confirmed is attached as before, and reset. Nothing else changes, but that less may be cached.
 pub record RevivesOne (old new : Values) (id : ℕ) (left : List Copy) : Type 0 where
   pub ticket : ℕ
   pub mode : Mode

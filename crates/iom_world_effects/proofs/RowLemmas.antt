@@ -14,7 +14,7 @@ use Rattle.iom_inflight.specs.Calls.{with_access}
 use Rattle.iom_inflight.specs.Flights.{NumberedAccess, FlightRow, Flights, row_of, with_row, is_same_kind, is_awaited, is_row_drained, are_drained}
 use Rattle.iom_inflight.proofs.Rows.{row_is_own}
 use Rattle.iom_world_effects.specs.Read.{access_in_flight, accesses_of}
-use Rattle.iom_world_effects.specs.Sound.{row_ids}
+use Rattle.iom_world_effects.specs.Invariant.{row_ids}
 
 -- the accesses of a row are among those of all
 pub row_accesses : (rows : List FlightRow) (id : ℕ) (row : FlightRow) → row_of rows id ≡ Some row

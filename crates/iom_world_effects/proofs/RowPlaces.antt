@@ -15,7 +15,7 @@ use Rattle.iom_machine.specs.declared.state.Device as machine
 use Rattle.iom_device.specs.declared.device.Device.{Device}
 use Rattle.iom_world_effects.specs.Devices.{accepted_of, in_flight_of, shown_attachment, shown_device, shown_devices}
 use Rattle.iom_world_effects.specs.Places.{IsAbsent, IsPresent}
-use Rattle.iom_world_effects.specs.Sound.{HaveDistinctIds}
+use Rattle.iom_world_effects.specs.Invariant.{HaveDistinctIds}
 
 -- the device of the world, and of the machine, with this id
 abbrev pub found_of : List Device → ℕ → Option Device

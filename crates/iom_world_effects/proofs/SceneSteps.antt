@@ -18,9 +18,9 @@ use Rattle.iom_coherence.specs.Backing.{ComesFrom}
 use Rattle.iom_coherence.specs.Faithful.{IsFaithful}
 use Rattle.iom_coherence.specs.Fetches.{next_invalidation}
 use Rattle.iom_coherence.specs.Queue.{Extent, extent_covers, QueuedCommand, DropTranslations, DropContext, Invalidate, Fence}
-use Rattle.iom_coherence.specs.Transitions.{KeepContext, KeepTranslation, Accept, Make, FetchIotinval, FetchIodir, FetchAtsInval, TakeStock, CompleteFence}
+use Rattle.iom_coherence.specs.Transitions.{KeepContext, KeepTranslation, Accept, Make, FetchIotinval, FetchIodir, FetchAtsInval, TakeSnapshot, CompleteFence}
 use Rattle.iom_coherence.specs.Requests.{IsWalked, IsSource, next_access}
-use Rattle.iom_coherence.specs.Scene.{Copy, AccessInFlight, AtsMessage, InvalidateRequest, Invalidation, Scene, Stock}
+use Rattle.iom_coherence.specs.Scene.{Copy, AccessInFlight, AtsMessage, InvalidateRequest, Invalidation, Scene, FenceSnapshot}
 use Rattle.iom_coherence.proofs.ListLemmas.{in_none, cons_cases, contains_head, contains_tail, contains_filter, contains_from_filter}
 use Rattle.iom_coherence.proofs.TransitionLemmas.{transitions_keep_facts}
 use Rattle.iom_driver.specs.Appends.{fence}
@@ -40,7 +40,7 @@ use Rattle.iom_tlb.specs.Invalidations.{covers_of}
 use Rattle.iom_tlb.proofs.LargeLemmas.{own_leaf}
 use Rattle.iom_world_effects.specs.Queued.{invalidation_in, extent_in, IsInvalidation, IsQueuedAs, AreQueuedAs}
 use Rattle.iom_world_effects.proofs.QueuedLemmas.{SpacesStay, queued_first, queued_still, come_after}
-use Rattle.iom_world_effects.specs.Scenes.{Values, copy_of, IsSomebodys, IsStockOf, GoesInOrder, IsSceneOf, HasFaithfulScene}
+use Rattle.iom_world_effects.specs.Scenes.{Values, copy_of, IsSomebodys, IsSnapshotOf, GoesInOrder, IsSceneOf, HasFaithfulScene}
 use Rattle.iom_world_effects.specs.Messages.{range_of}
 use Rattle.iom_world_effects.specs.Traffic.{Traffic, under_way, extent_of_range, invalidation_by}
 
@@ -76,7 +76,7 @@ pub record IsNext (new : Values) (old : Values) (next : Scene) : Type 0 where
   pub in_flight : next.in_flight ≡ new.in_flight
   pub contexts : (d : ℕ) → new.is_cached d ≡ true → Contains next.contexts d
   pub translations : (key : Key) (translation : Translation) → new.translations key ≡ Some translation → IsSomebodys old.space_of next.translations key translation
-  pub fence_snapshot : IsStockOf new.fence_snapshot next.fence_snapshot
+  pub fence_snapshot : IsSnapshotOf new.fence_snapshot next.fence_snapshot
   pub leaving : (d : ℕ) → GoesInOrder old.fence_of d (old.attachment_of d) next.waiting
   pub traffic : under_way next ≡ new.traffic
 
@@ -371,7 +371,7 @@ abbrev pub TranslationsAfter : Commanded → Translations → Translations → T
 TranslationsAfter command before after = (key : Key) (translation : Translation) → after key ≡ Some translation
     → (before key ≡ Some translation) × (are_covering (covers_of command) key translation ≡ false)
 
-pub record DoesFirst (old new : Values) (command : Commanded) : Type 0 where
+pub record FirstEffect (old new : Values) (command : Commanded) : Type 0 where
   pub keeps : KeepsGrants old new
   pub going : old.is_stopped ≡ false
   pub first : old.waiting ≡ Command command ∷ new.waiting
@@ -427,7 +427,7 @@ same_traffic one other entries epochs messages slots last_serial =
     ∙ ap (λ (n : ℕ). record other { last_serial = n }) last_serial
 
 -- the fence at the head alone has taken its snapshot
-snapshot_none : (scene : Scene) (command : QueuedCommand) (later : List QueuedCommand) (fence_snapshot : Option Stock) → IsFaithful scene → scene.waiting ≡ command ∷ later
+snapshot_none : (scene : Scene) (command : QueuedCommand) (later : List QueuedCommand) (fence_snapshot : Option FenceSnapshot) → IsFaithful scene → scene.waiting ≡ command ∷ later
     → ((number : ℕ) → command ≢ Fence number) → scene.fence_snapshot ≡ fence_snapshot → scene.fence_snapshot ≡ None
 snapshot_none scene command later None facts waiting other is = is
 snapshot_none scene command later (Some taken) facts waiting other is =
@@ -438,7 +438,7 @@ snapshot_none scene command later (Some taken) facts waiting other is =
     first_same a b xs ys same = cc
 
 -- where no snapshot was taken, none was counted
-counted_none : (counted : Option ℕ) (taken : Option Stock) → IsStockOf counted taken → taken ≡ None → counted ≡ None
+counted_none : (counted : Option ℕ) (taken : Option FenceSnapshot) → IsSnapshotOf counted taken → taken ≡ None → counted ≡ None
 counted_none None taken is none = refl
 counted_none (Some n) None is none = absurd is
 counted_none (Some n) (Some fence_snapshot) is none = cc
@@ -447,7 +447,7 @@ counted_none (Some n) (Some fence_snapshot) is none = cc
 pub empty_counted : (values : Values) → values.waiting ≡ [] → HasFaithfulScene values → values.fence_snapshot ≡ None
 empty_counted values none (scene, shows, facts) = by scene.fence_snapshot refl
   where
-    by : (fence_snapshot : Option Stock) → scene.fence_snapshot ≡ fence_snapshot → values.fence_snapshot ≡ None
+    by : (fence_snapshot : Option FenceSnapshot) → scene.fence_snapshot ≡ fence_snapshot → values.fence_snapshot ≡ None
     by None is = counted_none values.fence_snapshot scene.fence_snapshot shows.fence_snapshot is
     by (Some taken) is =
         let head = (facts.order.snapshot_taken taken.fence taken.accepted is).head in
@@ -460,7 +460,7 @@ pub scene_uncounted : (values : Values) → values.waiting ≡ [] → HasFaithfu
 scene_uncounted values none has = subst (λ fence_snapshot. HasFaithfulScene (record values { fence_snapshot = fence_snapshot })) (empty_counted values none has) has
 
 -- what the fence counted is what the snapshot says
-counted_as : (counted : Option ℕ) (so_far : ℕ) (taken : Stock) → IsStockOf counted (Some taken) → accepted_before counted so_far ≡ taken.accepted
+counted_as : (counted : Option ℕ) (so_far : ℕ) (taken : FenceSnapshot) → IsSnapshotOf counted (Some taken) → accepted_before counted so_far ≡ taken.accepted
 counted_as None so_far taken is = absurd is
 counted_as (Some n) so_far taken is = sym is
 
@@ -480,22 +480,22 @@ module _ (old new : Values) (scene : Scene) (shows : IsSceneOf old scene) (facts
   drops_translations : (device : ℕ) (extent : Extent) (later : List QueuedCommand) (command : Commanded) → DropsAlone old new command
       → scene.waiting ≡ DropTranslations device extent ∷ later → IsInvalidation old.space_of device extent command → AreQueuedAs old.address old.space_of new.waiting later
       → HasFaithfulScene new
-  drops_translations device extent later command does waiting is queued =
+  drops_translations device extent later command effect waiting is queued =
       let outside : Copy → Bool = λ copy. not ((device == copy.device) && extent_covers extent copy.page) in
       let left = filter outside scene.translations in
       let next : Scene = record scene { waiting = later; translations = left } in
       let none = snapshot_none scene (DropTranslations device extent) later scene.fence_snapshot facts waiting (λ number same. cc) refl in (
         next,
-        scene_from old new scene next does.keeps shows refl (record {
+        scene_from old new scene next effect.keeps shows refl (record {
           waiting = queued;
-          completed = shows.completed ∙ sym does.completed;
-          accepted = shows.accepted ∙ sym does.so_far;
-          in_flight = shows.in_flight ∙ sym does.in_flight;
-          contexts = λ d is. shows.contexts d (does.contexts d is);
+          completed = shows.completed ∙ sym effect.completed;
+          accepted = shows.accepted ∙ sym effect.so_far;
+          in_flight = shows.in_flight ∙ sym effect.in_flight;
+          contexts = λ d is. shows.contexts d (effect.contexts d is);
           translations = somebodys;
-          fence_snapshot = rw (does.fence_snapshot, none) tt;
+          fence_snapshot = rw (effect.fence_snapshot, none) tt;
           leaving = λ d. goes_later old.fence_of d (old.attachment_of d) (DropTranslations device extent) later (subst (GoesInOrder old.fence_of d (old.attachment_of d)) waiting (shows.leaving d));
-          traffic = shows.traffic ∙ sym does.traffic;
+          traffic = shows.traffic ∙ sym effect.traffic;
         }),
         transitions_keep_facts (FetchIotinval device extent) scene next facts (
           later,
@@ -517,7 +517,7 @@ module _ (old new : Values) (scene : Scene) (shows : IsSceneOf old scene) (facts
       somebodys : (key : Key) (translation : Translation) → new.translations key ≡ Some translation
           → IsSomebodys old.space_of (filter (λ copy. not ((device == copy.device) && extent_covers extent copy.page)) scene.translations) key translation
       somebodys key translation at =
-          let before = does.translations key translation at in
+          let before = effect.translations key translation at in
           let was = shows.translations key translation before.0 in record {
             device = was.device;
             own = was.own;
@@ -535,23 +535,23 @@ module _ (old new : Values) (scene : Scene) (shows : IsSceneOf old scene) (facts
           named : are_covering (covers_of command) key translation ≡ false → are_covering (covers_of (invalidation_in is.space is.page)) key translation ≡ false
           named it = ap (λ (c : Commanded). are_covering (covers_of c) key translation) (sym is.named) ∙ it
 
-  drops_context : (device : ℕ) (later : List QueuedCommand) → DoesFirst old new (IodirInvalDdt (Some device)) → scene.waiting ≡ DropContext device ∷ later
+  drops_context : (device : ℕ) (later : List QueuedCommand) → FirstEffect old new (IodirInvalDdt (Some device)) → scene.waiting ≡ DropContext device ∷ later
       → AreQueuedAs old.address old.space_of new.waiting later → HasFaithfulScene new
-  drops_context device later does waiting queued =
+  drops_context device later effect waiting queued =
       let left = filter (λ d. not (device == d)) scene.contexts in
       let next : Scene = record scene { waiting = later; contexts = left } in
       let none = snapshot_none scene (DropContext device) later scene.fence_snapshot facts waiting (λ number same. cc) refl in (
         next,
-        scene_from old new scene next does.keeps shows refl (record {
+        scene_from old new scene next effect.keeps shows refl (record {
           waiting = queued;
-          completed = shows.completed ∙ sym does.completed;
-          accepted = shows.accepted ∙ sym does.so_far;
-          in_flight = shows.in_flight ∙ sym does.in_flight;
-          contexts = λ d is. contains_filter (λ e. not (device == e)) scene.contexts d (shows.contexts d (does.contexts d is).0) (ap not (differs device d (λ same. (does.contexts d is).1 (sym same))));
-          translations = λ key translation at. shows.translations key translation (does.translations key translation at).0;
-          fence_snapshot = rw (does.fence_snapshot, none) tt;
+          completed = shows.completed ∙ sym effect.completed;
+          accepted = shows.accepted ∙ sym effect.so_far;
+          in_flight = shows.in_flight ∙ sym effect.in_flight;
+          contexts = λ d is. contains_filter (λ e. not (device == e)) scene.contexts d (shows.contexts d (effect.contexts d is).0) (ap not (differs device d (λ same. (effect.contexts d is).1 (sym same))));
+          translations = λ key translation at. shows.translations key translation (effect.translations key translation at).0;
+          fence_snapshot = rw (effect.fence_snapshot, none) tt;
           leaving = λ d. goes_later old.fence_of d (old.attachment_of d) (DropContext device) later (subst (GoesInOrder old.fence_of d (old.attachment_of d)) waiting (shows.leaving d));
-          traffic = shows.traffic ∙ sym does.traffic;
+          traffic = shows.traffic ∙ sym effect.traffic;
         }),
         transitions_keep_facts (FetchIodir device) scene next facts (
           later,
@@ -563,11 +563,11 @@ module _ (old new : Values) (scene : Scene) (shows : IsSceneOf old scene) (facts
       )
 
   -- a slot is opened, and its request is sent or lost
-  opens : (device id : ℕ) (range : AtsRange) (extent : Extent) (later : List QueuedCommand) → DoesFirst old new (AtsInval id range) → scene.waiting ≡ Invalidate device extent ∷ later
+  opens : (device id : ℕ) (range : AtsRange) (extent : Extent) (later : List QueuedCommand) → FirstEffect old new (AtsInval id range) → scene.waiting ≡ Invalidate device extent ∷ later
       → (id ≡ device) × (extent ≡ extent_of_range (range_of range)) → AreQueuedAs old.address old.space_of new.waiting later → HasFaithfulScene new
-  opens device id range extent later does waiting is queued =
+  opens device id range extent later effect waiting is queued =
       let opened : OpensSlot device extent old.traffic new.traffic =
-      subst (λ e. OpensSlot device e old.traffic new.traffic) (sym is.1) (subst (λ d. OpensSlot d (extent_of_range (range_of range)) old.traffic new.traffic) is.0 does.traffic) in
+      subst (λ e. OpensSlot device e old.traffic new.traffic) (sym is.1) (subst (λ d. OpensSlot d (extent_of_range (range_of range)) old.traffic new.traffic) is.0 effect.traffic) in
       let serial : scene.last_serial ≡ old.traffic.last_serial = ap (λ (t : Traffic). t.last_serial) shows.traffic in
       let next : Scene = record scene {
         waiting = later;
@@ -577,14 +577,14 @@ module _ (old new : Values) (scene : Scene) (shows : IsSceneOf old scene) (facts
       } in
       let none = snapshot_none scene (Invalidate device extent) later scene.fence_snapshot facts waiting (λ number same. cc) refl in (
         next,
-        scene_from old new scene next does.keeps shows refl (record {
+        scene_from old new scene next effect.keeps shows refl (record {
           waiting = queued;
-          completed = shows.completed ∙ sym does.completed;
-          accepted = shows.accepted ∙ sym does.so_far;
-          in_flight = shows.in_flight ∙ sym does.in_flight;
-          contexts = λ d cached. shows.contexts d (does.contexts d cached);
-          translations = λ key translation at. shows.translations key translation (does.translations key translation at).0;
-          fence_snapshot = rw (does.fence_snapshot, none) tt;
+          completed = shows.completed ∙ sym effect.completed;
+          accepted = shows.accepted ∙ sym effect.so_far;
+          in_flight = shows.in_flight ∙ sym effect.in_flight;
+          contexts = λ d cached. shows.contexts d (effect.contexts d cached);
+          translations = λ key translation at. shows.translations key translation (effect.translations key translation at).0;
+          fence_snapshot = rw (effect.fence_snapshot, none) tt;
           leaving = λ d. goes_later old.fence_of d (old.attachment_of d) (Invalidate device extent) later (subst (GoesInOrder old.fence_of d (old.attachment_of d)) waiting (shows.leaving d));
           traffic = same_traffic (under_way next) new.traffic (ap (λ (t : Traffic). t.entries) shows.traffic ∙ sym opened.entries) (ap (λ (t : Traffic). t.epoch_of) shows.traffic ∙ sym opened.epochs)
               refl
@@ -602,39 +602,39 @@ module _ (old new : Values) (scene : Scene) (shows : IsSceneOf old scene) (facts
       )
 
   -- a fence that counted before is done, or it counts now
-  completes : (number : ℕ) (later : List QueuedCommand) (store : Option FenceStore) (wsi pr pw : Bool) → DoesFirst old new (IofenceC store wsi pr pw)
+  completes : (number : ℕ) (later : List QueuedCommand) (store : Option FenceStore) (wsi pr pw : Bool) → FirstEffect old new (IofenceC store wsi pr pw)
       → scene.waiting ≡ Fence number ∷ later → IofenceC store wsi pr pw ≡ fence old.address number → AreQueuedAs old.address old.space_of new.waiting later → HasFaithfulScene new
-  completes number later store wsi pr pw does waiting is queued = by scene.fence_snapshot refl
+  completes number later store wsi pr pw effect waiting is queued = by scene.fence_snapshot refl
     where
       next : Scene
       next = record scene { waiting = later; completed = number; fence_snapshot = None }
 
       none_open : scene.slots ≡ []
-      none_open = slots_as old scene shows does.closed
+      none_open = slots_as old scene shows effect.closed
 
       none_before : NoneBefore (accepted_before old.fence_snapshot old.so_far) scene.in_flight
-      none_before = rw shows.in_flight (does.done old.address number is)
+      none_before = rw shows.in_flight (effect.done old.address number is)
 
       shows_next : IsSceneOf new (record scene { waiting = later; completed = number; fence_snapshot = None })
-      shows_next = scene_from old new scene next does.keeps shows refl (record {
+      shows_next = scene_from old new scene next effect.keeps shows refl (record {
         waiting = queued;
-        completed = sym (does.completed old.address number is);
-        accepted = shows.accepted ∙ sym does.so_far;
-        in_flight = shows.in_flight ∙ sym does.in_flight;
-        contexts = λ d is. shows.contexts d (does.contexts d is);
-        translations = λ key translation at. shows.translations key translation (does.translations key translation at).0;
-        fence_snapshot = rw does.fence_snapshot tt;
+        completed = sym (effect.completed old.address number is);
+        accepted = shows.accepted ∙ sym effect.so_far;
+        in_flight = shows.in_flight ∙ sym effect.in_flight;
+        contexts = λ d is. shows.contexts d (effect.contexts d is);
+        translations = λ key translation at. shows.translations key translation (effect.translations key translation at).0;
+        fence_snapshot = rw effect.fence_snapshot tt;
         leaving = λ d. goes_later old.fence_of d (old.attachment_of d) (Fence number) later (subst (GoesInOrder old.fence_of d (old.attachment_of d)) waiting (shows.leaving d));
-        traffic = shows.traffic ∙ sym does.traffic;
+        traffic = shows.traffic ∙ sym effect.traffic;
       })
 
-      by : (fence_snapshot : Option Stock) → scene.fence_snapshot ≡ fence_snapshot → HasFaithfulScene new
+      by : (fence_snapshot : Option FenceSnapshot) → scene.fence_snapshot ≡ fence_snapshot → HasFaithfulScene new
       by None none =
           let snapshot_taken : Scene = record scene { fence_snapshot = Some (record { fence = number; accepted = scene.accepted }) } in
           let counted : old.fence_snapshot ≡ None = counted_none old.fence_snapshot scene.fence_snapshot shows.fence_snapshot none in
           let before : accepted_before old.fence_snapshot old.so_far ≡ scene.accepted = ap (λ s. accepted_before s old.so_far) counted ∙ sym shows.accepted in
-          let snapshot_facts = transitions_keep_facts (TakeStock number) scene snapshot_taken facts
-          (later, waiting, (λ slot there. none_there scene.slots slot none_open there), shows.stopped ∙ does.going, refl) in (
+          let snapshot_facts = transitions_keep_facts (TakeSnapshot number) scene snapshot_taken facts
+          (later, waiting, (λ slot there. none_there scene.slots slot none_open there), shows.stopped ∙ effect.going, refl) in (
             next,
             shows_next,
             transitions_keep_facts (CompleteFence number) snapshot_taken next snapshot_facts
@@ -643,7 +643,7 @@ module _ (old new : Values) (scene : Scene) (shows : IsSceneOf old scene) (facts
       by (Some taken) at =
           let head = (facts.order.snapshot_taken taken.fence taken.accepted at).head in
           let own : taken.fence ≡ number = fence_same taken.fence number head.0 later (sym head.1 ∙ waiting) in
-          let before : accepted_before old.fence_snapshot old.so_far ≡ taken.accepted = counted_as old.fence_snapshot old.so_far taken (subst (IsStockOf old.fence_snapshot) at shows.fence_snapshot) in (
+          let before : accepted_before old.fence_snapshot old.so_far ≡ taken.accepted = counted_as old.fence_snapshot old.so_far taken (subst (IsSnapshotOf old.fence_snapshot) at shows.fence_snapshot) in (
             next,
             shows_next,
             transitions_keep_facts (CompleteFence number) scene next facts
@@ -651,26 +651,26 @@ module _ (old new : Values) (scene : Scene) (shows : IsSceneOf old scene) (facts
           )
 
   -- by what stands first in the scene's queue
-  done_first : (command : Commanded) → DoesFirst old new command → (queued : QueuedCommand) (later : List QueuedCommand) → scene.waiting ≡ queued ∷ later
+  done_first : (command : Commanded) → FirstEffect old new command → (queued : QueuedCommand) (later : List QueuedCommand) → scene.waiting ≡ queued ∷ later
       → IsQueuedAs old.address old.space_of (Command command) queued → AreQueuedAs old.address old.space_of new.waiting later → HasFaithfulScene new
-  done_first (IotinvalVma gscid pscid page) does (DropTranslations device extent) later waiting is rest =
-      drops_translations device extent later (IotinvalVma gscid pscid page) (record { keeps = does.keeps; so_far = does.so_far; in_flight = does.in_flight; completed = does.completed; contexts = does.contexts; translations = does.translations; fence_snapshot = does.fence_snapshot; traffic = does.traffic }) waiting is rest
-  done_first (IotinvalGvma gscid page) does (DropTranslations device extent) later waiting is rest =
-      drops_translations device extent later (IotinvalGvma gscid page) (record { keeps = does.keeps; so_far = does.so_far; in_flight = does.in_flight; completed = does.completed; contexts = does.contexts; translations = does.translations; fence_snapshot = does.fence_snapshot; traffic = does.traffic }) waiting is rest
-  done_first (IofenceC store wsi pr pw) does (Fence number) later waiting is rest = completes number later store wsi pr pw does waiting is rest
-  done_first (IodirInvalDdt (Some id)) does (DropContext device) later waiting is rest = by is does
+  done_first (IotinvalVma gscid pscid page) effect (DropTranslations device extent) later waiting is rest =
+      drops_translations device extent later (IotinvalVma gscid pscid page) (record { keeps = effect.keeps; so_far = effect.so_far; in_flight = effect.in_flight; completed = effect.completed; contexts = effect.contexts; translations = effect.translations; fence_snapshot = effect.fence_snapshot; traffic = effect.traffic }) waiting is rest
+  done_first (IotinvalGvma gscid page) effect (DropTranslations device extent) later waiting is rest =
+      drops_translations device extent later (IotinvalGvma gscid page) (record { keeps = effect.keeps; so_far = effect.so_far; in_flight = effect.in_flight; completed = effect.completed; contexts = effect.contexts; translations = effect.translations; fence_snapshot = effect.fence_snapshot; traffic = effect.traffic }) waiting is rest
+  done_first (IofenceC store wsi pr pw) effect (Fence number) later waiting is rest = completes number later store wsi pr pw effect waiting is rest
+  done_first (IodirInvalDdt (Some id)) effect (DropContext device) later waiting is rest = by is effect
     where
-      by : id ≡ device → DoesFirst old new (IodirInvalDdt (Some id)) → HasFaithfulScene new
-      by same it = drops_context device later (subst (λ d. DoesFirst old new (IodirInvalDdt (Some d))) same it) waiting rest
-  done_first (AtsInval id range) does (Invalidate device extent) later waiting is rest = opens device id range extent later does waiting is rest
-  done_first command does queued later waiting is rest = absurd is
+      by : id ≡ device → FirstEffect old new (IodirInvalDdt (Some id)) → HasFaithfulScene new
+      by same it = drops_context device later (subst (λ d. FirstEffect old new (IodirInvalDdt (Some d))) same it) waiting rest
+  done_first (AtsInval id range) effect (Invalidate device extent) later waiting is rest = opens device id range extent later effect waiting is rest
+  done_first command effect queued later waiting is rest = absurd is
 
 -- A COMMAND IS DONE: it stood first in the scene's queue
-pub fetch_scene : (old new : Values) (command : Commanded) → DoesFirst old new command → HasFaithfulScene old → HasFaithfulScene new
-fetch_scene old new command does (scene, shows, facts) =
+pub fetch_scene : (old new : Values) (command : Commanded) → FirstEffect old new command → HasFaithfulScene old → HasFaithfulScene new
+fetch_scene old new command effect (scene, shows, facts) =
     let first = queued_first old.address old.space_of (Command command) new.waiting scene.waiting
-    (subst (λ l. AreQueuedAs old.address old.space_of l scene.waiting) does.first shows.waiting) in
-    done_first old new scene shows facts command does first.0 first.1 first.2 first.3 first.4
+    (subst (λ l. AreQueuedAs old.address old.space_of l scene.waiting) effect.first shows.waiting) in
+    done_first old new scene shows facts command effect first.0 first.1 first.2 first.3 first.4
 
 -- A FENCE WAITS: it counts, if it didn't before
 pub record CountsAtHead (old new : Values) : Type 0 where
@@ -705,7 +705,7 @@ count_scene old new counts (scene, shows, facts) = by scene.fence_snapshot refl
     own : (n : ℕ) × (first.0 ≡ Fence n)
     own = fence_queued old.address counts.head.0 old.space_of first.0 first.3
 
-    by : (fence_snapshot : Option Stock) → scene.fence_snapshot ≡ fence_snapshot → HasFaithfulScene new
+    by : (fence_snapshot : Option FenceSnapshot) → scene.fence_snapshot ≡ fence_snapshot → HasFaithfulScene new
     by None none =
         let next : Scene = record scene { fence_snapshot = Some (record { fence = own.0; accepted = scene.accepted }) } in
         let counted : old.fence_snapshot ≡ None = counted_none old.fence_snapshot scene.fence_snapshot shows.fence_snapshot none in (
@@ -721,11 +721,11 @@ count_scene old new counts (scene, shows, facts) = by scene.fence_snapshot refl
             leaving = shows.leaving;
             traffic = shows.traffic ∙ sym counts.traffic;
           }),
-          transitions_keep_facts (TakeStock own.0) scene next facts
+          transitions_keep_facts (TakeSnapshot own.0) scene next facts
               (first.1, first.2 ∙ ap (λ c. c ∷ first.1) own.1, (λ slot there. none_there scene.slots slot (slots_as old scene shows counts.closed) there), shows.stopped ∙ counts.going, refl),
         )
     by (Some taken) at =
-        let was : IsStockOf old.fence_snapshot (Some taken) = subst (IsStockOf old.fence_snapshot) at shows.fence_snapshot in (
+        let was : IsSnapshotOf old.fence_snapshot (Some taken) = subst (IsSnapshotOf old.fence_snapshot) at shows.fence_snapshot in (
           scene,
           scene_from old new scene scene counts.keeps shows refl (record {
             waiting = rw counts.waiting shows.waiting;

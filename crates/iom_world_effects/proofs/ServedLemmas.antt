@@ -33,7 +33,7 @@ use Rattle.iom_iommu.specs.Parts.{registers_of, contexts_of}
 use Rattle.iom_iommu.specs.Service.{Serves, ServesBy, ServesIn, LooksOrWalks, Walks, cached_for, translation_of, found_context, context_or_cause}
 use Rattle.iom_tlb.specs.declared.space.Space.TheVariants as space
 use Rattle.iom_tlb.specs.declared.trans_cache.Translation.{Translation}
-use Rattle.iom_tlb.specs.Content.{Translations, TranslationsStay, Keeps}
+use Rattle.iom_tlb.specs.Content.{Translations, TranslationsUnchanged, Keeps}
 use Rattle.iom_ledger.specs.declared.ledger.Ledger.{Ledger}
 use Rattle.iom_ledger.specs.History.{Pair}
 use Rattle.iom_ledger.specs.Shown.{held_in}
@@ -45,10 +45,10 @@ use Rattle.iom_stage_walk.specs.Both.{ReachesBoth, StopsBoth, plain}
 use Rattle.iom_stage_walk.specs.Paths.{ReachesFirst, StopsFirst}
 use Rattle.iom_stage_walk.specs.Second.{ReachesSecond, StopsSecond}
 use Rattle.iom_world_effects.specs.Parts.{Parts}
-use Rattle.iom_world_effects.specs.Sound.{AreSound}
+use Rattle.iom_world_effects.specs.Invariant.{PartsInvariant}
 use Rattle.iom_world_effects.specs.Read.{space_in}
 use Rattle.iom_world_effects.proofs.CutOffLemmas.{IsPending, pending_cached}
-use Rattle.iom_world_effects.proofs.DriverLemmas.{IsSoundDriver}
+use Rattle.iom_world_effects.proofs.DriverLemmas.{DriverInvariant}
 use Rattle.iom_world_effects.proofs.SceneSteps.{HoldsWalked}
 use Rattle.iom_world_effects.proofs.WalkLemmas.{WalkLaws, ReachesBy, StopsBy, FaultsBy, reached, stopped}
 
@@ -71,7 +71,7 @@ pub record ReachesHeld (sure : Bool) (d : DriverState) (id address : ℕ) (kind 
   pub allowed : allows translation.rights kind ≡ true
   pub kept : Keeps sure old (space_in stage.mode stage.number, address / 4096) translation new
 
--- of an attached or leaving device, or of one that is cut off under a ticket that isn't confirmed, a cached translation is found
+-- of an attached or leaving device, or of one that is quarantined under a ticket that isn't confirmed, a cached translation is found
 pub record FindsCached (d : DriverState) (id address : ℕ) (kind : AccessKind) (old : Translations) (answer : Translation) (new : Translations) : Type 0 where
   pub stage : Stages
   pub owned : owned_stages_of d.devices id ≡ Some stage
@@ -80,7 +80,7 @@ pub record FindsCached (d : DriverState) (id address : ℕ) (kind : AccessKind) 
   pub answer_is : answer ≡ translation
   pub cached : old (space_in stage.mode stage.number, address / 4096) ≡ Some translation
   pub allowed : allows translation.rights kind ≡ true
-  pub stays : TranslationsStay old new
+  pub unchanged : TranslationsUnchanged old new
 
 -- by how the device is attached
 abbrev pub FaultsAs : Attachment → DriverState → ℕ → ℕ → AccessKind → Cause → Type 0
@@ -91,7 +91,7 @@ FaultsAs (Leaving ticket stage) d id address kind cause = IsPageFaultOf stage.mo
 
 abbrev pub IsAnswered : Bool → DriverState → ℕ → ℕ → AccessKind → Translations → Result Translation WalkFault → Translations → Type 0
 IsAnswered sure d id address kind old (Ok answer) new = ReachesHeld sure d id address kind old answer new ⊎ FindsCached d id address kind old answer new
-IsAnswered sure d id address kind old (Err fault) new = FaultsAs (attachment_by_id d.devices id) d id address kind fault.cause × TranslationsStay old new
+IsAnswered sure d id address kind old (Err fault) new = FaultsAs (attachment_by_id d.devices id) d id address kind fault.cause × TranslationsUnchanged old new
 
 -- a page fault of the mode
 page_fault_by : (mode : Mode) (ledger : Ledger) (id page : ℕ) (kind : AccessKind) (cause : Cause) → FaultsBy mode ledger id page kind cause → IsPageFaultOf mode kind cause
@@ -100,24 +100,24 @@ page_fault_by (Second size) ledger id page kind cause faults = faults.0
 page_fault_by (Both size) ledger id page kind cause faults = faults
 
 -- a root is a frame of memory
-pub root_low : (memory : List (List ℕ)) (marks : List (Option Owner)) (ledger : Ledger) (id : ℕ) (mode : Mode) (root : ℕ) → AreTablesOf memory marks ledger id mode root → root < length marks
-root_low memory marks ledger id mode root tables = get_within marks root (Some (OneDevice id)) (by mode tables)
+pub root_low : (memory : List (List ℕ)) (owners : List (Option Owner)) (ledger : Ledger) (id : ℕ) (mode : Mode) (root : ℕ) → AreTablesOf memory owners ledger id mode root → root < length owners
+root_low memory owners ledger id mode root tables = get_within owners root (Some (OneDevice id)) (by mode tables)
   where
     here : (size : Size) → HasTable size memory root root
     here Sv39 = ([], 0, 512 * root + 0, (root, (omega arith, tt), refl, refl), omega arith)
     here Sv48 = ([], 0, 512 * root + 0, (root, (omega arith, tt), refl, refl), omega arith)
 
-    by : (m : Mode) → AreTablesOf memory marks ledger id m root → slice_get marks root ≡ Some (Some (OneDevice id))
+    by : (m : Mode) → AreTablesOf memory owners ledger id m root → slice_get owners root ≡ Some (Some (OneDevice id))
     by (First size) tables = tables.own root (here size)
     by (Second size) tables = tables.own root (inl (here size))
     by (Both size) tables = tables.own root (inl (here size))
 
 -- and that of a second stage is aligned
-pub root_aligned : (memory : List (List ℕ)) (marks : List (Option Owner)) (ledger : Ledger) (id : ℕ) (mode : Mode) (root : ℕ) → AreTablesOf memory marks ledger id mode root
+pub root_aligned : (memory : List (List ℕ)) (owners : List (Option Owner)) (ledger : Ledger) (id : ℕ) (mode : Mode) (root : ℕ) → AreTablesOf memory owners ledger id mode root
     → (mode ≡ First (size_in mode)) ⊎ (root % 4 ≡ 0)
-root_aligned memory marks ledger id (First size) root tables = inl refl
-root_aligned memory marks ledger id (Second size) root tables = inr tables.tree.1
-root_aligned memory marks ledger id (Both size) root tables = inr tables.tree.1
+root_aligned memory owners ledger id (First size) root tables = inl refl
+root_aligned memory owners ledger id (Second size) root tables = inr tables.tree.1
+root_aligned memory owners ledger id (Both size) root tables = inr tables.tree.1
 
 -- a context of a device names its space, and its walk
 abbrev IsLookedIn : Bool → Mode → (memory : List (List ℕ)) → (root number address : ℕ) → AccessKind → Translations → Result Translation WalkFault → Translations → Type 0
@@ -191,7 +191,7 @@ attached_owns (Attached own) stage at = at
 attached_owns (Quarantined ticket own) stage at = cc
 attached_owns (Leaving ticket own) stage at = cc
 
-module _ (laws : ServiceLaws) (parts : Parts) (events : ℕ) (sound : AreSound parts events) (own : IsSoundDriver parts.driver) where
+module _ (laws : ServiceLaws) (parts : Parts) (events : ℕ) (invariants : PartsInvariant parts events) (own : DriverInvariant parts.driver) where
   abbrev d : DriverState
   d = parts.driver
 
@@ -199,7 +199,7 @@ module _ (laws : ServiceLaws) (parts : Parts) (events : ℕ) (sound : AreSound p
   r = registers_of parts.iommu
 
   names : NamesDirectory (length parts.memory) parts.driver.levels (registers_of parts.iommu)
-  names = sound.ready.directory sound.started
+  names = invariants.ready.directory invariants.started
 
   located_at : (id : ℕ) → located_context parts.memory r.ddtp id
       ≡ (if nat_lt id (id_limit d.levels) then path_end_from parts.memory (root_level d.levels) (directory_frame (length parts.memory)) id else Err TransactionTypeDisallowed)
@@ -226,7 +226,7 @@ module _ (laws : ServiceLaws) (parts : Parts) (events : ℕ) (sound : AreSound p
           ≡ located_as d.levels id (stages_of d.devices id)
       by true is =
           let low : id < id_limit d.levels = leb-true (suc id) (id_limit d.levels) is in
-          (sound.ready.stand.directory sound.started).contexts id (subst (λ n. id < n) (sym (room_for_ids d.levels own.sizes.in_range)) low)
+          (invariants.ready.stand.directory invariants.started).contexts id (subst (λ n. id < n) (sym (room_for_ids d.levels own.sizes.in_range)) low)
           ∙ located_low id low (stages_of d.devices id)
       by false is =
           let high : id_limit d.levels < suc id = leb-false (suc id) (id_limit d.levels) is in
@@ -238,7 +238,7 @@ module _ (laws : ServiceLaws) (parts : Parts) (events : ℕ) (sound : AreSound p
   found_as id =
       ap (λ b. if b then found_context (contexts_of parts.iommu id) (located_context parts.memory r.ddtp id) else Err TransactionTypeDisallowed)
       (ap (λ m. fits_directory m id) names.mode ∙ fits_levels d.levels own.sizes.in_range id)
-      ∙ by (nat_lt id (id_limit d.levels)) refl (contexts_of parts.iommu id) (λ context is. sound.contexts id context is)
+      ∙ by (nat_lt id (id_limit d.levels)) refl (contexts_of parts.iommu id) (λ context is. invariants.contexts id context is)
     where
       too_wide : (stages : Option Stages) (context : Context) → owned_stages_of d.devices id ≡ stages → option_map context_for stages ≡ Some context → id_limit d.levels < suc id → ⊥
       too_wide None context is owned high = cc
@@ -258,14 +258,14 @@ module _ (laws : ServiceLaws) (parts : Parts) (events : ℕ) (sound : AreSound p
   -- the frame of what is held is one of memory
   pub held_inside : (id page frame : ℕ) (rights : Rights) → held_in parts.driver.ledger id page ≡ Some (frame, rights) → frame < length parts.memory
   held_inside id page frame rights held =
-      subst (λ n. frame < n) (sym sound.ready.stand.size) (get_within d.marks frame None (own.grants.held id page frame rights held).unreserved)
+      subst (λ n. frame < n) (sym invariants.ready.stand.size) (get_within d.owners frame None (own.grants.held id page frame rights held).unreserved)
 
   module _ (id address : ℕ) (kind : AccessKind) (fits : address < 2 ^ 64) (sure : Bool) (old new : Translations) where
     low_page : address / 4096 < 2 ^ 52
     low_page = omega (arith, fits)
 
-    tables_of : (stage : Stages) → owned_stages_of d.devices id ≡ Some stage → AreTablesOf parts.memory d.marks d.ledger id stage.mode stage.root
-    tables_of stage owned = sound.ready.stand.tables id stage owned
+    tables_of : (stage : Stages) → owned_stages_of d.devices id ≡ Some stage → AreTablesOf parts.memory d.owners d.ledger id stage.mode stage.root
+    tables_of stage owned = invariants.ready.stand.tables id stage owned
 
     -- by a context of its stages an attached or leaving device is served from the cache, or by a walk
     abbrev IsLooked : Stages → Result Translation WalkFault → Type 0
@@ -285,37 +285,37 @@ module _ (laws : ServiceLaws) (parts : Parts) (events : ℕ) (sound : AreSound p
         → ServesBy sure (Ok (context_for stage)) parts.memory address kind old answer new → IsLooked stage answer
     from_tables stage answer owned served =
         let tables = tables_of stage owned in
-        let below = root_low parts.memory d.marks d.ledger id stage.mode stage.root tables in
+        let below = root_low parts.memory d.owners d.ledger id stage.mode stage.root tables in
         let many = own.sizes.size.1 in
         let few = (own.numbers.small id stage owned).1 in
         looked_by sure stage.mode stage.ats parts.memory stage.root stage.number address kind old answer new (omega (arith, below, many)) (omega (arith, few))
-        (root_aligned parts.memory d.marks d.ledger id stage.mode stage.root tables) served
+        (root_aligned parts.memory d.owners d.ledger id stage.mode stage.root tables) served
 
     by_tables : (stage : Stages) (answer : Result Translation WalkFault) → attachment_by_id d.devices id ≡ Attached stage → IsWalked stage answer → IsAnswered sure d id address kind old answer new
     by_tables stage (Ok answer) attached (walked, reaches, same, kept) =
-        let held = reached laws.walks parts.memory d.marks d.ledger id stage.mode stage.root (tables_of stage (ap owned_stages attached)) (held_inside id) address kind low_page walked reaches in
+        let held = reached laws.walks parts.memory d.owners d.ledger id stage.mode stage.root (tables_of stage (ap owned_stages attached)) (held_inside id) address kind low_page walked reaches in
         inl (record { stage = stage; attached = attached; translation = translation_of walked; answer_is = same; held = held.0; allowed = held.1; kept = kept })
-    by_tables stage (Err fault) attached (stops, stays) = (
+    by_tables stage (Err fault) attached (stops, unchanged) = (
       subst (λ a. FaultsAs a d id address kind fault.cause) (sym attached)
-          (stopped laws.walks parts.memory d.marks d.ledger id stage.mode stage.root (tables_of stage (ap owned_stages attached)) (held_inside id) address kind low_page fault stops),
-      stays,
+          (stopped laws.walks parts.memory d.owners d.ledger id stage.mode stage.root (tables_of stage (ap owned_stages attached)) (held_inside id) address kind low_page fault stops),
+      unchanged,
     )
 
-    -- a device that is cut off or leaves holds nothing
+    -- a device that is quarantined or leaves holds nothing
     none_reached : (stage : Stages) (answer : Result Translation WalkFault) → owned_stages_of d.devices id ≡ Some stage → stages_of d.devices id ≡ None
         → ((cause : Cause) → IsPageFaultOf stage.mode kind cause → FaultsAs (attachment_by_id d.devices id) d id address kind cause)
         → IsWalked stage answer → IsAnswered sure d id address kind old answer new
     none_reached stage (Ok answer) owned away faults (walked, reaches, same, kept) =
-        let held = reached laws.walks parts.memory d.marks d.ledger id stage.mode stage.root (tables_of stage owned) (held_inside id) address kind low_page walked reaches in
+        let held = reached laws.walks parts.memory d.owners d.ledger id stage.mode stage.root (tables_of stage owned) (held_inside id) address kind low_page walked reaches in
         let none = own.holders id held.0.0 away in
         absurd (none_some walked.frame held.0.1 (sym none ∙ held.0.3))
       where
         none_some : (frame : ℕ) (rights : Rights) → ◌≡◌ {A = Option Pair} None (Some (frame, rights)) → ⊥
         none_some frame rights same = cc
-    none_reached stage (Err fault) owned away faults (stops, stays) = (
+    none_reached stage (Err fault) owned away faults (stops, unchanged) = (
       faults fault.cause (page_fault_by stage.mode d.ledger id (address / 4096) kind fault.cause
-          (stopped laws.walks parts.memory d.marks d.ledger id stage.mode stage.root (tables_of stage owned) (held_inside id) address kind low_page fault stops)),
-      stays,
+          (stopped laws.walks parts.memory d.owners d.ledger id stage.mode stage.root (tables_of stage owned) (held_inside id) address kind low_page fault stops)),
+      unchanged,
     )
 
     -- what is cached serves where its right allows the kind; else there is a walk
@@ -324,8 +324,8 @@ module _ (laws : ServiceLaws) (parts : Parts) (events : ℕ) (sound : AreSound p
     by_cache stage answer owned pending walks looked = by (old (space_in stage.mode stage.number, address / 4096)) refl looked
       where
         finds : (translation : Translation) → old (space_in stage.mode stage.number, address / 4096) ≡ Some translation → allows translation.rights kind ≡ true
-            → (answer : Result Translation WalkFault) → answer ≡ Ok translation → TranslationsStay old new → IsAnswered sure d id address kind old answer new
-        finds translation at allowed (Ok found) same stays = inr (record {
+            → (answer : Result Translation WalkFault) → answer ≡ Ok translation → TranslationsUnchanged old new → IsAnswered sure d id address kind old answer new
+        finds translation at allowed (Ok found) same unchanged = inr (record {
           stage = stage;
           owned = owned;
           pending = pending;
@@ -333,31 +333,31 @@ module _ (laws : ServiceLaws) (parts : Parts) (events : ℕ) (sound : AreSound p
           answer_is = ok_same found translation same;
           cached = at;
           allowed = allowed;
-          stays = stays;
+          unchanged = unchanged;
         })
           where
             ok_same : (x y : Translation) → ◌≡◌ {A = Result Translation WalkFault} (Ok x) (Ok y) → x ≡ y
             ok_same x y same = cc
-        finds translation at allowed (Err fault) same stays = cc
+        finds translation at allowed (Err fault) same unchanged = cc
 
         by : (o : Option Translation) → old (space_in stage.mode stage.number, address / 4096) ≡ o → LooksAt stage answer (cached_for o kind) → IsAnswered sure d id address kind old answer new
         by None at it = walks it
         by (Some translation) at it = allow (allows translation.rights kind) refl it
           where
             allow : (b : Bool) → allows translation.rights kind ≡ b → LooksAt stage answer (if b then Some translation else None) → IsAnswered sure d id address kind old answer new
-            allow true allowed (same, stays) = finds translation at allowed answer same stays
+            allow true allowed (same, unchanged) = finds translation at allowed answer same unchanged
             allow false allowed it = walks it
 
     -- without a context
     no_context : (a : Attachment) (answer : Result Translation WalkFault) → attachment_by_id d.devices id ≡ a
         → ((cause : Cause) → cause ≡ cause_at d.levels id → FaultsAs a d id address kind cause)
-        → answer ≡ Err (plain (cause_at d.levels id)) → TranslationsStay old new → IsAnswered sure d id address kind old answer new
-    no_context a (Ok answer) is faults same stays = cc
-    no_context a (Err fault) is faults same stays =
+        → answer ≡ Err (plain (cause_at d.levels id)) → TranslationsUnchanged old new → IsAnswered sure d id address kind old answer new
+    no_context a (Ok answer) is faults same unchanged = cc
+    no_context a (Err fault) is faults same unchanged =
         let c : fault ≡ plain (cause_at d.levels id) = cc in
-        (subst (λ a. FaultsAs a d id address kind fault.cause) (sym is) (faults fault.cause (ap (λ (f : WalkFault). f.cause) c)), stays)
+        (subst (λ a. FaultsAs a d id address kind fault.cause) (sym is) (faults fault.cause (ap (λ (f : WalkFault). f.cause) c)), unchanged)
 
-    -- by the context of its stages, of a device that is attached, of one that is cut off, and of one that leaves
+    -- by the context of its stages, of a device that is attached, of one that is quarantined, and of one that leaves
     pub of_attached : (stage : Stages) (answer : Result Translation WalkFault) → attachment_by_id parts.driver.devices id ≡ Attached stage
         → ServesBy sure (Ok (context_for stage)) parts.memory address kind old answer new → IsAnswered sure parts.driver id address kind old answer new
     of_attached stage answer is served =
@@ -412,12 +412,12 @@ module _ (laws : ServiceLaws) (parts : Parts) (events : ℕ) (sound : AreSound p
         let found = context_or_cause parts.memory r (contexts_of parts.iommu) id in
         let by_mode : ServesIn sure (mode_of d.levels) found parts.memory address kind old answer new =
         subst (λ m. ServesIn sure m found parts.memory address kind old answer new) names.mode served in
-        by_attachment (attachment_by_id d.devices id) cached answer refl (λ context is. sound.contexts id context is) (λ there. pending_cached parts events sound id there)
+        by_attachment (attachment_by_id d.devices id) cached answer refl (λ context is. invariants.contexts id context is) (λ there. pending_cached parts events invariants id there)
         (subst (λ f. ServesBy sure f parts.memory address kind old answer new) (found_as id)
         (served_in sure d.levels own.sizes.in_range found parts.memory address kind old answer new by_mode))
 
 -- WHAT THE SERVICE MEANS
-pub served : ServiceLaws → (parts : Parts) (events : ℕ) → AreSound parts events → IsSoundDriver parts.driver → (id address : ℕ) (kind : AccessKind) (sure : Bool) (old new : Translations)
+pub served : ServiceLaws → (parts : Parts) (events : ℕ) → PartsInvariant parts events → DriverInvariant parts.driver → (id address : ℕ) (kind : AccessKind) (sure : Bool) (old new : Translations)
     (answer : Result Translation WalkFault) → address < 2 ^ 64 → Serves sure parts.memory (registers_of parts.iommu) (contexts_of parts.iommu) id address kind old answer new
     → IsAnswered sure parts.driver id address kind old answer new
-served laws parts events sound own id address kind sure old new answer fits is = service laws parts events sound own id address kind fits sure old new answer is
+served laws parts events invariants own id address kind sure old new answer fits is = service laws parts events invariants own id address kind fits sure old new answer is

@@ -20,31 +20,31 @@ use Rattle.iom_inflight.specs.Flights.{Flights}
 use Rattle.iom_phys_mem.specs.Words.{word_at}
 use Rattle.iom_registers.specs.declared.registers.Registers.{Registers}
 use Rattle.iom_registers.specs.Queues.{command_status}
-use Rattle.iom_table_frames.specs.Marks.{is_marked}
+use Rattle.iom_table_frames.specs.Owners.{is_marked}
 use Rattle.iom_world_effects.specs.Devices.{shown_attachment}
 use Rattle.iom_world_effects.specs.Parts.{Parts}
 use Rattle.iom_world_effects.specs.Queued.{completed_in}
 use Rattle.iom_world_effects.specs.Read.{space_at, values_of}
 use Rattle.iom_world_effects.specs.Scenes.{HasFaithfulScene}
-use Rattle.iom_world_effects.specs.Sound.{AreSound, ContextsAreTrue, row_ids}
-use Rattle.iom_world_effects.proofs.DriverLemmas.{IsSoundDriver}
+use Rattle.iom_world_effects.specs.Invariant.{PartsInvariant, ContextsAreTrue, row_ids}
+use Rattle.iom_world_effects.proofs.DriverLemmas.{DriverInvariant}
 use Rattle.iom_world_effects.proofs.PartsLemmas.{StaysReady}
 use Rattle.iom_world_effects.proofs.SceneSteps.{KeepsGrants, KeepsQueue}
-use Rattle.iom_world_effects.proofs.SoundLemmas.{same_epochs, traffic_kept, kinds_kept, still_unmarked}
+use Rattle.iom_world_effects.proofs.InvariantLemmas.{same_epochs, traffic_kept, kinds_kept, still_unmarked}
 
 -- a frame that isn't marked is nobody's, and none that is somebody's
-pub unmarked : (marks : List (Option Owner)) (frame : ℕ) → frame < length marks → is_marked marks frame ≡ false → slice_get marks frame ≡ Some None
-unmarked marks frame below none =
-    let there = get_there marks frame below in
+pub unmarked : (owners : List (Option Owner)) (frame : ℕ) → frame < length owners → is_marked owners frame ≡ false → slice_get owners frame ≡ Some None
+unmarked owners frame below none =
+    let there = get_there owners frame below in
     there.1 ∙ ap Some (by there.0 (sym (ap (λ (o : Option (Option Owner)). option_map_or (λ mark. is_some mark) o false) there.1) ∙ none))
   where
     by : (mark : Option Owner) → is_some mark ≡ false → mark ≡ None
     by None is = refl
     by (Some owner) is = absurd (false≢true (sym is))
 
-pub owned_differs : (marks : List (Option Owner)) (n m : ℕ) (owner : Owner) → slice_get marks n ≡ Some (Some owner) → slice_get marks m ≡ Some None → n ≢ m
-owned_differs marks n m owner own free same =
-    let both : ◌≡◌ {A = Option (Option Owner)} (Some (Some owner)) (Some None) = sym own ∙ ap (λ k. slice_get marks k) same ∙ free in cc
+pub owned_differs : (owners : List (Option Owner)) (n m : ℕ) (owner : Owner) → slice_get owners n ≡ Some (Some owner) → slice_get owners m ≡ Some None → n ≢ m
+owned_differs owners n m owner own free same =
+    let both : ◌≡◌ {A = Option (Option Owner)} (Some (Some owner)) (Some None) = sym own ∙ ap (λ k. slice_get owners k) same ∙ free in cc
 
 -- the word at the beginning of a frame that keeps its bytes
 word_of_frame : (m n : List (List ℕ)) (frame : ℕ) → slice_get n frame ≡ slice_get m frame → word_at 4 n (4096 * frame) ≡ word_at 4 m (4096 * frame)
@@ -59,7 +59,7 @@ same_completed m n size same =
 -- reserved frames, registers, driver, devices and messages stay, and so do the ids of the rows
 pub record Leaves (old new : Parts) : Type 0 where
   pub size : length new.memory ≡ length old.memory
-  pub reserved : (frame : ℕ) (owner : Owner) → slice_get old.driver.marks frame ≡ Some (Some owner) → slice_get new.memory frame ≡ slice_get old.memory frame
+  pub reserved : (frame : ℕ) (owner : Owner) → slice_get old.driver.owners frame ≡ Some (Some owner) → slice_get new.memory frame ≡ slice_get old.memory frame
   pub registers : registers_of new.iommu ≡ registers_of old.iommu
   pub frames : frames_of new.iommu ≡ frames_of old.iommu
   pub slots : slots_of new.iommu ≡ slots_of old.iommu
@@ -68,14 +68,14 @@ pub record Leaves (old new : Parts) : Type 0 where
   pub devices : new.devices ≡ old.devices
   pub fabric : new.fabric ≡ old.fabric
 
-module _ (old new : Parts) (events : ℕ) (sound : AreSound old events) (own : IsSoundDriver old.driver) (leaves : Leaves old new) where
-  fixed : AreFixed old.driver.marks (length old.memory)
-  fixed = subst (λ m. AreFixed old.driver.marks m) (sym sound.ready.stand.size) own.fixed
+module _ (old new : Parts) (events : ℕ) (invariants : PartsInvariant old events) (own : DriverInvariant old.driver) (leaves : Leaves old new) where
+  fixed : AreFixed old.driver.owners (length old.memory)
+  fixed = subst (λ m. AreFixed old.driver.owners m) (sym invariants.ready.stand.size) own.fixed
 
   pub same_waiting : commands_in new.memory (registers_of new.iommu) ≡ commands_in old.memory (registers_of old.iommu)
   same_waiting =
       ap (λ r. commands_in new.memory r) leaves.registers
-      ∙ same_commands old.memory new.memory (registers_of old.iommu) (sound.ready.ring sound.started) (leaves.reserved (command_frame (length old.memory)) System fixed.command)
+      ∙ same_commands old.memory new.memory (registers_of old.iommu) (invariants.ready.ring invariants.started) (leaves.reserved (command_frame (length old.memory)) System fixed.command)
 
   pub same_done : completed_in new.memory ≡ completed_in old.memory
   same_done = same_completed old.memory new.memory leaves.size (leaves.reserved (completion_frame (length old.memory)) System fixed.completion)
@@ -98,30 +98,30 @@ module _ (old new : Parts) (events : ℕ) (sound : AreSound old events) (own : I
   queue_kept fence_snapshot = record { waiting = same_waiting; completed = same_done; fence_snapshot = fence_snapshot; traffic = traffic_kept old new leaves.devices leaves.fabric leaves.slots }
 
   pub sound_from : StaysReady old.driver → (flights_of new.iommu).so_far ≤ events → ContextsAreTrue new
-      → (HasFaithfulScene (values_of old) → HasFaithfulScene (values_of new)) → AreSound new events
-  sound_from stays counted contexts scene =
+      → (HasFaithfulScene (values_of old) → HasFaithfulScene (values_of new)) → PartsInvariant new events
+  sound_from unchanged counted contexts scene =
       let keeps : KeepsReserved old.driver old.memory new.memory = record { size = leaves.size; bytes = λ frame owner mark other. leaves.reserved frame owner mark } in
       let ring : KeepsRing (registers_of old.iommu) (registers_of old.iommu) = record { on = refl; base = refl; entries = refl; faults_on = refl; faults_base = refl; faults_head = refl; faults_tail = refl; mode = refl; root = refl } in
       record {
         ready = rw leaves.driver
-            (stays old.memory new.memory (registers_of old.iommu) (registers_of new.iommu) sound.ready keeps (subst (λ s. KeepsRing (registers_of old.iommu) s) (sym leaves.registers) ring));
-        started = rw leaves.driver sound.started;
-        unmarked = still_unmarked (registers_of old.iommu) (registers_of new.iommu) (ap command_status leaves.registers) sound.unmarked;
-        size = leaves.frames ∙ sound.size ∙ sym leaves.size;
+            (unchanged old.memory new.memory (registers_of old.iommu) (registers_of new.iommu) invariants.ready keeps (subst (λ s. KeepsRing (registers_of old.iommu) s) (sym leaves.registers) ring));
+        started = rw leaves.driver invariants.started;
+        unmarked = still_unmarked (registers_of old.iommu) (registers_of new.iommu) (ap command_status leaves.registers) invariants.unmarked;
+        size = leaves.frames ∙ invariants.size ∙ sym leaves.size;
         known = record {
-          own_ids = rw leaves.devices sound.known.own_ids;
-          driver = rw (leaves.driver, leaves.devices) sound.known.driver;
-          iommu = leaves.rows ∙ rw leaves.devices sound.known.iommu;
-          caches = rw leaves.devices sound.known.caches;
-          trusted = rw (leaves.driver, leaves.devices) sound.known.trusted;
-          askers = rw (leaves.devices, leaves.fabric) sound.known.askers;
+          own_ids = rw leaves.devices invariants.known.own_ids;
+          driver = rw (leaves.driver, leaves.devices) invariants.known.driver;
+          iommu = leaves.rows ∙ rw leaves.devices invariants.known.iommu;
+          caches = rw leaves.devices invariants.known.caches;
+          trusted = rw (leaves.driver, leaves.devices) invariants.known.trusted;
+          askers = rw (leaves.devices, leaves.fabric) invariants.known.askers;
         };
-        serials = subst (λ (s : OpenSlots). s.last ≤ events) (sym leaves.slots) sound.serials;
-        epochs = same_epochs old new events sound leaves.devices;
-        small = rw leaves.driver sound.small;
+        serials = subst (λ (s : OpenSlots). s.last ≤ events) (sym leaves.slots) invariants.serials;
+        epochs = same_epochs old new events invariants leaves.devices;
+        small = rw leaves.driver invariants.small;
         counted = counted;
         contexts = contexts;
-        copies = ∥∥₁_map sound.copies scene;
+        copies = ∥∥₁_map invariants.copies scene;
       }
 
 -- where a fault was reported: the fault queue's frame and registers changed, and of the IOMMU what it cached
@@ -140,19 +140,19 @@ pub commands_by : (memory : List (List ℕ)) (r s : Registers) → LeavesCommand
 unfolding commands_in
 commands_by memory r s same = rw (same.base, same.head, same.tail) refl
 
-module _ (old new : Parts) (events : ℕ) (sound : AreSound old events) (own : IsSoundDriver old.driver) (leaves : LeavesReport old new) where
+module _ (old new : Parts) (events : ℕ) (invariants : PartsInvariant old events) (own : DriverInvariant old.driver) (leaves : LeavesReport old new) where
   pub report_waiting : commands_in new.memory (registers_of new.iommu) ≡ commands_in old.memory (registers_of old.iommu)
   report_waiting =
       let many = own.sizes.size.0 in
-      let size = sound.ready.stand.size in
+      let size = invariants.ready.stand.size in
       commands_by new.memory (registers_of old.iommu) (registers_of new.iommu) leaves.else_same.registers
-      ∙ same_commands old.memory new.memory (registers_of old.iommu) (sound.ready.ring sound.started)
+      ∙ same_commands old.memory new.memory (registers_of old.iommu) (invariants.ready.ring invariants.started)
       (leaves.else_same.frames (command_frame (length old.memory)) (λ same. absurd (omega (arith, many, size, same))))
 
   report_done : completed_in new.memory ≡ completed_in old.memory
   report_done =
       let many = own.sizes.size.0 in
-      let size = sound.ready.stand.size in
+      let size = invariants.ready.stand.size in
       same_completed old.memory new.memory leaves.else_same.size
       (leaves.else_same.frames (completion_frame (length old.memory)) (λ same. absurd (omega (arith, many, size, same))))
 
@@ -173,24 +173,24 @@ module _ (old new : Parts) (events : ℕ) (sound : AreSound old events) (own : I
   pub report_queue : fence_snapshot_of new.iommu ≡ fence_snapshot_of old.iommu → KeepsQueue (values_of old) (values_of new)
   report_queue fence_snapshot = record { waiting = report_waiting; completed = report_done; fence_snapshot = fence_snapshot; traffic = traffic_kept old new leaves.devices leaves.fabric leaves.slots }
 
-  pub report_sound : (flights_of new.iommu).so_far ≤ events → ContextsAreTrue new → (HasFaithfulScene (values_of old) → HasFaithfulScene (values_of new)) → AreSound new events
+  pub report_sound : (flights_of new.iommu).so_far ≤ events → ContextsAreTrue new → (HasFaithfulScene (values_of old) → HasFaithfulScene (values_of new)) → PartsInvariant new events
   report_sound counted contexts scene = record {
     ready = leaves.ready;
-    started = rw leaves.driver sound.started;
-    unmarked = still_unmarked (registers_of old.iommu) (registers_of new.iommu) leaves.else_same.registers.status sound.unmarked;
-    size = leaves.frames ∙ sound.size ∙ sym leaves.else_same.size;
+    started = rw leaves.driver invariants.started;
+    unmarked = still_unmarked (registers_of old.iommu) (registers_of new.iommu) leaves.else_same.registers.status invariants.unmarked;
+    size = leaves.frames ∙ invariants.size ∙ sym leaves.else_same.size;
     known = record {
-      own_ids = rw leaves.devices sound.known.own_ids;
-      driver = rw (leaves.driver, leaves.devices) sound.known.driver;
-      iommu = ap (λ (f : Flights). row_ids f.rows) leaves.flights ∙ rw leaves.devices sound.known.iommu;
-      caches = rw leaves.devices sound.known.caches;
-      trusted = rw (leaves.driver, leaves.devices) sound.known.trusted;
-      askers = rw (leaves.devices, leaves.fabric) sound.known.askers;
+      own_ids = rw leaves.devices invariants.known.own_ids;
+      driver = rw (leaves.driver, leaves.devices) invariants.known.driver;
+      iommu = ap (λ (f : Flights). row_ids f.rows) leaves.flights ∙ rw leaves.devices invariants.known.iommu;
+      caches = rw leaves.devices invariants.known.caches;
+      trusted = rw (leaves.driver, leaves.devices) invariants.known.trusted;
+      askers = rw (leaves.devices, leaves.fabric) invariants.known.askers;
     };
-    serials = subst (λ (s : OpenSlots). s.last ≤ events) (sym leaves.slots) sound.serials;
-    epochs = same_epochs old new events sound leaves.devices;
-    small = rw leaves.driver sound.small;
+    serials = subst (λ (s : OpenSlots). s.last ≤ events) (sym leaves.slots) invariants.serials;
+    epochs = same_epochs old new events invariants leaves.devices;
+    small = rw leaves.driver invariants.small;
     counted = counted;
     contexts = contexts;
-    copies = ∥∥₁_map sound.copies scene;
+    copies = ∥∥₁_map invariants.copies scene;
   }

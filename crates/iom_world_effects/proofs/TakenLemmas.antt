@@ -10,32 +10,32 @@ use Rattle.iom_base.specs.declared.owner.Owner.TheVariants.{System, OneDevice}
 use Rattle.iom_driver.specs.Attaching.{AreDirectoryPages, IsRootBelow, limit_below, root_frames}
 use Rattle.iom_driver.specs.Choices.{AreHighestFree, marked_for}
 use Rattle.iom_driver.specs.State.{DriverState}
-use Rattle.iom_driver.proofs.Marks.{Among, NotAmong, among_contained, among_get, marked_among, marked_still, mark_stays, length-marked_for}
+use Rattle.iom_driver.proofs.Owners.{Among, NotAmong, among_contained, among_get, marked_among, marked_still, mark_stays, length-marked_for}
 use Rattle.iom_ledger.specs.declared.ledger.Ledger.{Ledger}
 use Rattle.iom_table_frames.specs.Fours.{IsHighestFour}
-use Rattle.iom_table_frames.specs.Marks.{IsFreeForTable}
-use Rattle.iom_world_effects.proofs.StayLemmas.{not_owned}
+use Rattle.iom_table_frames.specs.Owners.{IsFreeForTable}
+use Rattle.iom_world_effects.proofs.UnchangedLemmas.{not_owned}
 
 -- below the lowest page there are no more frames than below the first limit
-pub limit_low : (marks : List (Option Owner)) (ledger : Ledger) (named : Option ℕ) (limit count : ℕ) (chosen : List ℕ) → AreHighestFree marks ledger named limit count chosen
+pub limit_low : (owners : List (Option Owner)) (ledger : Ledger) (named : Option ℕ) (limit count : ℕ) (chosen : List ℕ) → AreHighestFree owners ledger named limit count chosen
     → limit_below limit chosen ≤ limit
-limit_low marks ledger named limit count [] chose = omega arith
-limit_low marks ledger named limit zero (first ∷ frames) chose = absurd chose
-limit_low marks ledger named limit (suc count) (first ∷ frames) chose =
+limit_low owners ledger named limit count [] chose = omega arith
+limit_low owners ledger named limit zero (first ∷ frames) chose = absurd chose
+limit_low owners ledger named limit (suc count) (first ∷ frames) chose =
     let below : first < limit = chose.0.below in
-    let rest = limit_low marks ledger named first count frames chose.1 in
+    let rest = limit_low owners ledger named first count frames chose.1 in
     omega (arith, below, rest)
 
 -- of the free frames the chosen ones are all those from the lowest of them on
-pub free_among : (marks : List (Option Owner)) (ledger : Ledger) (named : Option ℕ) (limit count : ℕ) (chosen : List ℕ) (n : ℕ) → AreHighestFree marks ledger named limit count chosen
-    → n < limit → IsFreeForTable marks ledger named n → limit_below limit chosen ≤ n → Among n chosen
-free_among marks ledger named limit count [] n chose low free high = absurd (omega (arith, low, high))
-free_among marks ledger named limit zero (first ∷ frames) n chose low free high = absurd chose
-free_among marks ledger named limit (suc count) (first ∷ frames) n chose low free high = elim (eqb_tells n first) [
+pub free_among : (owners : List (Option Owner)) (ledger : Ledger) (named : Option ℕ) (limit count : ℕ) (chosen : List ℕ) (n : ℕ) → AreHighestFree owners ledger named limit count chosen
+    → n < limit → IsFreeForTable owners ledger named n → limit_below limit chosen ≤ n → Among n chosen
+free_among owners ledger named limit count [] n chose low free high = absurd (omega (arith, low, high))
+free_among owners ledger named limit zero (first ∷ frames) n chose low free high = absurd chose
+free_among owners ledger named limit (suc count) (first ∷ frames) n chose low free high = elim (eqb_tells n first) [
   | inl e ↦ inl e.1
   | inr ne ↦ elim (cases_lt first n) [
     | inl above ↦ absurd (chose.0.highest n above low free)
-    | inr le ↦ inr (free_among marks ledger named first count frames n chose.1 (let apart = ne.1 in lower n first le apart) free high)
+    | inr le ↦ inr (free_among owners ledger named first count frames n chose.1 (let apart = ne.1 in lower n first le apart) free high)
   ]
 ]
   where
@@ -59,63 +59,63 @@ among_or n (f ∷ fs) = elim (eqb_tells n f) [
 ]
 
 -- each frame of the root is free, and below the limit
-four_free : (d : DriverState) (limit root n : ℕ) → IsHighestFour d.marks d.ledger limit root → Among n (root ∷ (root + 1) ∷ (root + 2) ∷ (root + 3) ∷ []) → (n < limit) × IsFreeForTable d.marks d.ledger None n
-four_free d limit root n four (inl same) = let below = four.below in (omega (arith, below, same), subst (IsFreeForTable d.marks d.ledger None) (sym same) four.free.one)
-four_free d limit root n four (inr (inl same)) = let below = four.below in (omega (arith, below, same), subst (IsFreeForTable d.marks d.ledger None) (sym same) four.free.two)
-four_free d limit root n four (inr (inr (inl same))) = let below = four.below in (omega (arith, below, same), subst (IsFreeForTable d.marks d.ledger None) (sym same) four.free.three)
-four_free d limit root n four (inr (inr (inr (inl same)))) = let below = four.below in (omega (arith, below, same), subst (IsFreeForTable d.marks d.ledger None) (sym same) four.free.four)
+four_free : (d : DriverState) (limit root n : ℕ) → IsHighestFour d.owners d.ledger limit root → Among n (root ∷ (root + 1) ∷ (root + 2) ∷ (root + 3) ∷ []) → (n < limit) × IsFreeForTable d.owners d.ledger None n
+four_free d limit root n four (inl same) = let below = four.below in (omega (arith, below, same), subst (IsFreeForTable d.owners d.ledger None) (sym same) four.free.one)
+four_free d limit root n four (inr (inl same)) = let below = four.below in (omega (arith, below, same), subst (IsFreeForTable d.owners d.ledger None) (sym same) four.free.two)
+four_free d limit root n four (inr (inr (inl same))) = let below = four.below in (omega (arith, below, same), subst (IsFreeForTable d.owners d.ledger None) (sym same) four.free.three)
+four_free d limit root n four (inr (inr (inr (inl same)))) = let below = four.below in (omega (arith, below, same), subst (IsFreeForTable d.owners d.ledger None) (sym same) four.free.four)
 four_free d limit root n four (inr (inr (inr (inr never)))) = absurd never
 
-pub root_free : (mode : Mode) (d : DriverState) (limit root n : ℕ) → IsRootBelow mode d limit root → Among n (root_frames mode root) → (n < limit) × IsFreeForTable d.marks d.ledger None n
-root_free (First size) d limit root n is (inl same) = let below : root < limit = is.below in (omega (arith, below, same), subst (IsFreeForTable d.marks d.ledger None) (sym same) is.free)
+pub root_free : (mode : Mode) (d : DriverState) (limit root n : ℕ) → IsRootBelow mode d limit root → Among n (root_frames mode root) → (n < limit) × IsFreeForTable d.owners d.ledger None n
+root_free (First size) d limit root n is (inl same) = let below : root < limit = is.below in (omega (arith, below, same), subst (IsFreeForTable d.owners d.ledger None) (sym same) is.free)
 root_free (First size) d limit root n is (inr never) = absurd never
 root_free (Second size) d limit root n is here = four_free d limit root n is here
 root_free (Both size) d limit root n is here = four_free d limit root n is here
 
 module _ (d : DriverState) (memory : List (List ℕ)) (id root : ℕ) (mode : Mode) (pages : List ℕ) (chosen : AreDirectoryPages d memory id pages) (is_root : IsRootBelow mode d (limit_below (length memory) pages) root) where
-  pages_free : (limit count : ℕ) (fs : List ℕ) (n : ℕ) → AreHighestFree d.marks d.ledger None limit count fs → Among n fs → (n < limit) × IsFreeForTable d.marks d.ledger None n
+  pages_free : (limit count : ℕ) (fs : List ℕ) (n : ℕ) → AreHighestFree d.owners d.ledger None limit count fs → Among n fs → (n < limit) × IsFreeForTable d.owners d.ledger None n
   pages_free limit count [] n chose here = absurd here
   pages_free limit zero (f ∷ fs) n chose here = absurd chose
   pages_free limit (suc count) (f ∷ fs) n chose (inl same) =
-      let below : f < limit = chose.0.below in (omega (arith, below, same), subst (IsFreeForTable d.marks d.ledger None) (sym same) chose.0.free)
+      let below : f < limit = chose.0.below in (omega (arith, below, same), subst (IsFreeForTable d.owners d.ledger None) (sym same) chose.0.free)
   pages_free limit (suc count) (f ∷ fs) n chose (inr later) =
       let below : f < limit = chose.0.below in
       let rest = pages_free f count fs n chose.1 later in
       let low : n < f = rest.0 in (omega (arith, below, low), rest.1)
 
   -- EACH FRAME THAT IS TAKEN is free, and one of memory
-  pub taken_free : (n : ℕ) → Among n (pages ++ root_frames mode root) → (n < length memory) × IsFreeForTable d.marks d.ledger None n
+  pub taken_free : (n : ℕ) → Among n (pages ++ root_frames mode root) → (n < length memory) × IsFreeForTable d.owners d.ledger None n
   taken_free n here = elim (among_either n pages (root_frames mode root) here) [
     | inl page ↦ pages_free (length memory) _ pages n chosen page
     | inr own ↦
         let free = root_free mode d (limit_below (length memory) pages) root n is_root own in
         let low : n < limit_below (length memory) pages = free.0 in
-        let most = limit_low d.marks d.ledger None (length memory) _ pages chosen in (omega (arith, low, most), free.1)
+        let most = limit_low d.owners d.ledger None (length memory) _ pages chosen in (omega (arith, low, most), free.1)
   ]
 
-  pub taken_all : All (λ n. (n < length memory) × IsFreeForTable d.marks d.ledger None n) (pages ++ root_frames mode root)
+  pub taken_all : All (λ n. (n < length memory) × IsFreeForTable d.owners d.ledger None n) (pages ++ root_frames mode root)
   taken_all = λ k n lt. taken_free (get_or (pages ++ root_frames mode root) k n) (among_get (pages ++ root_frames mode root) k n lt)
 
 -- the marks once the pages are the system's and the root the device's
-abbrev pub taken_marks : ℕ → List ℕ → List ℕ → List (Option Owner) → List (Option Owner)
-taken_marks id pages roots marks = marked_for (OneDevice id) roots (marked_for System pages marks)
+abbrev pub taken_owners : ℕ → List ℕ → List ℕ → List (Option Owner) → List (Option Owner)
+taken_owners id pages roots owners = marked_for (OneDevice id) roots (marked_for System pages owners)
 
 -- what is nobody's then was neither the system's nor taken
-module _ (id : ℕ) (pages roots : List ℕ) (marks : List (Option Owner)) (inside : All (λ f. f < length marks) pages) (roots_inside : All (λ f. f < length marks) roots) where
-  free_elsewhere : (f : ℕ) → slice_get (taken_marks id pages roots marks) f ≡ Some None → NotAmong f roots × (slice_get (marked_for System pages marks) f ≡ Some None)
+module _ (id : ℕ) (pages roots : List ℕ) (owners : List (Option Owner)) (inside : All (λ f. f < length owners) pages) (roots_inside : All (λ f. f < length owners) roots) where
+  free_elsewhere : (f : ℕ) → slice_get (taken_owners id pages roots owners) f ≡ Some None → NotAmong f roots × (slice_get (marked_for System pages owners) f ≡ Some None)
   free_elsewhere f free = elim (among_or f roots) [
-    | inl here ↦ absurd (not_owned (taken_marks id pages roots marks) f (OneDevice id) free
-        (marked_among (OneDevice id) f roots (marked_for System pages marks)
-        (λ k n lt. subst (λ m. get_or roots k n < m) (sym (length-marked_for System pages marks)) (roots_inside k n lt)) here))
-    | inr apart ↦ (apart, sym (mark_stays (OneDevice id) f roots (marked_for System pages marks) apart) ∙ free)
+    | inl here ↦ absurd (not_owned (taken_owners id pages roots owners) f (OneDevice id) free
+        (marked_among (OneDevice id) f roots (marked_for System pages owners)
+        (λ k n lt. subst (λ m. get_or roots k n < m) (sym (length-marked_for System pages owners)) (roots_inside k n lt)) here))
+    | inr apart ↦ (apart, sym (mark_stays (OneDevice id) f roots (marked_for System pages owners) apart) ∙ free)
   ]
 
-  pub free_before : (f : ℕ) → slice_get (taken_marks id pages roots marks) f ≡ Some None → slice_get marks f ≢ Some (Some System)
-  free_before f free own = not_owned (marked_for System pages marks) f System ((free_elsewhere f free).1) (marked_still System f pages marks own)
+  pub free_before : (f : ℕ) → slice_get (taken_owners id pages roots owners) f ≡ Some None → slice_get owners f ≢ Some (Some System)
+  free_before f free own = not_owned (marked_for System pages owners) f System ((free_elsewhere f free).1) (marked_still System f pages owners own)
 
-  pub free_untaken : (f : ℕ) → slice_get (taken_marks id pages roots marks) f ≡ Some None → ¬ Contains (pages ++ roots) f
+  pub free_untaken : (f : ℕ) → slice_get (taken_owners id pages roots owners) f ≡ Some None → ¬ Contains (pages ++ roots) f
   free_untaken f free here = elim (among_either f pages roots (among_contained f (pages ++ roots) here)) [
-    | inl among ↦ not_owned (marked_for System pages marks) f System ((free_elsewhere f free).1) (marked_among System f pages marks inside among)
+    | inl among ↦ not_owned (marked_for System pages owners) f System ((free_elsewhere f free).1) (marked_among System f pages owners inside among)
     | inr own ↦ among_not f roots own (free_elsewhere f free).0
   ]
     where

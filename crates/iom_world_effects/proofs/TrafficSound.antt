@@ -26,9 +26,9 @@ use Rattle.iom_world_effects.specs.Parts.{Parts}
 use Rattle.iom_world_effects.specs.Queued.{completed_in}
 use Rattle.iom_world_effects.specs.Read.{space_at, values_of, accesses_of}
 use Rattle.iom_world_effects.specs.Scenes.{IsSceneOf, HasFaithfulScene}
-use Rattle.iom_world_effects.specs.Sound.{AreSound, AreKnown, HasAsker}
+use Rattle.iom_world_effects.specs.Invariant.{PartsInvariant, AreKnown, HasAsker}
 use Rattle.iom_world_effects.specs.Traffic.{messages_in}
-use Rattle.iom_world_effects.proofs.SoundLemmas.{still_unmarked}
+use Rattle.iom_world_effects.proofs.InvariantLemmas.{still_unmarked}
 use Rattle.iom_world_effects.proofs.MessageScenes.{KeepsRest, carry_scene}
 
 -- of the IOMMU nothing changes but which requests to invalidate are open
@@ -83,39 +83,39 @@ rest_kept old new keeps = record {
 }
 
 -- SO ALL STAYS TRUE, where the facts on copies do
-pub traffic_sound : (old new : Parts) (events : ℕ) → AreSound old events → KeepsParts old new → AreKnown new → ((id : ℕ) → epoch_in new.devices id ≤ events)
-    → (HasFaithfulScene (values_of old) → HasFaithfulScene (values_of new)) → AreSound new events
-traffic_sound old new events sound keeps known epochs scenes = record {
+pub traffic_sound : (old new : Parts) (events : ℕ) → PartsInvariant old events → KeepsParts old new → AreKnown new → ((id : ℕ) → epoch_in new.devices id ≤ events)
+    → (HasFaithfulScene (values_of old) → HasFaithfulScene (values_of new)) → PartsInvariant new events
+traffic_sound old new events invariants keeps known epochs scenes = record {
   ready = subst (IsReady new.driver new.memory) (sym keeps.iommu.registers)
-      (subst (λ m. IsReady new.driver m (registers_of old.iommu)) (sym keeps.memory) (subst (λ (d : DriverState). IsReady d old.memory (registers_of old.iommu)) (sym keeps.driver) sound.ready));
-  started = ap (λ (d : DriverState). d.started) keeps.driver ∙ sound.started;
-  unmarked = still_unmarked (registers_of old.iommu) (registers_of new.iommu) (ap command_status keeps.iommu.registers) sound.unmarked;
-  size = keeps.iommu.frames ∙ sound.size ∙ sym (ap (λ m. length m) keeps.memory);
+      (subst (λ m. IsReady new.driver m (registers_of old.iommu)) (sym keeps.memory) (subst (λ (d : DriverState). IsReady d old.memory (registers_of old.iommu)) (sym keeps.driver) invariants.ready));
+  started = ap (λ (d : DriverState). d.started) keeps.driver ∙ invariants.started;
+  unmarked = still_unmarked (registers_of old.iommu) (registers_of new.iommu) (ap command_status keeps.iommu.registers) invariants.unmarked;
+  size = keeps.iommu.frames ∙ invariants.size ∙ sym (ap (λ m. length m) keeps.memory);
   known = known;
-  small = subst (λ (d : DriverState). d.given < 2 ^ 32) (sym keeps.driver) sound.small;
-  counted = subst (λ (f : Flights). f.so_far ≤ events) (sym keeps.iommu.flights) sound.counted;
-  serials = subst (λ (n : ℕ). n ≤ events) (sym keeps.iommu.last) sound.serials;
+  small = subst (λ (d : DriverState). d.given < 2 ^ 32) (sym keeps.driver) invariants.small;
+  counted = subst (λ (f : Flights). f.so_far ≤ events) (sym keeps.iommu.flights) invariants.counted;
+  serials = subst (λ (n : ℕ). n ≤ events) (sym keeps.iommu.last) invariants.serials;
   epochs = epochs;
   contexts = λ id context at.
       subst (λ (d : DriverState). option_map context_for (owned_stages_of d.devices id) ≡ Some context) (sym keeps.driver)
-      (sound.contexts id context (sym (keeps.iommu.contexts id) ∙ at));
-  copies = ∥∥₁_map sound.copies scenes;
+      (invariants.contexts id context (sym (keeps.iommu.contexts id) ∙ at));
+  copies = ∥∥₁_map invariants.copies scenes;
 }
 
 -- MESSAGES ALONE CHANGE: each that is under way then may be sent, or was under way before; questions are those of devices that are plugged in
-pub carried_sound : (old : Parts) (fabric : List OnLink) (events : ℕ) → AreSound old events → All (HasAsker old.devices) fabric
+pub carried_sound : (old : Parts) (fabric : List OnLink) (events : ℕ) → PartsInvariant old events → All (HasAsker old.devices) fabric
     → ((scene : Scene) → IsSceneOf (values_of old) scene → IsFaithful scene → (message : AtsMessage) → Contains (messages_in fabric) message → MayBeSent scene message ⊎ Contains scene.messages message)
-    → AreSound (record old { fabric = fabric }) events
-carried_sound old fabric events sound askers may =
+    → PartsInvariant (record old { fabric = fabric }) events
+carried_sound old fabric events invariants askers may =
     let new : Parts = record old { fabric = fabric } in
     let keeps : KeepsParts old new = record { memory = refl; driver = refl; iommu = keeps_iommu old.iommu old.iommu refl; kinds = λ d. refl } in
-    traffic_sound old new events sound keeps
+    traffic_sound old new events invariants keeps
     (record {
-      own_ids = sound.known.own_ids;
-      driver = sound.known.driver;
-      iommu = sound.known.iommu;
-      caches = sound.known.caches;
-      trusted = sound.known.trusted;
+      own_ids = invariants.known.own_ids;
+      driver = invariants.known.driver;
+      iommu = invariants.known.iommu;
+      caches = invariants.known.caches;
+      trusted = invariants.known.trusted;
       askers = askers;
     })
-    sound.epochs (carry_scene (values_of old) (values_of new) (messages_in fabric) (rest_kept old new keeps) refl may)
+    invariants.epochs (carry_scene (values_of old) (values_of new) (messages_in fabric) (rest_kept old new keeps) refl may)

@@ -192,12 +192,12 @@ module _ (laws : WalkLaws) (size : Size) (memory : List (List ℕ)) (ledger : Le
         (λ page leaf here. inside page leaf.frame leaf.rights (pair_of_leaf (held_in ledger id page) leaf.frame leaf.rights (sym (guest_mapped page) ∙ here))) stops
 
 -- BY THE MODE
-module _ (laws : WalkLaws) (memory : List (List ℕ)) (marks : List (Option Owner)) (ledger : Ledger) (id : ℕ) (mode : Mode) (root : ℕ) (tables : AreTablesOf memory marks ledger id mode root)
+module _ (laws : WalkLaws) (memory : List (List ℕ)) (owners : List (Option Owner)) (ledger : Ledger) (id : ℕ) (mode : Mode) (root : ℕ) (tables : AreTablesOf memory owners ledger id mode root)
     (inside : (page frame : ℕ) (rights : Rights) → held_in ledger id page ≡ Some (frame, rights) → frame < length memory) (address : ℕ) (kind : AccessKind) (low : address / 4096 < 2 ^ 52) where
   pub reached : (walked : Walked) → ReachesBy mode memory root address kind walked → HoldsWalked ledger mode id (address / 4096) (translation_of walked) × (allows walked.rights kind ≡ true)
   reached = by mode tables
     where
-      by : (m : Mode) → AreTablesOf memory marks ledger id m root → (walked : Walked) → ReachesBy m memory root address kind walked
+      by : (m : Mode) → AreTablesOf memory owners ledger id m root → (walked : Walked) → ReachesBy m memory root address kind walked
           → HoldsWalked ledger m id (address / 4096) (translation_of walked) × (allows walked.rights kind ≡ true)
       by (First size) tables walked reaches = first_reached laws size memory ledger id root tables.tree tables.leaves inside address kind low walked reaches
       by (Second size) tables walked reaches = second_reached laws size memory ledger id root tables.tree.0 tables.leaves tables.low inside address kind walked reaches
@@ -206,7 +206,7 @@ module _ (laws : WalkLaws) (memory : List (List ℕ)) (marks : List (Option Owne
   pub stopped : (fault : WalkFault) → StopsBy mode memory root address kind fault → FaultsBy mode ledger id (address / 4096) kind fault.cause
   stopped = by mode tables
     where
-      by : (m : Mode) → AreTablesOf memory marks ledger id m root → (fault : WalkFault) → StopsBy m memory root address kind fault → FaultsBy m ledger id (address / 4096) kind fault.cause
+      by : (m : Mode) → AreTablesOf memory owners ledger id m root → (fault : WalkFault) → StopsBy m memory root address kind fault → FaultsBy m ledger id (address / 4096) kind fault.cause
       by (First size) tables fault stops = first_stopped laws size memory ledger id root tables.tree tables.leaves inside address kind low fault stops
       by (Second size) tables fault stops = second_stopped laws size memory ledger id root tables.tree.0 tables.leaves tables.low inside address kind fault stops
       by (Both size) tables fault stops = both_stopped laws size memory ledger id root tables.tree.0 tables.leaves tables.low inside address kind fault stops

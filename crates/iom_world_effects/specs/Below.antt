@@ -22,7 +22,7 @@ pub record LawsBelow : Type 0 where
   pub as_reads_second : WritesAsReadsSecond
   pub as_reads_both : WritesAsReadsBoth
   pub led : GuestFramesAreLed
-  pub stays : ReadyStays
+  pub unchanged : ReadyStays
   pub reported : ReadyAfterRecord
 
 -- the address that a device names is one of 64 bits

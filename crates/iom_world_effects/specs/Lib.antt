@@ -10,8 +10,8 @@ pub mod Deliveries
 pub mod Queued
 pub mod Scenes
 pub mod Read
-pub mod Sound
-pub mod SoundIsFact
+pub mod Invariant
+pub mod InvariantIsFact
 pub mod Unable
 pub mod Requests
 pub mod ThroughCache
@@ -20,6 +20,6 @@ pub mod Processor
 pub mod Answers
 pub mod Recovery
 pub mod BlockDevices
-pub mod Does
-pub mod Stays
+pub mod Effect
+pub mod Unchanged
 pub mod Below

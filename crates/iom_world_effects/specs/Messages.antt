@@ -48,38 +48,38 @@ with_fetched Empty last fabric = fabric
 with_fetched Stopped last fabric = fabric
 
 -- what is told of a message that is sent
-abbrev pub sent_told : List OnLink → Outcome
-sent_told fabric = if nat_lt (length fabric) 64 then outcome.Sent else outcome.Lost
+abbrev pub outcome_of_sent : List OnLink → Outcome
+outcome_of_sent fabric = if nat_lt (length fabric) 64 then outcome.Sent else outcome.Lost
 
 -- a device sends a message, and nothing else changes
-pub record SendsOnLink (old : Parts) (id : ℕ) (message : Message) (told : Outcome) (new : Parts) : Type 0 where
-  pub told_so : told ≡ sent_told old.fabric
+pub record SendsOnLink (old : Parts) (id : ℕ) (message : Message) (reply : Outcome) (new : Parts) : Type 0 where
+  pub reply_is : reply ≡ outcome_of_sent old.fabric
   pub sent : new ≡ record old { fabric = with_sent old.fabric id message }
 
 -- A DEVICE ASKS for the translation of a page, in the epoch of its cache (Translation Request, section 10.2)
 abbrev pub AsksQuestion : Parts → ℕ → ℕ → Outcome → Parts → Type 0
-AsksQuestion old id page told new =
-    IsUnknown old id told new ⊎ IsUnable asks_questions old id told new
-    ⊎ (IsAble asks_questions old.devices id × SendsOnLink old id (Ask (epoch_in old.devices id) page) told new)
+AsksQuestion old id page reply new =
+    IsUnknown old id reply new ⊎ IsUnable asks_questions old id reply new
+    ⊎ (IsAble asks_questions old.devices id × SendsOnLink old id (Ask (epoch_in old.devices id) page) reply new)
 
 -- A DEVICE SAYS that it completed a request, whether it was asked or not (Invalidate Completion, section 10.3.2)
 abbrev pub ForgesCompletion : Parts → ℕ → ℕ → Outcome → Parts → Type 0
-ForgesCompletion old id serial told new =
-    IsUnknown old id told new ⊎ IsUnable forges old id told new
-    ⊎ (IsAble forges old.devices id × SendsOnLink old id (InvDone serial) told new)
+ForgesCompletion old id serial reply new =
+    IsUnknown old id reply new ⊎ IsUnable forges old id reply new
+    ⊎ (IsAble forges old.devices id × SendsOnLink old id (InvDone serial) reply new)
 
 -- A MESSAGE IS LOST, if there is one at the place
-pub record DropsMessage (old : Parts) (place : ℕ) (told : Outcome) (new : Parts) : Type 0 where
-  pub told_so : told ≡ (if is_some (slice_get old.fabric place) then outcome.Dropped else outcome.NoMessage)
+pub record DropsMessage (old : Parts) (place : ℕ) (reply : Outcome) (new : Parts) : Type 0 where
+  pub reply_is : reply ≡ (if is_some (slice_get old.fabric place) then outcome.Dropped else outcome.NoMessage)
   pub dropped : new ≡ record old { fabric = remove old.fabric place }
 
 -- what is told of a message that is repeated
-abbrev pub repeat_told : Repeat → Outcome
-repeat_told repeat.Repeated = outcome.Repeated
-repeat_told repeat.Lost = outcome.Lost
-repeat_told repeat.Nothing = outcome.NoMessage
+abbrev pub outcome_of_repeat : Repeat → Outcome
+outcome_of_repeat repeat.Repeated = outcome.Repeated
+outcome_of_repeat repeat.Lost = outcome.Lost
+outcome_of_repeat repeat.Nothing = outcome.NoMessage
 
 -- A MESSAGE IS REPEATED, if there is one at the place, and room for it
-pub record RepeatsMessage (old : Parts) (place : ℕ) (told : Outcome) (new : Parts) : Type 0 where
-  pub told_so : told ≡ repeat_told (repeat_answer old.fabric (slice_get old.fabric place))
+pub record RepeatsMessage (old : Parts) (place : ℕ) (reply : Outcome) (new : Parts) : Type 0 where
+  pub reply_is : reply ≡ outcome_of_repeat (repeat_answer old.fabric (slice_get old.fabric place))
   pub repeated : new ≡ record old { fabric = repeated old.fabric (slice_get old.fabric place) }

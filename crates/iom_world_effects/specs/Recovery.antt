@@ -1,4 +1,4 @@
--- What is done about a device that doesn't answer: it is cut off, and attached again once its ticket is confirmed; a fence that waits for it is given up; and
+-- What is done about a device that doesn't answer: it is quarantined, and attached again once its ticket is confirmed; a fence that waits for it is given up; and
 -- the command queue is emptied, and filled with what is still needed. And a reset.
 use Rattle.std.specs.Prelude.{◌≡◌, ◌⊎◌, ℕ, Bool, Result, if◌then◌else◌}
 use Rattle.iom_driver.specs.declared.answers.Ticket.{Ticket}
@@ -12,40 +12,40 @@ use Rattle.iom_machine.specs.declared.outcome.Outcome.{Outcome}
 use Rattle.iom_machine.specs.declared.outcome.Outcome.TheVariants as outcome
 use Rattle.iom_base.specs.DeviceKinds.{is_any_kind}
 use Rattle.iom_device.specs.Calls.{devices_revived, with_reset}
-use Rattle.iom_world_effects.specs.Answers.{told_of, ticket_told_of}
+use Rattle.iom_world_effects.specs.Answers.{outcome_of_done, outcome_of_ticket}
 use Rattle.iom_device.specs.Caches.{IsAble}
 use Rattle.iom_world_effects.specs.Parts.{Parts}
 use Rattle.iom_world_effects.specs.Unable.{IsUnknown}
 
 -- A DEVICE IS CUT OFF
-pub record QuarantinesDevice (old : Parts) (id : ℕ) (told : Outcome) (new : Parts) : Type 0 where
+pub record QuarantinesDevice (old : Parts) (id : ℕ) (reply : Outcome) (new : Parts) : Type 0 where
   pub answer : Result Ticket Refusal
-  pub told_so : told ≡ ticket_told_of answer
+  pub reply_is : reply ≡ outcome_of_ticket answer
   pub call : AnswersQuarantine mmio old.driver old.memory old.iommu id answer new.driver new.memory new.iommu
   pub devices : new.devices ≡ old.devices
   pub fabric : new.fabric ≡ old.fabric
 
 -- A DEVICE THAT WAS CUT OFF is attached again, and reset
-pub record RevivesDevice (old : Parts) (id : ℕ) (told : Outcome) (new : Parts) : Type 0 where
+pub record RevivesDevice (old : Parts) (id : ℕ) (reply : Outcome) (new : Parts) : Type 0 where
   pub answer : Result (Unit {0}) Refusal
-  pub told_so : told ≡ told_of answer
+  pub reply_is : reply ≡ outcome_of_done answer
   pub call : AnswersRevive old.driver old.memory id answer new.driver new.memory
   pub devices : new.devices ≡ devices_revived answer old.devices id
   pub iommu : new.iommu ≡ old.iommu
   pub fabric : new.fabric ≡ old.fabric
 
 -- THE COMMAND QUEUE is emptied and filled
-pub record RestartsQueue (old : Parts) (told : Outcome) (new : Parts) : Type 0 where
+pub record RestartsQueue (old : Parts) (reply : Outcome) (new : Parts) : Type 0 where
   pub answer : Result (Unit {0}) Refusal
-  pub told_so : told ≡ told_of answer
+  pub reply_is : reply ≡ outcome_of_done answer
   pub call : AnswersRestart mmio old.driver old.memory old.iommu answer new.driver new.memory new.iommu
   pub devices : new.devices ≡ old.devices
   pub fabric : new.fabric ≡ old.fabric
 
 -- A FENCE that waits for devices is given up, if one does
-pub record TimesOutFence (old : Parts) (told : Outcome) (new : Parts) : Type 0 where
+pub record TimesOutFence (old : Parts) (reply : Outcome) (new : Parts) : Type 0 where
   pub answer : Bool
-  pub told_so : told ≡ (if answer then outcome.TimedOut else outcome.NoEffect)
+  pub reply_is : reply ≡ (if answer then outcome.TimedOut else outcome.NoEffect)
   pub call : TimesFenceOut old.iommu answer new.iommu
   pub memory : new.memory ≡ old.memory
   pub driver : new.driver ≡ old.driver
@@ -54,6 +54,6 @@ pub record TimesOutFence (old : Parts) (told : Outcome) (new : Parts) : Type 0 w
 
 -- A DEVICE IS RESET, of any kind
 abbrev pub ResetsDevice : Parts → ℕ → Outcome → Parts → Type 0
-ResetsDevice old id told new =
-    IsUnknown old id told new
-    ⊎ (IsAble is_any_kind old.devices id × (told ≡ outcome.Done) × (new ≡ record old { devices = with_reset old.devices id }))
+ResetsDevice old id reply new =
+    IsUnknown old id reply new
+    ⊎ (IsAble is_any_kind old.devices id × (reply ≡ outcome.Done) × (new ≡ record old { devices = with_reset old.devices id }))

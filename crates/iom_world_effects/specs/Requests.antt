@@ -28,16 +28,16 @@ use Rattle.iom_iommu.specs.OwnIommu.{Iommu}
 use Rattle.iom_world_effects.specs.Unable.{IsUnknown, IsUnable}
 
 -- what an answer of the IOMMU is told as
-abbrev pub reply_told_of : Reply → Outcome
-reply_told_of (Accepted number) = outcome.Accepted number
-reply_told_of Busy = outcome.Busy
-reply_told_of BadSpan = outcome.BadSpan
-reply_told_of (Fault cause) = outcome.Fault cause
+abbrev pub outcome_of_reply : Reply → Outcome
+outcome_of_reply (Accepted number) = outcome.Accepted number
+outcome_of_reply Busy = outcome.Busy
+outcome_of_reply BadSpan = outcome.BadSpan
+outcome_of_reply (Fault cause) = outcome.Fault cause
 
 -- the IOMMU answers so: driver and devices stay, and memory too, but for a fault, which is reported
-pub record IsReplied (Call : Reply → List (List ℕ) → Iommu → Type 0) (old : Parts) (told : Outcome) (new : Parts) : Type 0 where
+pub record IsReplied (Call : Reply → List (List ℕ) → Iommu → Type 0) (old : Parts) (answer : Outcome) (new : Parts) : Type 0 where
   pub reply : Reply
-  pub told_so : told ≡ reply_told_of reply
+  pub reply_is : answer ≡ outcome_of_reply reply
   pub call : Call reply new.memory new.iommu
   pub driver : new.driver ≡ old.driver
   pub devices : new.devices ≡ old.devices
@@ -45,15 +45,15 @@ pub record IsReplied (Call : Reply → List (List ℕ) → Iommu → Type 0) (ol
 
 -- A DEVICE ASKS for an access, if it is of a kind that can
 abbrev pub AsksAccess : (DeviceKind → Bool) → Parts → ℕ → Access → Outcome → Parts → Type 0
-AsksAccess can old id access told new =
-    IsUnknown old id told new ⊎ IsUnable can old id told new
-    ⊎ (IsAble can old.devices id × IsReplied (AnswersRequest old.memory old.iommu id access) old told new)
+AsksAccess can old id access answer new =
+    IsUnknown old id answer new ⊎ IsUnable can old id answer new
+    ⊎ (IsAble can old.devices id × IsReplied (AnswersRequest old.memory old.iommu id access) old answer new)
 
 -- A DEVICE SAYS of a request that it is translated already
 abbrev pub AsksTranslated : Parts → ℕ → Access → Outcome → Parts → Type 0
-AsksTranslated old id access told new =
-    IsUnknown old id told new ⊎ IsUnable forges old id told new
-    ⊎ (IsAble forges old.devices id × IsReplied (AnswersTranslated old.memory old.iommu id access) old told new)
+AsksTranslated old id access answer new =
+    IsUnknown old id answer new ⊎ IsUnable forges old id answer new
+    ⊎ (IsAble forges old.devices id × IsReplied (AnswersTranslated old.memory old.iommu id access) old answer new)
 
 -- the IOMMU finds for the device a context with both stages, whose tables have these sizes and roots; for a question too, since a context that lets ATS through is the one
 -- that is found

@@ -4,7 +4,7 @@ use Rattle.std.specs.Prelude.{◌≡◌, ℕ, ◌-◌, Bool, true, List, Contain
 use Rattle.iom_command_queue.specs.declared.entry.QueueEntry.{QueueEntry}
 use Rattle.iom_coherence.specs.Faithful.{IsFaithful}
 use Rattle.iom_coherence.specs.Queue.{QueuedCommand}
-use Rattle.iom_coherence.specs.Scene.{AccessInFlight, Copy, Scene, Stock}
+use Rattle.iom_coherence.specs.Scene.{AccessInFlight, Copy, Scene, FenceSnapshot}
 use Rattle.iom_ledger.specs.declared.ledger.Ledger.{Ledger}
 use Rattle.iom_ledger.specs.Shown.{Agrees}
 use Rattle.iom_machine.specs.declared.state.Attachment.{Attachment}
@@ -60,11 +60,11 @@ pub record IsSomebodys (space_of : ℕ → Option Space) (translations : List Co
   pub there : Contains translations (copy_of device key.1 translation)
 
 -- the fence at the head has taken its snapshot, if it was fetched
-abbrev pub IsStockOf : Option ℕ → Option Stock → Type 0
-IsStockOf None None = ⊤
-IsStockOf None (Some taken) = ⊥
-IsStockOf (Some counted) None = ⊥
-IsStockOf (Some counted) (Some taken) = taken.accepted ≡ counted
+abbrev pub IsSnapshotOf : Option ℕ → Option FenceSnapshot → Type 0
+IsSnapshotOf None None = ⊤
+IsSnapshotOf None (Some taken) = ⊥
+IsSnapshotOf (Some counted) None = ⊥
+IsSnapshotOf (Some counted) (Some taken) = taken.accepted ≡ counted
 
 -- a leaving device's invalidations are queued in front of the fence of its ticket
 abbrev pub GoesInOrder : (ℕ → ℕ) → ℕ → Attachment → List QueuedCommand → Type 0
@@ -89,7 +89,7 @@ pub record IsSceneOf (values : Values) (scene : Scene) : Type 0 where
   pub contexts : (id : ℕ) → values.is_cached id ≡ true → Contains scene.contexts id
   pub translations : (key : Key) (translation : Translation) → values.translations key ≡ Some translation
       → IsSomebodys values.space_of scene.translations key translation
-  pub fence_snapshot : IsStockOf values.fence_snapshot scene.fence_snapshot
+  pub fence_snapshot : IsSnapshotOf values.fence_snapshot scene.fence_snapshot
   pub leaving : (id : ℕ) → GoesInOrder values.fence_of id (values.attachment_of id) scene.waiting
   pub traffic : under_way scene ≡ values.traffic
   pub stopped : scene.is_stopped ≡ values.is_stopped

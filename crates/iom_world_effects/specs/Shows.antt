@@ -15,7 +15,7 @@ use Rattle.iom_world_effects.specs.Parts.{Parts}
 -- levels; and the state's limits are the model's
 pub record PartsShow (parts : Parts) (state : State) : Type 0 where
   pub ledger : Agrees parts.driver.ledger state.history
-  pub frames : ShowsFrames parts.memory parts.driver.marks state.frames
+  pub frames : ShowsFrames parts.memory parts.driver.owners state.frames
   pub devices : state.devices ≡ shown_devices parts.driver.devices (flights_of parts.iommu).rows parts.devices
   pub given : state.last_ticket ≡ parts.driver.given
   pub confirmed : last_confirmed state.history ≡ parts.driver.confirmed

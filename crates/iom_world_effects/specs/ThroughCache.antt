@@ -22,18 +22,18 @@ cached_frame parts id access = option_and_then (λ (cache : Cache). frame_for ca
 
 -- it misses exactly where the cache has none; else the device makes a translated request of it
 abbrev pub FindsFrame : Option ℕ → Parts → ℕ → Access → Outcome → Parts → Type 0
-FindsFrame None old id access told new = (told ≡ outcome.Miss) × (new ≡ old)
-FindsFrame (Some frame) old id access told new = IsReplied (AnswersTranslated old.memory old.iommu id (at_frame frame access)) old told new
+FindsFrame None old id access reply new = (reply ≡ outcome.Miss) × (new ≡ old)
+FindsFrame (Some frame) old id access reply new = IsReplied (AnswersTranslated old.memory old.iommu id (at_frame frame access)) old reply new
 
 -- the first that applies: the bytes are none or too many or leave their page, eight accesses are in flight, or the cache is asked
 abbrev pub TriesCache : Parts → ℕ → Access → Outcome → Parts → Type 0
-TriesCache old id access told new =
-    ((¬ IsWithinPage access) × (told ≡ outcome.BadSpan) × (new ≡ old))
-    ⊎ (IsWithinPage access × IsFull (flights_of old.iommu) id × (told ≡ outcome.Busy) × (new ≡ old))
-    ⊎ (IsWithinPage access × HasRoom (flights_of old.iommu) id × FindsFrame (cached_frame old id access) old id access told new)
+TriesCache old id access reply new =
+    ((¬ IsWithinPage access) × (reply ≡ outcome.BadSpan) × (new ≡ old))
+    ⊎ (IsWithinPage access × IsFull (flights_of old.iommu) id × (reply ≡ outcome.Busy) × (new ≡ old))
+    ⊎ (IsWithinPage access × HasRoom (flights_of old.iommu) id × FindsFrame (cached_frame old id access) old id access reply new)
 
 -- A DEVICE ASKS for an access through its cache, if it is of a kind that can
 abbrev pub DeviceAsksThroughCache : (DeviceKind → Bool) → Parts → ℕ → Access → Outcome → Parts → Type 0
-DeviceAsksThroughCache can old id access told new =
-    IsUnknown old id told new ⊎ IsUnable can old id told new
-    ⊎ (IsAble can old.devices id × TriesCache old id access told new)
+DeviceAsksThroughCache can old id access reply new =
+    IsUnknown old id reply new ⊎ IsUnable can old id reply new
+    ⊎ (IsAble can old.devices id × TriesCache old id access reply new)

@@ -9,15 +9,15 @@ use Rattle.iom_world_effects.specs.Parts.{Parts}
 use Rattle.iom_world_effects.specs.Places.{IsAbsent}
 
 -- no device has the id
-pub record IsUnknown (old : Parts) (id : ℕ) (told : Outcome) (new : Parts) : Type 0 where
+pub record IsUnknown (old : Parts) (id : ℕ) (reply : Outcome) (new : Parts) : Type 0 where
   pub absent : IsAbsent old.devices id
-  pub told_so : told ≡ Refused NoSuchDevice
+  pub reply_is : reply ≡ Refused NoSuchDevice
   pub same : new ≡ old
 
 -- the device is of a kind that can't
-pub record IsUnable (can : DeviceKind → Bool) (old : Parts) (id : ℕ) (told : Outcome) (new : Parts) : Type 0 where
+pub record IsUnable (can : DeviceKind → Bool) (old : Parts) (id : ℕ) (reply : Outcome) (new : Parts) : Type 0 where
   pub kind : DeviceKind
   pub there : kind_in old.devices id ≡ Some kind
   pub cannot : can kind ≡ false
-  pub told_so : told ≡ Refused WrongKind
+  pub reply_is : reply ≡ Refused WrongKind
   pub same : new ≡ old

@@ -2,16 +2,16 @@
 use Rattle.std.proofs.Common.{◌≡◌, ◌^◌, ◌<◌, ℕ, Bool, sym, subst}
 use Rattle.iom_base.specs.declared.access.Access.{Access}
 use Rattle.iom_driver.specs.declared.driver.Driver.{Driver}
-use Rattle.iom_driver.specs.Seen.{state_of}
+use Rattle.iom_driver.specs.StateOf.{state_of}
 use Rattle.iom_iommu.specs.Parts.{flights_of}
 use Rattle.iom_machine.specs.declared.outcome.Outcome.{Outcome}
 use Rattle.iom_base.specs.declared.device_kind.DeviceKind.{DeviceKind}
 use Rattle.iom_world_effects.specs.Below.{LawsBelow}
 use Rattle.iom_world_effects.specs.Parts.{Parts}
 use Rattle.iom_world_effects.specs.Requests.{AsksAccess, AsksTranslated}
-use Rattle.iom_world_effects.specs.Sound.{AreSound}
+use Rattle.iom_world_effects.specs.Invariant.{PartsInvariant}
 use Rattle.iom_world_effects.specs.ThroughCache.{DeviceAsksThroughCache}
-use Rattle.iom_world_effects.proofs.DriverLemmas.{IsSoundDriver}
+use Rattle.iom_world_effects.proofs.DriverLemmas.{DriverInvariant}
 use Rattle.iom_world_effects.proofs.PartsLemmas.{StaysReady, stays_of, StaysReported, reported_of}
 use Rattle.iom_world_invariant.proofs.RequestKeeps.{keeps_asked}
 use Rattle.iom_world_effects.proofs.ServedLemmas.{ServiceLaws}
@@ -37,20 +37,20 @@ service_laws laws = record {
   };
 }
 
-pub keeps_asked_counted : (can : DeviceKind → Bool) → LawsBelow → (driver : Driver) (old new : Parts) (events id : ℕ) (access : Access) (told : Outcome) → AreSound old events → IsSoundDriver old.driver → old.driver ≡ state_of driver
-    → (flights_of old.iommu).so_far < events → access.address < 2 ^ 64 → AsksAccess can old id access told new → AreSound new events
-keeps_asked_counted can laws driver old new events id access told sound own is below fits asks =
-    keeps_asked can (service_laws laws) old new events id access told sound own
-    (subst StaysReady (sym is) (stays_of laws.stays driver)) (subst StaysReported (sym is) (reported_of laws.reported driver)) below fits asks
+pub keeps_asked_counted : (can : DeviceKind → Bool) → LawsBelow → (driver : Driver) (old new : Parts) (events id : ℕ) (access : Access) (reply : Outcome) → PartsInvariant old events → DriverInvariant old.driver → old.driver ≡ state_of driver
+    → (flights_of old.iommu).so_far < events → access.address < 2 ^ 64 → AsksAccess can old id access reply new → PartsInvariant new events
+keeps_asked_counted can laws driver old new events id access reply invariants own is below fits asks =
+    keeps_asked can (service_laws laws) old new events id access reply invariants own
+    (subst StaysReady (sym is) (stays_of laws.unchanged driver)) (subst StaysReported (sym is) (reported_of laws.reported driver)) below fits asks
 
-pub keeps_translated_counted : LawsBelow → (driver : Driver) (old new : Parts) (events id : ℕ) (access : Access) (told : Outcome) → AreSound old events → IsSoundDriver old.driver → old.driver ≡ state_of driver
-    → (flights_of old.iommu).so_far < events → AsksTranslated old id access told new → AreSound new events
-keeps_translated_counted laws driver old new events id access told sound own is below asks =
-    keeps_translated (service_laws laws) old new events id access told sound own
-    (subst StaysReady (sym is) (stays_of laws.stays driver)) (subst StaysReported (sym is) (reported_of laws.reported driver)) below asks
+pub keeps_translated_counted : LawsBelow → (driver : Driver) (old new : Parts) (events id : ℕ) (access : Access) (reply : Outcome) → PartsInvariant old events → DriverInvariant old.driver → old.driver ≡ state_of driver
+    → (flights_of old.iommu).so_far < events → AsksTranslated old id access reply new → PartsInvariant new events
+keeps_translated_counted laws driver old new events id access reply invariants own is below asks =
+    keeps_translated (service_laws laws) old new events id access reply invariants own
+    (subst StaysReady (sym is) (stays_of laws.unchanged driver)) (subst StaysReported (sym is) (reported_of laws.reported driver)) below asks
 
-pub keeps_through_cache_counted : (can : DeviceKind → Bool) → LawsBelow → (driver : Driver) (old new : Parts) (events id : ℕ) (access : Access) (told : Outcome) → AreSound old events → IsSoundDriver old.driver → old.driver ≡ state_of driver
-    → (flights_of old.iommu).so_far < events → DeviceAsksThroughCache can old id access told new → AreSound new events
-keeps_through_cache_counted can laws driver old new events id access told sound own is below asks =
-    keeps_through_cache can (service_laws laws) old new events id access told sound own
-    (subst StaysReady (sym is) (stays_of laws.stays driver)) (subst StaysReported (sym is) (reported_of laws.reported driver)) below asks
+pub keeps_through_cache_counted : (can : DeviceKind → Bool) → LawsBelow → (driver : Driver) (old new : Parts) (events id : ℕ) (access : Access) (reply : Outcome) → PartsInvariant old events → DriverInvariant old.driver → old.driver ≡ state_of driver
+    → (flights_of old.iommu).so_far < events → DeviceAsksThroughCache can old id access reply new → PartsInvariant new events
+keeps_through_cache_counted can laws driver old new events id access reply invariants own is below asks =
+    keeps_through_cache can (service_laws laws) old new events id access reply invariants own
+    (subst StaysReady (sym is) (stays_of laws.unchanged driver)) (subst StaysReported (sym is) (reported_of laws.reported driver)) below asks

@@ -13,10 +13,10 @@ use Rattle.iom_coherence.specs.Scene.{Copy}
 use Rattle.iom_coherence.proofs.ListLemmas.{same_function}
 use Rattle.iom_driver.specs.declared.device.Device as driver
 use Rattle.iom_driver.specs.declared.driver.Driver.{Driver}
-use Rattle.iom_driver.specs.Seen.{state_of}
+use Rattle.iom_driver.specs.StateOf.{state_of}
 use Rattle.iom_fabric.specs.declared.fabric.OnLink.{OnLink}
 use Rattle.iom_inflight.specs.Flights.{FlightRow}
-use Rattle.iom_inflight.specs.Sound.{CarriesBytes}
+use Rattle.iom_inflight.specs.Invariant.{CarriesBytes}
 use Rattle.iom_iommu.specs.declared.reply.Reply.{Reply}
 use Rattle.iom_iommu.specs.declared.reply.Reply.TheVariants as reply
 use Rattle.iom_iommu.specs.Parts.{flights_of, slots_of}
@@ -33,15 +33,15 @@ use Rattle.iom_world_effects.specs.Devices.{shown_devices}
 use Rattle.iom_world_effects.specs.Parts.{Parts}
 use Rattle.iom_world_effects.specs.Read.{values_of}
 use Rattle.iom_device.specs.Calls.{reset_of, with_reset, with_block_reset}
-use Rattle.iom_world_effects.specs.Requests.{reply_told_of}
+use Rattle.iom_world_effects.specs.Requests.{outcome_of_reply}
 use Rattle.iom_world_effects.specs.Scenes.{Values, HasFaithfulScene}
-use Rattle.iom_world_effects.specs.Sound.{AreSound}
+use Rattle.iom_world_effects.specs.Invariant.{PartsInvariant}
 use Rattle.iom_world_effects.specs.ThroughCache.{DeviceAsksThroughCache, FindsFrame, cached_frame}
 use Rattle.iom_world_effects.specs.Traffic.{Traffic, traffic_of}
 use Rattle.iom_world_invariant.proofs.AskedLemmas.{keeps_through_cache_counted}
 use Rattle.iom_world_effects.proofs.CacheSets.{shown_set}
 use Rattle.iom_world_effects.proofs.DiskPlaces.{kind_has, asker_has, epoch_has, ids_has, entries_has, own_ids_has, caches_has}
-use Rattle.iom_world_effects.proofs.DriverLemmas.{IsSoundDriver}
+use Rattle.iom_world_effects.proofs.DriverLemmas.{DriverInvariant}
 use Rattle.iom_world_invariant.proofs.MessageKeeps.{question_sound}
 use Rattle.iom_world_invariant.proofs.ResetKeeps.{found_there, reset_sound}
 
@@ -60,26 +60,26 @@ values_has old id has =
     (same_function (kind_in (with_has_disk old.devices id has)) (kind_in old.devices) (kind_has old.devices id has))
     ∙ ap (λ (traffic : Traffic). record (values_of old) { traffic = traffic }) (traffic_has old.devices old.fabric (slots_of old.iommu) id has)
 
-pub disk_sound : (old : Parts) (events id : ℕ) (has : Bool) → AreSound old events → AreSound (record old { devices = with_has_disk old.devices id has }) events
-disk_sound old events id has sound = record {
-  ready = sound.ready;
-  started = sound.started;
-  unmarked = sound.unmarked;
-  size = sound.size;
+pub disk_sound : (old : Parts) (events id : ℕ) (has : Bool) → PartsInvariant old events → PartsInvariant (record old { devices = with_has_disk old.devices id has }) events
+disk_sound old events id has invariants = record {
+  ready = invariants.ready;
+  started = invariants.started;
+  unmarked = invariants.unmarked;
+  size = invariants.size;
   known = record {
-    own_ids = own_ids_has old.devices id has sound.known.own_ids;
-    driver = sound.known.driver ∙ sym (ids_has old.devices id has);
-    iommu = sound.known.iommu ∙ sym (ids_has old.devices id has);
-    caches = caches_has old.devices id has sound.known.caches;
-    trusted = λ d. sound.known.trusted d ∙ ap caches_translations (sym (kind_has old.devices id has d));
-    askers = λ k d lt. asker_has old.devices id has (get_or old.fabric k d) (sound.known.askers k d lt);
+    own_ids = own_ids_has old.devices id has invariants.known.own_ids;
+    driver = invariants.known.driver ∙ sym (ids_has old.devices id has);
+    iommu = invariants.known.iommu ∙ sym (ids_has old.devices id has);
+    caches = caches_has old.devices id has invariants.known.caches;
+    trusted = λ d. invariants.known.trusted d ∙ ap caches_translations (sym (kind_has old.devices id has d));
+    askers = λ k d lt. asker_has old.devices id has (get_or old.fabric k d) (invariants.known.askers k d lt);
   };
-  small = sound.small;
-  counted = sound.counted;
-  serials = sound.serials;
-  epochs = λ d. subst (λ (n : ℕ). n ≤ events) (sym (epoch_has old.devices id has d)) (sound.epochs d);
-  contexts = sound.contexts;
-  copies = subst (λ (values : Values). ∥ HasFaithfulScene values ∥₁) (sym (values_has old id has)) sound.copies;
+  small = invariants.small;
+  counted = invariants.counted;
+  serials = invariants.serials;
+  epochs = λ d. subst (λ (n : ℕ). n ≤ events) (sym (epoch_has old.devices id has d)) (invariants.epochs d);
+  contexts = invariants.contexts;
+  copies = subst (λ (values : Values). ∥ HasFaithfulScene values ∥₁) (sym (values_has old id has)) invariants.copies;
 }
 
 -- A BLOCK DEVICE IS RESET
@@ -92,18 +92,18 @@ block_there devices id is = by (device_with devices id) is
     by None none = absurd (false≢true none)
     by (Some device) some = refl
 
-block_reset_sound : (old : Parts) (events id : ℕ) → AreSound old events → epoch_in old.devices id < events → AreSound (record old { devices = with_block_reset old.devices id }) events
-block_reset_sound old events id sound below = by (option_map_or is_block_device (kind_in old.devices id) false) refl
+block_reset_sound : (old : Parts) (events id : ℕ) → PartsInvariant old events → epoch_in old.devices id < events → PartsInvariant (record old { devices = with_block_reset old.devices id }) events
+block_reset_sound old events id invariants below = by (option_map_or is_block_device (kind_in old.devices id) false) refl
   where
-    by : (b : Bool) → option_map_or is_block_device (kind_in old.devices id) false ≡ b → AreSound (record old { devices = if b then with_reset old.devices id else old.devices }) events
-    by true is = reset_sound old events id sound below (block_there old.devices id is)
-    by false is = sound
+    by : (b : Bool) → option_map_or is_block_device (kind_in old.devices id) false ≡ b → PartsInvariant (record old { devices = if b then with_reset old.devices id else old.devices }) events
+    by true is = reset_sound old events id invariants below (block_there old.devices id is)
+    by false is = invariants
 
 -- a device that leaves has no disk, and a block device is reset
-pub left_sound : (old : Parts) (events id : ℕ) → AreSound old events → epoch_in old.devices id < events
-    → AreSound (record old { devices = with_block_reset (with_has_disk old.devices id false) id }) events
-left_sound old events id sound below =
-    block_reset_sound (record old { devices = with_has_disk old.devices id false }) events id (disk_sound old events id false sound)
+pub left_sound : (old : Parts) (events id : ℕ) → PartsInvariant old events → epoch_in old.devices id < events
+    → PartsInvariant (record old { devices = with_block_reset (with_has_disk old.devices id false) id }) events
+left_sound old events id invariants below =
+    block_reset_sound (record old { devices = with_has_disk old.devices id false }) events id (disk_sound old events id false invariants)
     (subst (λ (n : ℕ). n < events) (sym (epoch_has old.devices id false id)) below)
 
 -- what the machine knows of the devices has nothing of their caches
@@ -117,19 +117,19 @@ shown_block_reset known rows devices id = by (option_map_or is_block_device (kin
 
 -- THE CALLS
 
-pub keeps_medium : (disks : List ℕ) (old new : Parts) (events id disk : ℕ) (told : Outcome) → AreSound old events → InsertsMedium disks old id disk told new → AreSound new events
-keeps_medium disks old new events id disk told sound (inl unknown) = subst (λ parts. AreSound parts events) (sym unknown.same) sound
-keeps_medium disks old new events id disk told sound (inr (inl unable)) = subst (λ parts. AreSound parts events) (sym unable.same) sound
-keeps_medium disks old new events id disk told sound (inr (inr (device, is, inl puts))) = subst (λ parts. AreSound parts events) (sym puts.2) (disk_sound old events id true sound)
-keeps_medium disks old new events id disk told sound (inr (inr (device, is, inr refuses))) = subst (λ parts. AreSound parts events) (sym refuses.2) sound
+pub keeps_medium : (disks : List ℕ) (old new : Parts) (events id disk : ℕ) (reply : Outcome) → PartsInvariant old events → InsertsMedium disks old id disk reply new → PartsInvariant new events
+keeps_medium disks old new events id disk reply invariants (inl unknown) = subst (λ parts. PartsInvariant parts events) (sym unknown.same) invariants
+keeps_medium disks old new events id disk reply invariants (inr (inl unable)) = subst (λ parts. PartsInvariant parts events) (sym unable.same) invariants
+keeps_medium disks old new events id disk reply invariants (inr (inr (device, is, inl puts))) = subst (λ parts. PartsInvariant parts events) (sym puts.2) (disk_sound old events id true invariants)
+keeps_medium disks old new events id disk reply invariants (inr (inr (device, is, inr refuses))) = subst (λ parts. PartsInvariant parts events) (sym refuses.2) invariants
 
-pub keeps_queue : (old new : Parts) (events id : ℕ) (layout : Layout) (told : Outcome) → AreSound old events → epoch_in old.devices id < events → SetsBlockQueue old id layout told new
-    → AreSound new events
-keeps_queue old new events id layout told sound below (inl unknown) = subst (λ parts. AreSound parts events) (sym unknown.same) sound
-keeps_queue old new events id layout told sound below (inr (inl unable)) = subst (λ parts. AreSound parts events) (sym unable.same) sound
-keeps_queue old new events id layout told sound below (inr (inr (able, inl sets))) =
-    subst (λ parts. AreSound parts events) (sym sets.2) (reset_sound old events id sound below (found_there old.devices id able.0 able.1))
-keeps_queue old new events id layout told sound below (inr (inr (able, inr refuses))) = subst (λ parts. AreSound parts events) (sym refuses.2) sound
+pub keeps_queue : (old new : Parts) (events id : ℕ) (layout : Layout) (reply : Outcome) → PartsInvariant old events → epoch_in old.devices id < events → SetsBlockQueue old id layout reply new
+    → PartsInvariant new events
+keeps_queue old new events id layout reply invariants below (inl unknown) = subst (λ parts. PartsInvariant parts events) (sym unknown.same) invariants
+keeps_queue old new events id layout reply invariants below (inr (inl unable)) = subst (λ parts. PartsInvariant parts events) (sym unable.same) invariants
+keeps_queue old new events id layout reply invariants below (inr (inr (able, inl sets))) =
+    subst (λ parts. PartsInvariant parts events) (sym sets.2) (reset_sound old events id invariants below (found_there old.devices id able.0 able.1))
+keeps_queue old new events id layout reply invariants below (inr (inr (able, inr refuses))) = subst (λ parts. PartsInvariant parts events) (sym refuses.2) invariants
 
 -- AN ACCESS that misses changes nothing, and its device is there
 pub record Misses (old between : Parts) (id : ℕ) : Type 0 where
@@ -138,13 +138,13 @@ pub record Misses (old between : Parts) (id : ℕ) : Type 0 where
   pub same : between ≡ old
 
 pub missed : (can : DeviceKind → Bool) (old between : Parts) (id : ℕ) (access : Access) → DeviceAsksThroughCache can old id access outcome.Miss between → Misses old between id
-missed can old between id access (inl unknown) = let is = unknown.told_so in cc
-missed can old between id access (inr (inl unable)) = let is = unable.told_so in cc
+missed can old between id access (inl unknown) = let is = unknown.reply_is in cc
+missed can old between id access (inr (inl unable)) = let is = unable.reply_is in cc
 missed can old between id access (inr (inr (able, inl far))) = let is = far.1 in cc
 missed can old between id access (inr (inr (able, inr (inl full)))) = let is = full.2 in cc
 missed can old between id access (inr (inr (able, inr (inr finds)))) = by (cached_frame old id access) finds.2
   where
-    never : (answer : Reply) → outcome.Miss ≡ reply_told_of answer → ⊥
+    never : (answer : Reply) → outcome.Miss ≡ outcome_of_reply answer → ⊥
     never (reply.Accepted number) is = cc
     never reply.Busy is = cc
     never reply.BadSpan is = cc
@@ -152,22 +152,22 @@ missed can old between id access (inr (inr (able, inr (inr finds)))) = by (cache
 
     by : (found : Option ℕ) → FindsFrame found old id access outcome.Miss between → Misses old between id
     by None misses = record { kind = able.0; there = able.1; same = misses.1 }
-    by (Some frame) replied = absurd (never replied.reply replied.told_so)
+    by (Some frame) replied = absurd (never replied.reply replied.reply_is)
 
 -- and then the device asks
-pub asked_sound : (first : Outcome) (old between new : Parts) (events id : ℕ) (access : Access) (told : Outcome) → AreSound between events → access.address < 2 ^ 64
-    → DeviceAsksThroughCache is_block_device old id access first between → AsksIfMissed first between id access told new → AreSound new events
-asked_sound outcome.Miss old between new events id access told sound fits tries asks =
+pub asked_sound : (first : Outcome) (old between new : Parts) (events id : ℕ) (access : Access) (reply : Outcome) → PartsInvariant between events → access.address < 2 ^ 64
+    → DeviceAsksThroughCache is_block_device old id access first between → AsksIfMissed first between id access reply new → PartsInvariant new events
+asked_sound outcome.Miss old between new events id access reply invariants fits tries asks =
     let misses = missed is_block_device old between id access tries in
     let there : kind_in between.devices id ≡ Some misses.kind = ap (λ (parts : Parts). kind_in parts.devices id) misses.same ∙ misses.there in
-    subst (λ parts. AreSound parts events) (sym asks.1) (question_sound between events id (page_of access) sound (omega (arith, fits)) (found_there between.devices id misses.kind there))
-asked_sound _ old between new events id access told sound fits tries asks = subst (λ parts. AreSound parts events) (sym asks.1) sound
+    subst (λ parts. PartsInvariant parts events) (sym asks.1) (question_sound between events id (page_of access) invariants (omega (arith, fits)) (found_there between.devices id misses.kind there))
+asked_sound _ old between new events id access reply invariants fits tries asks = subst (λ parts. PartsInvariant parts events) (sym asks.1) invariants
 
-pub keeps_through : LawsBelow → (driver : Driver) (old new : Parts) (events id : ℕ) (access : Access) (told : Outcome) → AreSound old events → IsSoundDriver old.driver → old.driver ≡ state_of driver
-    → (flights_of old.iommu).so_far < events → access.address < 2 ^ 64 → GoesThroughCache old id access told new → AreSound new events
-keeps_through laws driver old new events id access told sound own is below fits goes =
-    asked_sound goes.first old goes.between new events id access told
-    (keeps_through_cache_counted is_block_device laws driver old goes.between events id access goes.first sound own is below goes.tries)
+pub keeps_through : LawsBelow → (driver : Driver) (old new : Parts) (events id : ℕ) (access : Access) (reply : Outcome) → PartsInvariant old events → DriverInvariant old.driver → old.driver ≡ state_of driver
+    → (flights_of old.iommu).so_far < events → access.address < 2 ^ 64 → GoesThroughCache old id access reply new → PartsInvariant new events
+keeps_through laws driver old new events id access reply invariants own is below fits goes =
+    asked_sound goes.first old goes.between new events id access reply
+    (keeps_through_cache_counted is_block_device laws driver old goes.between events id access goes.first invariants own is below goes.tries)
     fits goes.tries goes.asks
 
 -- what isn't told as a miss is told so

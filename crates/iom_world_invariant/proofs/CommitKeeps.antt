@@ -14,12 +14,12 @@ use Rattle.iom_inflight.specs.Calls.{IsMade, Performs}
 use Rattle.iom_inflight.specs.Flights.{Flights}
 use Rattle.iom_iommu.specs.Parts.{contexts_of, flights_of}
 use Rattle.iom_iommu.specs.Requests.{CommitsOldest}
-use Rattle.iom_table_frames.specs.Marks.{is_marked}
+use Rattle.iom_table_frames.specs.Owners.{is_marked}
 use Rattle.iom_tlb.specs.Chosen.{ioatc}
 use Rattle.iom_world_effects.specs.Parts.{Parts}
 use Rattle.iom_world_effects.specs.Read.{values_of, accesses_of}
-use Rattle.iom_world_effects.specs.Sound.{AreSound, ContextsAreTrue, row_ids}
-use Rattle.iom_world_effects.proofs.DriverLemmas.{IsSoundDriver}
+use Rattle.iom_world_effects.specs.Invariant.{PartsInvariant, ContextsAreTrue, row_ids}
+use Rattle.iom_world_effects.proofs.DriverLemmas.{DriverInvariant}
 use Rattle.iom_world_effects.proofs.PartsLemmas.{StaysReady}
 use Rattle.iom_world_effects.proofs.RowLemmas.{made_among, row_ids_kept}
 use Rattle.iom_world_effects.proofs.SceneSteps.{make_scene}
@@ -40,20 +40,20 @@ performed_elsewhere Write memory new made n (bytes, there, is) apart =
     ap (λ m. slice_get m n) is ∙ get_set_other memory made.frame n (with_bytes bytes (offset_of made.access) made.access.bytes) apart
 
 -- the frame of the access that is made is nobody's
-pub made_free : (old : Parts) (events id : ℕ) (made : MadeAt) (memory : List (List ℕ)) (flights : Flights) → AreSound old events
-    → (is : IsMade old.memory (flights_of old.iommu) id made memory flights) → is_marked old.driver.marks made.frame ≡ false → slice_get old.driver.marks is.oldest.accepted.frame ≡ Some None
-made_free old events id made memory flights sound is unreserved =
-    unmarked old.driver.marks is.oldest.accepted.frame (subst (λ n. is.oldest.accepted.frame < n) sound.ready.stand.size is.inside)
-    (subst (λ (m : MadeAt). is_marked old.driver.marks m.frame ≡ false) is.told unreserved)
+pub made_free : (old : Parts) (events id : ℕ) (made : MadeAt) (memory : List (List ℕ)) (flights : Flights) → PartsInvariant old events
+    → (is : IsMade old.memory (flights_of old.iommu) id made memory flights) → is_marked old.driver.owners made.frame ≡ false → slice_get old.driver.owners is.oldest.accepted.frame ≡ Some None
+made_free old events id made memory flights invariants is unreserved =
+    unmarked old.driver.owners is.oldest.accepted.frame (subst (λ n. is.oldest.accepted.frame < n) invariants.ready.stand.size is.inside)
+    (subst (λ (m : MadeAt). is_marked old.driver.owners m.frame ≡ false) is.reply unreserved)
 
-leaves_made : (old new : Parts) (events id : ℕ) (made : MadeAt) → AreSound old events → IsMade old.memory (flights_of old.iommu) id made new.memory (flights_of new.iommu)
-    → CommitsOldest old.memory old.iommu id (Some made) new.memory new.iommu → is_marked old.driver.marks made.frame ≡ false → new.driver ≡ old.driver → new.devices ≡ old.devices → new.fabric ≡ old.fabric → Leaves old new
-leaves_made old new events id made sound is call unreserved driver devices fabric =
-    let free = made_free old events id made new.memory (flights_of new.iommu) sound is unreserved in
+leaves_made : (old new : Parts) (events id : ℕ) (made : MadeAt) → PartsInvariant old events → IsMade old.memory (flights_of old.iommu) id made new.memory (flights_of new.iommu)
+    → CommitsOldest old.memory old.iommu id (Some made) new.memory new.iommu → is_marked old.driver.owners made.frame ≡ false → new.driver ≡ old.driver → new.devices ≡ old.devices → new.fabric ≡ old.fabric → Leaves old new
+leaves_made old new events id made invariants is call unreserved driver devices fabric =
+    let free = made_free old events id made new.memory (flights_of new.iommu) invariants is unreserved in
     record {
       size = performed_size is.oldest.accepted.access.kind old.memory new.memory is.oldest.accepted is.performed;
       reserved = λ frame owner mark. performed_elsewhere is.oldest.accepted.access.kind old.memory new.memory is.oldest.accepted frame is.performed
-          (owned_differs old.driver.marks frame is.oldest.accepted.frame owner mark free);
+          (owned_differs old.driver.owners frame is.oldest.accepted.frame owner mark free);
       registers = call.registers;
       frames = call.frames;
       slots = call.slots;
@@ -76,26 +76,26 @@ leaves_none old new id call driver devices fabric = record {
   fabric = fabric;
 }
 
-keeps_made : (old new : Parts) (events id : ℕ) (made : Option MadeAt) → AreSound old events → IsSoundDriver old.driver → StaysReady old.driver → Leaves old new
+keeps_made : (old new : Parts) (events id : ℕ) (made : Option MadeAt) → PartsInvariant old events → DriverInvariant old.driver → StaysReady old.driver → Leaves old new
     → CommitsOldest old.memory old.iommu id made new.memory new.iommu
-    → (flights_of new.iommu).so_far ≡ (flights_of old.iommu).so_far → AreAmong (accesses_of (flights_of new.iommu).rows) (accesses_of (flights_of old.iommu).rows) → AreSound new events
-keeps_made old new events id made sound own stays leaves call so_far among =
+    → (flights_of new.iommu).so_far ≡ (flights_of old.iommu).so_far → AreAmong (accesses_of (flights_of new.iommu).rows) (accesses_of (flights_of old.iommu).rows) → PartsInvariant new events
+keeps_made old new events id made invariants own unchanged leaves call so_far among =
     let contexts : contexts_of new.iommu ≡ contexts_of old.iommu = ap cached_contexts call.contexts in
-    sound_from old new events sound own leaves stays (subst (λ n. n ≤ events) (sym so_far) sound.counted)
-    (contexts_stay old new sound.contexts contexts leaves.driver)
-    (λ has. make_scene (values_of old) (values_of new) (grants_kept old new events sound own leaves) (queue_kept old new events sound own leaves call.fence_snapshot)
+    sound_from old new events invariants own leaves unchanged (subst (λ n. n ≤ events) (sym so_far) invariants.counted)
+    (contexts_stay old new invariants.contexts contexts leaves.driver)
+    (λ has. make_scene (values_of old) (values_of new) (grants_kept old new events invariants own leaves) (queue_kept old new events invariants own leaves call.fence_snapshot)
     so_far among (λ d there. ap (λ c. is_some (c d)) (sym contexts) ∙ there) (λ key translation at. ap (λ c. ioatc.content c key) (sym call.translations) ∙ at) has)
 
 -- a commit keeps the facts, whatever is told of it
-pub keeps_oldest : (old new : Parts) (events id : ℕ) (made : Option MadeAt) → AreSound old events → IsSoundDriver old.driver → StaysReady old.driver
-    → CommitsOldest old.memory old.iommu id made new.memory new.iommu → IfSome made (λ it. is_marked old.driver.marks it.frame ≡ false) → new.driver ≡ old.driver → new.devices ≡ old.devices → new.fabric ≡ old.fabric → AreSound new events
-keeps_oldest old new events id None sound own stays call unreserved driver devices fabric =
-    keeps_made old new events id None sound own stays (leaves_none old new id call driver devices fabric) call
+pub keeps_oldest : (old new : Parts) (events id : ℕ) (made : Option MadeAt) → PartsInvariant old events → DriverInvariant old.driver → StaysReady old.driver
+    → CommitsOldest old.memory old.iommu id made new.memory new.iommu → IfSome made (λ it. is_marked old.driver.owners it.frame ≡ false) → new.driver ≡ old.driver → new.devices ≡ old.devices → new.fabric ≡ old.fabric → PartsInvariant new events
+keeps_oldest old new events id None invariants own unchanged call unreserved driver devices fabric =
+    keeps_made old new events id None invariants own unchanged (leaves_none old new id call driver devices fabric) call
     (ap (λ (f : Flights). f.so_far) call.makes.2)
     (subst (λ (f : Flights). AreAmong (accesses_of f.rows) (accesses_of (flights_of old.iommu).rows)) (sym call.makes.2) (λ x there. there))
-keeps_oldest old new events id (Some made) sound own stays call unreserved driver devices fabric =
+keeps_oldest old new events id (Some made) invariants own unchanged call unreserved driver devices fabric =
     let is : IsMade old.memory (flights_of old.iommu) id made new.memory (flights_of new.iommu) = call.makes in
-    keeps_made old new events id (Some made) sound own stays (leaves_made old new events id made sound is call unreserved driver devices fabric) call
+    keeps_made old new events id (Some made) invariants own unchanged (leaves_made old new events id made invariants is call unreserved driver devices fabric) call
     (ap (λ (f : Flights). f.so_far) is.after)
     (subst (λ (f : Flights). AreAmong (accesses_of f.rows) (accesses_of (flights_of old.iommu).rows)) (sym is.after)
     (made_among (flights_of old.iommu).rows id is.row is.oldest is.later is.stands is.waiting))

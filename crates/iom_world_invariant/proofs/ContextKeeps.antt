@@ -15,8 +15,8 @@ use Rattle.iom_driver.specs.Layout.{IsLevels}
 use Rattle.iom_iommu.specs.Parts.{registers_of, contexts_of}
 use Rattle.iom_iommu.specs.Service.{KeepsContext, KeepsIn, KeepsLocated}
 use Rattle.iom_world_effects.specs.Parts.{Parts}
-use Rattle.iom_world_effects.specs.Sound.{AreSound, ContextsAreTrue}
-use Rattle.iom_world_effects.proofs.DriverLemmas.{IsSoundDriver}
+use Rattle.iom_world_effects.specs.Invariant.{PartsInvariant, ContextsAreTrue}
+use Rattle.iom_world_effects.proofs.DriverLemmas.{DriverInvariant}
 use Rattle.iom_world_effects.proofs.ServedLemmas.{ServiceLaws, located, located_as}
 
 -- nothing changes, or the context of an attached device is kept
@@ -38,15 +38,15 @@ by_attachment levels id (Attached stage) None old new keeps = inr (stage, refl, 
 by_attachment levels id (Quarantined ticket stage) None old new keeps = inl keeps
 by_attachment levels id (Leaving ticket stage) None old new keeps = inl keeps
 
-pub keeps_attached : ServiceLaws → (parts : Parts) (events : ℕ) → AreSound parts events → IsSoundDriver parts.driver → (id : ℕ) (new : Content ℕ Context)
+pub keeps_attached : ServiceLaws → (parts : Parts) (events : ℕ) → PartsInvariant parts events → DriverInvariant parts.driver → (id : ℕ) (new : Content ℕ Context)
     → KeepsContext parts.memory (registers_of parts.iommu) (contexts_of parts.iommu) id new → KeepsAttached (attachment_by_id parts.driver.devices id) id (contexts_of parts.iommu) new
-keeps_attached laws parts events sound own id new keeps =
-    let names = sound.ready.directory sound.started in
+keeps_attached laws parts events invariants own id new keeps =
+    let names = invariants.ready.directory invariants.started in
     let levels = parts.driver.levels in
     let old = contexts_of parts.iommu in
     let found = located_context parts.memory (registers_of parts.iommu).ddtp id in
     by_attachment levels id (attachment_by_id parts.driver.devices id) (old id) old new
-    (subst (λ f. KeepsLocated (old id) f old id new) (located laws parts events sound own id)
+    (subst (λ f. KeepsLocated (old id) f old id new) (located laws parts events invariants own id)
     (keeps_in levels own.sizes.in_range (old id) found old id new
     (subst (λ m. KeepsIn m (old id) found old id new) names.mode keeps)))
 

@@ -25,7 +25,7 @@ use Rattle.iom_fabric.specs.declared.message.Message.TheVariants as sent
 use Rattle.iom_fabric.specs.declared.message.Range.{Range}
 use Rattle.iom_fabric.specs.declared.message.Range.TheVariants as ranges
 use Rattle.iom_fabric.specs.declared.message.Translation.{Translation}
-use Rattle.iom_fabric.specs.declared.message.Translation.TheVariants as told
+use Rattle.iom_fabric.specs.declared.message.Translation.TheVariants as reply
 use Rattle.iom_base.specs.declared.rights.Rights.{Rights}
 use Rattle.iom_iommu.specs.Parts.{slots_of}
 use Rattle.iom_machine.specs.declared.outcome.Outcome.{Outcome}
@@ -36,7 +36,7 @@ use Rattle.iom_device.specs.Calls.{Obeys}
 use Rattle.iom_world_effects.specs.Messages.{with_sent}
 use Rattle.iom_world_effects.specs.Parts.{Parts}
 use Rattle.iom_world_effects.specs.Read.{values_of}
-use Rattle.iom_world_effects.specs.Sound.{AreSound, AreKnown, HasAsker}
+use Rattle.iom_world_effects.specs.Invariant.{PartsInvariant, AreKnown, HasAsker}
 use Rattle.iom_world_effects.specs.Traffic.{entry_copy, entries_by, entries_in, messages_in, extent_of_range, invalidation_by, invalidation_in_slot, traffic_of}
 use Rattle.iom_world_effects.proofs.CacheSets.{kind_set, asker_set, epoch_set, ids_set, own_ids_set, caches_set, same_set, entries_set, entries_there}
 use Rattle.iom_world_invariant.proofs.MessageKeeps.{left_among, there_at, askers_left, dropped_sound}
@@ -93,14 +93,14 @@ having_there devices id cache has = by (device_with devices id) has
     by (Some device) at = refl
 
 -- the devices where one has another cache are known as before
-known_set : (old : Parts) (events id : ℕ) (cache after : Cache) (fabric : List OnLink) → AreSound old events → cache_of old.devices id ≡ Some cache
+known_set : (old : Parts) (events id : ℕ) (cache after : Cache) (fabric : List OnLink) → PartsInvariant old events → cache_of old.devices id ≡ Some cache
     → All (HasAsker (with_cache old.devices id (Some after))) fabric → AreKnown (record old { devices = with_cache old.devices id (Some after); fabric = fabric })
-known_set old events id cache after fabric sound has askers = record {
-  own_ids = own_ids_set old.devices id (Some after) sound.known.own_ids;
-  driver = sound.known.driver ∙ sym (ids_set old.devices id (Some after));
-  iommu = sound.known.iommu ∙ sym (ids_set old.devices id (Some after));
-  caches = caches_set old.devices id cache after has sound.known.caches;
-  trusted = λ d. sound.known.trusted d ∙ ap caches_translations (sym (kind_set old.devices id (Some after) d));
+known_set old events id cache after fabric invariants has askers = record {
+  own_ids = own_ids_set old.devices id (Some after) invariants.known.own_ids;
+  driver = invariants.known.driver ∙ sym (ids_set old.devices id (Some after));
+  iommu = invariants.known.iommu ∙ sym (ids_set old.devices id (Some after));
+  caches = caches_set old.devices id cache after has invariants.known.caches;
+  trusted = λ d. invariants.known.trusted d ∙ ap caches_translations (sym (kind_set old.devices id (Some after) d));
   askers = askers;
 }
 
@@ -109,8 +109,8 @@ askers_then : (devices : List Device) (id : ℕ) (cache : Option Cache) (fabric 
 askers_then devices id cache fabric askers = λ k d lt. asker_set devices id cache (get_or fabric k d) (askers k d lt)
 
 -- AN ANSWER IS KEPT
-module _ (old : Parts) (events place device epoch page frame : ℕ) (rights : Rights) (cache after : Cache) (sound : AreSound old events)
-    (at : slice_get old.fabric place ≡ Some (record { device = device; message = sent.Answer epoch page (told.Page frame rights) })) (has : cache_of old.devices device ≡ Some cache)
+module _ (old : Parts) (events place device epoch page frame : ℕ) (rights : Rights) (cache after : Cache) (invariants : PartsInvariant old events)
+    (at : slice_get old.fabric place ≡ Some (record { device = device; message = sent.Answer epoch page (reply.Page frame rights) })) (has : cache_of old.devices device ≡ Some cache)
     (current : epoch ≡ cache.epoch)
     (kept : after ≡ record { epoch = cache.epoch; entries = with_entry cache.entries (record { page = page; frame = frame; rights = rights }) }) where
   abbrev copy : Copy
@@ -133,7 +133,7 @@ module _ (old : Parts) (events place device epoch page frame : ℕ) (rights : Ri
       by false is = refl
 
   one_more : AreAmongWith (entries_in (with_cache old.devices device (Some after))) copy (entries_in old.devices)
-  one_more x there = elim (entries_set old.devices device (Some after) x sound.known.own_ids (having_there old.devices device cache has) there) [
+  one_more x there = elim (entries_set old.devices device (Some after) x invariants.known.own_ids (having_there old.devices device cache has) there) [
     | inl mine ↦
         let from = map_cases (entry_copy device) after.entries x mine in
         let inside : Contains (with_entry cache.entries entry) from.0 = subst (λ (c : Cache). Contains c.entries from.0) kept from.1 in
@@ -147,30 +147,30 @@ module _ (old : Parts) (events place device epoch page frame : ℕ) (rights : Ri
   keeps : KeepsParts old new
   keeps = record { memory = refl; driver = refl; iommu = keeps_iommu old.iommu old.iommu refl; kinds = kind_set old.devices device (Some after) }
 
-  pub kept_sound : AreSound (record old { devices = with_cache old.devices device (Some after); fabric = remove old.fabric place }) events
+  pub kept_sound : PartsInvariant (record old { devices = with_cache old.devices device (Some after); fabric = remove old.fabric place }) events
   kept_sound =
-      traffic_sound old new events sound keeps
-      (known_set old events device cache after others sound has (askers_then old.devices device (Some after) others (askers_left old.devices old.fabric place sound.known.askers)))
-      (λ d. subst (λ (n : ℕ). n ≤ events) (sym (same_epoch d)) (sound.epochs d))
+      traffic_sound old new events invariants keeps
+      (known_set old events device cache after others invariants has (askers_then old.devices device (Some after) others (askers_left old.devices old.fabric place invariants.known.askers)))
+      (λ d. subst (λ (n : ℕ). n ≤ events) (sym (same_epoch d)) (invariants.epochs d))
       (keep_entry_scene (values_of old) (values_of new) epoch copy (entries_in (with_cache old.devices device (Some after))) (messages_in others) (rest_kept old new keeps)
       (ap (λ (es : ℕ → ℕ). record (traffic_of (with_cache old.devices device (Some after)) others (slots_of old.iommu)) { epoch_of = es })
       (same_function (epoch_in (with_cache old.devices device (Some after))) (epoch_in old.devices) same_epoch))
-      (there_at old.fabric place (record { device = device; message = sent.Answer epoch page (told.Page frame rights) }) (Answer epoch copy) at (contains_head (Answer epoch copy) []))
+      (there_at old.fabric place (record { device = device; message = sent.Answer epoch page (reply.Page frame rights) }) (Answer epoch copy) at (contains_head (Answer epoch copy) []))
       (current ∙ sym (ap epoch_of has)) one_more (λ x there. left_among old.fabric place x there))
 
 -- where the cache stays as it is, the message is merely gone
-unchanged : (old later : Parts) (events place device : ℕ) (after : Option Cache) → AreSound old events → cache_of old.devices device ≡ after
-    → later ≡ record old { devices = with_cache old.devices device after; fabric = remove old.fabric place } → AreSound later events
-unchanged old later events place device after sound has rest =
-    subst (λ parts. AreSound parts events)
+unchanged : (old later : Parts) (events place device : ℕ) (after : Option Cache) → PartsInvariant old events → cache_of old.devices device ≡ after
+    → later ≡ record old { devices = with_cache old.devices device after; fabric = remove old.fabric place } → PartsInvariant later events
+unchanged old later events place device after invariants has rest =
+    subst (λ parts. PartsInvariant parts events)
     (sym (rest ∙ ap (λ (ds : List Device). record old { devices = ds; fabric = remove old.fabric place }) (same_set old.devices device after has)))
-    (dropped_sound old events place sound)
+    (dropped_sound old events place invariants)
 
 -- AN ANSWER ARRIVES
-pub keeps_taken : (old new : Parts) (events place device epoch page : ℕ) (answer : Translation) (outcome : Outcome) → AreSound old events
+pub keeps_taken : (old new : Parts) (events place device epoch page : ℕ) (answer : Translation) (outcome : Outcome) → PartsInvariant old events
     → slice_get old.fabric place ≡ Some (record { device = device; message = sent.Answer epoch page answer })
-    → TakesAnswered old device epoch page answer (remove old.fabric place) outcome new → AreSound new events
-keeps_taken old new events place device epoch page answer outcome sound at takes = by (cache_of old.devices device) refl takes.cache
+    → TakesAnswered old device epoch page answer (remove old.fabric place) outcome new → PartsInvariant new events
+keeps_taken old new events place device epoch page answer outcome invariants at takes = by (cache_of old.devices device) refl takes.cache
   where
     Leaves : Option Cache → Type 0
     Leaves after = new ≡ record old { devices = with_cache old.devices device after; fabric = remove old.fabric place }
@@ -180,16 +180,16 @@ keeps_taken old new events place device epoch page answer outcome sound at takes
 
     some : (cache kept : Cache) (taking : Taken) (answer : Translation) → cache_of old.devices device ≡ Some cache
         → slice_get old.fabric place ≡ Some (record { device = device; message = sent.Answer epoch page answer })
-        → TakesAnswer cache epoch page answer taking kept → Leaves (Some kept) → AreSound new events
-    some cache kept taken.Stale answer has at takes_it rest = unchanged old new events place device (Some kept) sound (has ∙ ap Some (sym takes_it.1)) rest
-    some cache kept taken.Refused (told.Refused cause) has at takes_it rest = unchanged old new events place device (Some kept) sound (has ∙ ap Some (sym takes_it.1)) rest
-    some cache kept taken.Refused (told.Page frame rights) has at takes_it rest = absurd takes_it
-    some cache kept taken.Kept (told.Refused cause) has at takes_it rest = absurd takes_it
-    some cache kept taken.Kept (told.Page frame rights) has at takes_it rest =
-        subst (λ parts. AreSound parts events) (sym rest) (kept_sound old events place device epoch page frame rights cache kept sound at has takes_it.0 takes_it.1)
+        → TakesAnswer cache epoch page answer taking kept → Leaves (Some kept) → PartsInvariant new events
+    some cache kept taken.Stale answer has at takes_it rest = unchanged old new events place device (Some kept) invariants (has ∙ ap Some (sym takes_it.1)) rest
+    some cache kept taken.Refused (reply.Refused cause) has at takes_it rest = unchanged old new events place device (Some kept) invariants (has ∙ ap Some (sym takes_it.1)) rest
+    some cache kept taken.Refused (reply.Page frame rights) has at takes_it rest = absurd takes_it
+    some cache kept taken.Kept (reply.Refused cause) has at takes_it rest = absurd takes_it
+    some cache kept taken.Kept (reply.Page frame rights) has at takes_it rest =
+        subst (λ parts. PartsInvariant parts events) (sym rest) (kept_sound old events place device epoch page frame rights cache kept invariants at has takes_it.0 takes_it.1)
 
-    by : (found : Option Cache) → cache_of old.devices device ≡ found → TakesInto found epoch page answer outcome takes.after → AreSound new events
-    by None has into = unchanged old new events place device None sound has (leaves None into.1)
+    by : (found : Option Cache) → cache_of old.devices device ≡ found → TakesInto found epoch page answer outcome takes.after → PartsInvariant new events
+    by None has into = unchanged old new events place device None invariants has (leaves None into.1)
     by (Some cache) has into = some cache into.1 into.0 answer has at into.2 (leaves (Some into.1) into.4)
 
 -- A REQUEST TO INVALIDATE IS OBEYED
@@ -205,7 +205,7 @@ and_false : (a b : Bool) → b ≡ false → (a && b) ≡ false
 and_false true b is = is
 and_false false b is = refl
 
-module _ (old : Parts) (events place device serial : ℕ) (range : Range) (cache after : Cache) (sound : AreSound old events)
+module _ (old : Parts) (events place device serial : ℕ) (range : Range) (cache after : Cache) (invariants : PartsInvariant old events)
     (at : slice_get old.fabric place ≡ Some (record { device = device; message = sent.InvReq serial range })) (has : cache_of old.devices device ≡ Some cache)
     (left : after ≡ record { epoch = cache.epoch + 1; entries = outside range cache.entries }) (below : epoch_in old.devices device < events) where
   abbrev gone : List OnLink
@@ -232,7 +232,7 @@ module _ (old : Parts) (events place device serial : ℕ) (range : Range) (cache
       by true is =
           let caches : caches_translations (kind_in old.devices d) ≡ true =
           subst (λ n. caches_translations (kind_in old.devices n) ≡ true) (eqb-true device d is)
-          (caching old.devices device cache has (λ one there. All-contains HasItsCache old.devices one sound.known.caches there)) in
+          (caching old.devices device cache has (λ one there. All-contains HasItsCache old.devices one invariants.known.caches there)) in
           ap (λ (c : Bool). if c then epoch_in old.devices d + 1 else epoch_in old.devices d) (sym caches)
       by false is = refl
 
@@ -241,10 +241,10 @@ module _ (old : Parts) (events place device serial : ℕ) (range : Range) (cache
     where
       by : (b : Bool) → (device == d) ≡ b → (if b then epoch_in old.devices d + 1 else epoch_in old.devices d) ≤ events
       by true is = let low : epoch_in old.devices d < events = subst (λ n. epoch_in old.devices n < events) (eqb-true device d is) below in omega (arith, low)
-      by false is = sound.epochs d
+      by false is = invariants.epochs d
 
   are_outside : AreOutside (entries_in (with_cache old.devices device (Some after))) device (extent_of_range range) (entries_in old.devices)
-  are_outside x there = elim (entries_set old.devices device (Some after) x sound.known.own_ids (having_there old.devices device cache has) there) [
+  are_outside x there = elim (entries_set old.devices device (Some after) x invariants.known.own_ids (having_there old.devices device cache has) there) [
     | inl mine ↦
         let from = map_cases (entry_copy device) after.entries x mine in
         let inside : Contains (outside range cache.entries) from.0 = subst (λ (c : Cache). Contains c.entries from.0) left from.1 in
@@ -262,12 +262,12 @@ module _ (old : Parts) (events place device serial : ℕ) (range : Range) (cache
   keeps_obeyed : KeepsParts old obeyed
   keeps_obeyed = record { memory = refl; driver = refl; iommu = keeps_iommu old.iommu old.iommu refl; kinds = kind_set old.devices device (Some after) }
 
-  pub obeyed_sound : AreSound (record old { devices = with_cache old.devices device (Some after); fabric = with_sent (remove old.fabric place) device (sent.InvDone serial) }) events
+  pub obeyed_sound : PartsInvariant (record old { devices = with_cache old.devices device (Some after); fabric = with_sent (remove old.fabric place) device (sent.InvDone serial) }) events
   obeyed_sound =
-      traffic_sound old obeyed events sound keeps_obeyed
-      (known_set old events device cache after fabric sound has
+      traffic_sound old obeyed events invariants keeps_obeyed
+      (known_set old events device cache after fabric invariants has
       (askers_sent (with_cache old.devices device (Some after)) gone device (sent.InvDone serial)
-      (askers_then old.devices device (Some after) gone (askers_left old.devices old.fabric place sound.known.askers)) tt))
+      (askers_then old.devices device (Some after) gone (askers_left old.devices old.fabric place invariants.known.askers)) tt))
       epochs_then
       (obey_scene (values_of old) (values_of obeyed) (invalidation_by serial device) (extent_of_range range) (entries_in (with_cache old.devices device (Some after))) (messages_in fabric) (rest_kept old obeyed keeps_obeyed)
       (ap (λ (es : ℕ → ℕ). record (traffic_of (with_cache old.devices device (Some after)) fabric (slots_of old.iommu)) { epoch_of = es })
@@ -281,21 +281,21 @@ module _ (old : Parts) (events place device serial : ℕ) (range : Range) (cache
       ]))
 
 -- A REQUEST TO INVALIDATE ARRIVES
-pub keeps_requested : (old new : Parts) (events place device serial : ℕ) (range : Range) (outcome : Outcome) → AreSound old events → epoch_in old.devices device < events
+pub keeps_requested : (old new : Parts) (events place device serial : ℕ) (range : Range) (outcome : Outcome) → PartsInvariant old events → epoch_in old.devices device < events
     → slice_get old.fabric place ≡ Some (record { device = device; message = sent.InvReq serial range })
-    → ObeysRequest old device serial range (remove old.fabric place) outcome new → AreSound new events
-keeps_requested old new events place device serial range outcome sound below at obeys = by (cache_of old.devices device) obeys.done refl obeys.cache obeys.rest
+    → ObeysRequest old device serial range (remove old.fabric place) outcome new → PartsInvariant new events
+keeps_requested old new events place device serial range outcome invariants below at obeys = by (cache_of old.devices device) obeys.done refl obeys.cache obeys.rest
   where
     by : (found : Option Cache) (done : Option Message) → cache_of old.devices device ≡ found → Obeys found serial range done obeys.after
-        → new ≡ record old { devices = with_cache old.devices device obeys.after; fabric = with_completion_sent (remove old.fabric place) device done } → AreSound new events
-    by None None has is rest = unchanged old new events place device obeys.after sound (has ∙ sym is) rest
+        → new ≡ record old { devices = with_cache old.devices device obeys.after; fabric = with_completion_sent (remove old.fabric place) device done } → PartsInvariant new events
+    by None None has is rest = unchanged old new events place device obeys.after invariants (has ∙ sym is) rest
     by None (Some done) has is rest = absurd is
     by (Some cache) None has is rest = absurd is
     by (Some cache) (Some done) has (left, invalidates, is) rest =
-        subst (λ parts. AreSound parts events)
+        subst (λ parts. PartsInvariant parts events)
         (sym (rest ∙ ap (λ c. record old { devices = with_cache old.devices device c; fabric = with_sent (remove old.fabric place) device done }) is
         ∙ ap (λ m. record old { devices = with_cache old.devices device (Some left); fabric = with_sent (remove old.fabric place) device m }) invalidates.done))
-        (obeyed_sound old events place device serial range cache left sound at has invalidates.left below)
+        (obeyed_sound old events place device serial range cache left invariants at has invalidates.left below)
 
 -- THE WORD ARRIVES that a request is done
 request_is : (serial device : ℕ) (slot : Slot) → is_request serial device slot ≡ true → invalidation_in_slot slot ≡ invalidation_by serial device
@@ -327,9 +327,9 @@ still_open slots serial device one there =
     (contains_map invalidation_in_slot slots from.0 (contains_from_filter (λ slot. not (is_request serial device slot)) slots from.0 from.1).0)
 
 -- the IOMMU where it is closed
-heard_sound : (old : Parts) (events place device serial : ℕ) → AreSound old events → slice_get old.fabric place ≡ Some (record { device = device; message = sent.InvDone serial })
-    → AreSound (record old { iommu = record old.iommu { slots = without_request (slots_of old.iommu) serial device }; fabric = remove old.fabric place }) events
-heard_sound old events place device serial sound at =
+heard_sound : (old : Parts) (events place device serial : ℕ) → PartsInvariant old events → slice_get old.fabric place ≡ Some (record { device = device; message = sent.InvDone serial })
+    → PartsInvariant (record old { iommu = record old.iommu { slots = without_request (slots_of old.iommu) serial device }; fabric = remove old.fabric place }) events
+heard_sound old events place device serial invariants at =
     let gone = remove old.fabric place in
     let new : Parts = record old { iommu = record old.iommu { slots = without_request (slots_of old.iommu) serial device }; fabric = remove old.fabric place } in
     let keeps : KeepsParts old new = record {
@@ -339,26 +339,26 @@ heard_sound old events place device serial sound at =
       kinds = λ d. refl;
     } in
     let slots = (slots_of old.iommu).open_slots in
-    traffic_sound old new events sound keeps
+    traffic_sound old new events invariants keeps
     (record {
-      own_ids = sound.known.own_ids;
-      driver = sound.known.driver;
-      iommu = sound.known.iommu;
-      caches = sound.known.caches;
-      trusted = sound.known.trusted;
-      askers = askers_left old.devices old.fabric place sound.known.askers;
+      own_ids = invariants.known.own_ids;
+      driver = invariants.known.driver;
+      iommu = invariants.known.iommu;
+      caches = invariants.known.caches;
+      trusted = invariants.known.trusted;
+      askers = askers_left old.devices old.fabric place invariants.known.askers;
     })
-    sound.epochs
+    invariants.epochs
     (close_scene (values_of old) (values_of new) (invalidation_by serial device) (map invalidation_in_slot (filter (λ slot. not (is_request serial device slot)) slots)) (messages_in gone)
     (rest_kept old new keeps) refl
     (there_at old.fabric place (record { device = device; message = sent.InvDone serial }) (InvalidateCompletion (invalidation_by serial device)) at
     (contains_head (InvalidateCompletion (invalidation_by serial device)) []))
     (λ x there. still_open slots serial device x there) (λ x there. closed_or slots serial device x there) (λ x there. left_among old.fabric place x there))
 
-pub keeps_heard : (old new : Parts) (events place device serial : ℕ) (outcome : Outcome) → AreSound old events
+pub keeps_heard : (old new : Parts) (events place device serial : ℕ) (outcome : Outcome) → PartsInvariant old events
     → slice_get old.fabric place ≡ Some (record { device = device; message = sent.InvDone serial })
-    → HearsCompletion old device serial (remove old.fabric place) outcome new → AreSound new events
-keeps_heard old new events place device serial outcome sound at hears =
-    subst (λ parts. AreSound parts events)
+    → HearsCompletion old device serial (remove old.fabric place) outcome new → PartsInvariant new events
+keeps_heard old new events place device serial outcome invariants at hears =
+    subst (λ parts. PartsInvariant parts events)
     (sym (parts_are new old.memory (record old.iommu { slots = without_request (slots_of old.iommu) serial device }) old.driver old.devices (remove old.fabric place) hears.memory hears.call.left hears.driver hears.devices hears.fabric))
-    (heard_sound old events place device serial sound at)
+    (heard_sound old events place device serial invariants at)

@@ -18,7 +18,7 @@ use Rattle.iom_driver.specs.declared.device.Stages.{Stages}
 use Rattle.iom_driver.specs.Devices.{attachment_by_id, has_device, owned_stages, owned_stages_of, has_trusted_cache, with_attachment}
 use Rattle.iom_driver.specs.Directory.{context_for}
 use Rattle.iom_driver.specs.Layout.{completion_frame, completion_address, directory_frame}
-use Rattle.iom_driver.specs.Leaving.{QueuesDetach, IsToldOfDetach, DoesDetach, AnswersDetach}
+use Rattle.iom_driver.specs.Leaving.{QueuesDetach, IsReplyToDetach, DetachEffect, AnswersDetach}
 use Rattle.iom_driver.specs.Ready.{IsReady}
 use Rattle.iom_driver.specs.Reasons.{why_not_detach, HasGrants}
 use Rattle.iom_driver.specs.State.{DriverState}
@@ -36,20 +36,20 @@ use Rattle.iom_device.specs.declared.device.Device.{Device}
 use Rattle.iom_world_effects.specs.BlockDevices.{devices_left}
 use Rattle.iom_device.specs.Caches.{epoch_in}
 use Rattle.iom_world_effects.specs.Devices.{shown_attachment}
-use Rattle.iom_world_effects.specs.Does.{DetachesDevice}
+use Rattle.iom_world_effects.specs.Effect.{DetachesDevice}
 use Rattle.iom_world_effects.specs.Parts.{Parts}
 use Rattle.iom_world_effects.specs.Read.{space_in, space_at, values_of, accesses_of}
-use Rattle.iom_world_effects.specs.Sound.{AreSound, known_ids, row_ids}
+use Rattle.iom_world_effects.specs.Invariant.{PartsInvariant, known_ids, row_ids}
 use Rattle.iom_world_effects.proofs.DeviceLemmas.{shown_set, trusted_set, ids_set, attachment_set, attachment_other}
 use Rattle.iom_world_invariant.proofs.BlockKeeps.{left_sound}
 use Rattle.iom_world_effects.proofs.CachedLemmas.{spaces_owned}
 use Rattle.iom_world_effects.proofs.QueuedLemmas.{queued_space}
 use Rattle.iom_world_invariant.proofs.DriverKeeps.{attached_is}
-use Rattle.iom_world_effects.proofs.DriverLemmas.{IsSoundDriver, next_fence}
+use Rattle.iom_world_effects.proofs.DriverLemmas.{DriverInvariant, next_fence}
 use Rattle.iom_world_invariant.proofs.PollKeeps.{same_known}
 use Rattle.iom_world_invariant.proofs.ReleaseKeeps.{rung_cached, IsRung, rung_all, rung_leaves, next_small}
 use Rattle.iom_world_effects.proofs.SceneCalls.{QueuesTicket, detach_scene}
-use Rattle.iom_world_effects.proofs.SoundLemmas.{same_completed, LeavesWord, sound_from, none_at, kinds_kept, same_epochs}
+use Rattle.iom_world_effects.proofs.InvariantLemmas.{same_completed, LeavesWord, sound_from, none_at, kinds_kept, same_epochs}
 
 -- the reasons of a detach that is answered, whatever tells that something is granted
 abbrev pub IsAdmitted : DriverState → Registers → ℕ → Type 0
@@ -76,7 +76,7 @@ numbers_left d r id admitted =
     none_at (why_not_detach d r false id) 7 (nat_le 4294967295 (last_fence d)) NumbersUsedUp refl
     (admitted false ((λ is. absurd (false≢true is)), (λ has. absurd (has_none d r id admitted has))))
 
-module _ (old new : Parts) (events id ticket : ℕ) (sound : AreSound old events) (own : IsSoundDriver old.driver) (ready : IsReady new.driver new.memory (registers_of new.iommu))
+module _ (old new : Parts) (events id ticket : ℕ) (invariants : PartsInvariant old events) (own : DriverInvariant old.driver) (ready : IsReady new.driver new.memory (registers_of new.iommu))
     (admitted : IsAdmitted old.driver (registers_of old.iommu) id) (queues : QueuesDetach mmio old.driver old.memory old.iommu id ticket new.driver new.memory new.iommu)
     (devices : new.devices ≡ old.devices) (fabric : new.fabric ≡ old.fabric) where
   rung : IsRung old.iommu new.iommu
@@ -86,11 +86,11 @@ module _ (old new : Parts) (events id ticket : ℕ) (sound : AreSound old events
 
   leaves : LeavesWord old new
   leaves = record {
-    size = ready.stand.size ∙ ap (λ (d : DriverState). length d.marks) queues.driver ∙ sym sound.ready.stand.size;
+    size = ready.stand.size ∙ ap (λ (d : DriverState). length d.owners) queues.driver ∙ sym invariants.ready.stand.size;
     word =
-        let stands_so = sound.ready.stand.directory sound.started in
+        let stands_so = invariants.ready.stand.directory invariants.started in
         queues.others (completion_frame (length old.memory)) (λ page. (stands_so.own (completion_frame (length old.memory)) page).no_completion refl)
-        (let many = own.sizes.size.0 in let size = sound.ready.stand.size in omega (arith, size, many));
+        (let many = own.sizes.size.0 in let size = invariants.ready.stand.size in omega (arith, size, many));
   }
 
   given_now : new.driver.given ≡ old.driver.given + 1
@@ -138,19 +138,19 @@ module _ (old new : Parts) (events id ticket : ℕ) (sound : AreSound old events
         in_flight = ap (λ f. accesses_of f.rows) rung.flights;
         kinds = kinds_kept old new devices;
         contexts = λ d is. sym (ap is_some (rung.contexts d)) ∙ is;
-        cached = rung_cached old new (sound.ready.ring sound.started).on rung devices fabric (ap (λ (d : DriverState). fence_of d) queues.driver) (spaces_owned old.driver.devices new.driver.devices owned_still);
+        cached = rung_cached old new (invariants.ready.ring invariants.started).on rung devices fabric (ap (λ (d : DriverState). fence_of d) queues.driver) (spaces_owned old.driver.devices new.driver.devices owned_still);
       }
 
-  pub detached_sound : AreSound new events
+  pub detached_sound : PartsInvariant new events
   detached_sound =
-      sound_from old new events sound leaves (rung_leaves old new (sound.ready.ring sound.started).on rung) (ap (λ (d : DriverState). d.started) queues.driver) ready
+      sound_from old new events invariants leaves (rung_leaves old new (invariants.ready.ring invariants.started).on rung) (ap (λ (d : DriverState). d.started) queues.driver) ready
       (same_known old new devices fabric (ap (λ (d : DriverState). known_ids d.devices) queues.driver ∙ ids_set old.driver.devices id (Leaving ticket queues.stage))
       (λ d. ap (λ (s : DriverState). has_trusted_cache s.devices d) queues.driver ∙ trusted_set old.driver.devices id (Leaving ticket queues.stage) d)
-      (ap (λ f. row_ids f.rows) rung.flights) sound.known)
-      (same_epochs old new events sound devices)
+      (ap (λ f. row_ids f.rows) rung.flights) invariants.known)
+      (same_epochs old new events invariants devices)
       (subst (λ n. n < 2 ^ 32) (sym given_now) (next_small old.driver.given old.driver.restarts (numbers_left old.driver (registers_of old.iommu) id admitted)))
-      (λ other context cached. ap (option_map context_for) (owned_still other) ∙ sound.contexts other context (sym (rung.contexts other) ∙ cached))
-      (∥∥₁_map sound.copies
+      (λ other context cached. ap (option_map context_for) (owned_still other) ∙ invariants.contexts other context (sym (rung.contexts other) ∙ cached))
+      (∥∥₁_map invariants.copies
       (detach_scene (values_of old) (values_of new) id queues.stage.mode queues.stage.ats commands queues_ticket
       (ap shown_attachment was_attached)
       (λ d. ap (λ (s : DriverState). shown_attachment (attachment_by_id s.devices d)) queues.driver ∙ shown_set old.driver.devices id (Leaving ticket queues.stage) plugged d
@@ -159,26 +159,26 @@ module _ (old new : Parts) (events id ticket : ℕ) (sound : AreSound old events
       (λ h agrees. subst (λ (s : DriverState). Agrees s.ledger h) (sym queues.driver) agrees)))
 
 -- what the driver does keeps the facts, where the devices are the same
-keeps_called : (old new : Parts) (events id : ℕ) → AreSound old events → IsSoundDriver old.driver → IsReady new.driver new.memory (registers_of new.iommu)
+keeps_called : (old new : Parts) (events id : ℕ) → PartsInvariant old events → DriverInvariant old.driver → IsReady new.driver new.memory (registers_of new.iommu)
     → (answer : Result answers.Ticket Refusal) → AnswersDetach mmio old.driver old.memory old.iommu id answer new.driver new.memory new.iommu
-    → new.devices ≡ old.devices → new.fabric ≡ old.fabric → AreSound new events
-keeps_called old new events id sound own ready answer call devices fabric = by answer call.told call.effect
+    → new.devices ≡ old.devices → new.fabric ≡ old.fabric → PartsInvariant new events
+keeps_called old new events id invariants own ready answer call devices fabric = by answer call.reply call.effect
   where
     by : (answer : Result answers.Ticket Refusal)
-        → ((granted : Bool) → (IsTrue granted → HasGrants old.driver.ledger id) × (HasGrants old.driver.ledger id → IsTrue granted) → IsToldOfDetach old.driver (registers_of old.iommu) granted id answer)
-        → DoesDetach mmio old.driver old.memory old.iommu id answer new.driver new.memory new.iommu → AreSound new events
-    by (Ok ticket) admitted queues = detached_sound old new events id ticket.0 sound own ready admitted queues devices fabric
-    by (Err why) refused (driver_stays, memory_stays, iommu_stays) = rw (driver_stays, memory_stays, iommu_stays, devices, fabric) sound
+        → ((granted : Bool) → (IsTrue granted → HasGrants old.driver.ledger id) × (HasGrants old.driver.ledger id → IsTrue granted) → IsReplyToDetach old.driver (registers_of old.iommu) granted id answer)
+        → DetachEffect mmio old.driver old.memory old.iommu id answer new.driver new.memory new.iommu → PartsInvariant new events
+    by (Ok ticket) admitted queues = detached_sound old new events id ticket.0 invariants own ready admitted queues devices fabric
+    by (Err why) refused (driver_stays, memory_stays, iommu_stays) = rw (driver_stays, memory_stays, iommu_stays, devices, fabric) invariants
 
 -- and then its disk goes, and a block device is reset
-pub keeps_detached : (old new : Parts) (events id : ℕ) (told : Outcome) → AreSound old events → IsSoundDriver old.driver → IsReady new.driver new.memory (registers_of new.iommu)
-    → epoch_in old.devices id < events → DetachesDevice old id told new → AreSound new events
-keeps_detached old new events id told sound own ready below detaches =
-    subst (λ (devices : List Device). AreSound (record new { devices = devices }) events) (sym detaches.devices) (by detaches.answer)
+pub keeps_detached : (old new : Parts) (events id : ℕ) (reply : Outcome) → PartsInvariant old events → DriverInvariant old.driver → IsReady new.driver new.memory (registers_of new.iommu)
+    → epoch_in old.devices id < events → DetachesDevice old id reply new → PartsInvariant new events
+keeps_detached old new events id reply invariants own ready below detaches =
+    subst (λ (devices : List Device). PartsInvariant (record new { devices = devices }) events) (sym detaches.devices) (by detaches.answer)
   where
-    called : AreSound (record new { devices = old.devices }) events
-    called = keeps_called old (record new { devices = old.devices }) events id sound own ready detaches.answer detaches.call refl detaches.fabric
+    called : PartsInvariant (record new { devices = old.devices }) events
+    called = keeps_called old (record new { devices = old.devices }) events id invariants own ready detaches.answer detaches.call refl detaches.fabric
 
-    by : (answer : Result answers.Ticket Refusal) → AreSound (record new { devices = devices_left answer old.devices id }) events
+    by : (answer : Result answers.Ticket Refusal) → PartsInvariant (record new { devices = devices_left answer old.devices id }) events
     by (Ok ticket) = left_sound (record new { devices = old.devices }) events id called below
     by (Err why) = called

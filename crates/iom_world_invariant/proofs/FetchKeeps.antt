@@ -41,7 +41,7 @@ use Rattle.iom_phys_mem.proofs.Stores.{word_back, put_word}
 use Rattle.iom_registers.specs.declared.registers.Registers.{Registers}
 use Rattle.iom_registers.specs.Queues.{command_status, is_processing_commands, with_command_done, with_fence_w_ip}
 use Rattle.iom_world_effects.specs.Devices.{shown_attachment}
-use Rattle.iom_world_effects.specs.Does.{FetchesNext}
+use Rattle.iom_world_effects.specs.Effect.{FetchesNext}
 use Rattle.iom_world_effects.specs.Parts.{Parts}
 use Rattle.iom_world_effects.specs.Queued.{IsQueuedAs, AreQueuedAs, completed_in}
 use Rattle.iom_tlb.specs.declared.trans_cache.Translation.{Translation}
@@ -52,18 +52,18 @@ use Rattle.iom_tlb.specs.Invalidations.{covers_of}
 use Rattle.iom_tlb.specs.declared.space.Space.{Space}
 use Rattle.iom_world_effects.specs.Read.{space_at, values_of, accesses_of}
 use Rattle.iom_world_effects.specs.Scenes.{HasFaithfulScene}
-use Rattle.iom_world_effects.specs.Sound.{AreSound, IsUnmarked, row_ids, HasAsker}
-use Rattle.iom_world_effects.proofs.DriverLemmas.{IsSoundDriver}
+use Rattle.iom_world_effects.specs.Invariant.{PartsInvariant, IsUnmarked, row_ids, HasAsker}
+use Rattle.iom_world_effects.proofs.DriverLemmas.{DriverInvariant}
 use Rattle.iom_world_effects.proofs.PartsLemmas.{parts_are, StaysReady}
 use Rattle.iom_world_effects.proofs.QueuedLemmas.{queued_first}
 use Rattle.iom_world_effects.proofs.RowLemmas.{drained_after}
-use Rattle.iom_world_effects.proofs.SceneSteps.{KeepsGrants, DoesFirst, CountsAtHead, done_after, CachedAfter, TranslationsAfter, TrafficAfter, DoneIfFence, ClosedIfFence, fetch_scene, count_scene, scene_uncounted}
+use Rattle.iom_world_effects.proofs.SceneSteps.{KeepsGrants, FirstEffect, CountsAtHead, done_after, CachedAfter, TranslationsAfter, TrafficAfter, DoneIfFence, ClosedIfFence, fetch_scene, count_scene, scene_uncounted}
 use Rattle.std.proofs.lemmas.List.{map-append}
 use Rattle.iom_fabric.specs.declared.fabric.OnLink.{OnLink}
 use Rattle.iom_world_effects.specs.Messages.{range_of, with_fetched}
 use Rattle.iom_world_effects.specs.Traffic.{invalidation_in_slot, entries_in, messages_in}
 use Rattle.iom_world_effects.proofs.MessageLemmas.{requested, askers_sent}
-use Rattle.iom_world_effects.proofs.SoundLemmas.{kinds_kept, same_epochs, traffic_kept, processes}
+use Rattle.iom_world_effects.proofs.InvariantLemmas.{kinds_kept, same_epochs, traffic_kept, processes}
 use Rattle.iom_device.specs.Caches.{epoch_in}
 use Rattle.std.specs.List.{All}
 use Rattle.iom_fabric.specs.declared.message.Message.TheVariants as sent
@@ -143,7 +143,7 @@ first_there [] x at = cc
 first_there (y ∷ ys) x at = let same : y ≡ x = cc in (ys, ap (λ z. z ∷ ys) same)
 
 -- what waits in a sound world is the driver's
-module _ (old : Parts) (events : ℕ) (sound : AreSound old events) where
+module _ (old : Parts) (events : ℕ) (invariants : PartsInvariant old events) where
   abbrev place : ℕ
   place = completion_address (length old.memory)
 
@@ -168,7 +168,7 @@ module _ (old : Parts) (events : ℕ) (sound : AreSound old events) where
 
       by : (b : Bool) → is_ours place done (last_fence old.driver) entry ≡ b → is_ours place done (last_fence old.driver) entry ≡ true
       by true is = is
-      by false none = absurd (not_there sound.copies (λ has. false≢true (sym none ∙ in_scene entry list.0 list.1 has)))
+      by false none = absurd (not_there invariants.copies (λ has. false≢true (sym none ∙ in_scene entry list.0 list.1 has)))
 
   pub head_next : (command : Commanded) → head_entry old.memory (registers_of old.iommu) ≡ Some (Command command)
       → IsNext (completion_address (length old.memory)) (completed_in old.memory) (last_fence old.driver) command
@@ -342,8 +342,8 @@ module _ (old new : Parts) (devices : new.devices ≡ old.devices) where
   }
 
 -- where commands are taken no fence has timed out
-pub goes_on : (old : Parts) (events : ℕ) → AreSound old events → is_processing_commands (registers_of old.iommu) ≡ true → (command_status (registers_of old.iommu)).cmd_to ≡ false
-goes_on old events sound on = not_true (command_status (registers_of old.iommu)).cmd_to (sym (processes old events sound) ∙ on)
+pub goes_on : (old : Parts) (events : ℕ) → PartsInvariant old events → is_processing_commands (registers_of old.iommu) ≡ true → (command_status (registers_of old.iommu)).cmd_to ≡ false
+goes_on old events invariants on = not_true (command_status (registers_of old.iommu)).cmd_to (sym (processes old events invariants) ∙ on)
   where
     not_true : (b : Bool) → not b ≡ true → b ≡ false
     not_true true it = absurd (false≢true it)
@@ -366,40 +366,40 @@ timeout_kept r s command is = ap (λ (q : Registers). (command_status q).cmd_to)
     by false = refl
 
 -- processing doesn't stop where it goes on
-pub never_stops : (old : Parts) (events : ℕ) (next : Iommu) → AreSound old events → 64 ≤ length old.memory → StopsFetching true old.memory old.iommu next → ⊥
-never_stops old events next sound many stops = by (head_entry old.memory (registers_of old.iommu)) refl stops
+pub never_stops : (old : Parts) (events : ℕ) (next : Iommu) → PartsInvariant old events → 64 ≤ length old.memory → StopsFetching true old.memory old.iommu next → ⊥
+never_stops old events next invariants many stops = by (head_entry old.memory (registers_of old.iommu)) refl stops
   where
     by : (entry : Option QueueEntry) → head_entry old.memory (registers_of old.iommu) ≡ entry → StopsAtEntry old.memory entry old.iommu next → ⊥
     by None at stopped = stopped
     by (Some (Command command)) at stopped =
-        stopped.1 (is_storable old.memory (completed_in old.memory) (last_fence old.driver) command many (head_next old events sound command at))
-    by (Some (Illegal reason)) at stopped = false≢true (head_ours old events sound (Illegal reason) at)
-    by (Some Outside) at stopped = false≢true (head_ours old events sound Outside at)
+        stopped.1 (is_storable old.memory (completed_in old.memory) (last_fence old.driver) command many (head_next old events invariants command at))
+    by (Some (Illegal reason)) at stopped = false≢true (head_ours old events invariants (Illegal reason) at)
+    by (Some Outside) at stopped = false≢true (head_ours old events invariants Outside at)
 
 -- no question is sent by it
-askers_fetched : (old : Parts) (events : ℕ) → AreSound old events → (command : Commanded) (last : ℕ) (fabric : List OnLink)
+askers_fetched : (old : Parts) (events : ℕ) → PartsInvariant old events → (command : Commanded) (last : ℕ) (fabric : List OnLink)
     → fabric ≡ with_fetched (Did command) last old.fabric → All (HasAsker old.devices) fabric
-askers_fetched old events sound (IotinvalVma gscid pscid page) last fabric is = rw is sound.known.askers
-askers_fetched old events sound (IotinvalGvma gscid page) last fabric is = rw is sound.known.askers
-askers_fetched old events sound (IofenceC store wsi pr pw) last fabric is = rw is sound.known.askers
-askers_fetched old events sound (IodirInvalDdt device) last fabric is = rw is sound.known.askers
-askers_fetched old events sound (AtsInval device range) last fabric is =
-    rw is (askers_sent old.devices old.fabric device (sent.InvReq last (range_of range)) sound.known.askers tt)
+askers_fetched old events invariants (IotinvalVma gscid pscid page) last fabric is = rw is invariants.known.askers
+askers_fetched old events invariants (IotinvalGvma gscid page) last fabric is = rw is invariants.known.askers
+askers_fetched old events invariants (IofenceC store wsi pr pw) last fabric is = rw is invariants.known.askers
+askers_fetched old events invariants (IodirInvalDdt device) last fabric is = rw is invariants.known.askers
+askers_fetched old events invariants (AtsInval device range) last fabric is =
+    rw is (askers_sent old.devices old.fabric device (sent.InvReq last (range_of range)) invariants.known.askers tt)
 
 -- a command is done
-keeps_done : (old new : Parts) (events : ℕ) (command : Commanded) → AreSound old events → IsSoundDriver old.driver → StaysReady old.driver
+keeps_done : (old new : Parts) (events : ℕ) (command : Commanded) → PartsInvariant old events → DriverInvariant old.driver → StaysReady old.driver
     → (slots_of old.iommu).last < events → FetchesByAnswer old.memory old.iommu (Did command) new.memory new.iommu → new.driver ≡ old.driver → new.devices ≡ old.devices
-    → new.fabric ≡ with_fetched (Did command) (slots_of new.iommu).last old.fabric → AreSound new events
-keeps_done old new events command sound own stays below fetches driver devices fabric =
+    → new.fabric ≡ with_fetched (Did command) (slots_of new.iommu).last old.fabric → PartsInvariant new events
+keeps_done old new events command invariants own unchanged below fetches driver devices fabric =
     let r = registers_of old.iommu in
-    let size : length old.memory ≡ length old.driver.marks = sound.ready.stand.size in
+    let size : length old.memory ≡ length old.driver.owners = invariants.ready.stand.size in
     let many : 64 ≤ length old.memory = let m = own.sizes.size.0 in omega (arith, size, m) in
     let address = completion_address (length old.memory) in
     let done = completed_in old.memory in
     let given = last_fence old.driver in
     let small : given < 2 ^ 32 = let numbered = own.fences.numbered in omega (arith, numbered) in
-    let next : IsNext address done given command = head_next old events sound command fetches.1 in
-    let ring : IsRing (length old.memory) r = sound.ready.ring sound.started in
+    let next : IsNext address done given command = head_next old events invariants command fetches.1 in
+    let ring : IsRing (length old.memory) r = invariants.ready.ring invariants.started in
     let off : IsOffRing r (store_of command) = λ j lt at.
     let same = stored_there (length old.memory) done given command _ next at in
     let place = in_ring r (length old.memory) j ring lt in absurd (omega (arith, same, place, many)) in
@@ -428,9 +428,9 @@ keeps_done old new events command sound own stays below fetches driver devices f
       attachments = λ id. ap (λ (d : DriverState). shown_attachment (attachment_by_id d.devices id)) driver;
       spaces = λ id. ap (λ (d : DriverState). space_at d.devices id) driver;
     } in
-    let does : DoesFirst (values_of old) (values_of new) command = record {
+    let effect : FirstEffect (values_of old) (values_of new) command = record {
       keeps = grants;
-      going = goes_on old events sound fetches.0;
+      going = goes_on old events invariants fetches.0;
       first = list;
       so_far = ap (λ (f : Flights). f.so_far) left.flights;
       in_flight = ap (λ (f : Flights). accesses_of f.rows) left.flights;
@@ -443,85 +443,85 @@ keeps_done old new events command sound own stays below fetches driver devices f
       traffic = traffic_done old new devices command left.slots (fabric ∙ ap (λ (s : OpenSlots). with_fetched (Did command) s.last old.fabric) left.slots);
     } in
     record {
-      ready = rw driver (stays old.memory new.memory r (registers_of new.iommu) sound.ready keeps (subst (λ s. KeepsRing r s) (sym left.registers) kept.0));
-      started = rw driver sound.started;
-      unmarked = marks_kept r (registers_of new.iommu) command left.registers sound.unmarked;
-      size = left.frames ∙ sound.size ∙ sym frames.1;
+      ready = rw driver (unchanged old.memory new.memory r (registers_of new.iommu) invariants.ready keeps (subst (λ s. KeepsRing r s) (sym left.registers) kept.0));
+      started = rw driver invariants.started;
+      unmarked = marks_kept r (registers_of new.iommu) command left.registers invariants.unmarked;
+      size = left.frames ∙ invariants.size ∙ sym frames.1;
       known = record {
-        own_ids = rw devices sound.known.own_ids;
-        driver = rw (driver, devices) sound.known.driver;
-        iommu = ap (λ (f : Flights). row_ids f.rows) left.flights ∙ rw devices sound.known.iommu;
-        caches = rw devices sound.known.caches;
-        trusted = rw (driver, devices) sound.known.trusted;
-        askers = rw devices (askers_fetched old events sound command (slots_of new.iommu).last new.fabric fabric);
+        own_ids = rw devices invariants.known.own_ids;
+        driver = rw (driver, devices) invariants.known.driver;
+        iommu = ap (λ (f : Flights). row_ids f.rows) left.flights ∙ rw devices invariants.known.iommu;
+        caches = rw devices invariants.known.caches;
+        trusted = rw (driver, devices) invariants.known.trusted;
+        askers = rw devices (askers_fetched old events invariants command (slots_of new.iommu).last new.fabric fabric);
       };
       serials = subst (λ (s : OpenSlots). s.last ≤ events) (sym left.slots) (omega (arith, last, below));
-      epochs = same_epochs old new events sound devices;
-      small = rw driver sound.small;
-      counted = subst (λ (f : Flights). f.so_far ≤ events) (sym left.flights) sound.counted;
-      contexts = λ id context at. rw driver (sound.contexts id context (cached_before command (contexts_of old.iommu) (contexts_of new.iommu) left.contexts id context at));
-      copies = ∥∥₁_map sound.copies (λ has. fetch_scene (values_of old) (values_of new) command does has);
+      epochs = same_epochs old new events invariants devices;
+      small = rw driver invariants.small;
+      counted = subst (λ (f : Flights). f.so_far ≤ events) (sym left.flights) invariants.counted;
+      contexts = λ id context at. rw driver (invariants.contexts id context (cached_before command (contexts_of old.iommu) (contexts_of new.iommu) left.contexts id context at));
+      copies = ∥∥₁_map invariants.copies (λ has. fetch_scene (values_of old) (values_of new) command effect has);
     }
 
 -- whether a fence waits for devices is no matter
-keeps_flag : (parts : Parts) (events : ℕ) (waits : Bool) → AreSound parts events → AreSound (record parts { iommu = record parts.iommu { fence_waits = waits } }) events
-keeps_flag parts events waits sound = record {
-  ready = sound.ready;
-  started = sound.started;
-  unmarked = sound.unmarked;
-  size = sound.size;
-  known = record { own_ids = sound.known.own_ids; driver = sound.known.driver; iommu = sound.known.iommu; caches = sound.known.caches; trusted = sound.known.trusted; askers = sound.known.askers };
-  small = sound.small;
-  counted = sound.counted;
-  serials = sound.serials;
-  epochs = sound.epochs;
-  contexts = sound.contexts;
-  copies = sound.copies;
+keeps_flag : (parts : Parts) (events : ℕ) (waits : Bool) → PartsInvariant parts events → PartsInvariant (record parts { iommu = record parts.iommu { fence_waits = waits } }) events
+keeps_flag parts events waits invariants = record {
+  ready = invariants.ready;
+  started = invariants.started;
+  unmarked = invariants.unmarked;
+  size = invariants.size;
+  known = record { own_ids = invariants.known.own_ids; driver = invariants.known.driver; iommu = invariants.known.iommu; caches = invariants.known.caches; trusted = invariants.known.trusted; askers = invariants.known.askers };
+  small = invariants.small;
+  counted = invariants.counted;
+  serials = invariants.serials;
+  epochs = invariants.epochs;
+  contexts = invariants.contexts;
+  copies = invariants.copies;
 }
 
 -- who waits at the head
-module _ (old : Parts) (events : ℕ) (sound : AreSound old events) where
+module _ (old : Parts) (events : ℕ) (invariants : PartsInvariant old events) where
   -- where it counts, the IOMMU is this
   abbrev counting : Parts
   counting = record old { iommu = after_none old.iommu (registers_of old.iommu) (Some (counted_in old.iommu)) }
 
   -- where no command is done, and none counts, all that is kept stays
-  pub keeps_unopened : AreSound (record old { iommu = after_none old.iommu (registers_of old.iommu) (fence_snapshot_of old.iommu) }) events
+  pub keeps_unopened : PartsInvariant (record old { iommu = after_none old.iommu (registers_of old.iommu) (fence_snapshot_of old.iommu) }) events
   keeps_unopened = record {
-    ready = sound.ready;
-    started = sound.started;
-    unmarked = sound.unmarked;
-    size = sound.size;
-    known = record { own_ids = sound.known.own_ids; driver = sound.known.driver; iommu = sound.known.iommu; caches = sound.known.caches; trusted = sound.known.trusted; askers = sound.known.askers };
-    small = sound.small;
-    counted = sound.counted;
-    serials = sound.serials;
-    epochs = sound.epochs;
-    contexts = sound.contexts;
-    copies = sound.copies;
+    ready = invariants.ready;
+    started = invariants.started;
+    unmarked = invariants.unmarked;
+    size = invariants.size;
+    known = record { own_ids = invariants.known.own_ids; driver = invariants.known.driver; iommu = invariants.known.iommu; caches = invariants.known.caches; trusted = invariants.known.trusted; askers = invariants.known.askers };
+    small = invariants.small;
+    counted = invariants.counted;
+    serials = invariants.serials;
+    epochs = invariants.epochs;
+    contexts = invariants.contexts;
+    copies = invariants.copies;
   }
 
   -- where no command waits, nothing was counted for one
-  pub keeps_nothing : head_entry old.memory (registers_of old.iommu) ≡ None → AreSound (record old { iommu = after_nothing old.iommu (registers_of old.iommu) }) events
+  pub keeps_nothing : head_entry old.memory (registers_of old.iommu) ≡ None → PartsInvariant (record old { iommu = after_nothing old.iommu (registers_of old.iommu) }) events
   keeps_nothing none = record {
-    ready = sound.ready;
-    started = sound.started;
-    unmarked = sound.unmarked;
-    size = sound.size;
-    known = record { own_ids = sound.known.own_ids; driver = sound.known.driver; iommu = sound.known.iommu; caches = sound.known.caches; trusted = sound.known.trusted; askers = sound.known.askers };
-    small = sound.small;
-    counted = sound.counted;
-    serials = sound.serials;
-    epochs = sound.epochs;
-    contexts = sound.contexts;
-    copies = ∥∥₁_map sound.copies (scene_uncounted (values_of old) (none_there (commands_in old.memory (registers_of old.iommu)) none));
+    ready = invariants.ready;
+    started = invariants.started;
+    unmarked = invariants.unmarked;
+    size = invariants.size;
+    known = record { own_ids = invariants.known.own_ids; driver = invariants.known.driver; iommu = invariants.known.iommu; caches = invariants.known.caches; trusted = invariants.known.trusted; askers = invariants.known.askers };
+    small = invariants.small;
+    counted = invariants.counted;
+    serials = invariants.serials;
+    epochs = invariants.epochs;
+    contexts = invariants.contexts;
+    copies = ∥∥₁_map invariants.copies (scene_uncounted (values_of old) (none_there (commands_in old.memory (registers_of old.iommu)) none));
   }
 
   -- a fence counts, since no invalidation request is open
   keeps_counted : (command_status (registers_of old.iommu)).cmd_to ≡ false → (store : Option FenceStore) (wsi pr pw : Bool) → head_entry old.memory (registers_of old.iommu) ≡ Some (Command (IofenceC store wsi pr pw))
-      → waits_for_slots (IofenceC store wsi pr pw) (slots_of old.iommu) ≡ false → AreSound counting events
+      → waits_for_slots (IofenceC store wsi pr pw) (slots_of old.iommu) ≡ false → PartsInvariant counting events
   keeps_counted going store wsi pr pw at free =
-      let next = head_next old events sound (IofenceC store wsi pr pw) at in
+      let next = head_next old events invariants (IofenceC store wsi pr pw) at in
       let list = first_there (commands_in old.memory (registers_of old.iommu)) (Command (IofenceC store wsi pr pw)) at in
       let counts : CountsAtHead (values_of old) (values_of counting) = record {
         keeps = record { ledger = refl; address = refl; given = refl; confirmed = refl; last_fence = refl; fences = refl; stopped = refl; kinds = λ d. refl; attachments = λ d. refl; spaces = λ d. refl };
@@ -538,17 +538,17 @@ module _ (old : Parts) (events : ℕ) (sound : AreSound old events) where
         traffic = refl;
       } in
       record {
-        ready = sound.ready;
-        started = sound.started;
-        unmarked = sound.unmarked;
-        size = sound.size;
-        known = record { own_ids = sound.known.own_ids; driver = sound.known.driver; iommu = sound.known.iommu; caches = sound.known.caches; trusted = sound.known.trusted; askers = sound.known.askers };
-        small = sound.small;
-        counted = sound.counted;
-        serials = sound.serials;
-        epochs = sound.epochs;
-        contexts = sound.contexts;
-        copies = ∥∥₁_map sound.copies (count_scene (values_of old) (values_of counting) counts);
+        ready = invariants.ready;
+        started = invariants.started;
+        unmarked = invariants.unmarked;
+        size = invariants.size;
+        known = record { own_ids = invariants.known.own_ids; driver = invariants.known.driver; iommu = invariants.known.iommu; caches = invariants.known.caches; trusted = invariants.known.trusted; askers = invariants.known.askers };
+        small = invariants.small;
+        counted = invariants.counted;
+        serials = invariants.serials;
+        epochs = invariants.epochs;
+        contexts = invariants.contexts;
+        copies = ∥∥₁_map invariants.copies (count_scene (values_of old) (values_of counting) counts);
       }
 
   -- whether it waits for slots, or for accesses
@@ -556,51 +556,51 @@ module _ (old : Parts) (events : ℕ) (sound : AreSound old events) where
   waiting slots = record old { iommu = after_none old.iommu (registers_of old.iommu) (if slots then fence_snapshot_of old.iommu else Some (counted_in old.iommu)) }
 
   keeps_command : (command_status (registers_of old.iommu)).cmd_to ≡ false → (command : Commanded) → head_entry old.memory (registers_of old.iommu) ≡ Some (Command command) → is_held_back command old.iommu ≡ true
-      → AreSound (waiting (waits_for_slots command (slots_of old.iommu))) events
+      → PartsInvariant (waiting (waits_for_slots command (slots_of old.iommu))) events
   keeps_command going (IotinvalVma gscid pscid page) at held = absurd (false≢true held)
   keeps_command going (IotinvalGvma gscid page) at held = absurd (false≢true held)
   keeps_command going (IodirInvalDdt device) at held = absurd (false≢true held)
   keeps_command going (IofenceC store wsi pr pw) at held = by (waits_for_slots (IofenceC store wsi pr pw) (slots_of old.iommu)) refl
     where
-      by : (b : Bool) → waits_for_slots (IofenceC store wsi pr pw) (slots_of old.iommu) ≡ b → AreSound (waiting b) events
+      by : (b : Bool) → waits_for_slots (IofenceC store wsi pr pw) (slots_of old.iommu) ≡ b → PartsInvariant (waiting b) events
       by true waits = keeps_unopened
       by false free = keeps_counted going store wsi pr pw at free
   keeps_command going (AtsInval device range) at held = by (waits_for_slots (AtsInval device range) (slots_of old.iommu)) held
     where
-      by : (b : Bool) → (b || false) ≡ true → AreSound (waiting b) events
+      by : (b : Bool) → (b || false) ≡ true → PartsInvariant (waiting b) events
       by true waits = keeps_unopened
       by false none = absurd (false≢true none)
 
   pub keeps_waiting : (command_status (registers_of old.iommu)).cmd_to ≡ false → WaitsAt (head_entry old.memory (registers_of old.iommu)) old.iommu
-      → AreSound (record old { iommu = after_none old.iommu (registers_of old.iommu) (fence_snapshot_at (head_entry old.memory (registers_of old.iommu)) old.iommu) }) events
+      → PartsInvariant (record old { iommu = after_none old.iommu (registers_of old.iommu) (fence_snapshot_at (head_entry old.memory (registers_of old.iommu)) old.iommu) }) events
   keeps_waiting going waits = by (head_entry old.memory (registers_of old.iommu)) refl waits
     where
       by : (entry : Option QueueEntry) → head_entry old.memory (registers_of old.iommu) ≡ entry → WaitsAt entry old.iommu
-          → AreSound (record old { iommu = after_none old.iommu (registers_of old.iommu) (fence_snapshot_at entry old.iommu) }) events
+          → PartsInvariant (record old { iommu = after_none old.iommu (registers_of old.iommu) (fence_snapshot_at entry old.iommu) }) events
       by None at it = absurd it
       by (Some (Command command)) at it = keeps_command going command at it
       by (Some (Illegal reason)) at it = absurd it
       by (Some Outside) at it = absurd it
 
-pub keeps_fetched : (old new : Parts) (events : ℕ) (told : Outcome) → AreSound old events → IsSoundDriver old.driver → StaysReady old.driver → (slots_of old.iommu).last < events
-    → FetchesNext old told new → AreSound new events
-keeps_fetched old new events told sound own stays below fetches =
+pub keeps_fetched : (old new : Parts) (events : ℕ) (reply : Outcome) → PartsInvariant old events → DriverInvariant old.driver → StaysReady old.driver → (slots_of old.iommu).last < events
+    → FetchesNext old reply new → PartsInvariant new events
+keeps_fetched old new events reply invariants own unchanged below fetches =
     by fetches.answer (by_answer old.memory new.memory old.iommu new.iommu fetches.answer fetches.call) fetches.fabric
   where
     many : 64 ≤ length old.memory
-    many = let m = own.sizes.size.0 in let size = sound.ready.stand.size in omega (arith, size, m)
+    many = let m = own.sizes.size.0 in let size = invariants.ready.stand.size in omega (arith, size, m)
 
-    left : (iommu : Iommu) → AreSound (record old { iommu = iommu }) events → new.memory ≡ old.memory → new.iommu ≡ iommu → new.fabric ≡ old.fabric → AreSound new events
+    left : (iommu : Iommu) → PartsInvariant (record old { iommu = iommu }) events → new.memory ≡ old.memory → new.iommu ≡ iommu → new.fabric ≡ old.fabric → PartsInvariant new events
     left iommu kept memory is fabric =
-        subst (λ parts. AreSound parts events) (sym (parts_are new old.memory iommu old.driver old.devices old.fabric memory is fetches.driver fetches.devices fabric)) kept
+        subst (λ parts. PartsInvariant parts events) (sym (parts_are new old.memory iommu old.driver old.devices old.fabric memory is fetches.driver fetches.devices fabric)) kept
 
-    by : (answer : Fetched) → FetchesByAnswer old.memory old.iommu answer new.memory new.iommu → new.fabric ≡ with_fetched answer (slots_of new.iommu).last old.fabric → AreSound new events
-    by (Did command) call fabric = keeps_done old new events command sound own stays below call fetches.driver fetches.devices fabric
+    by : (answer : Fetched) → FetchesByAnswer old.memory old.iommu answer new.memory new.iommu → new.fabric ≡ with_fetched answer (slots_of new.iommu).last old.fabric → PartsInvariant new events
+    by (Did command) call fabric = keeps_done old new events command invariants own unchanged below call fetches.driver fetches.devices fabric
     by Waiting call fabric = left _ (keeps_flag _ events (waits_at (head_entry old.memory (registers_of old.iommu)) old.iommu)
-        (keeps_waiting old events sound (goes_on old events sound call.0) call.1)) call.2 call.3 fabric
-    by Empty call fabric = left _ (keeps_nothing old events sound call.1) call.2 call.3 fabric
+        (keeps_waiting old events invariants (goes_on old events invariants call.0) call.1)) call.2 call.3 fabric
+    by Empty call fabric = left _ (keeps_nothing old events invariants call.1) call.2 call.3 fabric
     by Stopped call fabric = stops (is_processing_commands (registers_of old.iommu)) call.0
       where
-        stops : (on : Bool) → StopsFetching on old.memory old.iommu new.iommu → AreSound new events
-        stops true stopped = absurd (never_stops old events new.iommu sound many stopped)
-        stops false stopped = left old.iommu sound call.1 stopped fabric
+        stops : (on : Bool) → StopsFetching on old.memory old.iommu new.iommu → PartsInvariant new events
+        stops true stopped = absurd (never_stops old events new.iommu invariants many stopped)
+        stops false stopped = left old.iommu invariants call.1 stopped fabric

@@ -10,7 +10,7 @@ use Rattle.iom_directory_build.proofs.Paths.{at_root, past_root}
 use Rattle.iom_directory_build.proofs.Prefixes.{index_fits, context_index_fits}
 use Rattle.iom_directory_build.proofs.Words.{word_stays, zero_next}
 use Rattle.iom_driver.proofs.Lists.{get_set_other}
-use Rattle.iom_driver.proofs.Marks.{NotAmong}
+use Rattle.iom_driver.proofs.Owners.{NotAmong}
 use Rattle.iom_phys_mem.specs.Words.{zeroed, with_word}
 
 -- a word is stored in one frame

@@ -22,7 +22,7 @@ use Rattle.iom_world_effects.specs.Messages.{with_sent, AsksQuestion, ForgesComp
 use Rattle.iom_world_effects.specs.Parts.{Parts}
 use Rattle.iom_world_effects.specs.Read.{values_of}
 use Rattle.iom_world_effects.specs.Scenes.{IsSceneOf}
-use Rattle.iom_world_effects.specs.Sound.{AreSound, HasAsker, IsAsked}
+use Rattle.iom_world_effects.specs.Invariant.{PartsInvariant, HasAsker, IsAsked}
 use Rattle.iom_world_effects.specs.Traffic.{Traffic, message_on, messages_in, invalidation_by}
 use Rattle.iom_world_effects.proofs.MessageLemmas.{messages_pushed, sent_cases, the_one, askers_sent}
 use Rattle.iom_world_effects.proofs.MessageScenes.{messages_as}
@@ -58,32 +58,32 @@ asker_at devices fabric place on at askers =
     subst (HasAsker devices) (get_or_from_slice_get fabric place on on at) (askers place on (slice_get_within fabric place on at))
 
 -- A MESSAGE IS LOST
-pub dropped_sound : (old : Parts) (events place : ℕ) → AreSound old events → AreSound (record old { fabric = remove old.fabric place }) events
-dropped_sound old events place sound =
-    carried_sound old (remove old.fabric place) events sound (askers_left old.devices old.fabric place sound.known.askers)
+pub dropped_sound : (old : Parts) (events place : ℕ) → PartsInvariant old events → PartsInvariant (record old { fabric = remove old.fabric place }) events
+dropped_sound old events place invariants =
+    carried_sound old (remove old.fabric place) events invariants (askers_left old.devices old.fabric place invariants.known.askers)
     (λ scene shows facts message there. inr (messages_as (values_of old) scene message shows (left_among old.fabric place message there)))
 
-pub keeps_dropped : (old new : Parts) (events place : ℕ) (told : Outcome) → AreSound old events → DropsMessage old place told new → AreSound new events
-keeps_dropped old new events place told sound drops = subst (λ parts. AreSound parts events) (sym drops.dropped) (dropped_sound old events place sound)
+pub keeps_dropped : (old new : Parts) (events place : ℕ) (reply : Outcome) → PartsInvariant old events → DropsMessage old place reply new → PartsInvariant new events
+keeps_dropped old new events place reply invariants drops = subst (λ parts. PartsInvariant parts events) (sym drops.dropped) (dropped_sound old events place invariants)
 
 -- A MESSAGE IS SENT, that its device may send
-pub sent_sound : (old : Parts) (events id : ℕ) (message : Message) → AreSound old events → IsAsked (is_some (device_with old.devices id)) message
+pub sent_sound : (old : Parts) (events id : ℕ) (message : Message) → PartsInvariant old events → IsAsked (is_some (device_with old.devices id)) message
     → ((scene : Scene) → IsSceneOf (values_of old) scene → (x : AtsMessage) → Contains (message_on id message) x → MayBeSent scene x)
-    → AreSound (record old { fabric = with_sent old.fabric id message }) events
-sent_sound old events id message sound asked may =
-    carried_sound old (with_sent old.fabric id message) events sound (askers_sent old.devices old.fabric id message sound.known.askers asked)
+    → PartsInvariant (record old { fabric = with_sent old.fabric id message }) events
+sent_sound old events id message invariants asked may =
+    carried_sound old (with_sent old.fabric id message) events invariants (askers_sent old.devices old.fabric id message invariants.known.askers asked)
     (λ scene shows facts x there. elim (sent_cases old.fabric id message x there) [
       | inl new ↦ inl (may scene shows x new)
       | inr before ↦ inr (messages_as (values_of old) scene x shows before)
     ])
 
 -- A MESSAGE IS REPEATED
-copied_sound : (old : Parts) (events place : ℕ) (at : Option OnLink) → slice_get old.fabric place ≡ at → AreSound old events → AreSound (record old { fabric = repeated old.fabric at }) events
-copied_sound old events place None at sound = sound
-copied_sound old events place (Some on) at sound = by (nat_lt (length old.fabric) 64)
+copied_sound : (old : Parts) (events place : ℕ) (at : Option OnLink) → slice_get old.fabric place ≡ at → PartsInvariant old events → PartsInvariant (record old { fabric = repeated old.fabric at }) events
+copied_sound old events place None at invariants = invariants
+copied_sound old events place (Some on) at invariants = by (nat_lt (length old.fabric) 64)
   where
     own : (k : ℕ) → slice_get old.fabric k ≡ Some on → HasAsker old.devices on
-    own k found = asker_at old.devices old.fabric k on found sound.known.askers
+    own k found = asker_at old.devices old.fabric k on found invariants.known.askers
 
     pushed : (message : AtsMessage) → Contains (messages_in (old.fabric ++ on ∷ [])) message → Contains (messages_in old.fabric) message
     pushed message there = elim (Contains-append_cases (messages_in old.fabric) (message_on on.device on.message) message (subst (λ l. Contains l message) (messages_pushed old.fabric on) there)) [
@@ -91,18 +91,18 @@ copied_sound old events place (Some on) at sound = by (nat_lt (length old.fabric
       | inr copy ↦ there_at old.fabric place on message at copy
     ]
 
-    by : (b : Bool) → AreSound (record old { fabric = if b then old.fabric ++ on ∷ [] else old.fabric }) events
-    by false = sound
+    by : (b : Bool) → PartsInvariant (record old { fabric = if b then old.fabric ++ on ∷ [] else old.fabric }) events
+    by false = invariants
     by true =
-        carried_sound old (old.fabric ++ on ∷ []) events sound (All-push (HasAsker old.devices) old.fabric on sound.known.askers (own place at))
+        carried_sound old (old.fabric ++ on ∷ []) events invariants (All-push (HasAsker old.devices) old.fabric on invariants.known.askers (own place at))
         (λ scene shows facts message there. inr (messages_as (values_of old) scene message shows (pushed message there)))
 
-pub repeated_sound : (old : Parts) (events place : ℕ) → AreSound old events → AreSound (record old { fabric = repeated old.fabric (slice_get old.fabric place) }) events
-repeated_sound old events place sound = copied_sound old events place (slice_get old.fabric place) refl sound
+pub repeated_sound : (old : Parts) (events place : ℕ) → PartsInvariant old events → PartsInvariant (record old { fabric = repeated old.fabric (slice_get old.fabric place) }) events
+repeated_sound old events place invariants = copied_sound old events place (slice_get old.fabric place) refl invariants
 
-pub keeps_repeated : (old new : Parts) (events place : ℕ) (told : Outcome) → AreSound old events → RepeatsMessage old place told new → AreSound new events
-keeps_repeated old new events place told sound repeats =
-    subst (λ parts. AreSound parts events) (sym repeats.repeated) (repeated_sound old events place sound)
+pub keeps_repeated : (old new : Parts) (events place : ℕ) (reply : Outcome) → PartsInvariant old events → RepeatsMessage old place reply new → PartsInvariant new events
+keeps_repeated old new events place reply invariants repeats =
+    subst (λ parts. PartsInvariant parts events) (sym repeats.repeated) (repeated_sound old events place invariants)
 
 -- A DEVICE ASKS
 present : (devices : List Device) (id : ℕ) (kind : DeviceKind) → kind_in devices id ≡ Some kind → is_some (device_with devices id) ≡ true
@@ -112,20 +112,20 @@ present devices id kind at = by (device_with devices id) refl at
     by None is none = cc
     by (Some device) is at = ap is_some is
 
-pub question_sound : (old : Parts) (events id page : ℕ) → AreSound old events → page < 2 ^ 52 → is_some (device_with old.devices id) ≡ true
-    → AreSound (record old { fabric = with_sent old.fabric id (sent.Ask (epoch_in old.devices id) page) }) events
-question_sound old events id page sound fits there =
-    sent_sound old events id (sent.Ask (epoch_in old.devices id) page) sound (there, fits)
+pub question_sound : (old : Parts) (events id page : ℕ) → PartsInvariant old events → page < 2 ^ 52 → is_some (device_with old.devices id) ≡ true
+    → PartsInvariant (record old { fabric = with_sent old.fabric id (sent.Ask (epoch_in old.devices id) page) }) events
+question_sound old events id page invariants fits there =
+    sent_sound old events id (sent.Ask (epoch_in old.devices id) page) invariants (there, fits)
     (λ scene shows x mine.
     subst (MayBeSent scene) (sym (the_one (Question id (epoch_in old.devices id) page) x mine))
     (λ honest. let same : scene.epoch_of id ≡ epoch_in old.devices id = ap (λ (t : Traffic). t.epoch_of id) shows.traffic in omega (arith, same)))
 
-pub keeps_question : (old new : Parts) (events id page : ℕ) (told : Outcome) → AreSound old events → page < 2 ^ 52 → AsksQuestion old id page told new → AreSound new events
-keeps_question old new events id page told sound fits asks = elim asks [
-  | inl unknown ↦ subst (λ parts. AreSound parts events) (sym unknown.same) sound
-  | inr (inl unable) ↦ subst (λ parts. AreSound parts events) (sym unable.same) sound
+pub keeps_question : (old new : Parts) (events id page : ℕ) (reply : Outcome) → PartsInvariant old events → page < 2 ^ 52 → AsksQuestion old id page reply new → PartsInvariant new events
+keeps_question old new events id page reply invariants fits asks = elim asks [
+  | inl unknown ↦ subst (λ parts. PartsInvariant parts events) (sym unknown.same) invariants
+  | inr (inl unable) ↦ subst (λ parts. PartsInvariant parts events) (sym unable.same) invariants
   | inr (inr (able, sends)) ↦
-      subst (λ parts. AreSound parts events) (sym sends.sent) (question_sound old events id page sound fits (present old.devices id able.0 able.1))
+      subst (λ parts. PartsInvariant parts events) (sym sends.sent) (question_sound old events id page invariants fits (present old.devices id able.0 able.1))
 ]
 
 -- A DEVICE SAYS that a request is done
@@ -135,13 +135,13 @@ may_forge_is Ats forges = absurd (false≢true forges)
 may_forge_is Block forges = absurd (false≢true forges)
 may_forge_is CachedBlock forges = absurd (false≢true forges)
 
-pub keeps_forged : (old new : Parts) (events id serial : ℕ) (told : Outcome) → AreSound old events → ForgesCompletion old id serial told new → AreSound new events
-keeps_forged old new events id serial told sound asks = elim asks [
-  | inl unknown ↦ subst (λ parts. AreSound parts events) (sym unknown.same) sound
-  | inr (inl unable) ↦ subst (λ parts. AreSound parts events) (sym unable.same) sound
+pub keeps_forged : (old new : Parts) (events id serial : ℕ) (reply : Outcome) → PartsInvariant old events → ForgesCompletion old id serial reply new → PartsInvariant new events
+keeps_forged old new events id serial reply invariants asks = elim asks [
+  | inl unknown ↦ subst (λ parts. PartsInvariant parts events) (sym unknown.same) invariants
+  | inr (inl unable) ↦ subst (λ parts. PartsInvariant parts events) (sym unable.same) invariants
   | inr (inr (able, sends)) ↦
-      subst (λ parts. AreSound parts events) (sym sends.sent)
-      (sent_sound old events id (sent.InvDone serial) sound tt
+      subst (λ parts. PartsInvariant parts events) (sym sends.sent)
+      (sent_sound old events id (sent.InvDone serial) invariants tt
       (λ scene shows x there.
       subst (MayBeSent scene) (sym (the_one (InvalidateCompletion (invalidation_by serial id)) x there))
       (ap may_forge (shows.kinds id ∙ able.1) ∙ may_forge_is able.0 able.2)))

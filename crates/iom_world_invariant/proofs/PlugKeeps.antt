@@ -28,13 +28,13 @@ use Rattle.iom_registers.specs.declared.registers.Registers.{Registers}
 use Rattle.iom_registers.specs.Queues.{command_status}
 use Rattle.iom_device.specs.declared.device.Device.{Device}
 use Rattle.iom_world_effects.specs.Devices.{shown_attachment}
-use Rattle.iom_world_effects.specs.Does.{PlugsIn, AddsRow, new_device, devices_after}
+use Rattle.iom_world_effects.specs.Effect.{PlugsIn, AddsRow, new_device, devices_after}
 use Rattle.iom_tlb.specs.Chosen.{ioatc}
 use Rattle.iom_world_effects.specs.Parts.{Parts}
 use Rattle.iom_world_effects.specs.Read.{space_in, values_of, access_in_flight, accesses_of}
-use Rattle.iom_world_effects.specs.Sound.{AreSound, AreKnown, HaveDistinctIds, known_ids, plugged_ids, row_ids}
+use Rattle.iom_world_effects.specs.Invariant.{PartsInvariant, AreKnown, HaveDistinctIds, known_ids, plugged_ids, row_ids}
 use Rattle.iom_world_effects.proofs.SceneCalls.{PlugsOne, plug_scene}
-use Rattle.iom_world_effects.proofs.SoundLemmas.{same_completed, LeavesWord, sound_from, same_waiting, none_at}
+use Rattle.iom_world_effects.proofs.InvariantLemmas.{same_completed, LeavesWord, sound_from, same_waiting, none_at}
 use Rattle.std.proofs.lemmas.List.Elements.{All-push}
 use Rattle.iom_coherence.specs.Attachments.{caches_translations}
 use Rattle.iom_coherence.specs.Scene.{Copy}
@@ -92,7 +92,7 @@ accesses_pushed : (rows : List FlightRow) (id : ℕ) → accesses_of (rows ++ ne
 accesses_pushed [] id = refl
 accesses_pushed (row ∷ rows) id = ap (λ l. map (access_in_flight row.device) row.waiting ++ l) (accesses_pushed rows id)
 
-module _ (old new : Parts) (events id : ℕ) (what : NewDevice) (sound : AreSound old events) (ready : IsReady new.driver new.memory (registers_of new.iommu))
+module _ (old new : Parts) (events id : ℕ) (what : NewDevice) (invariants : PartsInvariant old events) (ready : IsReady new.driver new.memory (registers_of new.iommu))
     (admitted : NoneApplies (why_not_plug old.driver id)) (driver_now : new.driver ≡ record old.driver { devices = old.driver.devices ++ detached id (has_cache (kind_of what)) ∷ [] })
     (row : AddsDevice old.iommu id true new.iommu) (devices : new.devices ≡ old.devices ++ new_device id what ∷ []) (memory : new.memory ≡ old.memory) (fabric : new.fabric ≡ old.fabric) where
   leaves : LeavesWord old new
@@ -111,7 +111,7 @@ module _ (old new : Parts) (events id : ℕ) (what : NewDevice) (sound : AreSoun
   free = none_at (why_not_plug old.driver id) 0 (has_device old.driver.devices id) AlreadyPlugged refl admitted
 
   absent : HaveNot old.devices id
-  absent = absent_known old.driver.devices old.devices id sound.known.driver free
+  absent = absent_known old.driver.devices old.devices id invariants.known.driver free
 
   trusts_as : (b : Bool) (one : Bool) (d : ℕ) → one ≡ caches_translations (kind_in old.devices d)
       → (if b then has_cache (kind_of what) else one) ≡ caches_translations (if b then Some (kind_of what) else kind_in old.devices d)
@@ -120,16 +120,16 @@ module _ (old new : Parts) (events id : ℕ) (what : NewDevice) (sound : AreSoun
 
   known_now : AreKnown new
   known_now = record {
-    own_ids = rw devices (own_ids_new old.devices (new_device id what) id sound.known.own_ids absent refl);
+    own_ids = rw devices (own_ids_new old.devices (new_device id what) id invariants.known.own_ids absent refl);
     driver = ap (λ (d : DriverState). known_ids d.devices) driver_now ∙ map_pushed (λ (d : driver.Device). d.id) old.driver.devices (detached id (has_cache (kind_of what)))
-        ∙ ap (λ ids. ids ++ id ∷ []) sound.known.driver ∙ sym (ap plugged_ids devices ∙ map_pushed (λ (d : Device). d.id) old.devices (new_device id what));
+        ∙ ap (λ ids. ids ++ id ∷ []) invariants.known.driver ∙ sym (ap plugged_ids devices ∙ map_pushed (λ (d : Device). d.id) old.devices (new_device id what));
     iommu = ap row_ids rows_now ∙ map_pushed (λ (r : FlightRow). r.device) (flights_of old.iommu).rows (new_row id)
-        ∙ ap (λ ids. ids ++ id ∷ []) sound.known.iommu ∙ sym (ap plugged_ids devices ∙ map_pushed (λ (d : Device). d.id) old.devices (new_device id what));
-    caches = rw devices (All-push HasItsCache old.devices (new_device id what) sound.known.caches (its_cache id what));
-    askers = rw (devices, fabric) (λ k d lt. asker_pushed old.devices (new_device id what) (get_or old.fabric k d) (sound.known.askers k d lt));
+        ∙ ap (λ ids. ids ++ id ∷ []) invariants.known.iommu ∙ sym (ap plugged_ids devices ∙ map_pushed (λ (d : Device). d.id) old.devices (new_device id what));
+    caches = rw devices (All-push HasItsCache old.devices (new_device id what) invariants.known.caches (its_cache id what));
+    askers = rw (devices, fabric) (λ k d lt. asker_pushed old.devices (new_device id what) (get_or old.fabric k d) (invariants.known.askers k d lt));
     trusted = λ d.
         ap (λ (s : DriverState). has_trusted_cache s.devices d) driver_now ∙ trusted_pushed old.driver.devices id (has_cache (kind_of what)) d free
-        ∙ trusts_as (id == d) (has_trusted_cache old.driver.devices d) d (sound.known.trusted d)
+        ∙ trusts_as (id == d) (has_trusted_cache old.driver.devices d) d (invariants.known.trusted d)
         ∙ sym (ap (λ (ds : List Device). caches_translations (kind_in ds d)) devices ∙ ap caches_translations (kind_pushed old.devices id what d absent));
   }
 
@@ -151,7 +151,7 @@ module _ (old new : Parts) (events id : ℕ) (what : NewDevice) (sound : AreSoun
     kinds = λ d. ap (λ (ds : List Device). kind_in ds d) devices ∙ kind_pushed old.devices id what d absent;
     agrees = λ h agrees. subst (λ (s : DriverState). Agrees s.ledger h) (sym driver_now) agrees;
     address = ap completion_address leaves.size;
-    waiting = same_waiting old new events sound row.registers (ap (λ m. slice_get m (command_frame (length old.memory))) memory);
+    waiting = same_waiting old new events invariants row.registers (ap (λ m. slice_get m (command_frame (length old.memory))) memory);
     completed = same_completed old.memory new.memory leaves.size leaves.word;
     last_fence = ap (λ (d : DriverState). last_fence d) driver_now;
     given = ap (λ (d : DriverState). d.given) driver_now;
@@ -170,20 +170,20 @@ module _ (old new : Parts) (events id : ℕ) (what : NewDevice) (sound : AreSoun
     };
   }
 
-  pub plugged_sound : AreSound new events
+  pub plugged_sound : PartsInvariant new events
   plugged_sound =
-      sound_from old new events sound leaves
+      sound_from old new events invariants leaves
       (record { status = ap command_status row.registers; frames = row.frames; so_far = counted_now; slots = row.slots })
       (ap (λ (d : DriverState). d.started) driver_now) ready known_now
-      (λ d. subst (λ (n : ℕ). n ≤ events) (sym (ap (λ (ds : List Device). epoch_in ds d) devices ∙ epoch_pushed old.devices id what d)) (sound.epochs d))
-      (subst (λ (d : DriverState). d.given < 2 ^ 32) (sym driver_now) sound.small)
-      (λ other context cached. ap (λ a. option_map context_for (owned_stages a)) (attachments_now other) ∙ sound.contexts other context (sym (contexts_now other) ∙ cached))
-      (∥∥₁_map sound.copies (plug_scene (values_of old) (values_of new) id (kind_of what) plugs_one))
+      (λ d. subst (λ (n : ℕ). n ≤ events) (sym (ap (λ (ds : List Device). epoch_in ds d) devices ∙ epoch_pushed old.devices id what d)) (invariants.epochs d))
+      (subst (λ (d : DriverState). d.given < 2 ^ 32) (sym driver_now) invariants.small)
+      (λ other context cached. ap (λ a. option_map context_for (owned_stages a)) (attachments_now other) ∙ invariants.contexts other context (sym (contexts_now other) ∙ cached))
+      (∥∥₁_map invariants.copies (plug_scene (values_of old) (values_of new) id (kind_of what) plugs_one))
 
-pub keeps_plugged : (disks : List ℕ) (old new : Parts) (events id : ℕ) (what : NewDevice) (told : Outcome) → AreSound old events → IsReady new.driver new.memory (registers_of new.iommu)
-    → PlugsIn disks old id what told new → AreSound new events
-keeps_plugged disks old new events id what told sound ready plugs = by plugs.answer plugs.call plugs.row plugs.devices
+pub keeps_plugged : (disks : List ℕ) (old new : Parts) (events id : ℕ) (what : NewDevice) (reply : Outcome) → PartsInvariant old events → IsReady new.driver new.memory (registers_of new.iommu)
+    → PlugsIn disks old id what reply new → PartsInvariant new events
+keeps_plugged disks old new events id what reply invariants ready plugs = by plugs.answer plugs.call plugs.row plugs.devices
   where
-    by : (answer : Result (Unit {0}) Refusal) → AnswersPlug old.driver id (has_cache (kind_of what)) answer new.driver → AddsRow answer old.iommu id new.iommu → new.devices ≡ devices_after answer old.devices id what → AreSound new events
-    by (Ok done) (admitted, driver_now) row devices = plugged_sound old new events id what sound ready admitted driver_now row devices plugs.memory plugs.fabric
-    by (Err why) (refused, driver_stays) row devices = rw (plugs.memory, row, driver_stays, devices, plugs.fabric) sound
+    by : (answer : Result (Unit {0}) Refusal) → AnswersPlug old.driver id (has_cache (kind_of what)) answer new.driver → AddsRow answer old.iommu id new.iommu → new.devices ≡ devices_after answer old.devices id what → PartsInvariant new events
+    by (Ok done) (admitted, driver_now) row devices = plugged_sound old new events id what invariants ready admitted driver_now row devices plugs.memory plugs.fabric
+    by (Err why) (refused, driver_stays) row devices = rw (plugs.memory, row, driver_stays, devices, plugs.fabric) invariants

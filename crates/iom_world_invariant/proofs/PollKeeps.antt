@@ -24,19 +24,19 @@ use Rattle.iom_machine.specs.declared.outcome.Outcome.{Outcome}
 use Rattle.iom_registers.specs.declared.registers.Registers.{Registers}
 use Rattle.iom_registers.specs.Queues.{command_status}
 use Rattle.iom_world_effects.specs.Devices.{shown_attachment}
-use Rattle.iom_world_effects.specs.Does.{PollsTickets}
+use Rattle.iom_world_effects.specs.Effect.{PollsTickets}
 use Rattle.iom_world_effects.specs.Parts.{Parts}
 use Rattle.iom_world_effects.specs.Queued.{completed_in}
 use Rattle.iom_tlb.specs.declared.space.Space.{Space}
 use Rattle.iom_world_effects.specs.Read.{space_in, space_at, values_of, accesses_of}
 use Rattle.iom_world_effects.specs.Scenes.{HasFaithfulScene}
-use Rattle.iom_world_effects.specs.Sound.{AreSound, AreKnown, ContextsAreTrue, known_ids, plugged_ids, row_ids}
+use Rattle.iom_world_effects.specs.Invariant.{PartsInvariant, AreKnown, ContextsAreTrue, known_ids, plugged_ids, row_ids}
 use Rattle.iom_world_effects.proofs.DeviceLemmas.{after, attachment_confirmed, trusted_confirmed, ids_confirmed, left_is}
-use Rattle.iom_world_effects.proofs.DriverLemmas.{IsSoundDriver}
+use Rattle.iom_world_effects.proofs.DriverLemmas.{DriverInvariant}
 use Rattle.iom_world_effects.proofs.CachedLemmas.{none_spaced}
 use Rattle.iom_world_effects.proofs.ConfirmScenes.{AreDone}
 use Rattle.iom_world_effects.proofs.SceneCalls.{HasLeft, ConfirmsSome, poll_scene}
-use Rattle.iom_world_effects.proofs.SoundLemmas.{detached_uncached, same_completed, LeavesWord, same_iommu, sound_from, same_waiting, fixed_frames, kinds_kept, same_epochs, traffic_kept}
+use Rattle.iom_world_effects.proofs.InvariantLemmas.{detached_uncached, same_completed, LeavesWord, same_iommu, sound_from, same_waiting, fixed_frames, kinds_kept, same_epochs, traffic_kept}
 use Rattle.iom_coherence.specs.Attachments.{caches_translations}
 use Rattle.iom_device.specs.Caches.{kind_in}
 use Rattle.iom_device.specs.declared.device.Device.{Device}
@@ -63,25 +63,25 @@ done_low d word = by (nat_lt word (d.restarted + d.restarts))
     by false = min-le_right (word - d.restarts) d.given
 
 -- a poll confirms tickets that were given
-pub polled_most : (r : Registers) (d : DriverState) (memory : List (List ℕ)) (polled : Polled) (next : DriverState) (memory' : List (List ℕ)) → IsSoundDriver d
+pub polled_most : (r : Registers) (d : DriverState) (memory : List (List ℕ)) (polled : Polled) (next : DriverState) (memory' : List (List ℕ)) → DriverInvariant d
     → ConfirmsDone r d memory polled next memory' → d.confirmed + polled.count ≤ d.given
 polled_most r d memory polled next memory' own confirms =
     let low = done_low d confirms.word in let ordered = own.tickets.ordered in let count = confirms.count in omega (arith, low, ordered, count)
 
-module _ (old new : Parts) (events : ℕ) (polled : Polled) (sound : AreSound old events) (own : IsSoundDriver old.driver) (ready : IsReady new.driver new.memory (registers_of new.iommu))
+module _ (old new : Parts) (events : ℕ) (polled : Polled) (invariants : PartsInvariant old events) (own : DriverInvariant old.driver) (ready : IsReady new.driver new.memory (registers_of new.iommu))
     (confirms : ConfirmsDone (registers_of old.iommu) old.driver old.memory polled new.driver new.memory) (iommu : new.iommu ≡ old.iommu) (devices : new.devices ≡ old.devices) (fabric : new.fabric ≡ old.fabric) where
   done : ℕ
   done = done_after old.driver polled
 
   -- the system's frames stay
-  system_kept : (n : ℕ) → slice_get old.driver.marks n ≡ Some (Some System) → slice_get new.memory n ≡ slice_get old.memory n
+  system_kept : (n : ℕ) → slice_get old.driver.owners n ≡ Some (Some System) → slice_get new.memory n ≡ slice_get old.memory n
   system_kept n system = confirms.cleared.others n (λ owner at.
       let both : ◌≡◌ {A = Option (Option Owner)} (Some (Some owner)) (Some (Some System)) = sym at ∙ system in
       let same : owner ≡ System = cc in
       subst (λ o. is_gone (done_after old.driver polled) old.driver.devices o ≡ false) (sym same) refl)
 
   leaves : LeavesWord old new
-  leaves = record { size = confirms.cleared.size; word = system_kept (completion_frame (length old.memory)) (fixed_frames old events sound own).completion }
+  leaves = record { size = confirms.cleared.size; word = system_kept (completion_frame (length old.memory)) (fixed_frames old events invariants own).completion }
 
   attachment_now : (id : ℕ) → attachment_by_id new.driver.devices id ≡ after (done_after old.driver polled) (attachment_by_id old.driver.devices id)
   attachment_now id = ap (λ (d : DriverState). attachment_by_id d.devices id) confirms.driver ∙ attachment_confirmed (done_after old.driver polled) old.driver.devices id
@@ -103,9 +103,9 @@ module _ (old new : Parts) (events : ℕ) (polled : Polled) (sound : AreSound ol
       by true gone =
           let low : ticket ≤ old.driver.confirmed + polled.count = leb-true ticket (old.driver.confirmed + polled.count) gone in
           inr (subst (λ a. HasLeft (shown_attachment a) old.driver.confirmed (old.driver.confirmed + polled.count)) (sym is) ((own.leaving id ticket stage is).0, low))
-      by false stays = inl (
+      by false unchanged = inl (
           ap (λ a. option_map (λ (s : Stages). space_in s.mode s.number) (owned_stages a))
-          (attachment_now id ∙ ap (after (done_after old.driver polled)) is ∙ ap (λ b. if b then Detached else Leaving ticket stage) stays)
+          (attachment_now id ∙ ap (after (done_after old.driver polled)) is ∙ ap (λ b. if b then Detached else Leaving ticket stage) unchanged)
           ∙ sym (ap (λ a. option_map (λ (s : Stages). space_in s.mode s.number) (owned_stages a)) is) ∙ at)
 
   most : old.driver.confirmed + polled.count ≤ old.driver.given
@@ -131,7 +131,7 @@ module _ (old new : Parts) (events : ℕ) (polled : Polled) (sound : AreSound ol
             ∙ sym (left_is old.driver.confirmed polled.count (λ e. shown_attachment (attachment_by_id old.driver.devices e)) d (attachment_by_id old.driver.devices d) refl
             (λ ticket stage is. (own.leaving d ticket stage is).0));
         address = ap completion_address leaves.size;
-        waiting = same_waiting old new events sound (ap registers_of iommu) (system_kept (command_frame (length old.memory)) (fixed_frames old events sound own).command);
+        waiting = same_waiting old new events invariants (ap registers_of iommu) (system_kept (command_frame (length old.memory)) (fixed_frames old events invariants own).command);
         completed = same_completed old.memory new.memory leaves.size leaves.word;
         last_fence = ap (λ (d : DriverState). last_fence d) confirms.driver;
         fences = ap (λ (d : DriverState). fence_of d) confirms.driver;
@@ -155,36 +155,36 @@ module _ (old new : Parts) (events : ℕ) (polled : Polled) (sound : AreSound ol
       by true gone =
           absurd (detached_uncached new id context copies cached
           (ap shown_attachment (attachment_now id) ∙ ap (λ b. shown_attachment (if b then Detached else attachment_by_id old.driver.devices id)) gone))
-      by false stays =
+      by false unchanged =
           ap (λ a. option_map context_for (owned_stages a)) (attachment_now id)
-          ∙ ap (λ b. option_map context_for (owned_stages (if b then Detached else attachment_by_id old.driver.devices id))) stays
-          ∙ sound.contexts id context (ap (λ i. contexts_of i id) (sym iommu) ∙ cached)
+          ∙ ap (λ b. option_map context_for (owned_stages (if b then Detached else attachment_by_id old.driver.devices id))) unchanged
+          ∙ invariants.contexts id context (ap (λ i. contexts_of i id) (sym iommu) ∙ cached)
 
-  pub polled_sound : AreSound new events
+  pub polled_sound : PartsInvariant new events
   polled_sound =
       let given : new.driver.given ≡ old.driver.given = ap (λ (d : DriverState). d.given) confirms.driver in
-      let small = sound.small in
-      let copies = ∥∥₁_map sound.copies (poll_scene (values_of old) (values_of new) polled.count rest confirms_some) in
-      sound_from old new events sound leaves (same_iommu old new iommu) (ap (λ (d : DriverState). d.started) confirms.driver) ready
+      let small = invariants.small in
+      let copies = ∥∥₁_map invariants.copies (poll_scene (values_of old) (values_of new) polled.count rest confirms_some) in
+      sound_from old new events invariants leaves (same_iommu old new iommu) (ap (λ (d : DriverState). d.started) confirms.driver) ready
       (same_known old new devices fabric (ap (λ (d : DriverState). known_ids d.devices) confirms.driver ∙ ids_confirmed (done_after old.driver polled) old.driver.devices)
       (λ d. ap (λ (s : DriverState). has_trusted_cache s.devices d) confirms.driver ∙ trusted_confirmed (done_after old.driver polled) old.driver.devices d)
-      (ap (λ i. row_ids (flights_of i).rows) iommu) sound.known)
-      (same_epochs old new events sound devices)
+      (ap (λ i. row_ids (flights_of i).rows) iommu) invariants.known)
+      (same_epochs old new events invariants devices)
       (omega (arith, given, small)) (contexts_true copies) copies
 
-pub keeps_polled : (old new : Parts) (events : ℕ) (told : Outcome) → AreSound old events → IsSoundDriver old.driver → IsReady new.driver new.memory (registers_of new.iommu)
-    → PollsTickets old told new → AreSound new events
-keeps_polled old new events told sound own ready polls = by polls.answer polls.call
+pub keeps_polled : (old new : Parts) (events : ℕ) (reply : Outcome) → PartsInvariant old events → DriverInvariant old.driver → IsReady new.driver new.memory (registers_of new.iommu)
+    → PollsTickets old reply new → PartsInvariant new events
+keeps_polled old new events reply invariants own ready polls = by polls.answer polls.call
   where
-    by : (answer : Result Polled Refusal) → AnswersPoll (registers_of old.iommu) old.driver old.memory answer new.driver new.memory → AreSound new events
-    by (Ok polled) (admitted, confirms) = polled_sound old new events polled sound own ready confirms polls.iommu polls.devices polls.fabric
-    by (Err why) (refused, driver_stays, memory_stays) = rw (memory_stays, polls.iommu, driver_stays, polls.devices, polls.fabric) sound
+    by : (answer : Result Polled Refusal) → AnswersPoll (registers_of old.iommu) old.driver old.memory answer new.driver new.memory → PartsInvariant new events
+    by (Ok polled) (admitted, confirms) = polled_sound old new events polled invariants own ready confirms polls.iommu polls.devices polls.fabric
+    by (Err why) (refused, driver_stays, memory_stays) = rw (memory_stays, polls.iommu, driver_stays, polls.devices, polls.fabric) invariants
 
 -- the tickets that a poll tells are 32 bits wide
-pub polled_low : (old : Parts) (events : ℕ) (polled : Polled) (next : DriverState) (memory : List (List ℕ)) → AreSound old events → IsSoundDriver old.driver
+pub polled_low : (old : Parts) (events : ℕ) (polled : Polled) (next : DriverState) (memory : List (List ℕ)) → PartsInvariant old events → DriverInvariant old.driver
     → AnswersPoll (registers_of old.iommu) old.driver old.memory (Ok polled) next memory → polled.first + polled.count ≤ 2 ^ 32
-polled_low old events polled next memory sound own (admitted, confirms) =
-    let small = sound.small in
+polled_low old events polled next memory invariants own (admitted, confirms) =
+    let small = invariants.small in
     let most = polled_most (registers_of old.iommu) old.driver old.memory polled next memory own confirms in
     by (polled.count == 0) refl confirms.first most small
   where

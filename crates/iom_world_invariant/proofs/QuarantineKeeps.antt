@@ -34,19 +34,19 @@ use Rattle.iom_world_effects.specs.Devices.{shown_attachment}
 use Rattle.iom_world_effects.specs.Parts.{Parts}
 use Rattle.iom_world_effects.specs.Read.{space_in, space_at, values_of, accesses_of}
 use Rattle.iom_world_effects.specs.Recovery.{QuarantinesDevice}
-use Rattle.iom_world_effects.specs.Sound.{AreSound, known_ids, row_ids}
+use Rattle.iom_world_effects.specs.Invariant.{PartsInvariant, known_ids, row_ids}
 use Rattle.iom_world_effects.proofs.CachedLemmas.{spaces_owned}
 use Rattle.iom_world_effects.proofs.DeviceLemmas.{shown_set, trusted_set, ids_set, attachment_set, attachment_other}
 use Rattle.iom_world_invariant.proofs.DriverKeeps.{attached_is}
-use Rattle.iom_world_effects.proofs.DriverLemmas.{IsSoundDriver, next_fence}
+use Rattle.iom_world_effects.proofs.DriverLemmas.{DriverInvariant, next_fence}
 use Rattle.iom_world_invariant.proofs.PollKeeps.{same_known}
 use Rattle.iom_world_effects.proofs.QuarantineScenes.{quarantine_scene}
 use Rattle.iom_world_effects.proofs.QueuedLemmas.{queued_space}
 use Rattle.iom_world_invariant.proofs.ReleaseKeeps.{not_of_device, rung_cached, IsRung, rung_all, rung_leaves, next_small}
 use Rattle.iom_world_effects.proofs.SceneCalls.{QueuesTicket}
-use Rattle.iom_world_effects.proofs.SoundLemmas.{same_completed, LeavesWord, sound_from, fixed_frames, none_at, kinds_kept, same_epochs}
+use Rattle.iom_world_effects.proofs.InvariantLemmas.{same_completed, LeavesWord, sound_from, fixed_frames, none_at, kinds_kept, same_epochs}
 
-module _ (old new : Parts) (events id ticket : ℕ) (sound : AreSound old events) (own : IsSoundDriver old.driver) (ready : IsReady new.driver new.memory (registers_of new.iommu))
+module _ (old new : Parts) (events id ticket : ℕ) (invariants : PartsInvariant old events) (own : DriverInvariant old.driver) (ready : IsReady new.driver new.memory (registers_of new.iommu))
     (numbers : nat_le 4294967295 (last_fence old.driver) ≡ false) (queues : QueuesQuarantine mmio old.driver old.memory old.iommu id ticket new.driver new.memory new.iommu)
     (devices : new.devices ≡ old.devices) (fabric : new.fabric ≡ old.fabric) where
   rung : IsRung old.iommu new.iommu
@@ -57,13 +57,13 @@ module _ (old new : Parts) (events id ticket : ℕ) (sound : AreSound old events
   -- the completion word's frame is neither the device's, nor a page of the directory, nor the ring's
   leaves : LeavesWord old new
   leaves = record {
-    size = ready.stand.size ∙ ap (λ (d : DriverState). length d.marks) queues.driver ∙ sym sound.ready.stand.size;
+    size = ready.stand.size ∙ ap (λ (d : DriverState). length d.owners) queues.driver ∙ sym invariants.ready.stand.size;
     word =
-        let stands_so = sound.ready.stand.directory sound.started in
-        let fixed = fixed_frames old events sound own in
-        queues.others (completion_frame (length old.memory)) (not_of_device old.driver.marks (completion_frame (length old.memory)) id fixed.completion)
+        let stands_so = invariants.ready.stand.directory invariants.started in
+        let fixed = fixed_frames old events invariants own in
+        queues.others (completion_frame (length old.memory)) (not_of_device old.driver.owners (completion_frame (length old.memory)) id fixed.completion)
         (λ page. (stands_so.own (completion_frame (length old.memory)) page).no_completion refl)
-        (let many = own.sizes.size.0 in let size = sound.ready.stand.size in omega (arith, size, many));
+        (let many = own.sizes.size.0 in let size = invariants.ready.stand.size in omega (arith, size, many));
   }
 
   given_now : new.driver.given ≡ old.driver.given + 1
@@ -78,7 +78,7 @@ module _ (old new : Parts) (events id ticket : ℕ) (sound : AreSound old events
   abbrev commands : List QueueEntry
   commands = stands.Command (context_invalidation id) ∷ stands.Command (space_invalidation queues.stage.mode queues.stage.number) ∷ []
 
-  -- a device that is cut off has its stage still
+  -- a device that is quarantined has its stage still
   owned_still : (other : ℕ) → owned_stages_of new.driver.devices other ≡ owned_stages_of old.driver.devices other
   owned_still other =
       ap (λ (s : DriverState). owned_stages_of s.devices other) queues.driver
@@ -111,31 +111,31 @@ module _ (old new : Parts) (events id ticket : ℕ) (sound : AreSound old events
         in_flight = ap (λ f. accesses_of f.rows) rung.flights;
         kinds = kinds_kept old new devices;
         contexts = λ d is. sym (ap is_some (rung.contexts d)) ∙ is;
-        cached = rung_cached old new (sound.ready.ring sound.started).on rung devices fabric (ap (λ (d : DriverState). fence_of d) queues.driver) (spaces_owned old.driver.devices new.driver.devices owned_still);
+        cached = rung_cached old new (invariants.ready.ring invariants.started).on rung devices fabric (ap (λ (d : DriverState). fence_of d) queues.driver) (spaces_owned old.driver.devices new.driver.devices owned_still);
       }
 
-  pub quarantined_sound : AreSound new events
+  pub quarantined_sound : PartsInvariant new events
   quarantined_sound =
-      sound_from old new events sound leaves (rung_leaves old new (sound.ready.ring sound.started).on rung) (ap (λ (d : DriverState). d.started) queues.driver) ready
+      sound_from old new events invariants leaves (rung_leaves old new (invariants.ready.ring invariants.started).on rung) (ap (λ (d : DriverState). d.started) queues.driver) ready
       (same_known old new devices fabric (ap (λ (d : DriverState). known_ids d.devices) queues.driver ∙ ids_set old.driver.devices id (Quarantined ticket queues.stage))
       (λ d. ap (λ (s : DriverState). has_trusted_cache s.devices d) queues.driver ∙ trusted_set old.driver.devices id (Quarantined ticket queues.stage) d)
-      (ap (λ f. row_ids f.rows) rung.flights) sound.known)
-      (same_epochs old new events sound devices)
+      (ap (λ f. row_ids f.rows) rung.flights) invariants.known)
+      (same_epochs old new events invariants devices)
       (subst (λ n. n < 2 ^ 32) (sym given_now) (next_small old.driver.given old.driver.restarts numbers))
-      (λ other context cached. ap (option_map context_for) (owned_still other) ∙ sound.contexts other context (sym (rung.contexts other) ∙ cached))
-      (∥∥₁_map sound.copies
+      (λ other context cached. ap (option_map context_for) (owned_still other) ∙ invariants.contexts other context (sym (rung.contexts other) ∙ cached))
+      (∥∥₁_map invariants.copies
       (quarantine_scene (values_of old) (values_of new) id queues.stage.mode queues.stage.ats commands queues_ticket
       (ap shown_attachment was_attached)
       (λ d. ap (λ (s : DriverState). shown_attachment (attachment_by_id s.devices d)) queues.driver ∙ shown_set old.driver.devices id (Quarantined ticket queues.stage) plugged d
       ∙ ap (λ t. if id == d then shown.Quarantined t queues.stage.mode queues.stage.ats else shown_attachment (attachment_by_id old.driver.devices d)) queues.next)
       (subst (λ t. (h : History) → Agrees old.driver.ledger h → confirms h t ≡ false → Agrees new.driver.ledger (AllReleased id t ∷ h)) queues.next queues.agrees)))
 
-pub keeps_quarantined : (old new : Parts) (events id : ℕ) (told : Outcome) → AreSound old events → IsSoundDriver old.driver → IsReady new.driver new.memory (registers_of new.iommu)
-    → QuarantinesDevice old id told new → AreSound new events
-keeps_quarantined old new events id told sound own ready quarantines = by quarantines.answer quarantines.call
+pub keeps_quarantined : (old new : Parts) (events id : ℕ) (reply : Outcome) → PartsInvariant old events → DriverInvariant old.driver → IsReady new.driver new.memory (registers_of new.iommu)
+    → QuarantinesDevice old id reply new → PartsInvariant new events
+keeps_quarantined old new events id reply invariants own ready quarantines = by quarantines.answer quarantines.call
   where
-    by : (answer : Result answers.Ticket Refusal) → AnswersQuarantine mmio old.driver old.memory old.iommu id answer new.driver new.memory new.iommu → AreSound new events
+    by : (answer : Result answers.Ticket Refusal) → AnswersQuarantine mmio old.driver old.memory old.iommu id answer new.driver new.memory new.iommu → PartsInvariant new events
     by (Ok ticket) (admitted, queues) =
-        quarantined_sound old new events id ticket.0 sound own ready
+        quarantined_sound old new events id ticket.0 invariants own ready
         (none_at (why_not_quarantine old.driver (registers_of old.iommu) id) 6 (nat_le 4294967295 (last_fence old.driver)) NumbersUsedUp refl admitted) queues quarantines.devices quarantines.fabric
-    by (Err why) (refused, driver_stays, memory_stays, iommu_stays) = rw (driver_stays, memory_stays, iommu_stays, quarantines.devices, quarantines.fabric) sound
+    by (Err why) (refused, driver_stays, memory_stays, iommu_stays) = rw (driver_stays, memory_stays, iommu_stays, quarantines.devices, quarantines.fabric) invariants

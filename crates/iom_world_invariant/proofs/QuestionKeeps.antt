@@ -29,15 +29,15 @@ use Rattle.iom_world_effects.specs.Messages.{with_sent}
 use Rattle.iom_world_effects.specs.Parts.{Parts}
 use Rattle.iom_world_effects.specs.Read.{values_of}
 use Rattle.iom_world_effects.specs.Scenes.{copy_of, IsSceneOf}
-use Rattle.iom_world_effects.specs.Sound.{AreSound, HasAsker, row_ids}
+use Rattle.iom_world_effects.specs.Invariant.{PartsInvariant, HasAsker, row_ids}
 use Rattle.iom_world_effects.specs.Traffic.{Traffic, message_on, messages_in}
 use Rattle.iom_world_invariant.proofs.ContextKeeps.{KeepsAttached, keeps_attached, contexts_kept}
-use Rattle.iom_world_effects.proofs.DriverLemmas.{IsSoundDriver}
+use Rattle.iom_world_effects.proofs.DriverLemmas.{DriverInvariant}
 use Rattle.iom_world_effects.proofs.MessageLemmas.{sent_cases, the_one, askers_sent}
 use Rattle.iom_world_invariant.proofs.MessageKeeps.{left_among, there_at, askers_left}
 use Rattle.iom_world_effects.proofs.TrafficSound.{carried_sound}
 use Rattle.iom_world_effects.proofs.PartsLemmas.{StaysReady, StaysReported, parts_are}
-use Rattle.iom_world_effects.proofs.QuestionAnswers.{IsToldOf, told_of}
+use Rattle.iom_world_effects.proofs.QuestionAnswers.{IsToldOf, outcome_of_done}
 use Rattle.iom_world_invariant.proofs.RequestKeeps.{TranslationsChange, settled_scene, change_of, served_from, record_leaves}
 use Rattle.iom_world_effects.proofs.SceneSteps.{served_there}
 use Rattle.iom_world_effects.proofs.ServedLemmas.{ServiceLaws}
@@ -51,7 +51,7 @@ IsKnownTo scene device page translation = IsWalked scene (copy_of device page tr
 abbrev pub answering : Parts → Parts → Parts
 answering old new = record old { memory = new.memory; iommu = new.iommu }
 
-module _ (laws : ServiceLaws) (old new : Parts) (events device page : ℕ) (sound : AreSound old events) (own : IsSoundDriver old.driver) (stays_ready : StaysReady old.driver)
+module _ (laws : ServiceLaws) (old new : Parts) (events device page : ℕ) (invariants : PartsInvariant old events) (own : DriverInvariant old.driver) (stays_ready : StaysReady old.driver)
     (report_ready : StaysReported old.driver) (low : page < 2 ^ 52) where
   abbrev after : Parts
   after = record old { memory = new.memory; iommu = new.iommu }
@@ -66,7 +66,7 @@ module _ (laws : ServiceLaws) (old new : Parts) (events device page : ℕ) (soun
   quiet_sound : new.memory ≡ old.memory → registers_of new.iommu ≡ registers_of old.iommu → frames_of new.iommu ≡ frames_of old.iommu → slots_of new.iommu ≡ slots_of old.iommu
       → flights_of new.iommu ≡ flights_of old.iommu → fence_snapshot_of new.iommu ≡ fence_snapshot_of old.iommu
       → KeepsAttached (attachment_by_id old.driver.devices device) device (contexts_of old.iommu) (contexts_of new.iommu)
-      → TranslationsChange (values_of old) device (translations_of new.iommu) → AreSound (answering old new) events
+      → TranslationsChange (values_of old) device (translations_of new.iommu) → PartsInvariant (answering old new) events
   quiet_sound memory registers frames slots flights fence_snapshot keeps change =
       let leaves : Leaves old after = record {
         size = ap (λ m. length m) memory;
@@ -79,63 +79,63 @@ module _ (laws : ServiceLaws) (old new : Parts) (events device page : ℕ) (soun
         devices = refl;
         fabric = refl;
       } in
-      sound_from old after events sound own leaves stays_ready (subst (λ (f : Flights). f.so_far ≤ events) (sym flights) sound.counted)
-      (contexts_kept old after device sound.contexts keeps refl)
-      (settled_scene old after device (grants_kept old after events sound own leaves) (queue_kept old after events sound own leaves fence_snapshot) flights keeps change)
+      sound_from old after events invariants own leaves stays_ready (subst (λ (f : Flights). f.so_far ≤ events) (sym flights) invariants.counted)
+      (contexts_kept old after device invariants.contexts keeps refl)
+      (settled_scene old after device (grants_kept old after events invariants own leaves) (queue_kept old after events invariants own leaves fence_snapshot) flights keeps change)
 
   -- a page is told
   told_page : (frame : ℕ) (rights : Rights) → (call : TellsPage old.memory old.iommu device page frame rights new.iommu)
       → IsToldOf ioatc.SURE old.driver device (page * 4096) (translations_of old.iommu) (Ok (record { frame = frame; rights = rights; level = call.level })) (translations_of new.iommu)
   told_page frame rights call =
-      told_of laws old events sound own device (page * 4096) ioatc.SURE (translations_of old.iommu) (translations_of new.iommu) (Ok (record { frame = frame; rights = rights; level = call.level })) fits call.served
+      outcome_of_done laws old events invariants own device (page * 4096) ioatc.SURE (translations_of old.iommu) (translations_of new.iommu) (Ok (record { frame = frame; rights = rights; level = call.level })) fits call.served
 
-  told_sound : (frame : ℕ) (rights : Rights) → TellsPage old.memory old.iommu device page frame rights new.iommu → new.memory ≡ old.memory → AreSound (answering old new) events
+  told_sound : (frame : ℕ) (rights : Rights) → TellsPage old.memory old.iommu device page frame rights new.iommu → new.memory ≡ old.memory → PartsInvariant (answering old new) events
   told_sound frame rights call memory =
-      let told = told_page frame rights call in
-      quiet_sound memory call.registers call.frames call.slots call.flights call.fence_snapshot (keeps_attached laws old events sound own device (contexts_of new.iommu) call.contexts)
-      (change_of old device (page * 4096) Read (translations_of new.iommu) (record { frame = frame; rights = rights; level = call.level }) told.1)
+      let reply = told_page frame rights call in
+      quiet_sound memory call.registers call.frames call.slots call.flights call.fence_snapshot (keeps_attached laws old events invariants own device (contexts_of new.iommu) call.contexts)
+      (change_of old device (page * 4096) Read (translations_of new.iommu) (record { frame = frame; rights = rights; level = call.level }) reply.1)
 
   -- and it is what a walk gives, or a cached translation, of a device with ATS
   told_there : (frame : ℕ) (rights : Rights) → TellsPage old.memory old.iommu device page frame rights new.iommu → (scene : Scene) → IsSceneOf (values_of (answering old new)) scene
       → (has_ats (scene.attachment_of device) ≡ true)
       × (IsWalked scene (record { device = device; page = page; pair = (frame, rights) }) ⊎ Contains scene.translations (record { device = device; page = page; pair = (frame, rights) }))
   told_there frame rights call scene shows =
-      let told = told_page frame rights call in
-      let from = served_from old device (page * 4096) Read (λ d. is_some (contexts_of new.iommu d)) (translations_of new.iommu) (record { frame = frame; rights = rights; level = call.level }) own told.1 in
+      let reply = told_page frame rights call in
+      let from = served_from old device (page * 4096) Read (λ d. is_some (contexts_of new.iommu d)) (translations_of new.iommu) (record { frame = frame; rights = rights; level = call.level }) own reply.1 in
       let source = served_there (values_of after) scene device (page * 4096 / 4096) from.0 from.1 shows from.4 in (
-        ap has_ats (shows.attachments device) ∙ told.0,
+        ap has_ats (shows.attachments device) ∙ reply.0,
         subst (λ p. IsKnownTo scene device p (record { frame = frame; rights = rights; level = call.level })) at_page (subst (IsKnownTo scene device (page * 4096 / 4096)) (sym from.2) source),
       )
 
   -- there is no answer
-  refused_sound : (cause : Cause) → RefusesQuestion old.memory old.iommu device page cause new.memory new.iommu → AreSound (answering old new) events
+  refused_sound : (cause : Cause) → RefusesQuestion old.memory old.iommu device page cause new.memory new.iommu → PartsInvariant (answering old new) events
   refused_sound cause call = by (is_page_fault call.fault.cause) call.recorded
     where
       fields : Fields
       fields = record_of (faulted_of device AtsRequest (page * 4096)) (fault_of call.fault)
 
       keeps : KeepsAttached (attachment_by_id old.driver.devices device) device (contexts_of old.iommu) (contexts_of new.iommu)
-      keeps = keeps_attached laws old events sound own device (contexts_of new.iommu) call.contexts
+      keeps = keeps_attached laws old events invariants own device (contexts_of new.iommu) call.contexts
 
       change : TranslationsChange (values_of old) device (translations_of new.iommu)
       change =
-          let told = told_of laws old events sound own device (page * 4096) ioatc.SURE (translations_of old.iommu) (translations_of new.iommu) (Err call.fault) fits call.served in
-          inl (λ key translation at. sym (told.1 key) ∙ at)
+          let reply = outcome_of_done laws old events invariants own device (page * 4096) ioatc.SURE (translations_of old.iommu) (translations_of new.iommu) (Err call.fault) fits call.served in
+          inl (λ key translation at. sym (reply.1 key) ∙ at)
 
       by : (b : Bool) → RecordsUnless b old.memory (registers_of old.iommu) (record_of (faulted_of device AtsRequest (page * 4096)) (fault_of call.fault)) new.memory (registers_of new.iommu)
-          → AreSound (answering old new) events
+          → PartsInvariant (answering old new) events
       by true (memory, registers) = quiet_sound memory registers call.frames call.slots call.flights call.fence_snapshot keeps change
       by false (put, recorded) =
-          let leaves : LeavesReport old after = record_leaves old after events fields put sound report_ready refl refl refl call.frames call.slots call.flights recorded in
-          report_sound old after events sound own leaves (subst (λ (f : Flights). f.so_far ≤ events) (sym call.flights) sound.counted)
-          (contexts_kept old after device sound.contexts keeps refl)
-          (settled_scene old after device (report_grants old after events sound own leaves) (report_queue old after events sound own leaves call.fence_snapshot) call.flights keeps change)
+          let leaves : LeavesReport old after = record_leaves old after events fields put invariants report_ready refl refl refl call.frames call.slots call.flights recorded in
+          report_sound old after events invariants own leaves (subst (λ (f : Flights). f.so_far ≤ events) (sym call.flights) invariants.counted)
+          (contexts_kept old after device invariants.contexts keeps refl)
+          (settled_scene old after device (report_grants old after events invariants own leaves) (report_queue old after events invariants own leaves call.fence_snapshot) call.flights keeps change)
 
   -- the answer is sent
   module _ (place epoch : ℕ) (at : slice_get old.fabric place ≡ Some (record { device = device; message = sent.Ask epoch page })) where
     askers : (answer : Told) → All (HasAsker old.devices) (with_sent (remove old.fabric place) device (sent.Answer epoch page answer))
     askers answer =
-        askers_sent old.devices (remove old.fabric place) device (sent.Answer epoch page answer) (askers_left old.devices old.fabric place sound.known.askers) tt
+        askers_sent old.devices (remove old.fabric place) device (sent.Answer epoch page answer) (askers_left old.devices old.fabric place invariants.known.askers) tt
 
     -- what was under way
     was : (scene : Scene) → IsSceneOf (values_of (answering old new)) scene → (x : AtsMessage) → Contains (messages_in old.fabric) x → Contains scene.messages x
@@ -153,8 +153,8 @@ module _ (laws : ServiceLaws) (old new : Parts) (events device page : ℕ) (soun
         let answered = told_there frame rights call.0 scene shows in
         subst (MayBeSent scene) (sym (the_one (Answer epoch (record { device = device; page = page; pair = (frame, rights) })) x there)) (asked scene shows, answered.0, answered.1)
 
-    sent_sound : (answer : Told) → AnswersQuestion old.memory old.iommu device page answer new.memory new.iommu → AreSound (answering old new) events
-        → AreSound (record (answering old new) { fabric = with_sent (remove old.fabric place) device (sent.Answer epoch page answer) }) events
+    sent_sound : (answer : Told) → AnswersQuestion old.memory old.iommu device page answer new.memory new.iommu → PartsInvariant (answering old new) events
+        → PartsInvariant (record (answering old new) { fabric = with_sent (remove old.fabric place) device (sent.Answer epoch page answer) }) events
     sent_sound answer call between =
         carried_sound after (with_sent (remove old.fabric place) device (sent.Answer epoch page answer)) events between (askers answer)
         (λ scene shows facts x there. elim (sent_cases (remove old.fabric place) device (sent.Answer epoch page answer) x there) [
@@ -163,16 +163,16 @@ module _ (laws : ServiceLaws) (old new : Parts) (events device page : ℕ) (soun
         ])
 
     answer_sound : (answer : Told) → AnswersQuestion old.memory old.iommu device page answer new.memory new.iommu
-        → AreSound (record (answering old new) { fabric = with_sent (remove old.fabric place) device (sent.Answer epoch page answer) }) events
+        → PartsInvariant (record (answering old new) { fabric = with_sent (remove old.fabric place) device (sent.Answer epoch page answer) }) events
     answer_sound (Page frame rights) call = sent_sound (Page frame rights) call (told_sound frame rights call.0 call.1)
     answer_sound (Refused cause) call = sent_sound (Refused cause) call (refused_sound cause call)
 
 -- A QUESTION IS ANSWERED
-pub keeps_answered : ServiceLaws → (old new : Parts) (events place device epoch page : ℕ) (told : Outcome) → AreSound old events → IsSoundDriver old.driver → StaysReady old.driver
+pub keeps_answered : ServiceLaws → (old new : Parts) (events place device epoch page : ℕ) (reply : Outcome) → PartsInvariant old events → DriverInvariant old.driver → StaysReady old.driver
     → StaysReported old.driver → slice_get old.fabric place ≡ Some (record { device = device; message = sent.Ask epoch page })
-    → AnswersAsked old device epoch page (remove old.fabric place) told new → AreSound new events
-keeps_answered laws old new events place device epoch page told sound own stays reported at answers =
-    let asker = All-at (HasAsker old.devices) old.fabric place (record { device = device; message = sent.Ask epoch page }) sound.known.askers at in
-    subst (λ parts. AreSound parts events)
+    → AnswersAsked old device epoch page (remove old.fabric place) reply new → PartsInvariant new events
+keeps_answered laws old new events place device epoch page reply invariants own unchanged reported at answers =
+    let asker = All-at (HasAsker old.devices) old.fabric place (record { device = device; message = sent.Ask epoch page }) invariants.known.askers at in
+    subst (λ parts. PartsInvariant parts events)
     (sym (parts_are new new.memory new.iommu old.driver old.devices (with_sent (remove old.fabric place) device (sent.Answer epoch page answers.answer)) refl refl answers.driver answers.devices answers.fabric))
-    (answer_sound laws old new events device page sound own stays reported asker.1 place epoch at answers.answer answers.call)
+    (answer_sound laws old new events device page invariants own unchanged reported asker.1 place epoch at answers.answer answers.call)

@@ -33,27 +33,27 @@ use Rattle.iom_registers.specs.Queues.{command_status, is_command_queue_on}
 use Rattle.iom_world_effects.proofs.DriverLemmas.{next_fence}
 use Rattle.iom_tlb.specs.Content.{Translations}
 use Rattle.iom_world_effects.specs.Devices.{shown_attachment}
-use Rattle.iom_world_effects.specs.Does.{ReleasesPage}
+use Rattle.iom_world_effects.specs.Effect.{ReleasesPage}
 use Rattle.iom_world_effects.specs.Parts.{Parts}
 use Rattle.iom_tlb.specs.declared.space.Space.{Space}
 use Rattle.iom_world_effects.specs.Read.{space_in, space_at, values_of, accesses_of}
-use Rattle.iom_world_effects.specs.Sound.{AreSound, known_ids, row_ids}
+use Rattle.iom_world_effects.specs.Invariant.{PartsInvariant, known_ids, row_ids}
 use Rattle.iom_world_invariant.proofs.DriverKeeps.{attached_is}
-use Rattle.iom_world_effects.proofs.DriverLemmas.{IsSoundDriver}
+use Rattle.iom_world_effects.proofs.DriverLemmas.{DriverInvariant}
 use Rattle.iom_world_invariant.proofs.PollKeeps.{same_known}
 use Rattle.iom_coherence.specs.DriverCalls.{released_extent, queued_by_release}
 use Rattle.iom_world_effects.proofs.CachedLemmas.{spaces_same}
 use Rattle.iom_world_effects.proofs.QueuedLemmas.{queued_release, released_last}
 use Rattle.iom_world_effects.proofs.SceneCalls.{KeepsCached, QueuesTicket, release_scene}
-use Rattle.iom_world_effects.proofs.SoundLemmas.{same_completed, LeavesWord, LeavesIommu, sound_from, fixed_frames, none_at}
+use Rattle.iom_world_effects.proofs.InvariantLemmas.{same_completed, LeavesWord, LeavesIommu, sound_from, fixed_frames, none_at}
 use Rattle.iom_command_queue.specs.declared.entry.QueueEntry.{QueueEntry}
 use Rattle.iom_iommu.specs.Parts.{slots_of}
 use Rattle.iom_driver.specs.Devices.{has_trusted_cache}
-use Rattle.iom_world_effects.proofs.SoundLemmas.{traffic_kept, kinds_kept, same_epochs}
+use Rattle.iom_world_effects.proofs.InvariantLemmas.{traffic_kept, kinds_kept, same_epochs}
 
 -- a frame of the system's isn't a device's
-pub not_of_device : (marks : List (Option Owner)) (n id : ℕ) → slice_get marks n ≡ Some (Some System) → slice_get marks n ≢ Some (Some (OneDevice id))
-not_of_device marks n id system own = let both : ◌≡◌ {A = Option (Option Owner)} (Some (Some System)) (Some (Some (OneDevice id))) = sym system ∙ own in cc
+pub not_of_device : (owners : List (Option Owner)) (n id : ℕ) → slice_get owners n ≡ Some (Some System) → slice_get owners n ≢ Some (Some (OneDevice id))
+not_of_device owners n id system own = let both : ◌≡◌ {A = Option (Option Owner)} (Some (Some System)) (Some (Some (OneDevice id))) = sym system ∙ own in cc
 
 -- of the IOMMU nothing changes but the index that software writes
 pub record IsRung (old new : Iommu) : Type 0 where
@@ -132,7 +132,7 @@ rung_cached old new on rung devices fabric fences spaces = record {
 pub next_small : (given restarts : ℕ) → nat_le 4294967295 (given + restarts) ≡ false → given + 1 < 2 ^ 32
 next_small given restarts numbers = let below : given + restarts < 4294967295 = leb-false 4294967295 (given + restarts) numbers in omega (arith, below)
 
-module _ (old new : Parts) (events id page ticket : ℕ) (sound : AreSound old events) (own : IsSoundDriver old.driver) (ready : IsReady new.driver new.memory (registers_of new.iommu))
+module _ (old new : Parts) (events id page ticket : ℕ) (invariants : PartsInvariant old events) (own : DriverInvariant old.driver) (ready : IsReady new.driver new.memory (registers_of new.iommu))
     (numbers : nat_le 4294967295 (last_fence old.driver) ≡ false) (queues : QueuesRelease mmio old.driver old.memory old.iommu id page ticket new.driver new.memory new.iommu)
     (devices : new.devices ≡ old.devices) (fabric : new.fabric ≡ old.fabric) where
   rung : IsRung old.iommu new.iommu
@@ -143,11 +143,11 @@ module _ (old new : Parts) (events id page ticket : ℕ) (sound : AreSound old e
 
   leaves : LeavesWord old new
   leaves = record {
-    size = ready.stand.size ∙ ap (λ (d : DriverState). length d.marks) queues.driver ∙ sym sound.ready.stand.size;
+    size = ready.stand.size ∙ ap (λ (d : DriverState). length d.owners) queues.driver ∙ sym invariants.ready.stand.size;
     word =
-        let fixed = fixed_frames old events sound own in
-        queues.others (completion_frame (length old.memory)) (not_of_device old.driver.marks (completion_frame (length old.memory)) id fixed.completion)
-        (let many = own.sizes.size.0 in let size = sound.ready.stand.size in omega (arith, size, many));
+        let fixed = fixed_frames old events invariants own in
+        queues.others (completion_frame (length old.memory)) (not_of_device old.driver.owners (completion_frame (length old.memory)) id fixed.completion)
+        (let many = own.sizes.size.0 in let size = invariants.ready.stand.size in omega (arith, size, many));
   }
 
   given_now : new.driver.given ≡ old.driver.given + 1
@@ -171,30 +171,30 @@ module _ (old new : Parts) (events id page ticket : ℕ) (sound : AreSound old e
         in_flight = ap (λ f. accesses_of f.rows) rung.flights;
         kinds = kinds_kept old new devices;
         contexts = λ d is. sym (ap is_some (rung.contexts d)) ∙ is;
-        cached = rung_cached old new (sound.ready.ring sound.started).on rung devices fabric (ap (λ (d : DriverState). fence_of d) queues.driver) (spaces_same old.driver.devices new.driver.devices (ap (λ (d : DriverState). d.devices) queues.driver));
+        cached = rung_cached old new (invariants.ready.ring invariants.started).on rung devices fabric (ap (λ (d : DriverState). fence_of d) queues.driver) (spaces_same old.driver.devices new.driver.devices (ap (λ (d : DriverState). d.devices) queues.driver));
       }
 
-  pub released_sound : AreSound new events
+  pub released_sound : PartsInvariant new events
   released_sound =
-      sound_from old new events sound leaves (rung_leaves old new (sound.ready.ring sound.started).on rung) (ap (λ (d : DriverState). d.started) queues.driver) ready
+      sound_from old new events invariants leaves (rung_leaves old new (invariants.ready.ring invariants.started).on rung) (ap (λ (d : DriverState). d.started) queues.driver) ready
       (same_known old new devices fabric (ap (λ (d : DriverState). known_ids d.devices) queues.driver) (λ d. ap (λ (s : DriverState). has_trusted_cache s.devices d) queues.driver)
-      (ap (λ f. row_ids f.rows) rung.flights) sound.known)
-      (same_epochs old new events sound devices)
+      (ap (λ f. row_ids f.rows) rung.flights) invariants.known)
+      (same_epochs old new events invariants devices)
       (subst (λ n. n < 2 ^ 32) (sym given_now) (next_small old.driver.given old.driver.restarts numbers))
       (λ other context cached.
-      ap (λ (s : DriverState). option_map context_for (owned_stages_of s.devices other)) queues.driver ∙ sound.contexts other context (sym (rung.contexts other) ∙ cached))
-      (∥∥₁_map sound.copies
+      ap (λ (s : DriverState). option_map context_for (owned_stages_of s.devices other)) queues.driver ∙ invariants.contexts other context (sym (rung.contexts other) ∙ cached))
+      (∥∥₁_map invariants.copies
       (release_scene (values_of old) (values_of new) id page queues.stage.mode queues.stage.ats commands queues_ticket
       (ap shown_attachment (attached_is (attachment_by_id old.driver.devices id) queues.stage queues.attached))
       (λ d. ap (λ (s : DriverState). shown_attachment (attachment_by_id s.devices d)) queues.driver)
       (subst (λ t. (h : History) → Agrees old.driver.ledger h → confirms h t ≡ false → Agrees new.driver.ledger (Released id page t ∷ h)) queues.next queues.agrees)))
 
-pub keeps_released : (old new : Parts) (events id page : ℕ) (told : Outcome) → AreSound old events → IsSoundDriver old.driver → IsReady new.driver new.memory (registers_of new.iommu)
-    → ReleasesPage old id page told new → AreSound new events
-keeps_released old new events id page told sound own ready releases = by releases.answer releases.call
+pub keeps_released : (old new : Parts) (events id page : ℕ) (reply : Outcome) → PartsInvariant old events → DriverInvariant old.driver → IsReady new.driver new.memory (registers_of new.iommu)
+    → ReleasesPage old id page reply new → PartsInvariant new events
+keeps_released old new events id page reply invariants own ready releases = by releases.answer releases.call
   where
-    by : (answer : Result answers.Ticket Refusal) → AnswersRelease mmio old.driver old.memory old.iommu id page answer new.driver new.memory new.iommu → AreSound new events
+    by : (answer : Result answers.Ticket Refusal) → AnswersRelease mmio old.driver old.memory old.iommu id page answer new.driver new.memory new.iommu → PartsInvariant new events
     by (Ok ticket) (admitted, queues) =
-        released_sound old new events id page ticket.0 sound own ready
+        released_sound old new events id page ticket.0 invariants own ready
         (none_at (why_not_release old.driver (registers_of old.iommu) id page) 7 (nat_le 4294967295 (last_fence old.driver)) NumbersUsedUp refl admitted) queues releases.devices releases.fabric
-    by (Err why) (refused, driver_stays, memory_stays, iommu_stays) = rw (driver_stays, memory_stays, iommu_stays, releases.devices, releases.fabric) sound
+    by (Err why) (refused, driver_stays, memory_stays, iommu_stays) = rw (driver_stays, memory_stays, iommu_stays, releases.devices, releases.fabric) invariants

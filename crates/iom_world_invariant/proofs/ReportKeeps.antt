@@ -20,14 +20,14 @@ use Rattle.iom_machine.specs.Machine as machine
 use Rattle.iom_registers.specs.declared.register.Register.TheVariants.{Fqh, Fqcsr}
 use Rattle.iom_registers.specs.Queues.{is_command_queue_on}
 use Rattle.iom_tlb.specs.Content.{Translations}
-use Rattle.iom_world_effects.specs.Does.{TakesReport, report_told_of}
-use Rattle.iom_world_effects.specs.Stays.{AreSame, SameIfRefused, waiting_in}
+use Rattle.iom_world_effects.specs.Effect.{TakesReport, outcome_of_report}
+use Rattle.iom_world_effects.specs.Unchanged.{AreSame, SameIfRefused, waiting_in}
 use Rattle.iom_iommu.specs.OwnIommu.{Iommu}
 use Rattle.iom_world_effects.specs.Parts.{Parts}
 use Rattle.iom_world_effects.specs.Read.{values_of, accesses_of}
 use Rattle.iom_world_effects.specs.Shows.{PartsShow}
-use Rattle.iom_world_effects.specs.Sound.{AreSound, ContextsAreTrue}
-use Rattle.iom_world_effects.proofs.DriverLemmas.{IsSoundDriver}
+use Rattle.iom_world_effects.specs.Invariant.{PartsInvariant, ContextsAreTrue}
+use Rattle.iom_world_effects.proofs.DriverLemmas.{DriverInvariant}
 use Rattle.iom_world_effects.proofs.CallRefused.{same_of}
 use Rattle.iom_world_invariant.proofs.RequestStep.{shows_flights}
 use Rattle.iom_world_effects.proofs.SceneSteps.{make_scene}
@@ -81,8 +81,8 @@ wrote d memory old new (Ok (Some fields)) (none, (takes, list)) = wrote_head old
 wrote d memory old new (Ok None) (none, (empty, is)) = wrote_status old new cleared_marks is
 wrote d memory old new (Err why) (refused, is) = wrote_nothing old new is
 
-leaves_taken : (old new : Parts) (told : Outcome) → is_command_queue_on (registers_of old.iommu) ≡ true → IsReady new.driver new.memory (registers_of new.iommu) → TakesReport old told new → LeavesReport old new
-leaves_taken old new told on ready takes =
+leaves_taken : (old new : Parts) (reply : Outcome) → is_command_queue_on (registers_of old.iommu) ≡ true → IsReady new.driver new.memory (registers_of new.iommu) → TakesReport old reply new → LeavesReport old new
+leaves_taken old new reply on ready takes =
     let writes = wrote old.driver old.memory old.iommu new.iommu takes.answer takes.call in
     record {
       ready = ready;
@@ -96,22 +96,22 @@ leaves_taken old new told on ready takes =
     }
 
 -- A FAULT RECORD IS TAKEN
-pub keeps_taken : (old new : Parts) (events : ℕ) (told : Outcome) → AreSound old events → IsSoundDriver old.driver → IsReady new.driver new.memory (registers_of new.iommu)
-    → TakesReport old told new → AreSound new events
-keeps_taken old new events told sound own ready takes =
+pub keeps_taken : (old new : Parts) (events : ℕ) (reply : Outcome) → PartsInvariant old events → DriverInvariant old.driver → IsReady new.driver new.memory (registers_of new.iommu)
+    → TakesReport old reply new → PartsInvariant new events
+keeps_taken old new events reply invariants own ready takes =
     let writes = wrote old.driver old.memory old.iommu new.iommu takes.answer takes.call in
-    let on = (sound.ready.ring sound.started).on in
-    let leaves = leaves_taken old new told on ready takes in
-    let contexts : ContextsAreTrue new = λ id context at. rw takes.driver (sound.contexts id context (sym (writes.contexts id) ∙ at)) in
-    report_sound old new events sound own leaves (rw writes.flights sound.counted) contexts
-    (λ has. make_scene (values_of old) (values_of new) (report_grants old new events sound own leaves) (report_queue old new events sound own leaves (writes.fence_snapshot on))
+    let on = (invariants.ready.ring invariants.started).on in
+    let leaves = leaves_taken old new reply on ready takes in
+    let contexts : ContextsAreTrue new = λ id context at. rw takes.driver (invariants.contexts id context (sym (writes.contexts id) ∙ at)) in
+    report_sound old new events invariants own leaves (rw writes.flights invariants.counted) contexts
+    (λ has. make_scene (values_of old) (values_of new) (report_grants old new events invariants own leaves) (report_queue old new events invariants own leaves (writes.fence_snapshot on))
     (ap (λ (f : Flights). f.so_far) writes.flights)
     (subst (λ (f : Flights). AreAmong (accesses_of f.rows) (accesses_of (flights_of old.iommu).rows)) (sym writes.flights) (λ x there. there))
     (λ d is. ap (λ o. is_some o) (sym (writes.contexts d)) ∙ is)
     (λ key translation at. sym (ap (λ (c : Translations). c key) writes.translations) ∙ at) has)
 
-pub taken_waiting : (old new : Parts) (events : ℕ) (told : Outcome) → AreSound old events → IsSoundDriver old.driver → TakesReport old told new → waiting_in new ≡ waiting_in old
-taken_waiting old new events told sound own takes =
+pub taken_waiting : (old new : Parts) (events : ℕ) (reply : Outcome) → PartsInvariant old events → DriverInvariant old.driver → TakesReport old reply new → waiting_in new ≡ waiting_in old
+taken_waiting old new events reply invariants own takes =
     let writes = wrote old.driver old.memory old.iommu new.iommu takes.answer takes.call in
     ap (λ m. commands_in m (registers_of new.iommu)) takes.memory ∙ commands_by old.memory (registers_of old.iommu) (registers_of new.iommu) writes.commands
 
@@ -122,22 +122,22 @@ never_refused d why started refused = none_some (sym (ap (λ (b : Bool). first_t
     none_some : ◌≡◌ {A = Option Refusal} None (Some why) → ⊥
     none_some same = cc
 
-pub taken_step : (old new : Parts) (events : ℕ) (told : Outcome) → AreSound old events → TakesReport old told new → (state : State) → PartsShow old state
-    → machine.TakesRecord state told state × PartsShow new state
-taken_step old new events told sound takes state shows = (
-  subst (λ t. machine.TakesRecord state t state) (sym takes.told_so) (by takes.answer takes.call),
+pub taken_step : (old new : Parts) (events : ℕ) (reply : Outcome) → PartsInvariant old events → TakesReport old reply new → (state : State) → PartsShow old state
+    → machine.TakesRecord state reply state × PartsShow new state
+taken_step old new events reply invariants takes state shows = (
+  subst (λ t. machine.TakesRecord state t state) (sym takes.reply_is) (by takes.answer takes.call),
   shows_flights old new state takes.memory takes.driver takes.devices (wrote old.driver old.memory old.iommu new.iommu takes.answer takes.call).flights shows,
 )
   where
-    by : (answer : Result (Option Fields) Refusal) → AnswersFaults mmio old.driver old.memory old.iommu answer new.iommu → machine.TakesRecord state (report_told_of answer) state
+    by : (answer : Result (Option Fields) Refusal) → AnswersFaults mmio old.driver old.memory old.iommu answer new.iommu → machine.TakesRecord state (outcome_of_report answer) state
     by (Ok (Some fields)) call = refl
     by (Ok None) call = refl
-    by (Err why) call = absurd (never_refused old.driver why sound.started call.0)
+    by (Err why) call = absurd (never_refused old.driver why invariants.started call.0)
 
-pub taken_refused : (old new : Parts) (told : Outcome) → TakesReport old told new → SameIfRefused told old new
-taken_refused old new told takes why is = by takes.answer (sym takes.told_so ∙ is) takes.call
+pub taken_refused : (old new : Parts) (reply : Outcome) → TakesReport old reply new → SameIfRefused reply old new
+taken_refused old new reply takes why is = by takes.answer (sym takes.reply_is ∙ is) takes.call
   where
-    by : (answer : Result (Option Fields) Refusal) → report_told_of answer ≡ outcome.Refused why → AnswersFaults mmio old.driver old.memory old.iommu answer new.iommu → AreSame old new
+    by : (answer : Result (Option Fields) Refusal) → outcome_of_report answer ≡ outcome.Refused why → AnswersFaults mmio old.driver old.memory old.iommu answer new.iommu → AreSame old new
     by (Ok (Some fields)) refused call = cc
     by (Ok None) refused call = cc
     by (Err reason) refused call = same_of old new takes.memory call.1 takes.devices takes.fabric takes.driver

@@ -26,16 +26,16 @@ use Rattle.iom_base.specs.declared.mode.Mode.{Mode}
 use Rattle.iom_tlb.specs.declared.space.Space.{Space}
 use Rattle.iom_tlb.specs.declared.trans_cache.Translation.{Translation}
 use Rattle.iom_tlb.specs.Chosen.{ioatc}
-use Rattle.iom_tlb.specs.Content.{Key, Translations, Keeps, TranslationsStay}
+use Rattle.iom_tlb.specs.Content.{Key, Translations, Keeps, TranslationsUnchanged}
 use Rattle.iom_tlb.proofs.KeyLemmas.{one_or_other}
 use Rattle.iom_world_effects.specs.Devices.{shown_attachment}
 use Rattle.iom_world_effects.specs.Parts.{Parts}
 use Rattle.iom_world_effects.specs.Read.{space_in, values_of, accesses_of}
 use Rattle.iom_world_effects.specs.Requests.{AsksAccess}
 use Rattle.iom_world_effects.specs.Scenes.{Values, copy_of, HasFaithfulScene}
-use Rattle.iom_world_effects.specs.Sound.{AreSound, row_ids}
+use Rattle.iom_world_effects.specs.Invariant.{PartsInvariant, row_ids}
 use Rattle.iom_world_invariant.proofs.ContextKeeps.{KeepsAttached, keeps_attached, cached_or, contexts_kept}
-use Rattle.iom_world_effects.proofs.DriverLemmas.{IsSoundDriver}
+use Rattle.iom_world_effects.proofs.DriverLemmas.{DriverInvariant}
 use Rattle.iom_world_effects.proofs.CachedMay.{one_space}
 use Rattle.iom_world_effects.proofs.PartsLemmas.{StaysReady, StaysReported, parts_are}
 use Rattle.iom_world_effects.proofs.RowLemmas.{accepted_among, row_ids_kept}
@@ -82,11 +82,11 @@ translated_scene values translations id (inr (page, space, translation, walks)) 
 -- what a keep leaves: what was there, or the translation that is kept
 kept_or : (sure : Bool) (old new : Translations) (at : Key) (translation : Translation) → Keeps sure old at translation new
     → (key : Key) (other : Translation) → new key ≡ Some other → (old key ≡ Some other) ⊎ ((key ≡ at) × (other ≡ translation))
-kept_or sure old new at translation (inr (unsure, none, stays)) key other there = inl (sym (stays key) ∙ there)
+kept_or sure old new at translation (inr (unsure, none, unchanged)) key other there = inl (sym (unchanged key) ∙ there)
 kept_or sure old new at translation (inl sets) key other there = elim (one_or_other key at) [
   | inl same ↦ inr (same, some_same other translation (sym there ∙ ap new same ∙ sets.kept))
   | inr apart ↦ elim (sets.others.1 key apart) [
-    | inl stays ↦ inl (sym stays ∙ there)
+    | inl unchanged ↦ inl (sym unchanged ∙ there)
     | inr gone ↦ absurd (none_some (sym gone.1 ∙ there))
   ]
 ]
@@ -155,10 +155,10 @@ change_of old id address kind translations answer (inl reaches) = inr (
     either = kept_or ioatc.SURE (translations_of old.iommu) translations (space_in reaches.stage.mode reaches.stage.number, address / 4096) reaches.translation reaches.kept;
   },
 )
-change_of old id address kind translations answer (inr finds) = inl (λ key translation at. sym (finds.stays key) ∙ at)
+change_of old id address kind translations answer (inr finds) = inl (λ key translation at. sym (finds.unchanged key) ∙ at)
 
 -- what it is served from, whatever contexts are cached
-pub served_from : (old : Parts) (id address : ℕ) (kind : AccessKind) (cached : ℕ → Bool) (translations : Translations) (answer : Translation) → IsSoundDriver old.driver
+pub served_from : (old : Parts) (id address : ℕ) (kind : AccessKind) (cached : ℕ → Bool) (translations : Translations) (answer : Translation) → DriverInvariant old.driver
     → IsAnswered ioatc.SURE old.driver id address kind (translations_of old.iommu) (Ok answer) translations
     → (space : Space) × (translation : Translation) × (answer ≡ translation) × (allows translation.rights kind ≡ true)
     × IsServedFrom (cached_so (values_of old) cached translations) id (address / 4096) space translation
@@ -175,7 +175,7 @@ served_from old id address kind cached translations answer own (inr finds) = (
   finds.answer_is,
   finds.allowed,
   inr (
-    finds.stays (space_in finds.stage.mode finds.stage.number, address / 4096) ∙ finds.cached,
+    finds.unchanged (space_in finds.stage.mode finds.stage.number, address / 4096) ∙ finds.cached,
     (λ d at. one_space old.driver own id d finds.stage finds.owned at),
   ),
 )
@@ -192,11 +192,11 @@ settled_scene old new id grants queue flights keeps change has =
     (λ d there. there) (λ key translation at. at) (between_scene old new id keeps change has)
 
 -- where a record is put into the fault queue, memory changes in its frame alone
-pub record_leaves : (old new : Parts) (events : ℕ) (fields : Fields) (answer : Put) → AreSound old events → StaysReported old.driver → new.driver ≡ old.driver → new.devices ≡ old.devices
+pub record_leaves : (old new : Parts) (events : ℕ) (fields : Fields) (answer : Put) → PartsInvariant old events → StaysReported old.driver → new.driver ≡ old.driver → new.devices ≡ old.devices
     → new.fabric ≡ old.fabric → frames_of new.iommu ≡ frames_of old.iommu → slots_of new.iommu ≡ slots_of old.iommu → flights_of new.iommu ≡ flights_of old.iommu
     → PutsRecord old.memory (registers_of old.iommu) fields answer new.memory (registers_of new.iommu) → LeavesReport old new
-record_leaves old new events fields answer sound reported driver devices fabric frames slots flights recorded =
-    let after = reported old.memory new.memory (registers_of old.iommu) (registers_of new.iommu) fields answer sound.ready sound.started recorded in
+record_leaves old new events fields answer invariants reported driver devices fabric frames slots flights recorded =
+    let after = reported old.memory new.memory (registers_of old.iommu) (registers_of new.iommu) fields answer invariants.ready invariants.started recorded in
     record {
       ready = rw driver after.0;
       else_same = after.1;
@@ -209,14 +209,14 @@ record_leaves old new events fields answer sound reported driver devices fabric 
     }
 
 -- as where a request is refused, of whatever transaction
-pub report_leaves : {Served : Result Translation WalkFault → Translations → Type 0} {transaction : Transaction} (old new : Parts) (events id : ℕ) (access : Access) → AreSound old events
+pub report_leaves : {Served : Result Translation WalkFault → Translations → Type 0} {transaction : Transaction} (old new : Parts) (events id : ℕ) (access : Access) → PartsInvariant old events
     → StaysReported old.driver → new.driver ≡ old.driver → new.devices ≡ old.devices → new.fabric ≡ old.fabric
     → (cause : Cause) → Refuses Served transaction old.memory old.iommu id access cause new.memory new.iommu → LeavesReport old new
-report_leaves {transaction = transaction} old new events id access sound reported driver devices fabric cause call =
-    record_leaves old new events (record_of (faulted_of id transaction access.address) (fault_of call.fault)) call.answer sound reported driver devices fabric
+report_leaves {transaction = transaction} old new events id access invariants reported driver devices fabric cause call =
+    record_leaves old new events (record_of (faulted_of id transaction access.address) (fault_of call.fault)) call.answer invariants reported driver devices fabric
     call.frames call.slots call.flights call.recorded
 
-module _ (laws : ServiceLaws) (old new : Parts) (events id : ℕ) (access : Access) (sound : AreSound old events) (own : IsSoundDriver old.driver) (stays_ready : StaysReady old.driver) (report_ready : StaysReported old.driver)
+module _ (laws : ServiceLaws) (old new : Parts) (events id : ℕ) (access : Access) (invariants : PartsInvariant old events) (own : DriverInvariant old.driver) (stays_ready : StaysReady old.driver) (report_ready : StaysReported old.driver)
     (driver : new.driver ≡ old.driver) (devices : new.devices ≡ old.devices) (fabric : new.fabric ≡ old.fabric) (below : (flights_of old.iommu).so_far < events) where
   abbrev cached : ℕ → Bool
   cached d = is_some (contexts_of new.iommu d)
@@ -239,64 +239,64 @@ module _ (laws : ServiceLaws) (old new : Parts) (events id : ℕ) (access : Acce
 
   -- a request is refused, of whatever transaction: what is cached of translations stays, and the context that was found is kept
   pub keeps_refused : {Served : Result Translation WalkFault → Translations → Type 0} {transaction : Transaction} (cause : Cause) → Refuses Served transaction old.memory old.iommu id access cause new.memory new.iommu
-      → TranslationsStay (translations_of old.iommu) (translations_of new.iommu) → AreSound new events
-  keeps_refused cause call stays =
-      let keeps = keeps_attached laws old events sound own id (contexts_of new.iommu) call.contexts in
-      let leaves = report_leaves old new events id access sound report_ready driver devices fabric cause call in
-      report_sound old new events sound own leaves (subst (λ (f : Flights). f.so_far ≤ events) (sym call.flights) sound.counted)
-      (contexts_kept old new id sound.contexts keeps driver)
-      (settled_scene old new id (report_grants old new events sound own leaves) (report_queue old new events sound own leaves call.fence_snapshot) call.flights keeps
-      (inl (λ key translation at. sym (stays key) ∙ at)))
+      → TranslationsUnchanged (translations_of old.iommu) (translations_of new.iommu) → PartsInvariant new events
+  keeps_refused cause call unchanged =
+      let keeps = keeps_attached laws old events invariants own id (contexts_of new.iommu) call.contexts in
+      let leaves = report_leaves old new events id access invariants report_ready driver devices fabric cause call in
+      report_sound old new events invariants own leaves (subst (λ (f : Flights). f.so_far ≤ events) (sym call.flights) invariants.counted)
+      (contexts_kept old new id invariants.contexts keeps driver)
+      (settled_scene old new id (report_grants old new events invariants own leaves) (report_queue old new events invariants own leaves call.fence_snapshot) call.flights keeps
+      (inl (λ key translation at. sym (unchanged key) ∙ at)))
 
-  keeps_fault : access.address < 2 ^ 64 → (cause : Cause) → RefusesRequest old.memory old.iommu id access cause new.memory new.iommu → AreSound new events
+  keeps_fault : access.address < 2 ^ 64 → (cause : Cause) → RefusesRequest old.memory old.iommu id access cause new.memory new.iommu → PartsInvariant new events
   keeps_fault fits cause call =
       keeps_refused cause call
-      (served laws old events sound own id access.address access.kind ioatc.SURE (translations_of old.iommu) (translations_of new.iommu) (Err call.fault) fits call.served).1
+      (served laws old events invariants own id access.address access.kind ioatc.SURE (translations_of old.iommu) (translations_of new.iommu) (Err call.fault) fits call.served).1
 
   -- an access is accepted on the frame of a copy, which the scene has to serve it from
   pub keeps_accepted : {Served : Result Translation WalkFault → Translations → Type 0} (page : ℕ) (translation : Translation) → new.memory ≡ old.memory → (number : ℕ)
       → (call : IommuAccepts Served old.memory old.iommu id access number new.iommu) → call.frame ≡ translation.frame → allows translation.rights access.kind ≡ true
-      → TranslationsChange (values_of old) id (translations_of new.iommu) → HasSource (cached_so (values_of old) (λ d. is_some (contexts_of new.iommu d)) (translations_of new.iommu)) (copy_of id page translation) → AreSound new events
+      → TranslationsChange (values_of old) id (translations_of new.iommu) → HasSource (cached_so (values_of old) (λ d. is_some (contexts_of new.iommu d)) (translations_of new.iommu)) (copy_of id page translation) → PartsInvariant new events
   keeps_accepted page translation memory number call frame allowed change source =
-      let keeps = keeps_attached laws old events sound own id (contexts_of new.iommu) call.contexts in
+      let keeps = keeps_attached laws old events invariants own id (contexts_of new.iommu) call.contexts in
       let is = call.accepted in
       let so_far = (flights_of old.iommu).so_far in
       let leaves = leaves_asked memory call.registers call.frames call.slots
       (ap (λ (f : Flights). row_ids f.rows) is.after ∙ row_ids_kept (flights_of old.iommu).rows (with_access is.row (record { access = access; frame = call.frame }) (so_far + 1))) in
       let more : so_far + 1 ≤ events = omega (arith, below) in
-      sound_from old new events sound own leaves stays_ready (subst (λ (f : Flights). f.so_far ≤ events) (sym is.after) more)
-      (contexts_kept old new id sound.contexts keeps driver)
+      sound_from old new events invariants own leaves stays_ready (subst (λ (f : Flights). f.so_far ≤ events) (sym is.after) more)
+      (contexts_kept old new id invariants.contexts keeps driver)
       (λ has. accept_scene (between_values old new) (values_of new) id page translation access.kind
-      (grants_on (values_of old) (values_of new) cached translations (grants_kept old new events sound own leaves))
-      (queue_on (values_of old) (values_of new) cached translations (queue_kept old new events sound own leaves call.fence_snapshot)) (ap (λ (f : Flights). f.so_far) is.after)
+      (grants_on (values_of old) (values_of new) cached translations (grants_kept old new events invariants own leaves))
+      (queue_on (values_of old) (values_of new) cached translations (queue_kept old new events invariants own leaves call.fence_snapshot)) (ap (λ (f : Flights). f.so_far) is.after)
       (subst (λ n. AreAmongWith (accesses_of (flights_of new.iommu).rows) (record { device = id; frame = n; kind = access.kind; number = so_far + 1 }) (accesses_of (flights_of old.iommu).rows)) frame
       (subst (λ (f : Flights). AreAmongWith (accesses_of f.rows) (record { device = id; frame = call.frame; kind = access.kind; number = so_far + 1 }) (accesses_of (flights_of old.iommu).rows)) (sym is.after)
       (accepted_among (flights_of old.iommu).rows id is.row (record { access = access; frame = call.frame }) (so_far + 1) is.stands)))
       (λ d there. there) (λ key translation at. at) source allowed (between_scene old new id keeps change has))
 
-  keeps_accept : access.address < 2 ^ 64 → new.memory ≡ old.memory → (number : ℕ) → AcceptsRequest old.memory old.iommu id access number new.iommu → AreSound new events
+  keeps_accept : access.address < 2 ^ 64 → new.memory ≡ old.memory → (number : ℕ) → AcceptsRequest old.memory old.iommu id access number new.iommu → PartsInvariant new events
   keeps_accept fits memory number call =
       let answer : Translation = record { frame = call.frame; rights = call.rights; level = call.level } in
-      let answers = served laws old events sound own id access.address access.kind ioatc.SURE (translations_of old.iommu) (translations_of new.iommu) (Ok answer) fits call.served in
+      let answers = served laws old events invariants own id access.address access.kind ioatc.SURE (translations_of old.iommu) (translations_of new.iommu) (Ok answer) fits call.served in
       let from = served_from old id access.address access.kind cached translations answer own answers in
       keeps_accepted (access.address / 4096) from.1 memory number call (ap (λ (t : Translation). t.frame) from.2) from.3 (change_of old id access.address access.kind translations answer answers)
       (λ scene shows. source_there (between_values old new) scene id (access.address / 4096) from.0 from.1 shows from.4)
 
   -- nothing changes
-  pub keeps_same : new.memory ≡ old.memory → new.iommu ≡ old.iommu → AreSound new events
+  pub keeps_same : new.memory ≡ old.memory → new.iommu ≡ old.iommu → PartsInvariant new events
   keeps_same memory iommu =
-      subst (λ parts. AreSound parts events) (sym (parts_are new old.memory old.iommu old.driver old.devices old.fabric memory iommu driver devices fabric)) sound
+      subst (λ parts. PartsInvariant parts events) (sym (parts_are new old.memory old.iommu old.driver old.devices old.fabric memory iommu driver devices fabric)) invariants
 
-  keeps_replied : access.address < 2 ^ 64 → (reply : Reply) → AnswersRequest old.memory old.iommu id access reply new.memory new.iommu → AreSound new events
+  keeps_replied : access.address < 2 ^ 64 → (reply : Reply) → AnswersRequest old.memory old.iommu id access reply new.memory new.iommu → PartsInvariant new events
   keeps_replied fits (Accepted number) call = keeps_accept fits call.1 number call.0
   keeps_replied fits Busy call = keeps_same call.3 call.2
   keeps_replied fits BadSpan call = keeps_same call.2 call.1
   keeps_replied fits (Fault cause) call = keeps_fault fits cause call
 
-pub keeps_asked : (can : DeviceKind → Bool) → ServiceLaws → (old new : Parts) (events id : ℕ) (access : Access) (told : Outcome) → AreSound old events → IsSoundDriver old.driver → StaysReady old.driver
-    → StaysReported old.driver → (flights_of old.iommu).so_far < events → access.address < 2 ^ 64 → AsksAccess can old id access told new → AreSound new events
-keeps_asked can laws old new events id access told sound own stays reported below fits asks = elim asks [
-  | inl unknown ↦ subst (λ parts. AreSound parts events) (sym unknown.same) sound
-  | inr (inl unable) ↦ subst (λ parts. AreSound parts events) (sym unable.same) sound
-  | inr (inr answered) ↦ keeps_replied laws old new events id access sound own stays reported answered.1.driver answered.1.devices answered.1.fabric below fits answered.1.reply answered.1.call
+pub keeps_asked : (can : DeviceKind → Bool) → ServiceLaws → (old new : Parts) (events id : ℕ) (access : Access) (response : Outcome) → PartsInvariant old events → DriverInvariant old.driver → StaysReady old.driver
+    → StaysReported old.driver → (flights_of old.iommu).so_far < events → access.address < 2 ^ 64 → AsksAccess can old id access response new → PartsInvariant new events
+keeps_asked can laws old new events id access response invariants own unchanged reported below fits asks = elim asks [
+  | inl unknown ↦ subst (λ parts. PartsInvariant parts events) (sym unknown.same) invariants
+  | inr (inl unable) ↦ subst (λ parts. PartsInvariant parts events) (sym unable.same) invariants
+  | inr (inr answered) ↦ keeps_replied laws old new events id access invariants own unchanged reported answered.1.driver answered.1.devices answered.1.fabric below fits answered.1.reply answered.1.call
 ]

@@ -42,10 +42,10 @@ use Rattle.iom_world_effects.specs.Frames.{ShowsFrames}
 use Rattle.iom_world_effects.specs.Parts.{Parts}
 use Rattle.iom_world_effects.specs.Places.{IsAbsent}
 use Rattle.iom_world_effects.specs.Read.{space_in}
-use Rattle.iom_world_effects.specs.Requests.{AsksAccess, reply_told_of}
+use Rattle.iom_world_effects.specs.Requests.{AsksAccess, outcome_of_reply}
 use Rattle.iom_world_effects.specs.Shows.{PartsShow}
-use Rattle.iom_world_effects.specs.Sound.{AreSound}
-use Rattle.iom_world_effects.proofs.DriverLemmas.{IsSoundDriver}
+use Rattle.iom_world_effects.specs.Invariant.{PartsInvariant}
+use Rattle.iom_world_effects.proofs.DriverLemmas.{DriverInvariant}
 use Rattle.iom_world_effects.proofs.RowPlaces.{IsFound, absent_shown, present_found, row_shown, accepted_at, in_flight_at, with_own}
 use Rattle.iom_world_effects.proofs.RowLemmas.{map_push}
 use Rattle.iom_world_effects.proofs.FrameLemmas.{shows_kept}
@@ -54,7 +54,7 @@ use Rattle.iom_world_invariant.proofs.RequestKeeps.{report_leaves}
 use Rattle.iom_world_effects.proofs.SceneSteps.{HoldsWalked}
 use Rattle.iom_world_effects.proofs.ServedLemmas.{ServiceLaws, FaultsAs, IsAnswered, cause_at, served}
 use Rattle.iom_world_effects.proofs.SoundFrom.{LeavesReport}
-use Rattle.iom_world_effects.proofs.StayLemmas.{not_owned}
+use Rattle.iom_world_effects.proofs.UnchangedLemmas.{not_owned}
 use Rattle.iom_world_effects.proofs.WalkLemmas.{NoneIsHeldFor, FaultsBy}
 use Rattle.iom_world_effects.proofs.CachedMay.{cached_accept}
 use Rattle.iom_base.specs.declared.device_kind.DeviceKind.{DeviceKind}
@@ -63,16 +63,16 @@ use Rattle.iom_device.specs.Caches.{kind_in}
 use Rattle.iom_world_effects.proofs.PresentLemmas.{kind_present}
 
 -- a device acts where it is found; one that isn't there is refused
-pub acts_at : (can : DeviceKind → Bool) (IfPlugged : machine.Device → Type 0) (old : Parts) (state : State) (id : ℕ) (told : Outcome) (next : State)
+pub acts_at : (can : DeviceKind → Bool) (IfPlugged : machine.Device → Type 0) (old : Parts) (state : State) (id : ℕ) (response : Outcome) (next : State)
     → state.devices ≡ shown_devices old.driver.devices (flights_of old.iommu).rows old.devices → (is : IsFound old.driver.devices (flights_of old.iommu).rows old.devices id)
-    → can is.device.kind ≡ true → IfPlugged (shown_device old.driver.devices (flights_of old.iommu).rows is.device) → Acts can IfPlugged state id told next
-acts_at can IfPlugged old state id told next shows is able acts = rw (shows, is.shown, able) acts
+    → can is.device.kind ≡ true → IfPlugged (shown_device old.driver.devices (flights_of old.iommu).rows is.device) → Acts can IfPlugged state id response next
+acts_at can IfPlugged old state id response next shows is able acts = rw (shows, is.shown, able) acts
 
 -- one of a kind that can't is refused
-pub acts_unable : (can : DeviceKind → Bool) (IfPlugged : machine.Device → Type 0) (old : Parts) (state : State) (id : ℕ) (told : Outcome)
+pub acts_unable : (can : DeviceKind → Bool) (IfPlugged : machine.Device → Type 0) (old : Parts) (state : State) (id : ℕ) (response : Outcome)
     → state.devices ≡ shown_devices old.driver.devices (flights_of old.iommu).rows old.devices → (is : IsFound old.driver.devices (flights_of old.iommu).rows old.devices id)
-    → can is.device.kind ≡ false → told ≡ outcome.Refused WrongKind → Acts can IfPlugged state id told state
-acts_unable can IfPlugged old state id told shows is unable refused = rw (shows, is.shown, unable) (refused, refl)
+    → can is.device.kind ≡ false → response ≡ outcome.Refused WrongKind → Acts can IfPlugged state id response state
+acts_unable can IfPlugged old state id response shows is unable refused = rw (shows, is.shown, unable) (refused, refl)
 
 -- the device that is found is of the kind that stands there
 pub kind_found : (drivers : List known.Device) (rows : List FlightRow) (devices : List Device) (id : ℕ) (kind : DeviceKind) → (is : IsFound drivers rows devices id) → kind_in devices id ≡ Some kind
@@ -82,9 +82,9 @@ kind_found drivers rows devices id kind is there = some_same is.device.kind kind
     some_same : (x y : DeviceKind) → Some x ≡ Some y → x ≡ y
     some_same x y same = cc
 
-pub acts_absent : (can : DeviceKind → Bool) (IfPlugged : machine.Device → Type 0) (old : Parts) (state : State) (id : ℕ) (told : Outcome)
-    → state.devices ≡ shown_devices old.driver.devices (flights_of old.iommu).rows old.devices → IsAbsent old.devices id → told ≡ outcome.Refused NoSuchDevice → Acts can IfPlugged state id told state
-acts_absent can IfPlugged old state id told shows absent is = rw (shows, absent_shown old.driver.devices (flights_of old.iommu).rows old.devices id absent) (is, refl)
+pub acts_absent : (can : DeviceKind → Bool) (IfPlugged : machine.Device → Type 0) (old : Parts) (state : State) (id : ℕ) (response : Outcome)
+    → state.devices ≡ shown_devices old.driver.devices (flights_of old.iommu).rows old.devices → IsAbsent old.devices id → response ≡ outcome.Refused NoSuchDevice → Acts can IfPlugged state id response state
+acts_absent can IfPlugged old state id response shows absent is = rw (shows, absent_shown old.driver.devices (flights_of old.iommu).rows old.devices id absent) (is, refl)
 
 -- the state stays, and the parts
 pub shows_same : (old new : Parts) (state : State) → new ≡ old → PartsShow old state → PartsShow new state
@@ -107,16 +107,16 @@ none_held_shown state ledger id access agrees none frame held =
     none frame (held.0, sym (agrees.pages id (access.address / 4096)).holds ∙ held.1, held.2)
 
 -- what the machine lets an attached device be accepted, and each fault
-may_accept : (parts : Parts) (events : ℕ) (state : State) (id : ℕ) (answer : Translation) (access : Access) (sure : Bool) (old new : Translations) → AreSound parts events → IsSoundDriver parts.driver → PartsShow parts state
+may_accept : (parts : Parts) (events : ℕ) (state : State) (id : ℕ) (answer : Translation) (access : Access) (sure : Bool) (old new : Translations) → PartsInvariant parts events → DriverInvariant parts.driver → PartsShow parts state
     → old ≡ translations_of parts.iommu → IsAnswered sure parts.driver id access.address access.kind old (Ok answer) new
     → MayAccept (shown_attachment (attachment_by_id parts.driver.devices id)) state id access answer.frame
-may_accept parts events state id answer access sure old new sound own shows same (inl reaches) =
+may_accept parts events state id answer access sure old new invariants own shows same (inl reaches) =
     subst (λ a. MayAccept (shown_attachment a) state id access answer.frame) (sym reaches.attached)
     (subst (λ n. MayAccept (shown.Attached reaches.stage.mode reaches.stage.ats) state id access n) (sym (ap (λ (t : Translation). t.frame) reaches.answer_is))
     (held_shown state parts.driver.ledger reaches.stage.mode reaches.stage.ats id access reaches.translation shows.ledger reaches.held reaches.allowed))
-may_accept parts events state id answer access sure old new sound own shows same (inr finds) =
+may_accept parts events state id answer access sure old new invariants own shows same (inr finds) =
     subst (λ n. MayAccept (shown_attachment (attachment_by_id parts.driver.devices id)) state id access n) (sym (ap (λ (t : Translation). t.frame) finds.answer_is))
-    (cached_accept parts events state id access finds.stage finds.translation sound own shows finds.owned
+    (cached_accept parts events state id access finds.stage finds.translation invariants own shows finds.owned
     (ap (λ (c : Translations). c (space_in finds.stage.mode finds.stage.number, access.address / 4096)) (sym same) ∙ finds.cached) finds.allowed finds.pending)
 
 attached_fault : (mode : Mode) (ats : Bool) (state : State) (ledger : Ledger) (id : ℕ) (access : Access) (cause : Cause) → Agrees ledger state.history
@@ -125,7 +125,7 @@ attached_fault (First size) ats state ledger id access cause agrees faults = (no
 attached_fault (Second size) ats state ledger id access cause agrees faults = (none_held_shown state ledger id access agrees faults.1, faults.0)
 attached_fault (Both size) ats state ledger id access cause agrees faults = faults
 
-may_fault : (a : Attachment) (parts : Parts) (state : State) (id : ℕ) (access : Access) (cause : Cause) → IsSoundDriver parts.driver → PartsShow parts state
+may_fault : (a : Attachment) (parts : Parts) (state : State) (id : ℕ) (access : Access) (cause : Cause) → DriverInvariant parts.driver → PartsShow parts state
     → attachment_by_id parts.driver.devices id ≡ a → FaultsAs a parts.driver id access.address access.kind cause → MayFault (shown_attachment a) state id access cause
 may_fault driver.Detached parts state id access cause own shows is faults = faults ∙ ap (λ l. cause_at l id) (sym shows.levels)
 may_fault (driver.Attached stage) parts state id access cause own shows is faults = attached_fault stage.mode stage.ats state parts.driver.ledger id access cause shows.ledger faults
@@ -136,14 +136,14 @@ may_fault (driver.Leaving ticket stage) parts state id access cause own shows is
 
 -- the machine may answer the access of a device so, on the frame, if it is of a kind that can ask for it
 abbrev pub RequestsAs : (DeviceKind → Bool) → ℕ → State → ℕ → Access → Outcome → State → Type 0
-RequestsAs can frame state id access told next = Acts can (λ device. MayAnswer state device access frame told × (next ≡ state_after state device access frame told)) state id told next
+RequestsAs can frame state id access response next = Acts can (λ device. MayAnswer state device access frame response × (next ≡ state_after state device access frame response)) state id response next
 
 -- what a request leads to: the machine may answer so, and shows the parts then
 abbrev Steps : (DeviceKind → Bool) → State → ℕ → Access → Outcome → Parts → Type 0
-Steps can state id access told new = (frame : ℕ) × (next : State) × RequestsAs can frame state id access told next × PartsShow new next
+Steps can state id access response new = (frame : ℕ) × (next : State) × RequestsAs can frame state id access response next × PartsShow new next
 
 -- nothing changes that the machine shows, though other contexts are cached, and reserved frames have other bytes
-pub shows_where : (old new : Parts) (state : State) → ShowsFrames new.memory old.driver.marks state.frames → new.driver ≡ old.driver → new.devices ≡ old.devices
+pub shows_where : (old new : Parts) (state : State) → ShowsFrames new.memory old.driver.owners state.frames → new.driver ≡ old.driver → new.devices ≡ old.devices
     → flights_of new.iommu ≡ flights_of old.iommu → PartsShow old state → PartsShow new state
 shows_where old new state frames driver devices flights shows = record {
   ledger = rw driver shows.ledger;
@@ -158,12 +158,12 @@ shows_where old new state frames driver devices flights shows = record {
 }
 
 -- a frame that is nobody's isn't the fault queue's, and keeps its bytes where a fault is reported
-pub shows_reported : (old new : Parts) (state : State) (leaves : LeavesReport old new) → length old.memory ≡ length old.driver.marks → IsSoundDriver old.driver
-    → PartsShow old state → ShowsFrames new.memory old.driver.marks state.frames
+pub shows_reported : (old new : Parts) (state : State) (leaves : LeavesReport old new) → length old.memory ≡ length old.driver.owners → DriverInvariant old.driver
+    → PartsShow old state → ShowsFrames new.memory old.driver.owners state.frames
 shows_reported old new state leaves size own shows =
-    shows_kept old.memory new.memory old.driver.marks state.frames shows.frames
-    (λ k free. leaves.else_same.frames k (λ same. not_owned old.driver.marks k System free
-    (ap (slice_get old.driver.marks) (same ∙ ap fault_frame size) ∙ own.fixed.fault)))
+    shows_kept old.memory new.memory old.driver.owners state.frames shows.frames
+    (λ k free. leaves.else_same.frames k (λ same. not_owned old.driver.owners k System free
+    (ap (slice_get old.driver.owners) (same ∙ ap fault_frame size) ∙ own.fixed.fault)))
     leaves.else_same.size
 
 pub shows_flights : (old new : Parts) (state : State) → new.memory ≡ old.memory → new.driver ≡ old.driver → new.devices ≡ old.devices → flights_of new.iommu ≡ flights_of old.iommu
@@ -180,7 +180,7 @@ shows_flights old new state memory driver devices flights shows = record {
   limits = shows.limits;
 }
 
-module _ (old new : Parts) (events id : ℕ) (sound : AreSound old events) (state : State) (shows : PartsShow old state)
+module _ (old new : Parts) (events id : ℕ) (invariants : PartsInvariant old events) (state : State) (shows : PartsShow old state)
     (is : IsFound old.driver.devices (flights_of old.iommu).rows old.devices id) where
   abbrev rows : List FlightRow
   rows = (flights_of old.iommu).rows
@@ -226,7 +226,7 @@ module _ (old new : Parts) (events id : ℕ) (sound : AreSound old events) (stat
       ap (λ (ds : List machine.Device). replaced_device ds is.device.id (record device { accepted = device.accepted + 1; in_flight = device.in_flight ++ flight ∷ [] })) shows.devices
       ∙ ap (λ (n : ℕ). replaced_device (shown_devices old.driver.devices rows old.devices) n (record device { accepted = device.accepted + 1; in_flight = device.in_flight ++ flight ∷ [] })) is.own
       ∙ ap (λ (d : machine.Device). replaced_device (shown_devices old.driver.devices rows old.devices) id d) (sym now)
-      ∙ row_shown old.driver.devices rows old.devices id is.device it.row after sound.known.own_ids is.found is.own it.stands mine in (
+      ∙ row_shown old.driver.devices rows old.devices id is.device it.row after invariants.known.own_ids is.found is.own it.stands mine in (
         it.counted ∙ ap (λ n. n + 1) (sym accepted),
         record {
           ledger = rw driver shows.ledger;
@@ -241,50 +241,50 @@ module _ (old new : Parts) (events id : ℕ) (sound : AreSound old events) (stat
         },
       )
 
-module _ (can : DeviceKind → Bool) (laws : ServiceLaws) (old new : Parts) (events id : ℕ) (access : Access) (sound : AreSound old events) (own : IsSoundDriver old.driver) (fits : access.address < 2 ^ 64)
+module _ (can : DeviceKind → Bool) (laws : ServiceLaws) (old new : Parts) (events id : ℕ) (access : Access) (invariants : PartsInvariant old events) (own : DriverInvariant old.driver) (fits : access.address < 2 ^ 64)
     (reported : StaysReported old.driver) (driver : new.driver ≡ old.driver) (devices : new.devices ≡ old.devices) (state : State) (shows : PartsShow old state)
     (is : IsFound old.driver.devices (flights_of old.iommu).rows old.devices id) (able : can is.device.kind ≡ true) (fabric : new.fabric ≡ old.fabric) where
   abbrev MayTell : ℕ → State → Outcome → machine.Device → Type 0
-  MayTell frame next told device = MayAnswer state device access frame told × (next ≡ state_after state device access frame told)
+  MayTell frame next response device = MayAnswer state device access frame response × (next ≡ state_after state device access frame response)
 
-  step_same : (told : Outcome) → MayAnswer state (shown_device old.driver.devices (flights_of old.iommu).rows is.device) access 0 told
-      → state ≡ state_after state (shown_device old.driver.devices (flights_of old.iommu).rows is.device) access 0 told
-      → ShowsFrames new.memory old.driver.marks state.frames → flights_of new.iommu ≡ flights_of old.iommu → Steps can state id access told new
-  step_same told may stays frames flights = (
+  step_same : (response : Outcome) → MayAnswer state (shown_device old.driver.devices (flights_of old.iommu).rows is.device) access 0 response
+      → state ≡ state_after state (shown_device old.driver.devices (flights_of old.iommu).rows is.device) access 0 response
+      → ShowsFrames new.memory old.driver.owners state.frames → flights_of new.iommu ≡ flights_of old.iommu → Steps can state id access response new
+  step_same response may unchanged frames flights = (
     0,
     state,
-    acts_at can (MayTell 0 state told) old state id told state shows.devices is able (may, stays),
+    acts_at can (MayTell 0 state response) old state id response state shows.devices is able (may, unchanged),
     shows_where old new state frames driver devices flights shows,
   )
 
-  same_frames : new.memory ≡ old.memory → ShowsFrames new.memory old.driver.marks state.frames
+  same_frames : new.memory ≡ old.memory → ShowsFrames new.memory old.driver.owners state.frames
   same_frames memory = rw memory shows.frames
 
   step_fault : (cause : Cause) → RefusesRequest old.memory old.iommu id access cause new.memory new.iommu → Steps can state id access (outcome.Fault cause) new
   step_fault cause call =
-      let faults = (served laws old events sound own id access.address access.kind ioatc.SURE (translations_of old.iommu) (translations_of new.iommu) (Err call.fault) fits call.served).0 in
-      let leaves = report_leaves old new events id access sound reported driver devices fabric cause call in
+      let faults = (served laws old events invariants own id access.address access.kind ioatc.SURE (translations_of old.iommu) (translations_of new.iommu) (Err call.fault) fits call.served).0 in
+      let leaves = report_leaves old new events id access invariants reported driver devices fabric cause call in
       step_same (outcome.Fault cause) (
-        (call.within, not_busy old new events id sound state shows is call.room.row call.room.stands call.room.room),
+        (call.within, not_busy old new events id invariants state shows is call.room.row call.room.stands call.room.room),
         subst (λ n. MayFault (shown_attachment (attachment_by_id old.driver.devices n)) state n access cause) (sym is.own)
-            (subst (λ c. MayFault (shown_attachment (attachment_by_id old.driver.devices id)) state id access c) (sym call.told)
+            (subst (λ c. MayFault (shown_attachment (attachment_by_id old.driver.devices id)) state id access c) (sym call.reply)
             (may_fault (attachment_by_id old.driver.devices id) old state id access call.fault.cause own shows refl faults)),
       )
-      refl (shows_reported old new state leaves sound.ready.stand.size own shows) call.flights
+      refl (shows_reported old new state leaves invariants.ready.stand.size own shows) call.flights
 
   step_accept : new.memory ≡ old.memory → (number : ℕ) → AcceptsRequest old.memory old.iommu id access number new.iommu → Steps can state id access (outcome.Accepted number) new
   step_accept memory number call =
       let it = call.accepted in
-      let answers = served laws old events sound own id access.address access.kind ioatc.SURE (translations_of old.iommu) (translations_of new.iommu) (Ok (record { frame = call.frame; rights = call.rights; level = call.level })) fits call.served in
+      let answers = served laws old events invariants own id access.address access.kind ioatc.SURE (translations_of old.iommu) (translations_of new.iommu) (Ok (record { frame = call.frame; rights = call.rights; level = call.level })) fits call.served in
       let next = with_accepted state (shown_device old.driver.devices (flights_of old.iommu).rows is.device) access call.frame in
-      let after = accepted_shown old new events id sound state shows is access call.frame number memory driver devices it in (
+      let after = accepted_shown old new events id invariants state shows is access call.frame number memory driver devices it in (
         call.frame,
         next,
         acts_at can (MayTell call.frame next (outcome.Accepted number)) old state id (outcome.Accepted number) next shows.devices is able (
           (
-            (call.within, not_busy old new events id sound state shows is it.row it.stands it.room),
+            (call.within, not_busy old new events id invariants state shows is it.row it.stands it.room),
             subst (λ n. MayAccept (shown_attachment (attachment_by_id old.driver.devices n)) state n access call.frame) (sym is.own)
-                (may_accept old events state id (record { frame = call.frame; rights = call.rights; level = call.level }) access ioatc.SURE (translations_of old.iommu) (translations_of new.iommu) sound own shows refl answers),
+                (may_accept old events state id (record { frame = call.frame; rights = call.rights; level = call.level }) access ioatc.SURE (translations_of old.iommu) (translations_of new.iommu) invariants own shows refl answers),
             after.0,
           ),
           refl,
@@ -292,35 +292,35 @@ module _ (can : DeviceKind → Bool) (laws : ServiceLaws) (old new : Parts) (eve
         after.1,
       )
 
-  step_replied : (reply : Reply) → AnswersRequest old.memory old.iommu id access reply new.memory new.iommu → Steps can state id access (reply_told_of reply) new
+  step_replied : (reply : Reply) → AnswersRequest old.memory old.iommu id access reply new.memory new.iommu → Steps can state id access (outcome_of_reply reply) new
   step_replied (Accepted number) call = step_accept call.1 number call.0
-  step_replied Busy call = step_same outcome.Busy (call.0, is_busy old new events id sound state shows is call.1) refl (same_frames call.3) (ap flights_of call.2)
+  step_replied Busy call = step_same outcome.Busy (call.0, is_busy old new events id invariants state shows is call.1) refl (same_frames call.3) (ap flights_of call.2)
   step_replied BadSpan call = step_same outcome.BadSpan call.0 refl (same_frames call.2) (ap flights_of call.1)
   step_replied (Fault cause) call = step_fault cause call
 
-pub request_step : (can : DeviceKind → Bool) → ServiceLaws → (old new : Parts) (events id : ℕ) (access : Access) (told : Outcome) → AreSound old events → IsSoundDriver old.driver → StaysReported old.driver
-    → access.address < 2 ^ 64 → AsksAccess can old id access told new
-    → (state : State) → PartsShow old state → (frame : ℕ) × (next : State) × RequestsAs can frame state id access told next × PartsShow new next
-request_step can laws old new events id access told sound own reported fits asks state shows = elim asks [
+pub request_step : (can : DeviceKind → Bool) → ServiceLaws → (old new : Parts) (events id : ℕ) (access : Access) (response : Outcome) → PartsInvariant old events → DriverInvariant old.driver → StaysReported old.driver
+    → access.address < 2 ^ 64 → AsksAccess can old id access response new
+    → (state : State) → PartsShow old state → (frame : ℕ) × (next : State) × RequestsAs can frame state id access response next × PartsShow new next
+request_step can laws old new events id access response invariants own reported fits asks state shows = elim asks [
   | inl unknown ↦ (
     0,
     state,
-    acts_absent can (λ device. MayAnswer state device access 0 told × (state ≡ state_after state device access 0 told)) old state id told shows.devices unknown.absent unknown.told_so,
+    acts_absent can (λ device. MayAnswer state device access 0 response × (state ≡ state_after state device access 0 response)) old state id response shows.devices unknown.absent unknown.reply_is,
     shows_same old new state unknown.same shows,
   )
   | inr (inl unable) ↦
       let is = present_found old.driver.devices (flights_of old.iommu).rows old.devices id (kind_present old.devices id unable.kind unable.there) in (
         0,
         state,
-        acts_unable can (λ device. MayAnswer state device access 0 told × (state ≡ state_after state device access 0 told)) old state id told shows.devices is
-            (ap can (kind_found old.driver.devices (flights_of old.iommu).rows old.devices id unable.kind is unable.there) ∙ unable.cannot) unable.told_so,
+        acts_unable can (λ device. MayAnswer state device access 0 response × (state ≡ state_after state device access 0 response)) old state id response shows.devices is
+            (ap can (kind_found old.driver.devices (flights_of old.iommu).rows old.devices id unable.kind is unable.there) ∙ unable.cannot) unable.reply_is,
         shows_same old new state unable.same shows,
       )
   | inr (inr answered) ↦
       let kind = answered.0.0 in
       let is = present_found old.driver.devices (flights_of old.iommu).rows old.devices id (kind_present old.devices id kind answered.0.1) in
       let reply = answered.1 in
-      let step = step_replied can laws old new events id access sound own fits reported reply.driver reply.devices state shows is
+      let step = step_replied can laws old new events id access invariants own fits reported reply.driver reply.devices state shows is
       (ap can (kind_found old.driver.devices (flights_of old.iommu).rows old.devices id kind is answered.0.1) ∙ answered.0.2) reply.fabric reply.reply reply.call in
-      (step.0, step.1, subst (λ t. RequestsAs can step.0 state id access t step.1) (sym reply.told_so) step.2, step.3)
+      (step.0, step.1, subst (λ t. RequestsAs can step.0 state id access t step.1) (sym reply.reply_is) step.2, step.3)
 ]

@@ -19,13 +19,13 @@ use Rattle.iom_machine.specs.declared.state.State.{State}
 use Rattle.iom_machine.specs.Machine.{Resets}
 use Rattle.iom_device.specs.declared.device.Device.{Device}
 use Rattle.iom_device.specs.Caches.{device_with, kind_in, cache_in, cache_of, epoch_of, epoch_in, with_cache, HasItsCache, HaveTheirCaches}
-use Rattle.iom_world_effects.specs.Stays.{SameIfRefused, waiting_in}
+use Rattle.iom_world_effects.specs.Unchanged.{SameIfRefused, waiting_in}
 use Rattle.iom_world_effects.specs.Parts.{Parts}
 use Rattle.iom_world_effects.specs.Read.{values_of}
 use Rattle.iom_device.specs.Calls.{reset_of, with_reset}
 use Rattle.iom_world_effects.specs.Recovery.{ResetsDevice}
 use Rattle.iom_world_effects.specs.Shows.{PartsShow}
-use Rattle.iom_world_effects.specs.Sound.{AreSound, AreKnown, HaveDistinctIds, known_ids}
+use Rattle.iom_world_effects.specs.Invariant.{PartsInvariant, AreKnown, HaveDistinctIds, known_ids}
 use Rattle.iom_world_effects.specs.Traffic.{entries_by, entries_in, traffic_of}
 use Rattle.iom_world_effects.proofs.CacheSets.{kind_set, asker_set, epoch_set, ids_set, own_ids_set, caches_set, same_set, entries_set, shown_set}
 use Rattle.iom_world_effects.proofs.CallRefused.{same_parts}
@@ -134,23 +134,23 @@ found_there devices id kind at = by (device_with devices id) at
     by None at = cc
     by (Some device) at = refl
 
-pub reset_sound : (old : Parts) (events id : ℕ) → AreSound old events → epoch_in old.devices id < events → is_some (device_with old.devices id) ≡ true
-    → AreSound (record old { devices = with_reset old.devices id }) events
-reset_sound old events id sound below found =
+pub reset_sound : (old : Parts) (events id : ℕ) → PartsInvariant old events → epoch_in old.devices id < events → is_some (device_with old.devices id) ≡ true
+    → PartsInvariant (record old { devices = with_reset old.devices id }) events
+reset_sound old events id invariants below found =
     let new : Parts = record old { devices = with_reset old.devices id } in
     let keeps : KeepsParts old new = record { memory = refl; driver = refl; iommu = keeps_iommu old.iommu old.iommu refl; kinds = kind_set old.devices id (reset_of (cache_of old.devices id)) } in
-    traffic_sound old new events sound keeps
-    (reset_known old new id sound.known refl refl (λ d. refl) refl refl)
-    (reset_epochs old.devices events id sound.known.caches sound.epochs below)
+    traffic_sound old new events invariants keeps
+    (reset_known old new id invariants.known refl refl (λ d. refl) refl refl)
+    (reset_epochs old.devices events id invariants.known.caches invariants.epochs below)
     (reset_scene (values_of old) (values_of new) id (entries_in (with_reset old.devices id)) (rest_kept old new keeps)
-    (reset_under_way old.devices old.fabric (slots_of old.iommu) id sound.known.caches)
-    (reset_others old.devices id sound.known.own_ids found))
+    (reset_under_way old.devices old.fabric (slots_of old.iommu) id invariants.known.caches)
+    (reset_others old.devices id invariants.known.own_ids found))
 
 -- ALL STAYS TRUE
-pub keeps_reset : (old new : Parts) (events id : ℕ) (told : Outcome) → AreSound old events → epoch_in old.devices id < events → ResetsDevice old id told new → AreSound new events
-keeps_reset old new events id told sound below resets = elim resets [
-  | inl unknown ↦ subst (λ parts. AreSound parts events) (sym unknown.same) sound
-  | inr (able, told_so, is) ↦ subst (λ parts. AreSound parts events) (sym is) (reset_sound old events id sound below (found_there old.devices id able.0 able.1))
+pub keeps_reset : (old new : Parts) (events id : ℕ) (reply : Outcome) → PartsInvariant old events → epoch_in old.devices id < events → ResetsDevice old id reply new → PartsInvariant new events
+keeps_reset old new events id reply invariants below resets = elim resets [
+  | inl unknown ↦ subst (λ parts. PartsInvariant parts events) (sym unknown.same) invariants
+  | inr (able, reply_is, is) ↦ subst (λ parts. PartsInvariant parts events) (sym is) (reset_sound old events id invariants below (found_there old.devices id able.0 able.1))
 ]
 
 -- what the machine knows of the devices is the same
@@ -168,29 +168,29 @@ shows_reset old new id state is shows = subst (λ parts. PartsShow parts state) 
 })
 
 -- THE STEP
-pub reset_step : (old new : Parts) (id : ℕ) (told : Outcome) → ResetsDevice old id told new → (state : State) → PartsShow old state → Resets state id told state × PartsShow new state
-reset_step old new id told resets state shows = elim resets [
+pub reset_step : (old new : Parts) (id : ℕ) (reply : Outcome) → ResetsDevice old id reply new → (state : State) → PartsShow old state → Resets state id reply state × PartsShow new state
+reset_step old new id reply resets state shows = elim resets [
   | inl unknown ↦ (
-    rw (shows.devices, absent_shown old.driver.devices (flights_of old.iommu).rows old.devices id unknown.absent) (unknown.told_so, refl),
+    rw (shows.devices, absent_shown old.driver.devices (flights_of old.iommu).rows old.devices id unknown.absent) (unknown.reply_is, refl),
     subst (λ parts. PartsShow parts state) (sym unknown.same) shows,
   )
-  | inr (able, told_so, is) ↦
+  | inr (able, reply_is, is) ↦
       let there = present_found old.driver.devices (flights_of old.iommu).rows old.devices id (kind_present old.devices id able.0 able.1) in
-      (rw (shows.devices, there.shown) (told_so, refl), shows_reset old new id state is shows)
+      (rw (shows.devices, there.shown) (reply_is, refl), shows_reset old new id state is shows)
 ]
 
 -- THE COMMANDS that wait are the same
-pub reset_commands : (old new : Parts) (id : ℕ) (told : Outcome) → ResetsDevice old id told new → waiting_in new ≡ waiting_in old
-reset_commands old new id told resets = elim resets [
+pub reset_commands : (old new : Parts) (id : ℕ) (reply : Outcome) → ResetsDevice old id reply new → waiting_in new ≡ waiting_in old
+reset_commands old new id reply resets = elim resets [
   | inl unknown ↦ ap waiting_in unknown.same
-  | inr (able, told_so, is) ↦ ap waiting_in is
+  | inr (able, reply_is, is) ↦ ap waiting_in is
 ]
 
 -- A REFUSAL changes nothing
-pub reset_refused : (old new : Parts) (id : ℕ) (told : Outcome) → ResetsDevice old id told new → SameIfRefused told old new
-reset_refused old new id told resets why refused = elim resets [
+pub reset_refused : (old new : Parts) (id : ℕ) (reply : Outcome) → ResetsDevice old id reply new → SameIfRefused reply old new
+reset_refused old new id reply resets why refused = elim resets [
   | inl unknown ↦ same_parts old new unknown.same
-  | inr (able, told_so, is) ↦ absurd (never (sym told_so ∙ refused))
+  | inr (able, reply_is, is) ↦ absurd (never (sym reply_is ∙ refused))
 ]
   where
     never : outcome.Done ≡ outcome.Refused why → ⊥

@@ -32,15 +32,15 @@ use Rattle.iom_iommu.specs.OwnIommu.{Iommu}
 use Rattle.iom_world_effects.specs.Parts.{Parts}
 use Rattle.iom_world_effects.specs.Read.{values_of, accesses_of}
 use Rattle.iom_world_effects.specs.Recovery.{RestartsQueue}
-use Rattle.iom_world_effects.specs.Sound.{AreSound, IsUnmarked, known_ids, row_ids}
+use Rattle.iom_world_effects.specs.Invariant.{PartsInvariant, IsUnmarked, known_ids, row_ids}
 use Rattle.iom_world_effects.specs.Traffic.{traffic_of}
 use Rattle.iom_world_effects.proofs.CachedLemmas.{spaces_same}
-use Rattle.iom_world_effects.proofs.DriverLemmas.{IsSoundDriver}
+use Rattle.iom_world_effects.proofs.DriverLemmas.{DriverInvariant}
 use Rattle.iom_world_invariant.proofs.PollKeeps.{same_known}
 use Rattle.iom_world_invariant.proofs.ReleaseKeeps.{IsRung, rung_all}
 use Rattle.iom_world_effects.proofs.RestartLists.{queued_requeued, restart_last, known_there}
 use Rattle.iom_world_effects.proofs.RestartScenes.{RestartsAll, restart_scene}
-use Rattle.iom_world_effects.proofs.SoundLemmas.{same_completed, LeavesWord, kinds_kept, same_epochs, still_unmarked}
+use Rattle.iom_world_effects.proofs.InvariantLemmas.{same_completed, LeavesWord, kinds_kept, same_epochs, still_unmarked}
 
 -- Of the IOMMU nothing changes but that its queue is on and empty, and that no request is open and no fence has counted; nothing is wrong any more.
 pub record IsEmptied (old new : Iommu) : Type 0 where
@@ -83,7 +83,7 @@ emptied_rung old mid new emptied rung = record {
 }
 
 -- a device that leaves does so under a ticket that was given
-given_to : (d : DriverState) → IsSoundDriver d → (id ticket : ℕ) (mode : Mode) (ats : Bool) (a : driver.Attachment) → attachment_by_id d.devices id ≡ a
+given_to : (d : DriverState) → DriverInvariant d → (id ticket : ℕ) (mode : Mode) (ats : Bool) (a : driver.Attachment) → attachment_by_id d.devices id ≡ a
     → shown_attachment a ≡ shown.Leaving ticket mode ats → ticket ≤ d.given
 given_to d own id ticket mode ats attached.Detached at is = cc
 given_to d own id ticket mode ats (attached.Attached stage) at is = cc
@@ -95,18 +95,18 @@ given_to d own id ticket mode ats (attached.Leaving other stage) at is =
 waits_for_it : (d : DriverState) (ticket : ℕ) → ticket ≤ d.given → fence_of (record d { restarts = d.restarts + 1; restarted = d.given }) ticket ≡ last_fence d + 1
 waits_for_it d ticket low = ap (λ n. n + (d.restarts + 1)) (max-eq_right low) ∙ omega arith
 
-module _ (old new : Parts) (events : ℕ) (sound : AreSound old events) (own : IsSoundDriver old.driver) (ready : IsReady new.driver new.memory (registers_of new.iommu))
+module _ (old new : Parts) (events : ℕ) (invariants : PartsInvariant old events) (own : DriverInvariant old.driver) (ready : IsReady new.driver new.memory (registers_of new.iommu))
     (queues : QueuesRestart mmio old.driver old.memory old.iommu new.driver new.memory new.iommu)
     (devices : new.devices ≡ old.devices) (fabric : new.fabric ≡ old.fabric) where
   emptied : IsEmptied old.iommu new.iommu
   emptied =
-      emptied_rung old.iommu (turned_off_and_on mmio old.iommu) new.iommu (emptied_at_once old.iommu (sound.ready.ring sound.started).on)
+      emptied_rung old.iommu (turned_off_and_on mmio old.iommu) new.iommu (emptied_at_once old.iommu (invariants.ready.ring invariants.started).on)
       (rung_all (restart_commands old.driver.devices (completion_address (length old.memory)) (last_fence old.driver + 1)) old.memory new.memory (turned_off_and_on mmio old.iommu) new.iommu queues.queued)
 
   leaves : LeavesWord old new
   leaves = record {
-    size = ready.stand.size ∙ ap (λ (d : DriverState). length d.marks) queues.driver ∙ sym sound.ready.stand.size;
-    word = queues.others (completion_frame (length old.memory)) (let many = own.sizes.size.0 in let size = sound.ready.stand.size in λ same. absurd (omega (arith, size, many, same)));
+    size = ready.stand.size ∙ ap (λ (d : DriverState). length d.owners) queues.driver ∙ sym invariants.ready.stand.size;
+    word = queues.others (completion_frame (length old.memory)) (let many = own.sizes.size.0 in let size = invariants.ready.stand.size in λ same. absurd (omega (arith, size, many, same)));
   }
 
   same_devices : new.driver.devices ≡ old.driver.devices
@@ -147,25 +147,25 @@ module _ (old new : Parts) (events : ℕ) (sound : AreSound old events) (own : I
     traffic = traffic_now;
   }
 
-  pub restarted_sound : AreSound new events
+  pub restarted_sound : PartsInvariant new events
   restarted_sound = record {
     ready = ready;
-    started = ap (λ (d : DriverState). d.started) queues.driver ∙ sound.started;
+    started = ap (λ (d : DriverState). d.started) queues.driver ∙ invariants.started;
     unmarked = emptied.unmarked;
-    size = emptied.frames ∙ sound.size ∙ sym leaves.size;
-    known = same_known old new devices fabric (ap known_ids same_devices) (λ d. ap (λ (ds : List Known). has_trusted_cache ds d) same_devices) (ap (λ (f : Flights). row_ids f.rows) emptied.flights) sound.known;
-    small = subst (λ (d : DriverState). d.given < 2 ^ 32) (sym queues.driver) sound.small;
-    counted = subst (λ (f : Flights). f.so_far ≤ events) (sym emptied.flights) sound.counted;
-    serials = subst (λ (s : OpenSlots). s.last ≤ events) (sym emptied.slots) sound.serials;
-    epochs = same_epochs old new events sound devices;
-    contexts = λ id context at. ap (λ (ds : List Known). option_map context_for (owned_stages_of ds id)) same_devices ∙ sound.contexts id context (sym (emptied.contexts id) ∙ at);
-    copies = ∥∥₁_map sound.copies (restart_scene (values_of old) (values_of new) (known_ids old.driver.devices) commands restarts_all);
+    size = emptied.frames ∙ invariants.size ∙ sym leaves.size;
+    known = same_known old new devices fabric (ap known_ids same_devices) (λ d. ap (λ (ds : List Known). has_trusted_cache ds d) same_devices) (ap (λ (f : Flights). row_ids f.rows) emptied.flights) invariants.known;
+    small = subst (λ (d : DriverState). d.given < 2 ^ 32) (sym queues.driver) invariants.small;
+    counted = subst (λ (f : Flights). f.so_far ≤ events) (sym emptied.flights) invariants.counted;
+    serials = subst (λ (s : OpenSlots). s.last ≤ events) (sym emptied.slots) invariants.serials;
+    epochs = same_epochs old new events invariants devices;
+    contexts = λ id context at. ap (λ (ds : List Known). option_map context_for (owned_stages_of ds id)) same_devices ∙ invariants.contexts id context (sym (emptied.contexts id) ∙ at);
+    copies = ∥∥₁_map invariants.copies (restart_scene (values_of old) (values_of new) (known_ids old.driver.devices) commands restarts_all);
   }
 
-pub keeps_restarted : (old new : Parts) (events : ℕ) (told : Outcome) → AreSound old events → IsSoundDriver old.driver → IsReady new.driver new.memory (registers_of new.iommu)
-    → RestartsQueue old told new → AreSound new events
-keeps_restarted old new events told sound own ready restarts = by restarts.answer restarts.call
+pub keeps_restarted : (old new : Parts) (events : ℕ) (reply : Outcome) → PartsInvariant old events → DriverInvariant old.driver → IsReady new.driver new.memory (registers_of new.iommu)
+    → RestartsQueue old reply new → PartsInvariant new events
+keeps_restarted old new events reply invariants own ready restarts = by restarts.answer restarts.call
   where
-    by : (answer : Result (Unit {0}) Refusal) → AnswersRestart mmio old.driver old.memory old.iommu answer new.driver new.memory new.iommu → AreSound new events
-    by (Ok done) (admitted, queues) = restarted_sound old new events sound own ready queues restarts.devices restarts.fabric
-    by (Err why) (refused, driver_stays, memory_stays, iommu_stays) = rw (driver_stays, memory_stays, iommu_stays, restarts.devices, restarts.fabric) sound
+    by : (answer : Result (Unit {0}) Refusal) → AnswersRestart mmio old.driver old.memory old.iommu answer new.driver new.memory new.iommu → PartsInvariant new events
+    by (Ok done) (admitted, queues) = restarted_sound old new events invariants own ready queues restarts.devices restarts.fabric
+    by (Err why) (refused, driver_stays, memory_stays, iommu_stays) = rw (driver_stays, memory_stays, iommu_stays, restarts.devices, restarts.fabric) invariants

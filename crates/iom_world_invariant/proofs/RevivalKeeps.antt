@@ -1,4 +1,4 @@
--- What stays true of a world when a device that was cut off is attached again.
+-- What stays true of a world when a device that was quarantined is attached again.
 use Rattle.std.proofs.Common.{suc, ◌≡◌, ◌≢◌, ◌^◌, ◌<◌, ◌≤◌, ◌∙◌, inl, inr, is_some, ℕ, true, false, List, [], length, Option, Some, None, Result, Ok, Err, slice_get, refl, sym, ap, subst, arith}
 use Rattle.std.specs.Option.{option_map}
 use Rattle.std.proofs.Math.Logic.{∥∥₁_map}
@@ -31,28 +31,28 @@ use Rattle.iom_world_effects.specs.Parts.{Parts}
 use Rattle.iom_world_effects.specs.Read.{values_of, accesses_of}
 use Rattle.iom_device.specs.Calls.{reset_of, with_reset, devices_revived}
 use Rattle.iom_world_effects.specs.Recovery.{RevivesDevice}
-use Rattle.iom_world_effects.specs.Sound.{AreSound, known_ids}
+use Rattle.iom_world_effects.specs.Invariant.{PartsInvariant, known_ids}
 use Rattle.iom_world_effects.specs.Traffic.{entries_in, traffic_of}
 use Rattle.iom_world_effects.proofs.CacheSets.{kind_set}
 use Rattle.iom_world_effects.proofs.CachedLemmas.{spaces_owned}
 use Rattle.iom_world_effects.proofs.DeviceLemmas.{shown_set, trusted_set, ids_set, attachment_set, attachment_other}
 use Rattle.iom_world_invariant.proofs.DriverKeeps.{not_false}
-use Rattle.iom_world_effects.proofs.DriverLemmas.{IsSoundDriver}
+use Rattle.iom_world_effects.proofs.DriverLemmas.{DriverInvariant}
 use Rattle.iom_world_invariant.proofs.HungKeeps.{hung_keeps}
 use Rattle.iom_world_effects.proofs.PresentLemmas.{kind_absent, known_absent}
 use Rattle.iom_world_invariant.proofs.ResetKeeps.{found_there, reset_epochs, reset_others, reset_under_way, reset_known}
 use Rattle.iom_world_effects.proofs.RevivalScenes.{RevivesOne, revival_scene}
-use Rattle.iom_world_effects.proofs.SoundLemmas.{same_completed, LeavesWord, same_iommu, sound_from, same_waiting, none_at}
+use Rattle.iom_world_effects.proofs.InvariantLemmas.{same_completed, LeavesWord, same_iommu, sound_from, same_waiting, none_at}
 
 -- a device that the driver knows is there
-known_there : (parts : Parts) (events id : ℕ) → AreSound parts events → has_device parts.driver.devices id ≡ true → is_some (device_with parts.devices id) ≡ true
-known_there parts events id sound there = by (kind_in parts.devices id) refl
+known_there : (parts : Parts) (events id : ℕ) → PartsInvariant parts events → has_device parts.driver.devices id ≡ true → is_some (device_with parts.devices id) ≡ true
+known_there parts events id invariants there = by (kind_in parts.devices id) refl
   where
     by : (kind : Option DeviceKind) → kind_in parts.devices id ≡ kind → is_some (device_with parts.devices id) ≡ true
     by (Some kind) is = found_there parts.devices id kind is
-    by None is = absurd (false≢true (sym (known_absent parts.driver.devices parts.devices id sound.known.driver (kind_absent parts.devices id is)) ∙ there))
+    by None is = absurd (false≢true (sym (known_absent parts.driver.devices parts.devices id invariants.known.driver (kind_absent parts.devices id is)) ∙ there))
 
-module _ (old new : Parts) (events id : ℕ) (sound : AreSound old events) (own : IsSoundDriver old.driver) (admitted : NoneApplies (why_not_revive old.driver id))
+module _ (old new : Parts) (events id : ℕ) (invariants : PartsInvariant old events) (own : DriverInvariant old.driver) (admitted : NoneApplies (why_not_revive old.driver id))
     (writes : WritesContextAgain old.driver old.memory id new.driver new.memory) where
   -- a frame that is no page of the directory keeps its bytes
   again_keeps : (f : ℕ) → ((g : ℕ) → HasPage old.memory (root_level old.driver.levels) (directory_frame (length old.memory)) g → f ≢ g) → slice_get new.memory f ≡ slice_get old.memory f
@@ -65,10 +65,10 @@ module _ (old new : Parts) (events id : ℕ) (sound : AreSound old events) (own 
       (λ lower g le at. (refl, apart g (lower, id, le, below, at), tt)) tt tt tt
 
   pub again_keeps_ring : slice_get new.memory (command_frame (length old.memory)) ≡ slice_get old.memory (command_frame (length old.memory))
-  again_keeps_ring = again_keeps (command_frame (length old.memory)) (λ g page same. ((sound.ready.stand.directory sound.started).own g page).no_command (sym same))
+  again_keeps_ring = again_keeps (command_frame (length old.memory)) (λ g page same. ((invariants.ready.stand.directory invariants.started).own g page).no_command (sym same))
 
   pub again_keeps_word : slice_get new.memory (completion_frame (length old.memory)) ≡ slice_get old.memory (completion_frame (length old.memory))
-  again_keeps_word = again_keeps (completion_frame (length old.memory)) (λ g page same. ((sound.ready.stand.directory sound.started).own g page).no_completion (sym same))
+  again_keeps_word = again_keeps (completion_frame (length old.memory)) (λ g page same. ((invariants.ready.stand.directory invariants.started).own g page).no_completion (sym same))
 
   pub revival_plugged : has_device old.driver.devices id ≡ true
   revival_plugged = not_false (has_device old.driver.devices id) (none_at (why_not_revive old.driver id) 1 _ NoSuchDevice refl admitted)
@@ -90,13 +90,13 @@ module _ (old new : Parts) (events id : ℕ) (sound : AreSound old events) (own 
         | inr ne ↦ ap owned_stages (attachment_other old.driver.devices id other (Attached writes.stage) ne.1)
       ]
 
-module _ (old new : Parts) (events id : ℕ) (sound : AreSound old events) (own : IsSoundDriver old.driver) (ready : IsReady new.driver new.memory (registers_of new.iommu))
+module _ (old new : Parts) (events id : ℕ) (invariants : PartsInvariant old events) (own : DriverInvariant old.driver) (ready : IsReady new.driver new.memory (registers_of new.iommu))
     (below : epoch_in old.devices id < events) (admitted : NoneApplies (why_not_revive old.driver id)) (writes : WritesContextAgain old.driver old.memory id new.driver new.memory)
     (devices : new.devices ≡ with_reset old.devices id) (iommu : new.iommu ≡ old.iommu) (fabric : new.fabric ≡ old.fabric) where
   leaves : LeavesWord old new
   leaves = record {
-    size = ready.stand.size ∙ ap (λ (d : DriverState). length d.marks) writes.driver ∙ sym sound.ready.stand.size;
-    word = again_keeps_word old new events id sound own admitted writes;
+    size = ready.stand.size ∙ ap (λ (d : DriverState). length d.owners) writes.driver ∙ sym invariants.ready.stand.size;
+    word = again_keeps_word old new events id invariants own admitted writes;
   }
 
   revives_one : RevivesOne (values_of old) (values_of new) id (entries_in (with_reset old.devices id))
@@ -105,17 +105,17 @@ module _ (old new : Parts) (events id : ℕ) (sound : AreSound old events) (own 
     mode = writes.stage.mode;
     ats = writes.stage.ats;
     cut_off = ap shown_attachment writes.cut_off;
-    done = ticket_done old new events id sound own admitted writes;
+    done = ticket_done old new events id invariants own admitted writes;
     attached = λ d. ap (λ (s : DriverState). shown_attachment (attachment_by_id s.devices d)) writes.driver
-        ∙ shown_set old.driver.devices id (Attached writes.stage) (revival_plugged old new events id sound own admitted writes) d;
-    others = reset_others old.devices id sound.known.own_ids (known_there old events id sound (revival_plugged old new events id sound own admitted writes));
+        ∙ shown_set old.driver.devices id (Attached writes.stage) (revival_plugged old new events id invariants own admitted writes) d;
+    others = reset_others old.devices id invariants.known.own_ids (known_there old events id invariants (revival_plugged old new events id invariants own admitted writes));
     traffic = ap (λ (ds : List Device). traffic_of ds new.fabric (slots_of new.iommu)) devices
         ∙ ap (λ fs. traffic_of (with_reset old.devices id) fs (slots_of new.iommu)) fabric
         ∙ ap (λ i. traffic_of (with_reset old.devices id) old.fabric (slots_of i)) iommu
-        ∙ reset_under_way old.devices old.fabric (slots_of old.iommu) id sound.known.caches;
+        ∙ reset_under_way old.devices old.fabric (slots_of old.iommu) id invariants.known.caches;
     ledger = ap (λ (d : DriverState). d.ledger) writes.driver;
     address = ap completion_address leaves.size;
-    waiting = same_waiting old new events sound (ap registers_of iommu) (again_keeps_ring old new events id sound own admitted writes);
+    waiting = same_waiting old new events invariants (ap registers_of iommu) (again_keeps_ring old new events id invariants own admitted writes);
     completed = same_completed old.memory new.memory leaves.size leaves.word;
     last_fence = ap (λ (d : DriverState). last_fence d) writes.driver;
     fences = ap (λ (d : DriverState). fence_of d) writes.driver;
@@ -125,29 +125,29 @@ module _ (old new : Parts) (events id : ℕ) (sound : AreSound old events) (own 
     in_flight = ap (λ i. accesses_of (flights_of i).rows) iommu;
     kinds = λ d. ap (λ (ds : List Device). kind_in ds d) devices ∙ kind_set old.devices id (reset_of (cache_of old.devices id)) d;
     contexts = λ d is. ap (λ i. is_some (contexts_of i d)) (sym iommu) ∙ is;
-    spaces = spaces_owned old.driver.devices new.driver.devices (owned_still old new events id sound own admitted writes);
+    spaces = spaces_owned old.driver.devices new.driver.devices (owned_still old new events id invariants own admitted writes);
     translations = λ key translation at. ap (λ i. translations_of i key) (sym iommu) ∙ at;
     fence_snapshot = ap fence_snapshot_of iommu;
     stopped = ap (λ i. (command_status (registers_of i)).cmd_to) iommu;
   }
 
-  pub revived_sound : AreSound new events
+  pub revived_sound : PartsInvariant new events
   revived_sound =
-      sound_from old new events sound leaves (same_iommu old new iommu) (ap (λ (d : DriverState). d.started) writes.driver) ready
-      (reset_known old new id sound.known devices
+      sound_from old new events invariants leaves (same_iommu old new iommu) (ap (λ (d : DriverState). d.started) writes.driver) ready
+      (reset_known old new id invariants.known devices
       (ap (λ (d : DriverState). known_ids d.devices) writes.driver ∙ ids_set old.driver.devices id (Attached writes.stage))
       (λ d. ap (λ (s : DriverState). has_trusted_cache s.devices d) writes.driver ∙ trusted_set old.driver.devices id (Attached writes.stage) d) iommu fabric)
-      (λ d. subst (λ (ds : List Device). epoch_in ds d ≤ events) (sym devices) (reset_epochs old.devices events id sound.known.caches sound.epochs below d))
-      (subst (λ (d : DriverState). d.given < 2 ^ 32) (sym writes.driver) sound.small)
+      (λ d. subst (λ (ds : List Device). epoch_in ds d ≤ events) (sym devices) (reset_epochs old.devices events id invariants.known.caches invariants.epochs below d))
+      (subst (λ (d : DriverState). d.given < 2 ^ 32) (sym writes.driver) invariants.small)
       (λ other context cached.
-      ap (option_map context_for) (owned_still old new events id sound own admitted writes other) ∙ sound.contexts other context (ap (λ i. contexts_of i other) (sym iommu) ∙ cached))
-      (∥∥₁_map sound.copies (revival_scene (values_of old) (values_of new) id (entries_in (with_reset old.devices id)) revives_one))
+      ap (option_map context_for) (owned_still old new events id invariants own admitted writes other) ∙ invariants.contexts other context (ap (λ i. contexts_of i other) (sym iommu) ∙ cached))
+      (∥∥₁_map invariants.copies (revival_scene (values_of old) (values_of new) id (entries_in (with_reset old.devices id)) revives_one))
 
 -- ALL STAYS TRUE
-pub keeps_revived : (old new : Parts) (events id : ℕ) (told : Outcome) → AreSound old events → IsSoundDriver old.driver → IsReady new.driver new.memory (registers_of new.iommu)
-    → epoch_in old.devices id < events → RevivesDevice old id told new → AreSound new events
-keeps_revived old new events id told sound own ready below revives = by revives.answer revives.call revives.devices
+pub keeps_revived : (old new : Parts) (events id : ℕ) (reply : Outcome) → PartsInvariant old events → DriverInvariant old.driver → IsReady new.driver new.memory (registers_of new.iommu)
+    → epoch_in old.devices id < events → RevivesDevice old id reply new → PartsInvariant new events
+keeps_revived old new events id reply invariants own ready below revives = by revives.answer revives.call revives.devices
   where
-    by : (answer : Result (Unit {0}) Refusal) → AnswersRevive old.driver old.memory id answer new.driver new.memory → new.devices ≡ devices_revived answer old.devices id → AreSound new events
-    by (Ok done) (admitted, writes) devices = revived_sound old new events id sound own ready below admitted writes devices revives.iommu revives.fabric
-    by (Err why) (refused, driver_stays, memory_stays) devices = rw (memory_stays, revives.iommu, driver_stays, devices, revives.fabric) sound
+    by : (answer : Result (Unit {0}) Refusal) → AnswersRevive old.driver old.memory id answer new.driver new.memory → new.devices ≡ devices_revived answer old.devices id → PartsInvariant new events
+    by (Ok done) (admitted, writes) devices = revived_sound old new events id invariants own ready below admitted writes devices revives.iommu revives.fabric
+    by (Err why) (refused, driver_stays, memory_stays) devices = rw (memory_stays, revives.iommu, driver_stays, devices, revives.fabric) invariants

@@ -18,13 +18,13 @@ use Rattle.iom_tlb.specs.declared.trans_cache.Translation.{Translation}
 use Rattle.iom_world_effects.specs.Parts.{Parts}
 use Rattle.iom_world_effects.specs.Read.{values_of}
 use Rattle.iom_world_effects.specs.Scenes.{copy_of, IsSceneOf}
-use Rattle.iom_world_effects.specs.Sound.{AreSound}
+use Rattle.iom_world_effects.specs.Invariant.{PartsInvariant}
 use Rattle.iom_world_effects.specs.ThroughCache.{DeviceAsksThroughCache, TriesCache, FindsFrame, cached_frame}
 use Rattle.iom_world_effects.specs.Traffic.{Traffic}
 use Rattle.iom_world_effects.specs.Devices.{shown_attachment}
 use Rattle.iom_world_effects.proofs.AtsContexts.{finds_none}
 use Rattle.iom_world_invariant.proofs.ContextKeeps.{KeepsAttached, keeps_attached}
-use Rattle.iom_world_effects.proofs.DriverLemmas.{IsSoundDriver}
+use Rattle.iom_world_effects.proofs.DriverLemmas.{DriverInvariant}
 use Rattle.iom_world_effects.proofs.EntryMay.{HasEntry, IsUsable, found_entry, usable_or, used_by, entry_page}
 use Rattle.iom_world_effects.proofs.PartsLemmas.{StaysReady, StaysReported}
 use Rattle.iom_world_invariant.proofs.RequestKeeps.{cached_so, keeps_accepted, keeps_refused, keeps_same}
@@ -33,20 +33,20 @@ use Rattle.iom_world_effects.proofs.ServedLemmas.{ServiceLaws, cause_at}
 use Rattle.iom_world_invariant.proofs.TranslatedKeeps.{never_accepted}
 
 -- an access that is accepted is on the frame of the entry
-pub accepted_frame : ServiceLaws → (old new : Parts) (events id : ℕ) (access : Access) (frame number : ℕ) → AreSound old events → IsSoundDriver old.driver
+pub accepted_frame : ServiceLaws → (old new : Parts) (events id : ℕ) (access : Access) (frame number : ℕ) → PartsInvariant old events → DriverInvariant old.driver
     → HasEntry old.devices id (page_of access) access.kind frame → IsUsable old id → (call : AcceptsTranslated old.memory old.iommu id (at_frame frame access) number new.iommu) → call.frame ≡ frame
-accepted_frame laws old new events id access frame number sound own entry usable call =
-    ok_frame (record { frame = call.frame; rights = call.rights; level = call.level }) _ (call.served.0 ∙ entry_page old events id access frame sound own entry usable laws)
+accepted_frame laws old new events id access frame number invariants own entry usable call =
+    ok_frame (record { frame = call.frame; rights = call.rights; level = call.level }) _ (call.served.0 ∙ entry_page old events id access frame invariants own entry usable laws)
   where
     ok_frame : (x y : Translation) → ◌≡◌ {A = Result Translation WalkFault} (Ok x) (Ok y) → x.frame ≡ y.frame
     ok_frame x y same = cc
 
-module _ (laws : ServiceLaws) (old new : Parts) (events id : ℕ) (access : Access) (told : Outcome) (sound : AreSound old events) (own : IsSoundDriver old.driver) (stays : StaysReady old.driver)
+module _ (laws : ServiceLaws) (old new : Parts) (events id : ℕ) (access : Access) (answer : Outcome) (invariants : PartsInvariant old events) (own : DriverInvariant old.driver) (unchanged : StaysReady old.driver)
     (reported : StaysReported old.driver) (below : (flights_of old.iommu).so_far < events) where
-  stays_as : new ≡ old → AreSound new events
-  stays_as same = subst (λ parts. AreSound parts events) (sym same) sound
+  stays_as : new ≡ old → PartsInvariant new events
+  stays_as same = subst (λ parts. PartsInvariant parts events) (sym same) invariants
 
-  -- a context that is cached of a device that is cut off stays
+  -- a context that is cached of a device that is quarantined stays
   used_still : IsUsable old id → KeepsAttached (attachment_by_id old.driver.devices id) id (contexts_of old.iommu) (contexts_of new.iommu) → (scene : Scene)
       → IsSceneOf (cached_so (values_of old) (λ d. is_some (contexts_of new.iommu d)) (translations_of new.iommu)) scene → IsInUse scene id
   used_still usable keeps scene shown cut_off = by keeps
@@ -65,37 +65,37 @@ module _ (laws : ServiceLaws) (old new : Parts) (events id : ℕ) (access : Acce
   ))
 
   by_reply : (frame : ℕ) → HasEntry old.devices id (page_of access) access.kind frame → new.driver ≡ old.driver → new.devices ≡ old.devices → new.fabric ≡ old.fabric
-      → (reply : Reply) → AnswersTranslated old.memory old.iommu id (at_frame frame access) reply new.memory new.iommu → AreSound new events
+      → (reply : Reply) → AnswersTranslated old.memory old.iommu id (at_frame frame access) reply new.memory new.iommu → PartsInvariant new events
   by_reply frame entry driver devices fabric (Accepted number) call = elim (usable_or old id) [
     | inl usable ↦
-        keeps_accepted laws old new events id (at_frame frame access) sound own stays reported driver devices fabric below (page_of access) (record { frame = frame; rights = entry.rights; level = 0 })
-        call.1 number call.0 (accepted_frame laws old new events id access frame number sound own entry usable call.0) entry.allowed
+        keeps_accepted laws old new events id (at_frame frame access) invariants own unchanged reported driver devices fabric below (page_of access) (record { frame = frame; rights = entry.rights; level = 0 })
+        call.1 number call.0 (accepted_frame laws old new events id access frame number invariants own entry usable call.0) entry.allowed
         (inl (λ key translation at. sym (call.0.served.1 key) ∙ at))
-        (source frame entry usable (keeps_attached laws old events sound own id (contexts_of new.iommu) call.0.contexts))
+        (source frame entry usable (keeps_attached laws old events invariants own id (contexts_of new.iommu) call.0.contexts))
     | inr (ticket, stage, is, none) ↦
-        absurd (never_accepted old id (at_frame frame access) number new (cause_at old.driver.levels id) (finds_none laws old events sound own id (ap attached_stages is) none) call.0)
+        absurd (never_accepted old id (at_frame frame access) number new (cause_at old.driver.levels id) (finds_none laws old events invariants own id (ap attached_stages is) none) call.0)
   ]
   by_reply frame entry driver devices fabric Busy call =
-      keeps_same laws old new events id (at_frame frame access) sound own stays reported driver devices fabric below call.3 call.2
+      keeps_same laws old new events id (at_frame frame access) invariants own unchanged reported driver devices fabric below call.3 call.2
   by_reply frame entry driver devices fabric BadSpan call =
-      keeps_same laws old new events id (at_frame frame access) sound own stays reported driver devices fabric below call.2 call.1
+      keeps_same laws old new events id (at_frame frame access) invariants own unchanged reported driver devices fabric below call.2 call.1
   by_reply frame entry driver devices fabric (Fault cause) call =
-      keeps_refused laws old new events id (at_frame frame access) sound own stays reported driver devices fabric below cause call call.served.1
+      keeps_refused laws old new events id (at_frame frame access) invariants own unchanged reported driver devices fabric below cause call call.served.1
 
-  by_frame : (found : Option ℕ) → cached_frame old id access ≡ found → FindsFrame found old id access told new → AreSound new events
+  by_frame : (found : Option ℕ) → cached_frame old id access ≡ found → FindsFrame found old id access answer new → PartsInvariant new events
   by_frame None is misses = stays_as misses.1
   by_frame (Some frame) is answered =
       by_reply frame (found_entry old.devices id (page_of access) access.kind frame is) answered.driver answered.devices answered.fabric answered.reply answered.call
 
-  tries : TriesCache old id access told new → AreSound new events
+  tries : TriesCache old id access answer new → PartsInvariant new events
   tries (inl outside) = stays_as outside.2
   tries (inr (inl full)) = stays_as full.3
   tries (inr (inr finds)) = by_frame (cached_frame old id access) refl finds.2
 
-pub keeps_through_cache : (can : DeviceKind → Bool) → ServiceLaws → (old new : Parts) (events id : ℕ) (access : Access) (told : Outcome) → AreSound old events → IsSoundDriver old.driver → StaysReady old.driver
-    → StaysReported old.driver → (flights_of old.iommu).so_far < events → DeviceAsksThroughCache can old id access told new → AreSound new events
-keeps_through_cache can laws old new events id access told sound own stays reported below asks = elim asks [
-  | inl unknown ↦ subst (λ parts. AreSound parts events) (sym unknown.same) sound
-  | inr (inl unable) ↦ subst (λ parts. AreSound parts events) (sym unable.same) sound
-  | inr (inr tried) ↦ tries laws old new events id access told sound own stays reported below tried.1
+pub keeps_through_cache : (can : DeviceKind → Bool) → ServiceLaws → (old new : Parts) (events id : ℕ) (access : Access) (answer : Outcome) → PartsInvariant old events → DriverInvariant old.driver → StaysReady old.driver
+    → StaysReported old.driver → (flights_of old.iommu).so_far < events → DeviceAsksThroughCache can old id access answer new → PartsInvariant new events
+keeps_through_cache can laws old new events id access answer invariants own unchanged reported below asks = elim asks [
+  | inl unknown ↦ subst (λ parts. PartsInvariant parts events) (sym unknown.same) invariants
+  | inr (inl unable) ↦ subst (λ parts. PartsInvariant parts events) (sym unable.same) invariants
+  | inr (inr tried) ↦ tries laws old new events id access answer invariants own unchanged reported below tried.1
 ]

@@ -16,17 +16,17 @@ use Rattle.iom_machine.specs.declared.state.State.{State}
 use Rattle.iom_machine.specs.Machine as machine
 use Rattle.iom_registers.specs.declared.registers.Registers.{Registers}
 use Rattle.iom_registers.specs.Queues.{with_cmd_to}
-use Rattle.iom_world_effects.specs.Stays.{waiting_in}
+use Rattle.iom_world_effects.specs.Unchanged.{waiting_in}
 use Rattle.iom_iommu.specs.OwnIommu.{Iommu}
 use Rattle.iom_world_effects.specs.Parts.{Parts}
 use Rattle.iom_world_effects.specs.Read.{values_of}
 use Rattle.iom_world_effects.specs.Recovery.{TimesOutFence}
 use Rattle.iom_world_effects.specs.Scenes.{Values, HasFaithfulScene}
 use Rattle.iom_world_effects.specs.Shows.{PartsShow}
-use Rattle.iom_world_effects.specs.Sound.{AreSound}
+use Rattle.iom_world_effects.specs.Invariant.{PartsInvariant}
 use Rattle.iom_world_effects.specs.Traffic.{Traffic}
 use Rattle.iom_world_effects.proofs.PartsLemmas.{parts_are}
-use Rattle.iom_world_effects.proofs.StayLemmas.{shows_same}
+use Rattle.iom_world_effects.proofs.UnchangedLemmas.{shows_same}
 
 -- the values once a fence was given up
 abbrev pub stopped_values : Values → Values
@@ -85,57 +85,57 @@ ready_still d memory r ready = record {
   directory = λ started. let names = ready.directory started in record { mode = names.mode; root = names.root };
 }
 
-stopped_sound : (parts : Parts) (events : ℕ) → AreSound parts events → AreSound (stopped_parts parts) events
-stopped_sound parts events sound = record {
-  ready = ready_still parts.driver parts.memory (registers_of parts.iommu) sound.ready;
-  started = sound.started;
-  unmarked = record { loaded = sound.unmarked.loaded; legal = sound.unmarked.legal };
-  size = sound.size;
+stopped_sound : (parts : Parts) (events : ℕ) → PartsInvariant parts events → PartsInvariant (stopped_parts parts) events
+stopped_sound parts events invariants = record {
+  ready = ready_still parts.driver parts.memory (registers_of parts.iommu) invariants.ready;
+  started = invariants.started;
+  unmarked = record { loaded = invariants.unmarked.loaded; legal = invariants.unmarked.legal };
+  size = invariants.size;
   known = record {
-    own_ids = sound.known.own_ids;
-    driver = sound.known.driver;
-    iommu = sound.known.iommu;
-    caches = sound.known.caches;
-    trusted = sound.known.trusted;
-    askers = sound.known.askers;
+    own_ids = invariants.known.own_ids;
+    driver = invariants.known.driver;
+    iommu = invariants.known.iommu;
+    caches = invariants.known.caches;
+    trusted = invariants.known.trusted;
+    askers = invariants.known.askers;
   };
-  small = sound.small;
-  counted = sound.counted;
-  serials = sound.serials;
-  epochs = sound.epochs;
-  contexts = sound.contexts;
-  copies = ∥∥₁_map sound.copies
+  small = invariants.small;
+  counted = invariants.counted;
+  serials = invariants.serials;
+  epochs = invariants.epochs;
+  contexts = invariants.contexts;
+  copies = ∥∥₁_map invariants.copies
       (timeout_scene (values_of parts) (values_of (stopped_parts parts)) (ap (λ l. record (stopped_values (values_of parts)) { waiting = l }) (same_list parts.memory (registers_of parts.iommu))));
 }
 
 -- the parts are the same, or those of a fence that was given up
-stopped_or_same : (old new : Parts) (told : Outcome) (answer : Bool) → TimesOutFence old told new → TimesFenceOut old.iommu answer new.iommu
+stopped_or_same : (old new : Parts) (reply : Outcome) (answer : Bool) → TimesOutFence old reply new → TimesFenceOut old.iommu answer new.iommu
     → new ≡ (if answer then stopped_parts old else old)
-stopped_or_same old new told true does call = parts_are new old.memory (timed_out old.iommu) old.driver old.devices old.fabric does.memory call.1 does.driver does.devices does.fabric
-stopped_or_same old new told false does call = parts_are new old.memory old.iommu old.driver old.devices old.fabric does.memory call.1 does.driver does.devices does.fabric
+stopped_or_same old new reply true effect call = parts_are new old.memory (timed_out old.iommu) old.driver old.devices old.fabric effect.memory call.1 effect.driver effect.devices effect.fabric
+stopped_or_same old new reply false effect call = parts_are new old.memory old.iommu old.driver old.devices old.fabric effect.memory call.1 effect.driver effect.devices effect.fabric
 
-pub keeps_timed_out : (old new : Parts) (events : ℕ) (told : Outcome) → AreSound old events → TimesOutFence old told new → AreSound new events
-keeps_timed_out old new events told sound does =
-    subst (λ (p : Parts). AreSound p events) (sym (stopped_or_same old new told does.answer does does.call)) (by does.answer)
+pub keeps_timed_out : (old new : Parts) (events : ℕ) (reply : Outcome) → PartsInvariant old events → TimesOutFence old reply new → PartsInvariant new events
+keeps_timed_out old new events reply invariants effect =
+    subst (λ (p : Parts). PartsInvariant p events) (sym (stopped_or_same old new reply effect.answer effect effect.call)) (by effect.answer)
   where
-    by : (answer : Bool) → AreSound (if answer then stopped_parts old else old) events
-    by true = stopped_sound old events sound
-    by false = sound
+    by : (answer : Bool) → PartsInvariant (if answer then stopped_parts old else old) events
+    by true = stopped_sound old events invariants
+    by false = invariants
 
 -- the same commands wait
-pub timeout_commands : (old new : Parts) (told : Outcome) → TimesOutFence old told new → waiting_in new ≡ waiting_in old
-timeout_commands old new told does = ap waiting_in (stopped_or_same old new told does.answer does does.call) ∙ by does.answer
+pub timeout_commands : (old new : Parts) (reply : Outcome) → TimesOutFence old reply new → waiting_in new ≡ waiting_in old
+timeout_commands old new reply effect = ap waiting_in (stopped_or_same old new reply effect.answer effect effect.call) ∙ by effect.answer
   where
     by : (answer : Bool) → waiting_in (if answer then stopped_parts old else old) ≡ waiting_in old
     by true = same_list old.memory (registers_of old.iommu)
     by false = refl
 
 -- THE MACHINE SEES NOTHING of it
-pub timeout_step : (old new : Parts) (told : Outcome) → TimesOutFence old told new → (state : State) → PartsShow old state
-    → machine.TimesOut state told state × PartsShow new state
-timeout_step old new told does state shows = (
-  subst (λ t. machine.TimesOut state t state) (sym does.told_so) (by does.answer),
-  shows_same old new state does.memory (flights does.answer does.call) does.devices does.driver shows,
+pub timeout_step : (old new : Parts) (reply : Outcome) → TimesOutFence old reply new → (state : State) → PartsShow old state
+    → machine.TimesOut state reply state × PartsShow new state
+timeout_step old new reply effect state shows = (
+  subst (λ t. machine.TimesOut state t state) (sym effect.reply_is) (by effect.answer),
+  shows_same old new state effect.memory (flights effect.answer effect.call) effect.devices effect.driver shows,
 )
   where
     by : (answer : Bool) → machine.TimesOut state (if answer then outcome.TimedOut else outcome.NoEffect) state

@@ -29,9 +29,9 @@ use Rattle.iom_device.specs.Caches.{kind_in}
 use Rattle.iom_world_effects.specs.Devices.{shown_attachment}
 use Rattle.iom_world_effects.specs.Parts.{Parts}
 use Rattle.iom_world_effects.specs.Requests.{AsksTranslated}
-use Rattle.iom_world_effects.specs.Sound.{AreSound}
+use Rattle.iom_world_effects.specs.Invariant.{PartsInvariant}
 use Rattle.iom_world_effects.proofs.AtsContexts.{FindsAts, finds_ats}
-use Rattle.iom_world_effects.proofs.DriverLemmas.{IsSoundDriver}
+use Rattle.iom_world_effects.proofs.DriverLemmas.{DriverInvariant}
 use Rattle.iom_world_effects.proofs.PartsLemmas.{StaysReady, StaysReported}
 use Rattle.iom_world_invariant.proofs.RequestKeeps.{keeps_refused, keeps_same}
 use Rattle.iom_world_effects.proofs.ServedLemmas.{ServiceLaws, cause_at}
@@ -44,13 +44,13 @@ forges_uncached Block is = absurd (false≢true is)
 forges_uncached CachedBlock is = absurd (false≢true is)
 
 -- and one without a cache was never attached with ATS
-pub uncached_plain : (parts : Parts) (events id : ℕ) (kind : DeviceKind) → AreSound parts events → kind_in parts.devices id ≡ Some kind → has_cache kind ≡ false
+pub uncached_plain : (parts : Parts) (events id : ℕ) (kind : DeviceKind) → PartsInvariant parts events → kind_in parts.devices id ≡ Some kind → has_cache kind ≡ false
     → has_ats (shown_attachment (attachment_by_id parts.driver.devices id)) ≡ false
-uncached_plain parts events id kind sound there uncached = by (has_ats (shown_attachment (attachment_by_id parts.driver.devices id))) refl
+uncached_plain parts events id kind invariants there uncached = by (has_ats (shown_attachment (attachment_by_id parts.driver.devices id))) refl
   where
     by : (b : Bool) → has_ats (shown_attachment (attachment_by_id parts.driver.devices id)) ≡ b → has_ats (shown_attachment (attachment_by_id parts.driver.devices id)) ≡ false
     by false is = is
-    by true is = absurd (not_there sound.copies (λ (scene, shown, facts).
+    by true is = absurd (not_there invariants.copies (λ (scene, shown, facts).
         false≢true (sym uncached ∙ sym (ap caches_translations (shown.kinds id ∙ there)) ∙ facts.order.cached id (ap has_ats (shown.attachments id) ∙ is))))
 
 -- the cause for which no context lets a request through that is of ATS
@@ -70,12 +70,12 @@ not_let_by (Leaving ticket stage) d id found plain_one (inr is) =
     (TransactionTypeDisallowed, is ∙ ap (λ (b : Bool). if b then Ok (context_for stage) else Err TransactionTypeDisallowed) plain_one, inl refl)
 
 -- WHAT A FORGED REQUEST FINDS
-pub not_let : ServiceLaws → (parts : Parts) (events id : ℕ) (kind : DeviceKind) → AreSound parts events → IsSoundDriver parts.driver → kind_in parts.devices id ≡ Some kind → forges kind ≡ true
+pub not_let : ServiceLaws → (parts : Parts) (events id : ℕ) (kind : DeviceKind) → PartsInvariant parts events → DriverInvariant parts.driver → kind_in parts.devices id ≡ Some kind → forges kind ≡ true
     → (cause : Cause) × (ats_context_for parts.memory (registers_of parts.iommu) (contexts_of parts.iommu) id ≡ Err cause)
     × IsNotLet (attachment_by_id parts.driver.devices id) parts.driver.levels id cause
-not_let laws parts events id kind sound own there able =
+not_let laws parts events id kind invariants own there able =
     not_let_by (attachment_by_id parts.driver.devices id) parts.driver id (ats_context_for parts.memory (registers_of parts.iommu) (contexts_of parts.iommu) id)
-    (uncached_plain parts events id kind sound there (forges_uncached kind able)) (finds_ats laws parts events sound own id)
+    (uncached_plain parts events id kind invariants there (forges_uncached kind able)) (finds_ats laws parts events invariants own id)
 
 -- so it is never accepted
 pub never_accepted : (old : Parts) (id : ℕ) (access : Access) (number : ℕ) (new : Parts) (cause : Cause)
@@ -87,20 +87,20 @@ never_accepted old id access number new cause found call =
     ok_err : (translation : Translation) (fault : WalkFault) → ◌≡◌ {A = Result Translation WalkFault} (Ok translation) (Err fault) → ⊥
     ok_err translation fault same = cc
 
-pub keeps_translated : ServiceLaws → (old new : Parts) (events id : ℕ) (access : Access) (told : Outcome) → AreSound old events → IsSoundDriver old.driver → StaysReady old.driver
-    → StaysReported old.driver → (flights_of old.iommu).so_far < events → AsksTranslated old id access told new → AreSound new events
-keeps_translated laws old new events id access told sound own stays reported below asks = elim asks [
-  | inl unknown ↦ subst (λ parts. AreSound parts events) (sym unknown.same) sound
-  | inr (inl unable) ↦ subst (λ parts. AreSound parts events) (sym unable.same) sound
+pub keeps_translated : ServiceLaws → (old new : Parts) (events id : ℕ) (access : Access) (answer : Outcome) → PartsInvariant old events → DriverInvariant old.driver → StaysReady old.driver
+    → StaysReported old.driver → (flights_of old.iommu).so_far < events → AsksTranslated old id access answer new → PartsInvariant new events
+keeps_translated laws old new events id access answer invariants own unchanged reported below asks = elim asks [
+  | inl unknown ↦ subst (λ parts. PartsInvariant parts events) (sym unknown.same) invariants
+  | inr (inl unable) ↦ subst (λ parts. PartsInvariant parts events) (sym unable.same) invariants
   | inr (inr answered) ↦
-      let found = not_let laws old events id answered.0.0 sound own answered.0.1 answered.0.2 in
+      let found = not_let laws old events id answered.0.0 invariants own answered.0.1 answered.0.2 in
       by found.0 found.1 answered.1.driver answered.1.devices answered.1.fabric answered.1.reply answered.1.call
 ]
   where
     by : (cause : Cause) → ats_context_for old.memory (registers_of old.iommu) (contexts_of old.iommu) id ≡ Err cause → new.driver ≡ old.driver → new.devices ≡ old.devices → new.fabric ≡ old.fabric
-        → (reply : Reply) → AnswersTranslated old.memory old.iommu id access reply new.memory new.iommu → AreSound new events
+        → (reply : Reply) → AnswersTranslated old.memory old.iommu id access reply new.memory new.iommu → PartsInvariant new events
     by why found driver devices fabric (Accepted number) call = absurd (never_accepted old id access number new why found call.0)
-    by why found driver devices fabric Busy call = keeps_same laws old new events id access sound own stays reported driver devices fabric below call.3 call.2
-    by why found driver devices fabric BadSpan call = keeps_same laws old new events id access sound own stays reported driver devices fabric below call.2 call.1
+    by why found driver devices fabric Busy call = keeps_same laws old new events id access invariants own unchanged reported driver devices fabric below call.3 call.2
+    by why found driver devices fabric BadSpan call = keeps_same laws old new events id access invariants own unchanged reported driver devices fabric below call.2 call.1
     by why found driver devices fabric (Fault cause) call =
-        keeps_refused laws old new events id access sound own stays reported driver devices fabric below cause call call.served.1
+        keeps_refused laws old new events id access invariants own unchanged reported driver devices fabric below cause call call.served.1

@@ -14,10 +14,10 @@ abbrev pub mark_back : (Option Owner → Bool) → Option Owner → Option Owner
 mark_back left mark = if left mark then None else mark
 
 -- frames with these marks are zero now, and all others as they were
-pub record GivesFramesBack (left : Option Owner → Bool) (marks : List (Option Owner)) (memory memory' : List (List ℕ)) : Type 0 where
+pub record GivesFramesBack (left : Option Owner → Bool) (owners : List (Option Owner)) (memory memory' : List (List ℕ)) : Type 0 where
   pub size : length memory' ≡ length memory
-  pub own : (n : ℕ) (mark : Option Owner) → slice_get marks n ≡ Some mark → left mark ≡ true → slice_get memory' n ≡ Some zeroed
-  pub others : (n : ℕ) (mark : Option Owner) → slice_get marks n ≡ Some mark → left mark ≡ false → slice_get memory' n ≡ slice_get memory n
+  pub own : (n : ℕ) (mark : Option Owner) → slice_get owners n ≡ Some mark → left mark ≡ true → slice_get memory' n ≡ Some zeroed
+  pub others : (n : ℕ) (mark : Option Owner) → slice_get owners n ≡ Some mark → left mark ≡ false → slice_get memory' n ≡ slice_get memory n
 
 zeros : empty_frame.bytes ≡ zeroed
 unfolding zeroed
@@ -42,14 +42,14 @@ module _ (left : Option Owner → Bool) (none : left None ≡ false) where
   owner_at (Some f) (Some m) same = let e : f.owner ≡ m = cc in ap Some (back_owner f ∙ ap (mark_back left) e)
 
   -- a frame that is nobody's now: it was given back, or was nobody's before
-  bytes_at : (n : ℕ) (marks : List (Option Owner)) (memory memory' : List (List ℕ)) → GivesFramesBack left marks memory memory'
-      → (f : Option Frame) (m : Option (Option Owner)) → slice_get marks n ≡ m → option_map (λ (frame : Frame). frame.owner) f ≡ m
+  bytes_at : (n : ℕ) (owners : List (Option Owner)) (memory memory' : List (List ℕ)) → GivesFramesBack left owners memory memory'
+      → (f : Option Frame) (m : Option (Option Owner)) → slice_get owners n ≡ m → option_map (λ (frame : Frame). frame.owner) f ≡ m
       → (m ≡ Some None → option_map (λ (frame : Frame). frame.bytes) f ≡ slice_get memory n)
       → option_map (mark_back left) m ≡ Some None → option_map (λ (frame : Frame). frame.bytes) (option_map back f) ≡ slice_get memory' n
-  bytes_at n marks memory memory' gives None None there same bytes free = cc
-  bytes_at n marks memory memory' gives None (Some m) there same bytes free = cc
-  bytes_at n marks memory memory' gives (Some f) None there same bytes free = cc
-  bytes_at n marks memory memory' gives (Some f) (Some m) there same bytes free =
+  bytes_at n owners memory memory' gives None None there same bytes free = cc
+  bytes_at n owners memory memory' gives None (Some m) there same bytes free = cc
+  bytes_at n owners memory memory' gives (Some f) None there same bytes free = cc
+  bytes_at n owners memory memory' gives (Some f) (Some m) there same bytes free =
       let e : f.owner ≡ m = cc in by (left m) refl
     where
       owns : f.owner ≡ m
@@ -58,15 +58,15 @@ module _ (left : Option Owner → Bool) (none : left None ≡ false) where
       by : (b : Bool) → left m ≡ b → option_map (λ (frame : Frame). frame.bytes) (option_map back (Some f)) ≡ slice_get memory' n
       by true gone =
           ap (λ b. Some (given_back b f).bytes) (ap left owns ∙ gone) ∙ ap Some zeros ∙ sym (gives.own n m there gone)
-      by false stays =
-          let nobody : m ≡ None = (let back_is : Some (if left m then None else m) ≡ Some None = free in (let k : (if left m then None else m) ≡ None = cc in sym (ap (λ b. if b then None else m) stays) ∙ k)) in
-          ap (λ b. Some (given_back b f).bytes) (ap left owns ∙ stays) ∙ bytes (ap Some nobody) ∙ sym (gives.others n m there stays)
+      by false unchanged =
+          let nobody : m ≡ None = (let back_is : Some (if left m then None else m) ≡ Some None = free in (let k : (if left m then None else m) ≡ None = cc in sym (ap (λ b. if b then None else m) unchanged) ∙ k)) in
+          ap (λ b. Some (given_back b f).bytes) (ap left owns ∙ unchanged) ∙ bytes (ap Some nobody) ∙ sym (gives.others n m there unchanged)
 
-  pub shows_given_back : (marks : List (Option Owner)) (memory memory' : List (List ℕ)) (frames : List Frame) → ShowsFrames memory marks frames → GivesFramesBack left marks memory memory'
-      → ShowsFrames memory' (map (mark_back left) marks) (map back frames)
-  shows_given_back marks memory memory' frames shows gives = record {
+  pub shows_given_back : (owners : List (Option Owner)) (memory memory' : List (List ℕ)) (frames : List Frame) → ShowsFrames memory owners frames → GivesFramesBack left owners memory memory'
+      → ShowsFrames memory' (map (mark_back left) owners) (map back frames)
+  shows_given_back owners memory memory' frames shows gives = record {
     size = length-map frames back ∙ shows.size ∙ sym gives.size;
-    owners = λ n. ap (option_map (λ (frame : Frame). frame.owner)) (slice_get-map back frames n) ∙ owner_at (slice_get frames n) (slice_get marks n) (shows.owners n) ∙ sym (slice_get-map (mark_back left) marks n);
+    same_owners = λ n. ap (option_map (λ (frame : Frame). frame.owner)) (slice_get-map back frames n) ∙ owner_at (slice_get frames n) (slice_get owners n) (shows.same_owners n) ∙ sym (slice_get-map (mark_back left) owners n);
     bytes = λ n free. ap (option_map (λ (frame : Frame). frame.bytes)) (slice_get-map back frames n)
-        ∙ bytes_at n marks memory memory' gives (slice_get frames n) (slice_get marks n) refl (shows.owners n) (λ nobody. shows.bytes n nobody) (sym (slice_get-map (mark_back left) marks n) ∙ free);
+        ∙ bytes_at n owners memory memory' gives (slice_get frames n) (slice_get owners n) refl (shows.same_owners n) (λ nobody. shows.bytes n nobody) (sym (slice_get-map (mark_back left) owners n) ∙ free);
   }

@@ -32,9 +32,9 @@ use Rattle.iom_world_effects.specs.Devices.{shown_device, shown_devices}
 use Rattle.iom_world_effects.specs.Messages.{with_sent}
 use Rattle.iom_world_effects.specs.Parts.{Parts}
 use Rattle.iom_world_effects.specs.Shows.{PartsShow}
-use Rattle.iom_world_effects.specs.Sound.{AreSound}
+use Rattle.iom_world_effects.specs.Invariant.{PartsInvariant}
 use Rattle.iom_world_effects.proofs.DiskPlaces.{replaced_has}
-use Rattle.iom_world_effects.proofs.DriverLemmas.{IsSoundDriver}
+use Rattle.iom_world_effects.proofs.DriverLemmas.{DriverInvariant}
 use Rattle.iom_world_refinement.proofs.EventLemmas.{no_access}
 use Rattle.iom_world_refinement.proofs.MessageSteps.{shows_fabric}
 use Rattle.iom_world_effects.proofs.PartsLemmas.{StaysReported}
@@ -88,12 +88,12 @@ shows_disk old new id disk state shows is same =
     })
 
 abbrev Inserted : (disk : ℕ) → State → Outcome → State → machine.Device → Type 0
-Inserted disk state told next device = Inserts disk state device told next
+Inserted disk state reply next device = Inserts disk state device reply next
 
-puts_step : (disks : List ℕ) (old new : Parts) (id disk : ℕ) (told : Outcome) (device : Device) → device_with old.devices id ≡ Some device → is_block_device device.kind ≡ true
-    → PutsDiskIn disks old device id disk told new → (state : State) → PartsShow old state → state.disks ≡ disks
-    → (next : State) × InsertsDisk disk state id told next × PartsShow new next
-puts_step disks old new id disk told device there able (inl (may, is_told, same)) state shows at_hand =
+puts_step : (disks : List ℕ) (old new : Parts) (id disk : ℕ) (reply : Outcome) (device : Device) → device_with old.devices id ≡ Some device → is_block_device device.kind ≡ true
+    → PutsDiskIn disks old device id disk reply new → (state : State) → PartsShow old state → state.disks ≡ disks
+    → (next : State) × InsertsDisk disk state id reply next × PartsShow new next
+puts_step disks old new id disk reply device there able (inl (may, is_told, same)) state shows at_hand =
     let is = found_with old id device there in
     let it = the_device old id device is there in
     let next = with_disk disk state (shown_device old.driver.devices (flights_of old.iommu).rows is.device) in (
@@ -103,7 +103,7 @@ puts_step disks old new id disk told device there able (inl (may, is_told, same)
           ((ap (λ (d : Device). d.has_disk) it ∙ may.0, ap (λ (ds : List ℕ). is_among ds disk) at_hand ∙ may.1), refl)),
       shows_disk old new id disk state shows is same,
     )
-puts_step disks old new id disk told device there able (inr (cannot, is_told, same)) state shows at_hand =
+puts_step disks old new id disk reply device there able (inr (cannot, is_told, same)) state shows at_hand =
     let is = found_with old id device there in
     let it = the_device old id device is there in (
       state,
@@ -113,40 +113,40 @@ puts_step disks old new id disk told device there able (inr (cannot, is_told, sa
       shows_same old new state same shows,
     )
 
-pub medium_step : (disks : List ℕ) (old new : Parts) (id disk : ℕ) (told : Outcome) → InsertsMedium disks old id disk told new → (state : State) → PartsShow old state → state.disks ≡ disks
-    → (next : State) × InsertsDisk disk state id told next × PartsShow new next
-medium_step disks old new id disk told (inl unknown) state shows at_hand =
-    (state, acts_absent is_block_device (Inserted disk state told state) old state id told shows.devices unknown.absent unknown.told_so, shows_same old new state unknown.same shows)
-medium_step disks old new id disk told (inr (inl unable)) state shows at_hand =
+pub medium_step : (disks : List ℕ) (old new : Parts) (id disk : ℕ) (reply : Outcome) → InsertsMedium disks old id disk reply new → (state : State) → PartsShow old state → state.disks ≡ disks
+    → (next : State) × InsertsDisk disk state id reply next × PartsShow new next
+medium_step disks old new id disk reply (inl unknown) state shows at_hand =
+    (state, acts_absent is_block_device (Inserted disk state reply state) old state id reply shows.devices unknown.absent unknown.reply_is, shows_same old new state unknown.same shows)
+medium_step disks old new id disk reply (inr (inl unable)) state shows at_hand =
     let is = found_kind old id unable.kind unable.there in (
       state,
-      acts_unable is_block_device (Inserted disk state told state) old state id told shows.devices is (found_can old id unable.kind false is unable.there unable.cannot) unable.told_so,
+      acts_unable is_block_device (Inserted disk state reply state) old state id reply shows.devices is (found_can old id unable.kind false is unable.there unable.cannot) unable.reply_is,
       shows_same old new state unable.same shows,
     )
-medium_step disks old new id disk told (inr (inr (device, is, puts))) state shows at_hand = puts_step disks old new id disk told device is.there is.able puts state shows at_hand
+medium_step disks old new id disk reply (inr (inr (device, is, puts))) state shows at_hand = puts_step disks old new id disk reply device is.there is.able puts state shows at_hand
 
 -- WHAT CHANGES NOTHING that the machine knows
 
 -- a queue is set
 abbrev IsSet : Layout → State → Outcome → machine.Device → Type 0
-IsSet layout state told device = MaySet layout told × (state ≡ state)
+IsSet layout state reply device = MaySet layout reply × (state ≡ state)
 
-pub queue_step : (old new : Parts) (id : ℕ) (layout : Layout) (told : Outcome) → SetsBlockQueue old id layout told new → (state : State) → PartsShow old state
-    → machine_steps.SetsQueue layout state id told state × PartsShow new state
-queue_step old new id layout told (inl unknown) state shows =
-    (acts_absent is_block_device (IsSet layout state told) old state id told shows.devices unknown.absent unknown.told_so, shows_same old new state unknown.same shows)
-queue_step old new id layout told (inr (inl unable)) state shows =
+pub queue_step : (old new : Parts) (id : ℕ) (layout : Layout) (reply : Outcome) → SetsBlockQueue old id layout reply new → (state : State) → PartsShow old state
+    → machine_steps.SetsQueue layout state id reply state × PartsShow new state
+queue_step old new id layout reply (inl unknown) state shows =
+    (acts_absent is_block_device (IsSet layout state reply) old state id reply shows.devices unknown.absent unknown.reply_is, shows_same old new state unknown.same shows)
+queue_step old new id layout reply (inr (inl unable)) state shows =
     let is = found_kind old id unable.kind unable.there in (
-      acts_unable is_block_device (IsSet layout state told) old state id told shows.devices is (found_can old id unable.kind false is unable.there unable.cannot) unable.told_so,
+      acts_unable is_block_device (IsSet layout state reply) old state id reply shows.devices is (found_can old id unable.kind false is unable.there unable.cannot) unable.reply_is,
       shows_same old new state unable.same shows,
     )
-queue_step old new id layout told (inr (inr (able, inl (lies, is_told, same)))) state shows =
+queue_step old new id layout reply (inr (inr (able, inl (lies, is_told, same)))) state shows =
     let is = found_kind old id able.0 able.1 in (
       subst (λ t. machine_steps.SetsQueue layout state id t state) (sym is_told)
           (acts_at is_block_device (IsSet layout state outcome.Done) old state id outcome.Done state shows.devices is (found_can old id able.0 true is able.1 able.2) (lies, refl)),
       shows_reset old new id state same shows,
     )
-queue_step old new id layout told (inr (inr (able, inr (bad, is_told, same)))) state shows =
+queue_step old new id layout reply (inr (inr (able, inr (bad, is_told, same)))) state shows =
     let is = found_kind old id able.0 able.1 in (
       subst (λ t. machine_steps.SetsQueue layout state id t state) (sym is_told)
           (acts_at is_block_device (IsSet layout state (outcome.Refused BadQueue)) old state id (outcome.Refused BadQueue) state shows.devices is (found_can old id able.0 true is able.1 able.2) ((bad, refl), refl)),
@@ -155,18 +155,18 @@ queue_step old new id layout told (inr (inr (able, inr (bad, is_told, same)))) s
 
 -- a status is told
 abbrev Told : State → Outcome → machine.Device → Type 0
-Told state told device = IsStatus told × (state ≡ state)
+Told state reply device = IsStatus reply × (state ≡ state)
 
-pub status_step : (old new : Parts) (id status : ℕ) (told : Outcome) → TellsBlockStatus old id status told new → (state : State) → PartsShow old state
-    → machine_steps.TellsStatus state id told state × PartsShow new state
-status_step old new id status told (inl unknown) state shows =
-    (acts_absent is_block_device (Told state told) old state id told shows.devices unknown.absent unknown.told_so, shows_same old new state unknown.same shows)
-status_step old new id status told (inr (inl unable)) state shows =
+pub status_step : (old new : Parts) (id status : ℕ) (reply : Outcome) → TellsBlockStatus old id status reply new → (state : State) → PartsShow old state
+    → machine_steps.TellsStatus state id reply state × PartsShow new state
+status_step old new id status reply (inl unknown) state shows =
+    (acts_absent is_block_device (Told state reply) old state id reply shows.devices unknown.absent unknown.reply_is, shows_same old new state unknown.same shows)
+status_step old new id status reply (inr (inl unable)) state shows =
     let is = found_kind old id unable.kind unable.there in (
-      acts_unable is_block_device (Told state told) old state id told shows.devices is (found_can old id unable.kind false is unable.there unable.cannot) unable.told_so,
+      acts_unable is_block_device (Told state reply) old state id reply shows.devices is (found_can old id unable.kind false is unable.there unable.cannot) unable.reply_is,
       shows_same old new state unable.same shows,
     )
-status_step old new id status told (inr (inr (able, is_told, same))) state shows =
+status_step old new id status reply (inr (inr (able, is_told, same))) state shows =
     let is = found_kind old id able.0 able.1 in (
       subst (λ t. machine_steps.TellsStatus state id t state) (sym is_told)
           (acts_at is_block_device (Told state (outcome.Status status)) old state id (outcome.Status status) state shows.devices is (found_can old id able.0 true is able.1 able.2) (tt, refl)),
@@ -175,7 +175,7 @@ status_step old new id status told (inr (inr (able, is_told, same))) state shows
 
 -- a step began no access
 abbrev Taken : Access → ℕ → State → Outcome → State → machine.Device → Type 0
-Taken access frame state told next device = TakesStep state device access frame told next
+Taken access frame state reply next device = TakesStep state device access frame reply next
 
 may_rest : (state : State) (device : machine.Device) (access : Access) (step : BlockStep) → IsRest step → MayBe state device access step
 may_rest state device access Idle rest = tt
@@ -185,16 +185,16 @@ may_rest state device access (Chain fault) rest = tt
 may_rest state device access (Finished head len) rest = tt
 may_rest state device access Down rest = tt
 
-pub rest_step : (old new : Parts) (id : ℕ) (step : BlockStep) (told : Outcome) → IsRest step → Rests old id step told new → (state : State) → PartsShow old state
-    → Steps no_access 0 state id told state × PartsShow new state
-rest_step old new id step told rest (inl unknown) state shows =
-    (acts_absent is_block_device (Taken no_access 0 state told state) old state id told shows.devices unknown.absent unknown.told_so, shows_same old new state unknown.same shows)
-rest_step old new id step told rest (inr (inl unable)) state shows =
+pub rest_step : (old new : Parts) (id : ℕ) (step : BlockStep) (reply : Outcome) → IsRest step → Rests old id step reply new → (state : State) → PartsShow old state
+    → Steps no_access 0 state id reply state × PartsShow new state
+rest_step old new id step reply rest (inl unknown) state shows =
+    (acts_absent is_block_device (Taken no_access 0 state reply state) old state id reply shows.devices unknown.absent unknown.reply_is, shows_same old new state unknown.same shows)
+rest_step old new id step reply rest (inr (inl unable)) state shows =
     let is = found_kind old id unable.kind unable.there in (
-      acts_unable is_block_device (Taken no_access 0 state told state) old state id told shows.devices is (found_can old id unable.kind false is unable.there unable.cannot) unable.told_so,
+      acts_unable is_block_device (Taken no_access 0 state reply state) old state id reply shows.devices is (found_can old id unable.kind false is unable.there unable.cannot) unable.reply_is,
       shows_same old new state unable.same shows,
     )
-rest_step old new id step told rest (inr (inr (able, is_told, same))) state shows =
+rest_step old new id step reply rest (inr (inr (able, is_told, same))) state shows =
     let is = found_kind old id able.0 able.1 in (
       subst (λ t. Steps no_access 0 state id t state) (sym is_told)
           (acts_at is_block_device (Taken no_access 0 state (outcome.Stepped step) state) old state id (outcome.Stepped step) state shows.devices is (found_can old id able.0 true is able.1 able.2)
@@ -205,18 +205,18 @@ rest_step old new id step told rest (inr (inr (able, is_told, same))) state show
 -- A STEP BEGINS AN ACCESS
 
 -- what a device does that is able is another such act, where it is one of each device that is found, and a refusal is the same refusal
-acts_so : (can : DeviceKind → Bool) (P Q : machine.Device → Type 0) (old new : State) (id : ℕ) (told told' : Outcome)
-    → ((device : machine.Device) → device_of old id ≡ Some device → P device → Q device) → ((why : Refusal) → told ≡ outcome.Refused why → told' ≡ outcome.Refused why)
-    → Acts can P old id told new → Acts can Q old id told' new
-acts_so can P Q old new id told told' able refused acts = by (device_of old id) refl acts
+acts_so : (can : DeviceKind → Bool) (P Q : machine.Device → Type 0) (old new : State) (id : ℕ) (reply reply' : Outcome)
+    → ((device : machine.Device) → device_of old id ≡ Some device → P device → Q device) → ((why : Refusal) → reply ≡ outcome.Refused why → reply' ≡ outcome.Refused why)
+    → Acts can P old id reply new → Acts can Q old id reply' new
+acts_so can P Q old new id reply reply' able refused acts = by (device_of old id) refl acts
   where
-    can_so : (b : Bool) (device : machine.Device) → device_of old id ≡ Some device → IfItCan b (P device) old told new → IfItCan b (Q device) old told' new
+    can_so : (b : Bool) (device : machine.Device) → device_of old id ≡ Some device → IfItCan b (P device) old reply new → IfItCan b (Q device) old reply' new
     can_so true device at act = able device at act
     can_so false device at (is, same) = (refused WrongKind is, same)
 
     by : (found : Option machine.Device) → device_of old id ≡ found
-        → MatchOption found ((told ≡ outcome.Refused NoSuchDevice) × (new ≡ old)) (λ device. IfItCan (can device.kind) (P device) old told new)
-        → MatchOption found ((told' ≡ outcome.Refused NoSuchDevice) × (new ≡ old)) (λ device. IfItCan (can device.kind) (Q device) old told' new)
+        → MatchOption found ((reply ≡ outcome.Refused NoSuchDevice) × (new ≡ old)) (λ device. IfItCan (can device.kind) (P device) old reply new)
+        → MatchOption found ((reply' ≡ outcome.Refused NoSuchDevice) × (new ≡ old)) (λ device. IfItCan (can device.kind) (Q device) old reply' new)
     by None at (is, same) = (refused NoSuchDevice is, same)
     by (Some device) at act = can_so (can device.kind) device at act
 
@@ -230,8 +230,8 @@ has_its_cache old state id b shows is device at =
     sym (ap (λ (o : Option machine.Device). option_map_or (λ (d : machine.Device). has_cache d.kind) o false) there) ∙ kind_shown known rows old.devices id ∙ is
 
 -- what a request may be answered is what a step may be, of a device without a cache
-plain_so : (state next : State) (device : machine.Device) (access : Access) (frame : ℕ) (told : Outcome) → MayWant access → has_cache device.kind ≡ false
-    → MayAnswer state device access frame told × (next ≡ state_after state device access frame told) → TakesStep state device access frame told next
+plain_so : (state next : State) (device : machine.Device) (access : Access) (frame : ℕ) (reply : Outcome) → MayWant access → has_cache device.kind ≡ false
+    → MayAnswer state device access frame reply × (next ≡ state_after state device access frame reply) → TakesStep state device access frame reply next
 plain_so state next device access frame (outcome.Accepted number) may plain answer =
     (may, subst (λ b. IsAnswered b state device access frame (outcome.Accepted number) next) (sym plain) answer)
 plain_so state next device access frame outcome.Busy may plain answer = (may, subst (λ b. IsAnswered b state device access frame outcome.Busy next) (sym plain) answer)
@@ -240,8 +240,8 @@ plain_so state next device access frame outcome.BadSpan may plain answer = absur
 plain_so state next device access frame _ may plain answer = absurd answer.0
 
 -- and through its cache, of one with a cache, but where it misses
-cached_so : (state next : State) (device : machine.Device) (access : Access) (frame : ℕ) (told : Outcome) → MayWant access → has_cache device.kind ≡ true → told ≢ outcome.Miss
-    → MayAnswerThroughCache state device access frame told × (next ≡ state_after_cached state device access frame told) → TakesStep state device access frame told next
+cached_so : (state next : State) (device : machine.Device) (access : Access) (frame : ℕ) (reply : Outcome) → MayWant access → has_cache device.kind ≡ true → reply ≢ outcome.Miss
+    → MayAnswerThroughCache state device access frame reply × (next ≡ state_after_cached state device access frame reply) → TakesStep state device access frame reply next
 cached_so state next device access frame (outcome.Accepted number) may has hits answer =
     (may, subst (λ b. IsAnswered b state device access frame (outcome.Accepted number) next) (sym has) answer)
 cached_so state next device access frame outcome.Busy may has hits answer = (may, subst (λ b. IsAnswered b state device access frame outcome.Busy next) (sym has) answer)
@@ -252,7 +252,7 @@ cached_so state next device access frame _ may has hits answer = absurd answer.0
 
 -- what it leads to: the machine may answer so, on some frame, and shows the parts then
 abbrev Leads : State → ℕ → Access → Outcome → Parts → Type 0
-Leads state id access told new = (frame : ℕ) × (next : State) × Steps access frame state id told next × PartsShow new next
+Leads state id access reply new = (frame : ℕ) × (next : State) × Steps access frame state id reply next × PartsShow new next
 
 -- whether a miss is told
 abbrev is_miss : Outcome → Bool
@@ -263,15 +263,15 @@ miss_is : (first : Outcome) → is_miss first ≡ true → first ≡ outcome.Mis
 miss_is outcome.Miss is = refl
 miss_is _ is = absurd (false≢true is)
 
-hits : (first : Outcome) (between new : Parts) (id : ℕ) (access : Access) (told : Outcome) → is_miss first ≡ false → AsksIfMissed first between id access told new → (told ≡ first) × (new ≡ between)
-hits outcome.Miss between new id access told none asks = absurd (false≢true (sym none))
-hits _ between new id access told none asks = asks
+hits : (first : Outcome) (between new : Parts) (id : ℕ) (access : Access) (reply : Outcome) → is_miss first ≡ false → AsksIfMissed first between id access reply new → (reply ≡ first) × (new ≡ between)
+hits outcome.Miss between new id access reply none asks = absurd (false≢true (sym none))
+hits _ between new id access reply none asks = asks
 
 -- what is told of a hit
-hit_step : (first : Outcome) (old between new : Parts) (id : ℕ) (access : Access) (told : Outcome) → MayWant access → first ≢ outcome.Miss → told ≡ first → new ≡ between
+hit_step : (first : Outcome) (old between new : Parts) (id : ℕ) (access : Access) (reply : Outcome) → MayWant access → first ≢ outcome.Miss → reply ≡ first → new ≡ between
     → (state : State) → PartsShow old state → caches_translations (kind_in old.devices id) ≡ true
-    → (frame : ℕ) (next : State) → GoesAs is_block_device frame state id access first next → PartsShow between next → Leads state id access told new
-hit_step first old between new id access told may hit is_told same state shows has frame next goes shown = (
+    → (frame : ℕ) (next : State) → GoesAs is_block_device frame state id access first next → PartsShow between next → Leads state id access reply new
+hit_step first old between new id access reply may hit is_told same state shows has frame next goes shown = (
   frame,
   next,
   subst (λ t. Steps access frame state id t next) (sym is_told)
@@ -302,47 +302,47 @@ not_refused : (why : Refusal) → outcome.Miss ≡ outcome.Refused why → ⊥
 not_refused why is = cc
 
 -- and is told as a question
-miss_step : (old between new : Parts) (id : ℕ) (access : Access) (told : Outcome) → AsksIfMissed outcome.Miss between id access told new
+miss_step : (old between new : Parts) (id : ℕ) (access : Access) (reply : Outcome) → AsksIfMissed outcome.Miss between id access reply new
     → (state : State) → PartsShow old state → caches_translations (kind_in old.devices id) ≡ true
-    → (frame : ℕ) (next : State) → GoesAs is_block_device frame state id access outcome.Miss next → PartsShow between next → Leads state id access told new
-miss_step old between new id access told asks state shows has frame next goes shown =
-    let stays = miss_stays state next id access frame goes in (
+    → (frame : ℕ) (next : State) → GoesAs is_block_device frame state id access outcome.Miss next → PartsShow between next → Leads state id access reply new
+miss_step old between new id access reply asks state shows has frame next goes shown =
+    let unchanged = miss_stays state next id access frame goes in (
       frame,
       next,
       subst (λ t. Steps access frame state id t next) (sym asks.0)
           (acts_so is_block_device (λ device. MayAnswerThroughCache state device access frame outcome.Miss × (next ≡ state_after_cached state device access frame outcome.Miss))
           (Taken access frame state (outcome.Stepped Asked) next) state next id outcome.Miss (outcome.Stepped Asked)
-          (λ device at answer. ((has_its_cache old state id true shows has device at, answer.0), stays))
+          (λ device at answer. ((has_its_cache old state id true shows has device at, answer.0), unchanged))
           (λ why is. absurd (not_refused why is)) goes),
       shows_fabric between new (with_sent between.fabric id (sent.Ask (epoch_in between.devices id) (page_of access))) next asks.1 shown,
     )
 
 -- AN ACCESS that a step wants
-pub begin_step : ServiceLaws → (old new : Parts) (events id : ℕ) (access : Access) (told : Outcome) → AreSound old events → IsSoundDriver old.driver → StaysReported old.driver
-    → access.address < 2 ^ 64 → MayWant access → BeginsAccess old id access told new → (state : State) → PartsShow old state → Leads state id access told new
-begin_step laws old new events id access told sound own reported fits may begins state shows = by (caches_translations (kind_in old.devices id)) refl begins
+pub begin_step : ServiceLaws → (old new : Parts) (events id : ℕ) (access : Access) (reply : Outcome) → PartsInvariant old events → DriverInvariant old.driver → StaysReported old.driver
+    → access.address < 2 ^ 64 → MayWant access → BeginsAccess old id access reply new → (state : State) → PartsShow old state → Leads state id access reply new
+begin_step laws old new events id access reply invariants own reported fits may begins state shows = by (caches_translations (kind_in old.devices id)) refl begins
   where
-    by_first : (first : Outcome) (between : Parts) → caches_translations (kind_in old.devices id) ≡ true → AsksIfMissed first between id access told new
+    by_first : (first : Outcome) (between : Parts) → caches_translations (kind_in old.devices id) ≡ true → AsksIfMissed first between id access reply new
         → (frame : ℕ) (next : State) → GoesAs is_block_device frame state id access first next → PartsShow between next
-        → (b : Bool) → is_miss first ≡ b → Leads state id access told new
+        → (b : Bool) → is_miss first ≡ b → Leads state id access reply new
     by_first first between has asks frame next goes shown true is =
         let miss = miss_is first is in
-        miss_step old between new id access told (subst (λ t. AsksIfMissed t between id access told new) miss asks) state shows has frame next
+        miss_step old between new id access reply (subst (λ t. AsksIfMissed t between id access reply new) miss asks) state shows has frame next
         (subst (λ t. GoesAs is_block_device frame state id access t next) miss goes) shown
     by_first first between has asks frame next goes shown false none =
-        let both = hits first between new id access told none asks in
-        hit_step first old between new id access told may (λ same. false≢true (sym none ∙ ap is_miss same)) both.0 both.1 state shows has frame next goes shown
+        let both = hits first between new id access reply none asks in
+        hit_step first old between new id access reply may (λ same. false≢true (sym none ∙ ap is_miss same)) both.0 both.1 state shows has frame next goes shown
 
-    by : (b : Bool) → caches_translations (kind_in old.devices id) ≡ b → GoesToMemory b old id access told new → Leads state id access told new
+    by : (b : Bool) → caches_translations (kind_in old.devices id) ≡ b → GoesToMemory b old id access reply new → Leads state id access reply new
     by false plain asks =
-        let step = request_step is_block_device laws old new events id access told sound own reported fits asks state shows in (
+        let step = request_step is_block_device laws old new events id access reply invariants own reported fits asks state shows in (
           step.0,
           step.1,
-          acts_so is_block_device (λ device. MayAnswer state device access step.0 told × (step.1 ≡ state_after state device access step.0 told)) (Taken access step.0 state told step.1) state step.1 id told told
-              (λ device at answer. plain_so state step.1 device access step.0 told may (has_its_cache old state id false shows plain device at) answer)
+          acts_so is_block_device (λ device. MayAnswer state device access step.0 reply × (step.1 ≡ state_after state device access step.0 reply)) (Taken access step.0 state reply step.1) state step.1 id reply reply
+              (λ device at answer. plain_so state step.1 device access step.0 reply may (has_its_cache old state id false shows plain device at) answer)
               (λ why is. is) step.2,
           step.3,
         )
     by true has goes =
-        let step = through_cache_step is_block_device laws old goes.between events id access goes.first sound own reported goes.tries state shows in
+        let step = through_cache_step is_block_device laws old goes.between events id access goes.first invariants own reported goes.tries state shows in
         by_first goes.first goes.between has goes.asks step.0 step.1 step.2 step.3 (is_miss goes.first) refl

@@ -5,9 +5,9 @@ use Rattle.std.proofs.lemmas.Bool.{false≢true, eq-eqb}
 use Rattle.std.proofs.lemmas.Bool.Decides.{leb_tells}
 use Rattle.iom_base.specs.declared.owner.Owner.{Owner}
 use Rattle.iom_driver.proofs.Lists.{differs}
-use Rattle.iom_driver.proofs.Marks.{all_head, all_tail}
+use Rattle.iom_driver.proofs.Owners.{all_head, all_tail}
 use Rattle.iom_ledger.specs.declared.ledger.Ledger.{Ledger}
-use Rattle.iom_table_frames.specs.Marks.{IsFreeForTable, HasFree}
+use Rattle.iom_table_frames.specs.Owners.{IsFreeForTable, HasFree}
 
 -- of two different numbers one is the larger
 pub apart : (a b : ℕ) → a ≢ b → (a < b) ⊎ (b < a)
@@ -69,22 +69,22 @@ both : (P Q : ℕ → Type 0) (xs : List ℕ) → AllByRecursion P xs → AllByR
 both P Q [] one other = tt
 both P Q (x ∷ xs) one other = ((one.0, other.0), both P Q xs one.1 other.1)
 
-module _ (marks : List (Option Owner)) (ledger : Ledger) (named : Option ℕ) where
+module _ (owners : List (Option Owner)) (ledger : Ledger) (named : Option ℕ) where
   has_free : (count limit : ℕ) (numbers : List ℕ) → IsDistinct nat_eq numbers → count ≤ length numbers
-      → AllByRecursion (λ n. (n < limit) × IsFreeForTable marks ledger named n) numbers → HasFree marks ledger named count limit
+      → AllByRecursion (λ n. (n < limit) × IsFreeForTable owners ledger named n) numbers → HasFree owners ledger named count limit
   has_free zero limit numbers distinct many free = tt
   has_free (suc count) limit [] distinct many free = absurd (omega (arith, many))
   has_free (suc count) limit (x ∷ xs) distinct many free =
       let top = largest_of x xs distinct in
-      let here = top.one (λ n. (n < limit) × IsFreeForTable marks ledger named n) free in
-      let rest = top.others (λ n. (n < limit) × IsFreeForTable marks ledger named n) free in
+      let here = top.one (λ n. (n < limit) × IsFreeForTable owners ledger named n) free in
+      let rest = top.others (λ n. (n < limit) × IsFreeForTable owners ledger named n) free in
       let long = top.as_many in (
         top.largest,
         here.0,
         here.1,
         has_free count top.largest top.rest top.distinct (omega (arith, many, long))
-            (map_all (λ n. (n < top.largest) × ((n < limit) × IsFreeForTable marks ledger named n)) (λ n. (n < top.largest) × IsFreeForTable marks ledger named n) top.rest (λ n it. (it.0, it.1.1))
-            (both (λ n. n < top.largest) (λ n. (n < limit) × IsFreeForTable marks ledger named n) top.rest top.below rest)),
+            (map_all (λ n. (n < top.largest) × ((n < limit) × IsFreeForTable owners ledger named n)) (λ n. (n < top.largest) × IsFreeForTable owners ledger named n) top.rest (λ n it. (it.0, it.1.1))
+            (both (λ n. n < top.largest) (λ n. (n < limit) × IsFreeForTable owners ledger named n) top.rest top.below rest)),
       )
 
   all_by : (P : ℕ → Type 0) (numbers : List ℕ) → All P numbers → AllByRecursion P numbers
@@ -92,10 +92,10 @@ module _ (marks : List (Option Owner)) (ledger : Ledger) (named : Option ℕ) wh
   all_by P (x ∷ xs) all = (all_head P x xs all, all_by P xs (all_tail P x xs all))
 
   -- where not so many are free, fewer different ones are
-  pub fewer_free : (count limit : ℕ) (numbers : List ℕ) → ¬ HasFree marks ledger named count limit → IsDistinct nat_eq numbers
-      → All (λ n. (n < limit) × IsFreeForTable marks ledger named n) numbers → length numbers < count
+  pub fewer_free : (count limit : ℕ) (numbers : List ℕ) → ¬ HasFree owners ledger named count limit → IsDistinct nat_eq numbers
+      → All (λ n. (n < limit) × IsFreeForTable owners ledger named n) numbers → length numbers < count
   fewer_free count limit numbers lacks distinct free = elim (leb_tells count (length numbers)) [ inl many ↦ by (inl many.1) | inr few ↦ by (inr few.1) ]
     where
       by : (count ≤ length numbers) ⊎ (length numbers < count) → length numbers < count
-      by (inl many) = absurd (lacks (has_free count limit numbers distinct many (all_by (λ n. (n < limit) × IsFreeForTable marks ledger named n) numbers free)))
+      by (inl many) = absurd (lacks (has_free count limit numbers distinct many (all_by (λ n. (n < limit) × IsFreeForTable owners ledger named n) numbers free)))
       by (inr few) = few

@@ -9,18 +9,18 @@ use Rattle.iom_driver.specs.Calls.{IsFreeFrame}
 use Rattle.iom_driver.specs.declared.device.Device as driver
 use Rattle.iom_driver.proofs.Lists.{differs}
 use Rattle.iom_inflight.specs.Flights.{NumberedAccess, FlightRow, row_of, count_all}
-use Rattle.iom_inflight.specs.Sound.{AreDistinct}
+use Rattle.iom_inflight.specs.Invariant.{AreDistinct}
 use Rattle.iom_iommu.specs.Parts.{flights_of}
 use Rattle.iom_machine.specs.Frames.{IsFree}
 use Rattle.iom_machine.specs.Traces.{count_in_flight, AreFree}
 use Rattle.iom_machine.specs.declared.state.State.{State}
-use Rattle.iom_table_frames.specs.Marks.{AreSoMany}
+use Rattle.iom_table_frames.specs.Owners.{AreSoMany}
 use Rattle.iom_table_frames.proofs.CountLemmas.{AreSoMany-same}
 use Rattle.iom_device.specs.declared.device.Device.{Device}
 use Rattle.iom_world_effects.specs.Devices.{shown_devices, in_flight_of}
 use Rattle.iom_world_effects.specs.Parts.{Parts}
 use Rattle.iom_world_effects.specs.Shows.{PartsShow}
-use Rattle.iom_world_effects.specs.Sound.{row_ids, plugged_ids}
+use Rattle.iom_world_effects.specs.Invariant.{row_ids, plugged_ids}
 use Rattle.iom_world_refinement.proofs.FreeLemmas.{free_in_machine, free_in_world}
 
 -- each of these rows is its device's, in the whole list
@@ -61,11 +61,11 @@ flights_counted parts state shows distinct same =
     rw shows.devices (flights_of_rows parts.driver.devices (flights_of parts.iommu).rows (flights_of parts.iommu).rows parts.devices same (own_all (flights_of parts.iommu).rows distinct))
 
 -- the frames that the driver finds free are those of the state
-pub free_shown : (parts : Parts) (state : State) (count : ℕ) → PartsShow parts state → length parts.memory ≡ length parts.driver.marks → AreSoMany (IsFreeFrame parts.driver) count → AreFree state count
+pub free_shown : (parts : Parts) (state : State) (count : ℕ) → PartsShow parts state → length parts.memory ≡ length parts.driver.owners → AreSoMany (IsFreeFrame parts.driver) count → AreFree state count
 free_shown parts state count shows size counted =
     AreSoMany-same (IsFreeFrame parts.driver) (IsFree state) count (λ n. (
-      (λ it. free_in_machine parts.memory parts.driver.marks parts.driver.ledger state n shows.ledger shows.frames (rw size it.inside) it.unreserved it.ungranted),
+      (λ it. free_in_machine parts.memory parts.driver.owners parts.driver.ledger state n shows.ledger shows.frames (rw size it.inside) it.unreserved it.ungranted),
       (λ free.
-          let found = free_in_world parts.memory parts.driver.marks parts.driver.ledger state None n shows.ledger shows.frames (λ same. cc) free in
+          let found = free_in_world parts.memory parts.driver.owners parts.driver.ledger state None n shows.ledger shows.frames (λ same. cc) free in
           record { inside = subst (λ m. n < m) size found.0; unreserved = found.1.unmarked; ungranted = found.1.ungranted }),
     )) counted

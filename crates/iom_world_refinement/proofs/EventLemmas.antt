@@ -6,7 +6,7 @@ use Rattle.iom_iommu.specs.Parts.{flights_of, slots_of}
 use Rattle.iom_machine.specs.declared.choice.Choice.{Choice}
 use Rattle.iom_device.specs.Caches.{epoch_in}
 use Rattle.iom_world_effects.specs.Parts.{Parts}
-use Rattle.iom_world_effects.specs.Sound.{AreSound}
+use Rattle.iom_world_effects.specs.Invariant.{PartsInvariant}
 
 -- no access is chosen
 abbrev pub no_access : Access
@@ -37,28 +37,28 @@ abbrev pub pages_taken : List ℕ → List ℕ → Choice
 pages_taken pages taken = record { directory = pages; taken = taken; returned = []; frame = 0; device = 0; page = 0; access = no_access }
 
 -- what is sound stays so where one more event is counted
-pub sound_counted : (parts : Parts) (events : ℕ) → AreSound parts events → AreSound parts (events + 1)
-sound_counted parts events sound = record {
-  ready = sound.ready;
-  started = sound.started;
-  unmarked = sound.unmarked;
-  size = sound.size;
-  known = sound.known;
-  small = sound.small;
-  counted = (let count = sound.counted in omega (arith, count));
-  serials = (let last = sound.serials in omega (arith, last));
-  epochs = λ id. let epoch = sound.epochs id in omega (arith, epoch);
-  contexts = sound.contexts;
-  copies = sound.copies;
+pub sound_counted : (parts : Parts) (events : ℕ) → PartsInvariant parts events → PartsInvariant parts (events + 1)
+sound_counted parts events invariants = record {
+  ready = invariants.ready;
+  started = invariants.started;
+  unmarked = invariants.unmarked;
+  size = invariants.size;
+  known = invariants.known;
+  small = invariants.small;
+  counted = (let count = invariants.counted in omega (arith, count));
+  serials = (let last = invariants.serials in omega (arith, last));
+  epochs = λ id. let epoch = invariants.epochs id in omega (arith, epoch);
+  contexts = invariants.contexts;
+  copies = invariants.copies;
 }
 
 -- no more accesses were accepted than events came before the one that is counted
-pub below_counted : (parts : Parts) (events : ℕ) → AreSound parts events → (flights_of parts.iommu).so_far < events + 1
-below_counted parts events sound = let count = sound.counted in omega (arith, count)
+pub below_counted : (parts : Parts) (events : ℕ) → PartsInvariant parts events → (flights_of parts.iommu).so_far < events + 1
+below_counted parts events invariants = let count = invariants.counted in omega (arith, count)
 
 -- nor were more serials given
-pub serials_counted : (parts : Parts) (events : ℕ) → AreSound parts events → (slots_of parts.iommu).last < events + 1
-serials_counted parts events sound = let last = sound.serials in omega (arith, last)
+pub serials_counted : (parts : Parts) (events : ℕ) → PartsInvariant parts events → (slots_of parts.iommu).last < events + 1
+serials_counted parts events invariants = let last = invariants.serials in omega (arith, last)
 
-pub epochs_counted : (parts : Parts) (events : ℕ) → AreSound parts events → (id : ℕ) → epoch_in parts.devices id < events + 1
-epochs_counted parts events sound id = let low = sound.epochs id in omega (arith, low)
+pub epochs_counted : (parts : Parts) (events : ℕ) → PartsInvariant parts events → (id : ℕ) → epoch_in parts.devices id < events + 1
+epochs_counted parts events invariants id = let low = invariants.epochs id in omega (arith, low)

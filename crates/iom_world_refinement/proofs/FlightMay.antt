@@ -17,7 +17,7 @@ use Rattle.iom_world_effects.specs.Devices.{in_flight_of, shown_device}
 use Rattle.iom_world_effects.specs.Parts.{Parts}
 use Rattle.iom_world_effects.specs.Read.{access_in_flight, accesses_of}
 use Rattle.iom_world_effects.specs.Shows.{PartsShow}
-use Rattle.iom_world_effects.specs.Sound.{AreSound}
+use Rattle.iom_world_effects.specs.Invariant.{PartsInvariant}
 use Rattle.iom_world_effects.proofs.HistoryMay.{may_merely, facts_of_history}
 use Rattle.iom_world_effects.proofs.RowLemmas.{row_accesses}
 
@@ -25,7 +25,7 @@ all_by_contains : {X : Type 0} (P : X → Type 0) (xs : List X) → ((x : X) →
 all_by_contains P [] each = All-nil P
 all_by_contains P (x ∷ xs) each = All-cons P x xs (each x (contains_head x xs)) (all_by_contains P xs (λ y there. each y (contains_tail x xs y there)))
 
-module _ (parts : Parts) (events : ℕ) (sound : AreSound parts events) (state : State) (shows : PartsShow parts state) where
+module _ (parts : Parts) (events : ℕ) (invariants : PartsInvariant parts events) (state : State) (shows : PartsShow parts state) where
   abbrev rows : List FlightRow
   rows = (flights_of parts.iommu).rows
 
@@ -34,7 +34,7 @@ module _ (parts : Parts) (events : ℕ) (sound : AreSound parts events) (state :
       → May state.history device flight.accepted.frame flight.accepted.access.kind
   access_may device flight there =
       may_merely state.history device flight.accepted.frame flight.accepted.access.kind
-      (∥∥₁_map sound.copies (λ (scene, is, facts).
+      (∥∥₁_map invariants.copies (λ (scene, is, facts).
       let other : Scene = record scene { history = state.history } in
       accesses_may other
       (facts_of_history parts.driver.ledger scene state.history is.ledger shows.ledger
@@ -59,9 +59,9 @@ module _ (parts : Parts) (events : ℕ) (sound : AreSound parts events) (state :
           (all_by_contains (λ (flight : NumberedAccess). May state.history id flight.accepted.frame flight.accepted.access.kind) row.waiting
           (λ flight there. row_may id row at flight there)))
 
-pub each_may : (parts : Parts) (events : ℕ) → AreSound parts events → (state : State) → PartsShow parts state → EachInFlightMay state
-each_may parts events sound state shows =
+pub each_may : (parts : Parts) (events : ℕ) → PartsInvariant parts events → (state : State) → PartsShow parts state → EachInFlightMay state
+each_may parts events invariants state shows =
     rw shows.devices
     (All-map (DeviceMay state.history) (shown_device parts.driver.devices (flights_of parts.iommu).rows) parts.devices
     (all_by_contains (λ (device : Device). DeviceMay state.history (shown_device parts.driver.devices (flights_of parts.iommu).rows device)) parts.devices
-    (λ device there. device_may parts events sound state shows device.id)))
+    (λ device there. device_may parts events invariants state shows device.id)))

@@ -11,11 +11,11 @@ use Rattle.iom_driver.specs.declared.device.Attachment.TheVariants.{Detached, At
 use Rattle.iom_driver.specs.declared.device.Stages.{Stages}
 use Rattle.iom_driver.specs.Calls.{AnswersGrant, TakesTables, LacksTables, granted_leaf}
 use Rattle.iom_driver.specs.Choices.{marked_for, cleared}
-use Rattle.iom_driver.specs.Devices.{has_device, attachment_by_id, attached_stages, stages_of, is_away, is_cut_off}
+use Rattle.iom_driver.specs.Devices.{has_device, attachment_by_id, attached_stages, stages_of, is_away, is_quarantined}
 use Rattle.iom_driver.specs.Reasons.{why_not_grant, granting_reasons}
 use Rattle.iom_driver.specs.State.{DriverState}
 use Rattle.iom_driver.proofs.Chosen.{are_chosen}
-use Rattle.iom_driver.proofs.Marks.{length-cleared}
+use Rattle.iom_driver.proofs.Owners.{length-cleared}
 use Rattle.iom_driver.proofs.Places.{attached_is}
 use Rattle.iom_iommu.specs.OwnIommu.{Iommu}
 use Rattle.iom_iommu.specs.Parts.{flights_of}
@@ -31,26 +31,26 @@ use Rattle.iom_machine.specs.Machine as machine
 use Rattle.iom_machine.specs.Refusals as refusals
 use Rattle.iom_machine.specs.Refusals.{MayRefuseGrant, table_limit_at}
 use Rattle.iom_page_table.specs.FirstTables.{missing_for}
-use Rattle.iom_table_frames.specs.Marks.{IsFreeForTable, HasFree}
-use Rattle.iom_world_effects.specs.Answers.{told_of}
+use Rattle.iom_table_frames.specs.Owners.{IsFreeForTable, HasFree}
+use Rattle.iom_world_effects.specs.Answers.{outcome_of_done}
 use Rattle.iom_world_effects.specs.Devices.{shown_attachment}
-use Rattle.iom_world_effects.specs.Does.{GrantsPage}
+use Rattle.iom_world_effects.specs.Effect.{GrantsPage}
 use Rattle.iom_world_effects.specs.Frames.{ShowsFrames}
 use Rattle.iom_world_effects.specs.Parts.{Parts}
 use Rattle.iom_world_effects.specs.Shows.{PartsShow}
-use Rattle.iom_world_effects.specs.Sound.{AreSound}
+use Rattle.iom_world_effects.specs.Invariant.{PartsInvariant}
 use Rattle.iom_world_refinement.proofs.ChoiceLemmas.{fewer_free}
 use Rattle.iom_world_effects.proofs.FrameLemmas.{shows_marked, shows_kept}
 use Rattle.iom_world_refinement.proofs.FreeLemmas.{free_in_machine, free_in_world}
 use Rattle.iom_world_refinement.proofs.MissingLemmas.{missing_limit}
 use Rattle.iom_world_refinement.proofs.ReasonLemmas.{grant_first, how_shown, refused_as}
-use Rattle.iom_world_effects.proofs.StayLemmas.{shows_still, not_owned, length-mapped}
+use Rattle.iom_world_effects.proofs.UnchangedLemmas.{shows_still, not_owned, length-mapped}
 
 -- THE REASONS
 
 -- where no reason applies the device is attached
 attached_then : (started there : Bool) (how : Attachment) (later : List (Bool × Refusal))
-    → first_that_applies ((not started, NotStarted) ∷ (not there, NoSuchDevice) ∷ (is_away how, NotAttached) ∷ (is_cut_off how, refusal.Quarantined) ∷ later) ≡ None
+    → first_that_applies ((not started, NotStarted) ∷ (not there, NoSuchDevice) ∷ (is_away how, NotAttached) ∷ (is_quarantined how, refusal.Quarantined) ∷ later) ≡ None
     → (found : Stages) × (attached_stages how ≡ Some found)
 attached_then false there how later none = cc
 attached_then true false how later none = cc
@@ -60,30 +60,30 @@ attached_then true true (Quarantined ticket stage) later none = cc
 attached_then true true (Leaving ticket stage) later none = cc
 
 -- where the frames aren't enough, fewer are free than may be lacking
-fewer_than_limit : (old : Parts) (state : State) (frame count limit : ℕ) → PartsShow old state → count ≤ limit → ¬ HasFree old.driver.marks old.driver.ledger (Some frame) count (length old.memory)
+fewer_than_limit : (old : Parts) (state : State) (frame count limit : ℕ) → PartsShow old state → count ≤ limit → ¬ HasFree old.driver.owners old.driver.ledger (Some frame) count (length old.memory)
     → (numbers : List ℕ) → IsDistinct nat_eq numbers → All (IsFreeBesides state (Some frame)) numbers → length numbers < limit
 fewer_than_limit old state frame count limit shows few lacks numbers distinct free =
     let d = old.driver in
-    let fewer = fewer_free d.marks d.ledger (Some frame) count (length old.memory) numbers lacks distinct (λ k n lt. known (get_or numbers k n) (free k n lt)) in
+    let fewer = fewer_free d.owners d.ledger (Some frame) count (length old.memory) numbers lacks distinct (λ k n lt. known (get_or numbers k n) (free k n lt)) in
     omega (arith, fewer, few)
   where
     named : (n : ℕ) → n ≢ frame → ◌≡◌ {A = Option ℕ} (Some frame) (Some n) → ⊥
     named n differs same = let one : frame ≡ n = cc in differs (sym one)
 
-    known : (n : ℕ) → IsFreeBesides state (Some frame) n → (n < length old.memory) × IsFreeForTable old.driver.marks old.driver.ledger (Some frame) n
-    known n is_free = free_in_world old.memory old.driver.marks old.driver.ledger state (Some frame) n shows.ledger shows.frames (named n is_free.1) is_free.0
+    known : (n : ℕ) → IsFreeBesides state (Some frame) n → (n < length old.memory) × IsFreeForTable old.driver.owners old.driver.ledger (Some frame) n
+    known n is_free = free_in_world old.memory old.driver.owners old.driver.ledger state (Some frame) n shows.ledger shows.frames (named n is_free.1) is_free.0
 
-may_lack_tables : (old : Parts) (events : ℕ) (state : State) (id page frame : ℕ) (why : Refusal) (stage : Stages) → AreSound old events → PartsShow old state
+may_lack_tables : (old : Parts) (events : ℕ) (state : State) (id page frame : ℕ) (why : Refusal) (stage : Stages) → PartsInvariant old events → PartsShow old state
     → stages_of old.driver.devices id ≡ Some stage → LacksTables old.driver old.memory id page frame why → MayRefuseGrant state id frame why
-may_lack_tables old events state id page frame NoFrames stage sound shows attached lacks =
+may_lack_tables old events state id page frame NoFrames stage invariants shows attached lacks =
     let size = size_in stage.mode in
-    let how = how_shown old events state id sound shows ∙ ap shown_attachment (attached_is (attachment_by_id old.driver.devices id) stage attached) in
+    let how = how_shown old events state id invariants shows ∙ ap shown_attachment (attached_is (attachment_by_id old.driver.devices id) stage attached) in
     let limit : table_limit_at (refusals.attachment_of state id) ≡ table_limit_of size = ap table_limit_at how in
     subst (λ n. FewerThan n (IsFreeBesides state (Some frame))) (sym limit)
     (fewer_than_limit old state frame (missing_for size old.memory stage.root page) (table_limit_of size) shows (missing_limit size old.memory stage.root page)
     (λ has. lacks (record { stage = stage; attached = attached; enough = has })))
-may_lack_tables old events state id page frame Memory stage sound shows attached lacks = tt
-may_lack_tables old events state id page frame _ stage sound shows attached lacks = absurd lacks
+may_lack_tables old events state id page frame Memory stage invariants shows attached lacks = tt
+may_lack_tables old events state id page frame _ stage invariants shows attached lacks = absurd lacks
 
 -- THE STEP
 
@@ -97,19 +97,19 @@ size_granted d d' memory memory' id page frame rights takes =
     ap (λ (m : List (List ℕ)). length m) takes.bytes
     ∙ length-mapped (size_in takes.stage.mode) (cleared takes.tables memory) takes.stage.root page (granted_leaf frame rights) takes.tables ∙ length-cleared takes.tables memory
 
-shows_granted : (old new : Parts) (id page frame : ℕ) (rights : GrantRights) → length old.memory ≡ length old.driver.marks
+shows_granted : (old new : Parts) (id page frame : ℕ) (rights : GrantRights) → length old.memory ≡ length old.driver.owners
     → (takes : TakesTables old.driver old.memory id page frame rights new.driver new.memory) → new.iommu ≡ old.iommu → new.devices ≡ old.devices
     → (state : State) → PartsShow old state → PartsShow new (granted_state state id page frame rights takes.tables)
 shows_granted old new id page frame rights many takes iommu devices state shows =
     let d = old.driver in
-    let chosen = are_chosen d.marks d.ledger (Some frame) (length old.memory) (missing_for (size_in takes.stage.mode) old.memory takes.stage.root page) takes.tables takes.chosen in
-    let marks : new.driver.marks ≡ marked_for (OneDevice id) takes.tables d.marks = ap (λ (x : DriverState). x.marks) takes.driver in
-    let marked = shows_marked (OneDevice id) takes.tables old.memory d.marks state.frames shows.frames (sym many) chosen.inside in
-    let kept = subst (λ ms. ShowsFrames old.memory ms (reserved_for (OneDevice id) takes.tables state.frames)) (sym marks) marked in
+    let chosen = are_chosen d.owners d.ledger (Some frame) (length old.memory) (missing_for (size_in takes.stage.mode) old.memory takes.stage.root page) takes.tables takes.chosen in
+    let owners : new.driver.owners ≡ marked_for (OneDevice id) takes.tables d.owners = ap (λ (x : DriverState). x.owners) takes.driver in
+    let marked = shows_marked (OneDevice id) takes.tables old.memory d.owners state.frames shows.frames (sym many) chosen.inside in
+    let kept = subst (λ ms. ShowsFrames old.memory ms (reserved_for (OneDevice id) takes.tables state.frames)) (sym owners) marked in
     record {
       ledger = takes.agrees state.history shows.ledger;
-      frames = shows_kept old.memory new.memory new.driver.marks (reserved_for (OneDevice id) takes.tables state.frames) kept
-          (λ k free. takes.others k (not_owned new.driver.marks k (OneDevice id) free)) (size_granted d new.driver old.memory new.memory id page frame rights takes);
+      frames = shows_kept old.memory new.memory new.driver.owners (reserved_for (OneDevice id) takes.tables state.frames) kept
+          (λ k free. takes.others k (not_owned new.driver.owners k (OneDevice id) free)) (size_granted d new.driver old.memory new.memory id page frame rights takes);
       devices = rw (devices, ap (λ (i : Iommu). (flights_of i).rows) iommu, ap (λ (x : DriverState). x.devices) takes.driver) shows.devices;
       given = shows.given ∙ sym (ap (λ (x : DriverState). x.given) takes.driver);
       confirmed = shows.confirmed ∙ sym (ap (λ (x : DriverState). x.confirmed) takes.driver);
@@ -124,26 +124,26 @@ free_tables : (old new : Parts) (id page frame : ℕ) (rights : GrantRights) →
     → (state : State) → PartsShow old state → All (IsFreeBesides state (Some frame)) takes.tables
 free_tables old new id page frame rights takes state shows = λ k n lt.
     let d = old.driver in
-    let chosen = are_chosen d.marks d.ledger (Some frame) (length old.memory) (missing_for (size_in takes.stage.mode) old.memory takes.stage.root page) takes.tables takes.chosen in
+    let chosen = are_chosen d.owners d.ledger (Some frame) (length old.memory) (missing_for (size_in takes.stage.mode) old.memory takes.stage.root page) takes.tables takes.chosen in
     let free = chosen.free k n lt in (
-      free_in_machine old.memory d.marks d.ledger state (get_or takes.tables k n) shows.ledger shows.frames (chosen.inside k n lt) free.unmarked free.ungranted,
+      free_in_machine old.memory d.owners d.ledger state (get_or takes.tables k n) shows.ledger shows.frames (chosen.inside k n lt) free.unmarked free.ungranted,
       λ same. free.other (ap Some (sym same)),
     )
 
-pub grant_step : (old new : Parts) (events id page frame : ℕ) (rights : GrantRights) (told : Outcome) → AreSound old events → GrantsPage old id page frame rights told new
-    → (state : State) → PartsShow old state → (taken : List ℕ) × (next : State) × machine.Grants taken state id page frame rights told next × PartsShow new next
-grant_step old new events id page frame rights told sound does state shows = by does.answer does.told_so does.call
+pub grant_step : (old new : Parts) (events id page frame : ℕ) (rights : GrantRights) (reply : Outcome) → PartsInvariant old events → GrantsPage old id page frame rights reply new
+    → (state : State) → PartsShow old state → (taken : List ℕ) × (next : State) × machine.Grants taken state id page frame rights reply next × PartsShow new next
+grant_step old new events id page frame rights reply invariants effect state shows = by effect.answer effect.reply_is effect.call
   where
-    by : (answer : Result (Unit {0}) Refusal) → told ≡ told_of answer → AnswersGrant old.driver old.memory id page frame rights answer new.driver new.memory
-        → (taken : List ℕ) × (next : State) × machine.Grants taken state id page frame rights told next × PartsShow new next
+    by : (answer : Result (Unit {0}) Refusal) → reply ≡ outcome_of_done answer → AnswersGrant old.driver old.memory id page frame rights answer new.driver new.memory
+        → (taken : List ℕ) × (next : State) × machine.Grants taken state id page frame rights reply next × PartsShow new next
     by (Ok done) is call =
         let takes = call.1 in
         let next = granted_state state id page frame rights takes.tables in (
           takes.tables,
           next,
           subst (λ t. machine.Grants takes.tables state id page frame rights t next) (sym is)
-              (grant_first old events state id page frame sound shows ∙ call.0, free_tables old new id page frame rights takes state shows, refl),
-          shows_granted old new id page frame rights sound.ready.stand.size takes does.iommu does.devices state shows,
+              (grant_first old events state id page frame invariants shows ∙ call.0, free_tables old new id page frame rights takes state shows, refl),
+          shows_granted old new id page frame rights invariants.ready.stand.size takes effect.iommu effect.devices state shows,
         )
     by (Err why) is call =
         let d = old.driver in (
@@ -151,11 +151,11 @@ grant_step old new events id page frame rights told sound does state shows = by 
           state,
           subst (λ t. machine.Grants [] state id page frame rights t state) (sym is) (
             refused_as (why_not_grant d id page frame) (refusals.grant_reasons state id page frame) (LacksTables d old.memory id page frame) (MayRefuseGrant state id frame) why
-                (grant_first old events state id page frame sound shows)
+                (grant_first old events state id page frame invariants shows)
                 (λ none.
                 let stage = attached_then d.started (has_device d.devices id) (attachment_by_id d.devices id) (granting_reasons d id page frame) none in
-                may_lack_tables old events state id page frame why stage.0 sound shows stage.1) call.0,
+                may_lack_tables old events state id page frame why stage.0 invariants shows stage.1) call.0,
             refl,
           ),
-          shows_still old new state call.2 (ap (λ (i : Iommu). flights_of i) does.iommu) does.devices call.1.rest (call.1.agrees state.history shows.ledger) shows,
+          shows_still old new state call.2 (ap (λ (i : Iommu). flights_of i) effect.iommu) effect.devices call.1.rest (call.1.agrees state.history shows.ledger) shows,
         )

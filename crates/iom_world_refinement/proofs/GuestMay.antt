@@ -27,8 +27,8 @@ use Rattle.iom_stage_walk.specs.Laws.{IsLed}
 use Rattle.iom_world_effects.specs.Parts.{Parts}
 use Rattle.iom_world_effects.specs.Requests.{MayReadFrom, ReadsGuestTables}
 use Rattle.iom_world_effects.specs.Shows.{PartsShow}
-use Rattle.iom_world_effects.specs.Sound.{AreSound}
-use Rattle.iom_world_effects.proofs.DriverLemmas.{IsSoundDriver}
+use Rattle.iom_world_effects.specs.Invariant.{PartsInvariant}
+use Rattle.iom_world_effects.proofs.DriverLemmas.{DriverInvariant}
 use Rattle.iom_world_effects.proofs.ServedLemmas.{ServiceLaws, found_as, located_as, held_inside, root_low, root_aligned}
 use Rattle.iom_world_effects.proofs.WalkLemmas.{leads_held}
 
@@ -68,30 +68,30 @@ owner_of levels id a (Some c) context are found = by (owned_stages a) (are c ref
         let own : context_for stage ≡ c = cc in
         let same : c ≡ context = cc in (stage, refl, sym (own ∙ same))
 
-module _ (laws : ServiceLaws) (parts : Parts) (events : ℕ) (sound : AreSound parts events) (own : IsSoundDriver parts.driver) (state : State) (shows : PartsShow parts state)
+module _ (laws : ServiceLaws) (parts : Parts) (events : ℕ) (invariants : PartsInvariant parts events) (own : DriverInvariant parts.driver) (state : State) (shows : PartsShow parts state)
     (id : ℕ) (access : Access) where
   -- what the second stage of a device in both leads a read to, the device may read
-  led_may : (root : ℕ) (size : Size) → AreTablesOf parts.memory parts.driver.marks parts.driver.ledger id (Both size) root
+  led_may : (root : ℕ) (size : Size) → AreTablesOf parts.memory parts.driver.owners parts.driver.ledger id (Both size) root
       → (frame : Option ℕ) → IsLed (levels_of size) parts.memory root frame → MayReadFrom state.history id frame
   led_may root size tables None led = tt
   led_may root size tables (Some frame) (guest, rights, leads) =
       let held = leads_held laws.walks size parts.memory parts.driver.ledger id root tables.tree.0 tables.leaves tables.low
-      (held_inside laws parts events sound own id) guest Read frame rights leads in
+      (held_inside laws parts events invariants own id) guest Read frame rights leads in
       (guest / 4096, rights, inl ((shows.ledger.pages id (guest / 4096)).holds ∙ held.0), held.1)
 
   pub reads_guest_tables : ReadsGuestTables parts state.history id access
   reads_guest_tables first_size size at_first at_second walked is reaches =
-      let owner = owner_of parts.driver.levels id (attachment_by_id parts.driver.devices id) (contexts_of parts.iommu id) is.context (λ c at. sound.contexts id c at)
-      (sym (found_as laws parts events sound own id) ∙ is.found) in
+      let owner = owner_of parts.driver.levels id (attachment_by_id parts.driver.devices id) (contexts_of parts.iommu id) is.context (λ c at. invariants.contexts id c at)
+      (sym (found_as laws parts events invariants own id) ∙ is.found) in
       let stage = owner.0 in
-      let tables = sound.ready.stand.tables id stage owner.1 in
-      let below = root_low parts.memory parts.driver.marks parts.driver.ledger id stage.mode stage.root tables in
+      let tables = invariants.ready.stand.tables id stage owner.1 in
+      let below = root_low parts.memory parts.driver.owners parts.driver.ledger id stage.mode stage.root tables in
       let many = own.sizes.size.1 in
       let low : stage.root < 2 ^ 44 = omega (arith, below, many) in
-      let roots = in_both stage.mode stage.root stage.number stage.ats first_size is.guest size is.host low (root_aligned parts.memory parts.driver.marks parts.driver.ledger id stage.mode stage.root tables)
+      let roots = in_both stage.mode stage.root stage.number stage.ats first_size is.guest size is.host low (root_aligned parts.memory parts.driver.owners parts.driver.ledger id stage.mode stage.root tables)
       (sym (ap (λ (c : Context). c.first_stage) owner.2) ∙ is.first_stage) (sym (ap (λ (c : Context). c.second_stage) owner.2) ∙ is.second_stage) in
       let at_root : at_second ≡ stage.root = sym is.host_is ∙ roots.2 in
-      let both : AreTablesOf parts.memory parts.driver.marks parts.driver.ledger id (Both size) stage.root =
-      subst (λ m. AreTablesOf parts.memory parts.driver.marks parts.driver.ledger id m stage.root) roots.0 tables in
+      let both : AreTablesOf parts.memory parts.driver.owners parts.driver.ledger id (Both size) stage.root =
+      subst (λ m. AreTablesOf parts.memory parts.driver.owners parts.driver.ledger id m stage.root) roots.0 tables in
       let led = (laws.walks.led (levels_of first_size) (levels_of size) parts.memory at_first at_second access.address access.kind walked reaches).0 in
       λ k d lt. led_may stage.root size both (get_or walked.guest_frames k d) (subst (λ n. IsLed (levels_of size) parts.memory n (get_or walked.guest_frames k d)) at_root (led k d lt))

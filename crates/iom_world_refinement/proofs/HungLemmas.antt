@@ -5,7 +5,7 @@ use Rattle.iom_device_dir.specs.Paths.{ddi, context_place}
 use Rattle.iom_directory_build.specs.Pages.{next_page, page_at, missing_below, missing_pages}
 use Rattle.iom_directory_build.specs.Written.{with_words, context_stores, cleared_stores, with_entry_at, hung_below, hung, cleared_where, without_context}
 use Rattle.iom_phys_mem.specs.Words.{with_word}
-use Rattle.iom_world_effects.proofs.StayLemmas.{length-with_word}
+use Rattle.iom_world_effects.proofs.UnchangedLemmas.{length-with_word}
 
 -- a path lacks no more pages than there are levels below the root
 pub few_missing : (top : ℕ) (memory : List (List ℕ)) (root id : ℕ) → missing_pages memory top root id ≤ top

@@ -11,7 +11,7 @@ use Rattle.iom_machine.specs.declared.state.Device as machine
 use Rattle.iom_machine.specs.Devices.{replaced_device}
 use Rattle.iom_device.specs.declared.device.Device.{Device}
 use Rattle.iom_world_effects.specs.Devices.{shown_attachment, shown_device, shown_devices, accepted_of, in_flight_of}
-use Rattle.iom_world_effects.specs.Sound.{HaveDistinctIds}
+use Rattle.iom_world_effects.specs.Invariant.{HaveDistinctIds}
 
 -- the device of the machine with this id
 abbrev pub shown_of : List driver.Device → List FlightRow → List Device → ℕ → Option machine.Device

@@ -15,11 +15,11 @@ use Rattle.iom_machine.specs.declared.outcome.Outcome.TheVariants.{Refused}
 use Rattle.iom_base.specs.declared.device_kind.NewDevice.{NewDevice}
 use Rattle.iom_base.specs.Disks.{is_missing}
 use Rattle.iom_base.specs.DeviceKinds.{kind_of, disk_of, has_cache}
-use Rattle.iom_world_effects.specs.Does.{PlugsDevice}
+use Rattle.iom_world_effects.specs.Effect.{PlugsDevice}
 use Rattle.iom_world_effects.specs.Parts.{Parts}
 use Rattle.iom_device.specs.declared.device.Device.{Device}
 use Rattle.iom_world_effects.specs.Places.{IsAbsent, IsPresent}
-use Rattle.iom_world_effects.specs.Sound.{AreKnown, plugged_ids, known_ids, row_ids}
+use Rattle.iom_world_effects.specs.Invariant.{AreKnown, plugged_ids, known_ids, row_ids}
 use Rattle.iom_world_effects.proofs.PresentLemmas.{row_absent, known_present, known_absent, length-rows, length-known}
 
 pub already_plugged : (d : DriverState) (devices : List Device) (id : ℕ) (trusted : Bool) → known_ids d.devices ≡ plugged_ids devices → IsPresent devices id → AnswersPlug d id trusted (Err AlreadyPlugged) d
@@ -66,7 +66,7 @@ admitted d devices id known absent few =
 pub plugged_already : (disks : List ℕ) (old : Parts) (id : ℕ) (what : NewDevice) → AreKnown old → IsPresent old.devices id → PlugsDevice disks old id what (Refused AlreadyPlugged) old
 plugged_already disks old id what known present = inr (record {
   answer = Err AlreadyPlugged;
-  told_so = refl;
+  reply_is = refl;
   call = already_plugged old.driver old.devices id (has_cache (kind_of what)) known.driver present;
   disk = λ none. absurd (none_plugged old.driver old.devices id known.driver present none);
   row = refl;
@@ -78,7 +78,7 @@ plugged_already disks old id what known present = inr (record {
 pub plugged_many : (disks : List ℕ) (old : Parts) (id : ℕ) (what : NewDevice) → AreKnown old → IsAbsent old.devices id → 16 ≤ length old.devices → PlugsDevice disks old id what (Refused TooManyDevices) old
 plugged_many disks old id what known absent many = inr (record {
   answer = Err TooManyDevices;
-  told_so = refl;
+  reply_is = refl;
   call = too_many old.driver old.devices id (has_cache (kind_of what)) known.driver absent many;
   disk = λ none. absurd (none_many old.driver old.devices id known.driver absent many none);
   row = refl;
@@ -90,7 +90,7 @@ plugged_many disks old id what known absent many = inr (record {
 pub lacks_disk : (disks : List ℕ) (old : Parts) (id : ℕ) (what : NewDevice) → AreKnown old → IsAbsent old.devices id → length old.devices < 16 → is_missing disks (disk_of what) ≡ true
     → PlugsDevice disks old id what (Refused BadMedium) old
 lacks_disk disks old id what known absent few missing =
-    inl (record { admitted = admitted old.driver old.devices id known.driver absent few; missing = missing; told_so = refl; same = refl })
+    inl (record { admitted = admitted old.driver old.devices id known.driver absent few; missing = missing; reply_is = refl; same = refl })
 
 -- a device that isn't there is none that is
 pub absent_if_not : (devices : List Device) (id : ℕ) (there : Bool) → there ≡ false → (IsPresent devices id → there ≡ true) → IsAbsent devices id

@@ -29,13 +29,13 @@ use Rattle.iom_machine.specs.Refusals as refusals
 use Rattle.iom_machine.specs.Refusals.{MayRefusePlug}
 use Rattle.iom_device.specs.declared.device.Device.{Device}
 use Rattle.iom_world_effects.specs.Devices.{shown_attachment, shown_device, shown_devices, accepted_of, in_flight_of}
-use Rattle.iom_world_effects.specs.Answers.{told_of}
-use Rattle.iom_world_effects.specs.Does.{PlugsDevice, PlugsIn, LacksDisk, AddsRow, new_device, devices_after}
+use Rattle.iom_world_effects.specs.Answers.{outcome_of_done}
+use Rattle.iom_world_effects.specs.Effect.{PlugsDevice, PlugsIn, LacksDisk, AddsRow, new_device, devices_after}
 use Rattle.iom_world_effects.specs.Parts.{Parts}
 use Rattle.iom_world_effects.specs.Shows.{PartsShow}
-use Rattle.iom_world_effects.specs.Sound.{AreSound}
+use Rattle.iom_world_effects.specs.Invariant.{PartsInvariant}
 use Rattle.iom_world_refinement.proofs.ReasonLemmas.{plug_first, none_known}
-use Rattle.iom_world_effects.proofs.StayLemmas.{shows_same}
+use Rattle.iom_world_effects.proofs.UnchangedLemmas.{shows_same}
 
 -- THE ROWS
 
@@ -137,7 +137,7 @@ shows_plugged old new id what none driver no_row row memory devices state shows 
     (none_known d.devices id unplugged) no_row in
     record {
       ledger = rw (ap (λ (x : DriverState). x.ledger) driver) shows.ledger;
-      frames = rw (memory, ap (λ (x : DriverState). x.marks) driver) shows.frames;
+      frames = rw (memory, ap (λ (x : DriverState). x.owners) driver) shows.frames;
       devices = rw (devices, row, ap (λ (x : DriverState). x.devices) driver) (ap (λ ds. ds ++ plugged_device id what ∷ []) shows.devices ∙ plugged);
       given = shows.given ∙ sym (ap (λ (x : DriverState). x.given) driver);
       confirmed = shows.confirmed ∙ sym (ap (λ (x : DriverState). x.confirmed) driver);
@@ -160,11 +160,11 @@ three_first false true missing = refl
 three_first false false true = refl
 three_first false false false = refl
 
-reasons_first : (old : Parts) (events : ℕ) (state : State) (id : ℕ) (what : NewDevice) → AreSound old events → PartsShow old state
+reasons_first : (old : Parts) (events : ℕ) (state : State) (id : ℕ) (what : NewDevice) → PartsInvariant old events → PartsShow old state
     → first_that_applies (refusals.plug_reasons state id what) ≡ then_missing (first_that_applies (why_not_plug old.driver id)) (is_missing state.disks (disk_of what))
-reasons_first old events state id what sound shows =
+reasons_first old events state id what invariants shows =
     three_first (refusals.is_plugged state id) (nat_le state.limits.devices (length state.devices)) (is_missing state.disks (disk_of what))
-    ∙ ap (λ first. then_missing first (is_missing state.disks (disk_of what))) (plug_first old events state id sound shows)
+    ∙ ap (λ first. then_missing first (is_missing state.disks (disk_of what))) (plug_first old events state id invariants shows)
 
 -- what the driver refuses the machine refuses, where the disk is at hand, or isn't looked at
 refused_so : (driven : Option Refusal) (missing : Bool) (why : Refusal) → (driven ≡ None → missing ≡ false) → MatchOption driven (why ≡ Memory) (λ first. why ≡ first)
@@ -174,46 +174,46 @@ refused_so None true why found is = absurd (false≢true (sym (found refl)))
 refused_so None false why found is = subst MayRefusePlug (sym is) tt
 
 -- where one disk is named that isn't at hand
-lacks_step : (disks : List ℕ) (old new : Parts) (events id : ℕ) (what : NewDevice) (told : Outcome) → AreSound old events → LacksDisk disks old id what told new
-    → (state : State) → PartsShow old state → state.disks ≡ disks → (next : State) × machine.Plugs state id what told next × PartsShow new next
-lacks_step disks old new events id what told sound lacks state shows same =
+lacks_step : (disks : List ℕ) (old new : Parts) (events id : ℕ) (what : NewDevice) (reply : Outcome) → PartsInvariant old events → LacksDisk disks old id what reply new
+    → (state : State) → PartsShow old state → state.disks ≡ disks → (next : State) × machine.Plugs state id what reply next × PartsShow new next
+lacks_step disks old new events id what reply invariants lacks state shows same =
     let missing : is_missing state.disks (disk_of what) ≡ true = ap (λ (ds : List ℕ). is_missing ds (disk_of what)) same ∙ lacks.missing in
     let first : first_that_applies (refusals.plug_reasons state id what) ≡ Some BadMedium =
-    reasons_first old events state id what sound shows ∙ ap (λ (none : Option Refusal). then_missing none (is_missing state.disks (disk_of what))) lacks.admitted ∙ ap (then_missing None) missing in (
+    reasons_first old events state id what invariants shows ∙ ap (λ (none : Option Refusal). then_missing none (is_missing state.disks (disk_of what))) lacks.admitted ∙ ap (then_missing None) missing in (
       state,
-      subst (λ t. machine.Plugs state id what t state) (sym lacks.told_so) (subst (λ (o : Option Refusal). MatchOption o (MayRefusePlug BadMedium) (λ one. BadMedium ≡ one)) (sym first) refl, refl),
+      subst (λ t. machine.Plugs state id what t state) (sym lacks.reply_is) (subst (λ (o : Option Refusal). MatchOption o (MayRefusePlug BadMedium) (λ one. BadMedium ≡ one)) (sym first) refl, refl),
       subst (λ parts. PartsShow parts state) (sym lacks.same) shows,
     )
 
 -- where the driver is told
-plugs_step : (disks : List ℕ) (old new : Parts) (events id : ℕ) (what : NewDevice) (told : Outcome) → AreSound old events → PlugsIn disks old id what told new
-    → (state : State) → PartsShow old state → state.disks ≡ disks → (next : State) × machine.Plugs state id what told next × PartsShow new next
-plugs_step disks old new events id what told sound does state shows same = by does.answer does.told_so does.call does.row does.devices
+plugs_step : (disks : List ℕ) (old new : Parts) (events id : ℕ) (what : NewDevice) (reply : Outcome) → PartsInvariant old events → PlugsIn disks old id what reply new
+    → (state : State) → PartsShow old state → state.disks ≡ disks → (next : State) × machine.Plugs state id what reply next × PartsShow new next
+plugs_step disks old new events id what reply invariants effect state shows same = by effect.answer effect.reply_is effect.call effect.row effect.devices
   where
     found : NoneApplies (why_not_plug old.driver id) → is_missing state.disks (disk_of what) ≡ false
-    found none = ap (λ (ds : List ℕ). is_missing ds (disk_of what)) same ∙ does.disk none
+    found none = ap (λ (ds : List ℕ). is_missing ds (disk_of what)) same ∙ effect.disk none
 
-    by : (answer : Result (Unit {0}) Refusal) → told ≡ told_of answer → AnswersPlug old.driver id (has_cache (kind_of what)) answer new.driver → AddsRow answer old.iommu id new.iommu
-        → new.devices ≡ devices_after answer old.devices id what → (next : State) × machine.Plugs state id what told next × PartsShow new next
+    by : (answer : Result (Unit {0}) Refusal) → reply ≡ outcome_of_done answer → AnswersPlug old.driver id (has_cache (kind_of what)) answer new.driver → AddsRow answer old.iommu id new.iommu
+        → new.devices ≡ devices_after answer old.devices id what → (next : State) × machine.Plugs state id what reply next × PartsShow new next
     by (Ok done) is call row devices = (
       plugged_state state id what,
       subst (λ t. machine.Plugs state id what t (plugged_state state id what)) (sym is) (
-        reasons_first old events state id what sound shows ∙ ap (λ (none : Option Refusal). then_missing none (is_missing state.disks (disk_of what))) call.0 ∙ ap (then_missing None) (found call.0),
+        reasons_first old events state id what invariants shows ∙ ap (λ (none : Option Refusal). then_missing none (is_missing state.disks (disk_of what))) call.0 ∙ ap (then_missing None) (found call.0),
         refl,
       ),
-      shows_plugged old new id what call.0 call.1 row.flights.0 (ap (λ (f : Flights). f.rows) row.flights.2) does.memory devices state shows,
+      shows_plugged old new id what call.0 call.1 row.flights.0 (ap (λ (f : Flights). f.rows) row.flights.2) effect.memory devices state shows,
     )
     by (Err why) is call row devices = (
       state,
       subst (λ t. machine.Plugs state id what t state) (sym is) (
-        subst (λ (o : Option Refusal). MatchOption o (MayRefusePlug why) (λ one. why ≡ one)) (sym (reasons_first old events state id what sound shows))
+        subst (λ (o : Option Refusal). MatchOption o (MayRefusePlug why) (λ one. why ≡ one)) (sym (reasons_first old events state id what invariants shows))
             (refused_so (first_that_applies (why_not_plug old.driver id)) (is_missing state.disks (disk_of what)) why found call.0),
         refl,
       ),
-      shows_same old new state does.memory (ap (λ (i : Iommu). flights_of i) row) devices call.1 shows,
+      shows_same old new state effect.memory (ap (λ (i : Iommu). flights_of i) row) devices call.1 shows,
     )
 
-pub plug_step : (disks : List ℕ) (old new : Parts) (events id : ℕ) (what : NewDevice) (told : Outcome) → AreSound old events → PlugsDevice disks old id what told new
-    → (state : State) → PartsShow old state → state.disks ≡ disks → (next : State) × machine.Plugs state id what told next × PartsShow new next
-plug_step disks old new events id what told sound (inl lacks) state shows same = lacks_step disks old new events id what told sound lacks state shows same
-plug_step disks old new events id what told sound (inr does) state shows same = plugs_step disks old new events id what told sound does state shows same
+pub plug_step : (disks : List ℕ) (old new : Parts) (events id : ℕ) (what : NewDevice) (reply : Outcome) → PartsInvariant old events → PlugsDevice disks old id what reply new
+    → (state : State) → PartsShow old state → state.disks ≡ disks → (next : State) × machine.Plugs state id what reply next × PartsShow new next
+plug_step disks old new events id what reply invariants (inl lacks) state shows same = lacks_step disks old new events id what reply invariants lacks state shows same
+plug_step disks old new events id what reply invariants (inr effect) state shows same = plugs_step disks old new events id what reply invariants effect state shows same

@@ -38,13 +38,13 @@ use Rattle.iom_machine.specs.Tickets.{last_confirmed, with_confirmed}
 use Rattle.iom_phys_mem.specs.Words.{zeroed}
 use Rattle.iom_device.specs.declared.device.Device.{Device}
 use Rattle.iom_world_effects.specs.Devices.{shown_attachment, shown_device, shown_devices}
-use Rattle.iom_world_effects.specs.Does.{PollsTickets, polled_told_of}
+use Rattle.iom_world_effects.specs.Effect.{PollsTickets, outcome_of_poll}
 use Rattle.iom_world_effects.specs.Frames.{ShowsFrames}
 use Rattle.iom_world_effects.specs.Parts.{Parts}
 use Rattle.iom_world_effects.specs.Shows.{PartsShow}
-use Rattle.iom_world_effects.specs.Sound.{AreSound}
+use Rattle.iom_world_effects.specs.Invariant.{PartsInvariant}
 use Rattle.iom_world_refinement.proofs.BackFrames.{mark_back, GivesFramesBack, back, shows_given_back}
-use Rattle.iom_world_effects.proofs.DriverLemmas.{IsSoundDriver}
+use Rattle.iom_world_effects.proofs.DriverLemmas.{DriverInvariant}
 use Rattle.iom_world_effects.proofs.FrameLemmas.{shows_kept}
 use Rattle.iom_world_refinement.proofs.PlaceLemmas.{attached_so}
 use Rattle.iom_world_invariant.proofs.PollKeeps.{polled_most}
@@ -157,32 +157,32 @@ shown_alike known known' rows (device ∷ others) same =
 
 -- where the machine's owners have left as the driver's, the frames are given back
 module _ (done : ℕ) (known : List known.Device) (left : Option Owner → Bool) (none : left None ≡ false) (same : (owner : Owner) → left (Some owner) ≡ driver.is_gone done known owner) where
-  mark_as : (mark : Option Owner) → mark_back left mark ≡ driver.mark_given_back done known mark
+  mark_as : (mark : Option Owner) → mark_back left mark ≡ driver.owner_given_back done known mark
   mark_as None = ap (λ (b : Bool). if b then None else None) none
   mark_as (Some owner) = ap (λ (b : Bool). if b then None else Some owner) (same owner)
 
-  marks_as : (marks : List (Option Owner)) → map (mark_back left) marks ≡ map (driver.mark_given_back done known) marks
+  marks_as : (owners : List (Option Owner)) → map (mark_back left) owners ≡ map (driver.owner_given_back done known) owners
   marks_as [] = refl
-  marks_as (mark ∷ marks) = ap (λ (m : Option Owner). m ∷ map (mark_back left) marks) (mark_as mark) ∙ ap (λ ms. driver.mark_given_back done known mark ∷ ms) (marks_as marks)
+  marks_as (mark ∷ owners) = ap (λ (m : Option Owner). m ∷ map (mark_back left) owners) (mark_as mark) ∙ ap (λ ms. driver.owner_given_back done known mark ∷ ms) (marks_as owners)
 
-  gives_as : (marks : List (Option Owner)) (memory memory' : List (List ℕ)) → driver.ClearsGone done known marks memory memory' → GivesFramesBack left marks memory memory'
-  gives_as marks memory memory' clears = record { size = clears.size; own = own; others = others }
+  gives_as : (owners : List (Option Owner)) (memory memory' : List (List ℕ)) → driver.ClearsGone done known owners memory memory' → GivesFramesBack left owners memory memory'
+  gives_as owners memory memory' clears = record { size = clears.size; own = own; others = others }
     where
-      own : (n : ℕ) (mark : Option Owner) → slice_get marks n ≡ Some mark → left mark ≡ true → slice_get memory' n ≡ Some zeroed
+      own : (n : ℕ) (mark : Option Owner) → slice_get owners n ≡ Some mark → left mark ≡ true → slice_get memory' n ≡ Some zeroed
       own n None at gone = absurd (false≢true (sym none ∙ gone))
       own n (Some owner) at gone = clears.own n owner at (sym (same owner) ∙ gone)
 
-      others : (n : ℕ) (mark : Option Owner) → slice_get marks n ≡ Some mark → left mark ≡ false → slice_get memory' n ≡ slice_get memory n
-      others n mark at stays = clears.others n (λ owner here.
+      others : (n : ℕ) (mark : Option Owner) → slice_get owners n ≡ Some mark → left mark ≡ false → slice_get memory' n ≡ slice_get memory n
+      others n mark at unchanged = clears.others n (λ owner here.
           let both : Some mark ≡ Some (Some owner) = sym at ∙ here in
           let is : mark ≡ Some owner = cc in
-          sym (same owner) ∙ ap left (sym is) ∙ stays)
+          sym (same owner) ∙ ap left (sym is) ∙ unchanged)
 
-  frames_back : (marks : List (Option Owner)) (memory memory' : List (List ℕ)) (frames : List Frame) → ShowsFrames memory marks frames → driver.ClearsGone done known marks memory memory'
-      → ShowsFrames memory' (map (driver.mark_given_back done known) marks) (map (back left none) frames)
-  frames_back marks memory memory' frames shows clears =
-      subst (λ ms. ShowsFrames memory' ms (map (back left none) frames)) (marks_as marks)
-      (shows_given_back left none marks memory memory' frames shows (gives_as marks memory memory' clears))
+  frames_back : (owners : List (Option Owner)) (memory memory' : List (List ℕ)) (frames : List Frame) → ShowsFrames memory owners frames → driver.ClearsGone done known owners memory memory'
+      → ShowsFrames memory' (map (driver.owner_given_back done known) owners) (map (back left none) frames)
+  frames_back owners memory memory' frames shows clears =
+      subst (λ ms. ShowsFrames memory' ms (map (back left none) frames)) (marks_as owners)
+      (shows_given_back left none owners memory memory' frames shows (gives_as owners memory memory' clears))
 
 -- THE STEP
 
@@ -191,37 +191,37 @@ abbrev confirmed_state : Parts → ℕ → State → State
 confirmed_state old count state = record state { history = confirmed_from (old.driver.confirmed + 1) count state.history }
 
 -- how a device's ticket is confirmed
-as_driver : (old : Parts) (count : ℕ) (state : State) → IsSoundDriver old.driver → PartsShow old state → (id : ℕ)
+as_driver : (old : Parts) (count : ℕ) (state : State) → DriverInvariant old.driver → PartsShow old state → (id : ℕ)
     → ConfirmsAs (confirmed_from (old.driver.confirmed + 1) count state.history) (old.driver.confirmed + count) (attachment_by_id old.driver.devices id)
-as_driver old count state sound shows id =
+as_driver old count state invariants shows id =
     confirmed_as state.history old.driver.confirmed count old.driver.given (attachment_by_id old.driver.devices id) shows.none_later
-    (λ ticket stage at. sound.leaving id ticket stage at)
+    (λ ticket stage at. invariants.leaving id ticket stage at)
 
 -- an owner has left in the machine where it has in the driver
-owner_left : (old : Parts) (events count : ℕ) (state : State) → AreSound old events → IsSoundDriver old.driver → PartsShow old state → (owner : Owner)
+owner_left : (old : Parts) (events count : ℕ) (state : State) → PartsInvariant old events → DriverInvariant old.driver → PartsShow old state → (owner : Owner)
     → is_of_left (confirmed_state old count state) (Some owner) ≡ driver.is_gone (old.driver.confirmed + count) old.driver.devices owner
-owner_left old events count state sound sound_driver shows System = refl
-owner_left old events count state sound sound_driver shows (OneDevice id) =
+owner_left old events count state invariants driver_invariant shows System = refl
+owner_left old events count state invariants driver_invariant shows (OneDevice id) =
     let h = confirmed_from (old.driver.confirmed + 1) count state.history in
-    ap (has_left h) (how_shown old events state id sound shows)
-    ∙ left_as h (old.driver.confirmed + count) (attachment_by_id old.driver.devices id) (as_driver old count state sound_driver shows id)
+    ap (has_left h) (how_shown old events state id invariants shows)
+    ∙ left_as h (old.driver.confirmed + count) (attachment_by_id old.driver.devices id) (as_driver old count state driver_invariant shows id)
 
 -- what a world shows after so many tickets were confirmed, and what they leave is given back
-shows_polled : (old new : Parts) (events : ℕ) (state : State) (polled : Polled) → AreSound old events → IsSoundDriver old.driver → new.iommu ≡ old.iommu → new.devices ≡ old.devices → PartsShow old state
+shows_polled : (old new : Parts) (events : ℕ) (state : State) (polled : Polled) → PartsInvariant old events → DriverInvariant old.driver → new.iommu ≡ old.iommu → new.devices ≡ old.devices → PartsShow old state
     → ConfirmsDone (registers_of old.iommu) old.driver old.memory polled new.driver new.memory
     → PartsShow new (with_left (confirmed_state old polled.count state))
-shows_polled old new events state polled sound sound_driver iommu devices shows does_confirm =
+shows_polled old new events state polled invariants driver_invariant iommu devices shows does_confirm =
     let d = old.driver in
     let done = d.confirmed + polled.count in
     let h = confirmed_from (d.confirmed + 1) polled.count state.history in
     let rows = (flights_of old.iommu).rows in
     let left = is_of_left (confirmed_state old polled.count state) in
-    let frames = frames_back done d.devices left refl (owner_left old events polled.count state sound sound_driver shows) d.marks old.memory new.memory state.frames shows.frames does_confirm.cleared in
+    let frames = frames_back done d.devices left refl (owner_left old events polled.count state invariants driver_invariant shows) d.owners old.memory new.memory state.frames shows.frames does_confirm.cleared in
     let once = shown_once d.devices (map (driver.driven_once_confirmed done) d.devices) rows old.devices h
-    (λ id. once_as h done (attachment_by_id d.devices id) (as_driver old polled.count state sound_driver shows id) ∙ ap shown_attachment (sym (attachment_confirmed done d.devices id))) in
+    (λ id. once_as h done (attachment_by_id d.devices id) (as_driver old polled.count state driver_invariant shows id) ∙ ap shown_attachment (sym (attachment_confirmed done d.devices id))) in
     record {
       ledger = does_confirm.agrees state.history shows.ledger;
-      frames = rw (ap (λ (x : DriverState). x.marks) does_confirm.driver) frames;
+      frames = rw (ap (λ (x : DriverState). x.owners) does_confirm.driver) frames;
       devices = rw (devices, ap (λ (i : Iommu). (flights_of i).rows) iommu, ap (λ (x : DriverState). x.devices) does_confirm.driver)
           (ap (λ ds. map (device_once_confirmed h) ds) shows.devices ∙ once);
       given = rw (ap (λ (x : DriverState). x.given) does_confirm.driver) shows.given;
@@ -235,23 +235,23 @@ shows_polled old new events state polled sound sound_driver iommu devices shows 
     }
 
 -- and where none was confirmed
-shows_none : (old new : Parts) (state : State) (polled : Polled) → IsSoundDriver old.driver → new.iommu ≡ old.iommu → new.devices ≡ old.devices → PartsShow old state
+shows_none : (old new : Parts) (state : State) (polled : Polled) → DriverInvariant old.driver → new.iommu ≡ old.iommu → new.devices ≡ old.devices → PartsShow old state
     → ConfirmsDone (registers_of old.iommu) old.driver old.memory polled new.driver new.memory → polled.count ≡ 0 → PartsShow new state
-shows_none old new state polled sound iommu devices shows does_confirm none =
+shows_none old new state polled invariants iommu devices shows does_confirm none =
     let d = old.driver in
     let done = d.confirmed + polled.count in
     let same : done ≡ d.confirmed = omega (arith, none) in
     let rows = (flights_of old.iommu).rows in
     let stay : (id : ℕ) → driver.has_left_until done (attachment_by_id d.devices id) ≡ false =
-    λ id. ap (λ n. driver.has_left_until n (attachment_by_id d.devices id)) same ∙ none_left d.devices d.given d.confirmed sound.leaving id in
+    λ id. ap (λ n. driver.has_left_until n (attachment_by_id d.devices id)) same ∙ none_left d.devices d.given d.confirmed invariants.leaving id in
     let nobody = nobody_gone d.devices done stay in
-    let marks = marks_same done d.devices d.marks nobody in
-    let frames = shows_kept old.memory new.memory d.marks state.frames shows.frames (λ k free. does_confirm.cleared.others k (λ owner at. nobody owner)) does_confirm.cleared.size in
+    let owners = marks_same done d.devices d.owners nobody in
+    let frames = shows_kept old.memory new.memory d.owners state.frames shows.frames (λ k free. does_confirm.cleared.others k (λ owner at. nobody owner)) does_confirm.cleared.size in
     let alike = shown_alike d.devices (map (driver.driven_once_confirmed done) d.devices) rows old.devices
     (λ id. attachment_confirmed done d.devices id ∙ ap (λ (b : Bool). if b then attached.Detached else attachment_by_id d.devices id) (stay id)) in
     record {
       ledger = subst (λ n. Agrees new.driver.ledger (confirmed_from (d.confirmed + 1) n state.history)) none (does_confirm.agrees state.history shows.ledger);
-      frames = subst (λ ms. ShowsFrames new.memory ms state.frames) (sym (ap (λ (x : DriverState). x.marks) does_confirm.driver ∙ marks)) frames;
+      frames = subst (λ ms. ShowsFrames new.memory ms state.frames) (sym (ap (λ (x : DriverState). x.owners) does_confirm.driver ∙ owners)) frames;
       devices = rw (devices, ap (λ (i : Iommu). (flights_of i).rows) iommu, ap (λ (x : DriverState). x.devices) does_confirm.driver) (shows.devices ∙ alike);
       given = rw (ap (λ (x : DriverState). x.given) does_confirm.driver) shows.given;
       confirmed = shows.confirmed ∙ sym same ∙ sym (ap (λ (x : DriverState). x.confirmed) does_confirm.driver);
@@ -296,16 +296,16 @@ started_refuses : (started : Bool) (why : Refusal) → started ≡ true → firs
 started_refuses true why on refused = cc
 started_refuses false why on refused = false≢true on
 
-pub poll_step : (old new : Parts) (events after : ℕ) (told : Outcome) → AreSound old events → IsSoundDriver old.driver → AreSound new after → PollsTickets old told new
-    → ((s : State) → PartsShow new s → EachInFlightMay s) → (state : State) → PartsShow old state → (next : State) × machine.Polls [] state told next × PartsShow new next
-poll_step old new events later told sound sound_driver sound' does may state shows = by does.answer does.told_so does.call
+pub poll_step : (old new : Parts) (events after : ℕ) (reply : Outcome) → PartsInvariant old events → DriverInvariant old.driver → PartsInvariant new after → PollsTickets old reply new
+    → ((s : State) → PartsShow new s → EachInFlightMay s) → (state : State) → PartsShow old state → (next : State) × machine.Polls [] state reply next × PartsShow new next
+poll_step old new events later reply invariants driver_invariant invariants' effect may state shows = by effect.answer effect.reply_is effect.call
   where
-    by : (answer : Result Polled Refusal) → told ≡ polled_told_of answer → AnswersPoll (registers_of old.iommu) old.driver old.memory answer new.driver new.memory
-        → (next : State) × machine.Polls [] state told next × PartsShow new next
+    by : (answer : Result Polled Refusal) → reply ≡ outcome_of_poll answer → AnswersPoll (registers_of old.iommu) old.driver old.memory answer new.driver new.memory
+        → (next : State) × machine.Polls [] state reply next × PartsShow new next
     by (Ok polled) tells (admitted, does_confirm) =
-        let most = polled_most (registers_of old.iommu) old.driver old.memory polled new.driver new.memory sound_driver does_confirm in
+        let most = polled_most (registers_of old.iommu) old.driver old.memory polled new.driver new.memory driver_invariant does_confirm in
         let done = confirmed_so old new polled.first polled.count polled.timed_out state may shows
-        (shows_polled old new events state polled sound sound_driver does.iommu does.devices shows does_confirm)
-        (λ none. shows_none old new state polled sound_driver does.iommu does.devices shows does_confirm none) most polled.count refl does_confirm.first in
+        (shows_polled old new events state polled invariants driver_invariant effect.iommu effect.devices shows does_confirm)
+        (λ none. shows_none old new state polled driver_invariant effect.iommu effect.devices shows does_confirm none) most polled.count refl does_confirm.first in
         (done.0, subst (λ (o : Outcome). machine.Polls [] state o done.0) (sym tells) done.1, done.2)
-    by (Err why) tells (refused, driver, memory) = absurd (started_refuses old.driver.started why sound.started refused)
+    by (Err why) tells (refused, driver, memory) = absurd (started_refuses old.driver.started why invariants.started refused)

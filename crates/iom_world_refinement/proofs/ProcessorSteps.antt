@@ -14,7 +14,7 @@ use Rattle.iom_base.specs.Refusals.{IsRefusedBy, NoneApplies}
 use Rattle.iom_world_effects.specs.Parts.{Parts}
 use Rattle.iom_world_effects.specs.Processor.{PokesBytes, PeeksBytes, AsksFree, StoresIfAny, ShowsAt, IsNoPlace}
 use Rattle.iom_world_effects.specs.Shows.{PartsShow}
-use Rattle.iom_world_effects.specs.Sound.{AreSound}
+use Rattle.iom_world_effects.specs.Invariant.{PartsInvariant}
 use Rattle.iom_world_effects.proofs.FrameLemmas.{reserved_shown}
 use Rattle.iom_world_refinement.proofs.FreeLemmas.{free_in_machine, free_in_world}
 use Rattle.iom_driver.proofs.Lists.{get_within}
@@ -40,19 +40,19 @@ module _ (old : Parts) (state : State) (shows : PartsShow old state) where
   -- why a poke is refused
   no_place : (frame : ℕ) (why : Refusal) → IsNoPlace old frame why → IsRefusedBy (poke_reasons state frame) NeverElse why
   no_place frame FrameOutOfRange above = rw (is_outside frame above) refl
-  no_place frame FrameReserved place = rw (is_inside frame place.0, reserved_shown old.memory old.driver.marks state.frames frame shows.frames ∙ place.1) refl
+  no_place frame FrameReserved place = rw (is_inside frame place.0, reserved_shown old.memory old.driver.owners state.frames frame shows.frames ∙ place.1) refl
   no_place frame _ place = absurd place
 
-  step_if_any : (events address : ℕ) (bytes : List ℕ) (told : Outcome) (memory : List (List ℕ)) → AreSound old events → StoresIfAny old address bytes told memory
-      → (next : State) × Pokes state address bytes told next × PartsShow (record old { memory = memory }) next
-  step_if_any events address bytes Done memory sound stores =
+  step_if_any : (events address : ℕ) (bytes : List ℕ) (reply : Outcome) (memory : List (List ℕ)) → PartsInvariant old events → StoresIfAny old address bytes reply memory
+      → (next : State) × Pokes state address bytes reply next × PartsShow (record old { memory = memory }) next
+  step_if_any events address bytes Done memory invariants stores =
       let frame = address / 4096 in
-      let free = stored_free old events address bytes memory sound stores in (
+      let free = stored_free old events address bytes memory invariants stores in (
         record state { frames = stored state.frames frame (address % 4096) bytes },
-        (stores.fits, rw (is_inside frame stores.inside, reserved_shown old.memory old.driver.marks state.frames frame shows.frames ∙ stores.unreserved) refl, refl),
+        (stores.fits, rw (is_inside frame stores.inside, reserved_shown old.memory old.driver.owners state.frames frame shows.frames ∙ stores.unreserved) refl, refl),
         subst (λ m. PartsShow (record old { memory = m }) (record state { frames = stored state.frames frame (address % 4096) bytes })) (sym stores.stored) (record {
           ledger = shows.ledger;
-          frames = frames_stored old.memory old.driver.marks state.frames frame (address % 4096) stores.before bytes shows.frames free stores.there;
+          frames = frames_stored old.memory old.driver.owners state.frames frame (address % 4096) stores.before bytes shows.frames free stores.there;
           devices = shows.devices;
           given = shows.given;
           confirmed = shows.confirmed;
@@ -62,57 +62,57 @@ module _ (old : Parts) (state : State) (shows : PartsShow old state) where
           limits = shows.limits;
         }),
       )
-  step_if_any events address bytes BadSpan memory sound stores =
+  step_if_any events address bytes BadSpan memory invariants stores =
       (state, (stores.0, refl), subst (λ m. PartsShow (record old { memory = m }) state) (sym stores.1) shows)
-  step_if_any events address bytes (Refused why) memory sound stores =
+  step_if_any events address bytes (Refused why) memory invariants stores =
       (state, (stores.0, no_place (address / 4096) why stores.1, refl), subst (λ m. PartsShow (record old { memory = m }) state) (sym stores.2) shows)
-  step_if_any events address bytes _ memory sound stores = absurd stores
+  step_if_any events address bytes _ memory invariants stores = absurd stores
 
   -- what is read of a frame that is nobody's is what the machine has
-  shown_bytes : (events address len : ℕ) (shown : List ℕ) → AreSound old events → ShowsAt old address len shown → address / 4096 < length old.memory → ShowsBytes state address len shown
-  shown_bytes events address len shown sound at below = (
+  shown_bytes : (events address len : ℕ) (shown : List ℕ) → PartsInvariant old events → ShowsAt old address len shown → address / 4096 < length old.memory → ShowsBytes state address len shown
+  shown_bytes events address len shown invariants at below = (
     at.long,
     (λ unreserved.
         let frame = address / 4096 in
-        let free = unmarked old.driver.marks frame (rw (sym sound.ready.stand.size) below) (sym (reserved_shown old.memory old.driver.marks state.frames frame shows.frames) ∙ unreserved) in
-        at.part ∙ ap (λ b. slice_range b (address % 4096) (address % 4096 + len)) (sym (bytes_shown old.memory old.driver.marks state.frames frame at.bytes shows.frames free at.there))),
+        let free = unmarked old.driver.owners frame (rw (sym invariants.ready.stand.size) below) (sym (reserved_shown old.memory old.driver.owners state.frames frame shows.frames) ∙ unreserved) in
+        at.part ∙ ap (λ b. slice_range b (address % 4096) (address % 4096 + len)) (sym (bytes_shown old.memory old.driver.owners state.frames frame at.bytes shows.frames free at.there))),
   )
 
-  peeks : (events address len : ℕ) (told : Outcome) → AreSound old events → PeeksBytes old address len told → Peeks state address len told state
-  peeks events address len (Bytes shown) sound at =
+  peeks : (events address len : ℕ) (reply : Outcome) → PartsInvariant old events → PeeksBytes old address len reply → Peeks state address len reply state
+  peeks events address len (Bytes shown) invariants at =
       let below = get_within old.memory (address / 4096) at.bytes at.there in
-      (at.fits, none_applies (address / 4096) below, shown_bytes events address len shown.items sound at below, refl)
-  peeks events address len BadSpan sound bad = (bad, refl)
-  peeks events address len (Refused why) sound refused = (refused.0, refused_outside (address / 4096) why refused.1 refused.2, refl)
-  peeks events address len _ sound never = absurd never
+      (at.fits, none_applies (address / 4096) below, shown_bytes events address len shown.items invariants at below, refl)
+  peeks events address len BadSpan invariants bad = (bad, refl)
+  peeks events address len (Refused why) invariants refused = (refused.0, refused_outside (address / 4096) why refused.1 refused.2, refl)
+  peeks events address len _ invariants never = absurd never
 
   -- a frame is free in the machine exactly where the driver finds it free
-  tells_free : (events frame : ℕ) (told : Outcome) → AreSound old events → AsksFree old frame told → TellsFree state frame told state
-  tells_free events frame (Free is_free) sound asks = (
+  tells_free : (events frame : ℕ) (reply : Outcome) → PartsInvariant old events → AsksFree old frame reply → TellsFree state frame reply state
+  tells_free events frame (Free is_free) invariants asks = (
     none_applies frame asks.0,
     (
-      (λ is. let free = asks.1.0 is in free_in_machine old.memory old.driver.marks old.driver.ledger state frame shows.ledger shows.frames asks.0 free.unreserved free.ungranted),
-      (λ free. let there = free_in_world old.memory old.driver.marks old.driver.ledger state None frame shows.ledger shows.frames (λ named. none named) free in
-          asks.1.1 (record { inside = rw (sym sound.ready.stand.size) (asks.0); unreserved = there.1.unmarked; ungranted = there.1.ungranted })),
+      (λ is. let free = asks.1.0 is in free_in_machine old.memory old.driver.owners old.driver.ledger state frame shows.ledger shows.frames asks.0 free.unreserved free.ungranted),
+      (λ free. let there = free_in_world old.memory old.driver.owners old.driver.ledger state None frame shows.ledger shows.frames (λ named. none named) free in
+          asks.1.1 (record { inside = rw (sym invariants.ready.stand.size) (asks.0); unreserved = there.1.unmarked; ungranted = there.1.ungranted })),
     ),
     refl,
   )
     where
       none : ◌≡◌ {A = Option ℕ} None (Some frame) → ⊥
       none named = cc
-  tells_free events frame (Refused why) sound asks = (refused_outside frame why asks.0 asks.1, refl)
-  tells_free events frame _ sound asks = absurd asks
+  tells_free events frame (Refused why) invariants asks = (refused_outside frame why asks.0 asks.1, refl)
+  tells_free events frame _ invariants asks = absurd asks
 
-pub poked_step : (old new : Parts) (events address : ℕ) (bytes : List ℕ) (told : Outcome) → AreSound old events → PokesBytes old address bytes told new
-    → (state : State) → PartsShow old state → (next : State) × Pokes state address bytes told next × PartsShow new next
-poked_step old new events address bytes told sound pokes state shows =
-    let step = step_if_any old state shows events address bytes told new.memory sound pokes.memory in
+pub poked_step : (old new : Parts) (events address : ℕ) (bytes : List ℕ) (reply : Outcome) → PartsInvariant old events → PokesBytes old address bytes reply new
+    → (state : State) → PartsShow old state → (next : State) × Pokes state address bytes reply next × PartsShow new next
+poked_step old new events address bytes reply invariants pokes state shows =
+    let step = step_if_any old state shows events address bytes reply new.memory invariants pokes.memory in
     (step.0, step.1, shows_same (record old { memory = new.memory }) new step.0 (parts_are new new.memory old.iommu old.driver old.devices old.fabric refl pokes.iommu pokes.driver pokes.devices pokes.fabric) step.2)
 
-pub peeked_step : (old : Parts) (events address len : ℕ) (told : Outcome) → AreSound old events → PeeksBytes old address len told
-    → (state : State) → PartsShow old state → Peeks state address len told state
-peeked_step old events address len told sound shown state shows = peeks old state shows events address len told sound shown
+pub peeked_step : (old : Parts) (events address len : ℕ) (reply : Outcome) → PartsInvariant old events → PeeksBytes old address len reply
+    → (state : State) → PartsShow old state → Peeks state address len reply state
+peeked_step old events address len reply invariants shown state shows = peeks old state shows events address len reply invariants shown
 
-pub asked_free_step : (old : Parts) (events frame : ℕ) (told : Outcome) → AreSound old events → AsksFree old frame told
-    → (state : State) → PartsShow old state → TellsFree state frame told state
-asked_free_step old events frame told sound asks state shows = tells_free old state shows events frame told sound asks
+pub asked_free_step : (old : Parts) (events frame : ℕ) (reply : Outcome) → PartsInvariant old events → AsksFree old frame reply
+    → (state : State) → PartsShow old state → TellsFree state frame reply state
+asked_free_step old events frame reply invariants asks state shows = tells_free old state shows events frame reply invariants asks

@@ -20,7 +20,7 @@ use Rattle.iom_machine.specs.Tickets.{pending_tickets}
 use Rattle.iom_world_effects.specs.Devices.{shown_attachment}
 use Rattle.iom_world_effects.specs.Parts.{Parts}
 use Rattle.iom_world_effects.specs.Shows.{PartsShow}
-use Rattle.iom_world_effects.specs.Sound.{AreSound}
+use Rattle.iom_world_effects.specs.Invariant.{PartsInvariant}
 use Rattle.iom_world_refinement.proofs.ReasonLemmas.{there_shown, how_shown, many_shown}
 
 -- the first reason of the machine's, where the device is there or not, is attached so, and where as many tickets wait as may
@@ -38,7 +38,7 @@ driver_first started there how many full used = first_that_applies (
     (not started, NotStarted)
     ∷ (not there, NoSuchDevice)
     ∷ (is_away how, NotAttached)
-    ∷ (as_known.is_cut_off how, refusal.Quarantined)
+    ∷ (as_known.is_quarantined how, refusal.Quarantined)
     ∷ (many, TooManyPending)
     ∷ (full, QueueFull)
     ∷ (used, NumbersUsedUp)
@@ -70,38 +70,38 @@ first_same : (there there' many many' : Bool) (attachment attachment' : Attachme
 first_same there there' many many' attachment attachment' same attached as_many = rw (same, attached, as_many) refl
 
 -- the machine's first reason, by what the driver knows
-quarantine_first : (parts : Parts) (events : ℕ) (state : State) (id : ℕ) → AreSound parts events → PartsShow parts state
+quarantine_first : (parts : Parts) (events : ℕ) (state : State) (id : ℕ) → PartsInvariant parts events → PartsShow parts state
     → first_that_applies (machine.quarantine_reasons state id)
     ≡ machine_first (has_device parts.driver.devices id) (shown_attachment (as_known.attachment_by_id parts.driver.devices id)) (nat_le pending_limit (parts.driver.given - parts.driver.confirmed))
-quarantine_first parts events state id sound shows =
+quarantine_first parts events state id invariants shows =
     let d = parts.driver in
     first_same (machine.is_plugged state id) (has_device d.devices id) (nat_le state.limits.pending (pending_tickets state)) (nat_le pending_limit (d.given - d.confirmed))
     (attachment_of state id) (shown_attachment (as_known.attachment_by_id d.devices id))
-    (there_shown parts events state id sound shows) (how_shown parts events state id sound shows) (many_shown parts state shows)
+    (there_shown parts events state id invariants shows) (how_shown parts events state id invariants shows) (many_shown parts state shows)
 
 -- the driver's, where it is started
-started_first : (started there : Bool) (how : owned.Attachment) (many full used : Bool) (told : Option Refusal) → started ≡ true → driver_first started there how many full used ≡ told
-    → driver_first true there how many full used ≡ told
-started_first started there how many full used told on first = subst (λ s. driver_first s there how many full used ≡ told) on first
+started_first : (started there : Bool) (how : owned.Attachment) (many full used : Bool) (reply : Option Refusal) → started ≡ true → driver_first started there how many full used ≡ reply
+    → driver_first true there how many full used ≡ reply
+started_first started there how many full used reply on first = subst (λ s. driver_first s there how many full used ≡ reply) on first
 
-pub quarantine_refused_by : (parts : Parts) (events : ℕ) (state : State) (id : ℕ) (why : Refusal) → AreSound parts events → PartsShow parts state
+pub quarantine_refused_by : (parts : Parts) (events : ℕ) (state : State) (id : ℕ) (why : Refusal) → PartsInvariant parts events → PartsShow parts state
     → first_that_applies (why_not_quarantine parts.driver (registers_of parts.iommu) id) ≡ Some why → IsRefusedBy (machine.quarantine_reasons state id) MayFindNoPlace why
-quarantine_refused_by parts events state id why sound shows first =
+quarantine_refused_by parts events state id why invariants shows first =
     let d = parts.driver in
     let how = as_known.attachment_by_id d.devices id in
     let many = nat_le pending_limit (d.given - d.confirmed) in
     let full = lacks_places 3 (registers_of parts.iommu) in
     let used = nat_le 4294967295 (last_fence d) in
-    subst (λ o. MatchOption o (MayFindNoPlace why) (λ one. why ≡ one)) (sym (quarantine_first parts events state id sound shows))
-    (cut_off_refused (has_device d.devices id) how many full used why (started_first d.started (has_device d.devices id) how many full used (Some why) sound.started first))
+    subst (λ o. MatchOption o (MayFindNoPlace why) (λ one. why ≡ one)) (sym (quarantine_first parts events state id invariants shows))
+    (cut_off_refused (has_device d.devices id) how many full used why (started_first d.started (has_device d.devices id) how many full used (Some why) invariants.started first))
 
-pub may_quarantine : (parts : Parts) (events : ℕ) (state : State) (id : ℕ) → AreSound parts events → PartsShow parts state
+pub may_quarantine : (parts : Parts) (events : ℕ) (state : State) (id : ℕ) → PartsInvariant parts events → PartsShow parts state
     → NoneApplies (why_not_quarantine parts.driver (registers_of parts.iommu) id) → NoneApplies (machine.quarantine_reasons state id)
-may_quarantine parts events state id sound shows none =
+may_quarantine parts events state id invariants shows none =
     let d = parts.driver in
     let how = as_known.attachment_by_id d.devices id in
     let many = nat_le pending_limit (d.given - d.confirmed) in
     let full = lacks_places 3 (registers_of parts.iommu) in
     let used = nat_le 4294967295 (last_fence d) in
-    quarantine_first parts events state id sound shows
-    ∙ cut_off_none (has_device d.devices id) how many full used (started_first d.started (has_device d.devices id) how many full used None sound.started none)
+    quarantine_first parts events state id invariants shows
+    ∙ cut_off_none (has_device d.devices id) how many full used (started_first d.started (has_device d.devices id) how many full used None invariants.started none)

@@ -37,10 +37,10 @@ use Rattle.iom_world_effects.specs.Parts.{Parts}
 use Rattle.iom_world_effects.specs.Read.{space_in, values_of}
 use Rattle.iom_world_effects.specs.Scenes.{IsSceneOf}
 use Rattle.iom_world_effects.specs.Shows.{PartsShow}
-use Rattle.iom_world_effects.specs.Sound.{AreSound}
+use Rattle.iom_world_effects.specs.Invariant.{PartsInvariant}
 use Rattle.iom_world_effects.proofs.CachedMay.{in_history, reachable_in, leaves_none, detached_none}
 use Rattle.iom_world_effects.proofs.CutOffLemmas.{IsPending, show_formerly, cut_off_holds}
-use Rattle.iom_world_effects.proofs.DriverLemmas.{IsSoundDriver}
+use Rattle.iom_world_effects.proofs.DriverLemmas.{DriverInvariant}
 use Rattle.iom_world_effects.proofs.HistoryMay.{may_merely}
 use Rattle.iom_world_effects.proofs.MessageLemmas.{the_one}
 use Rattle.iom_world_effects.proofs.QuestionAnswers.{RefusedAs, RefusedFormerly}
@@ -123,7 +123,7 @@ shows_merely ledger history id page pair agrees merely = by (held_at history id 
     ]))))
 
 -- A CACHED TRANSLATION, that allows to read
-module _ (parts : Parts) (events : ℕ) (state : State) (id page : ℕ) (stage : Stages) (translation : Translation) (sound : AreSound parts events) (own : IsSoundDriver parts.driver)
+module _ (parts : Parts) (events : ℕ) (state : State) (id page : ℕ) (stage : Stages) (translation : Translation) (invariants : PartsInvariant parts events) (own : DriverInvariant parts.driver)
     (shows : PartsShow parts state) (owned : owned_stages_of parts.driver.devices id ≡ Some stage)
     (cached : translations_of parts.iommu (space_in stage.mode stage.number, page) ≡ Some translation) (allowed : allows translation.rights Read ≡ true)
     (pending : IsPending parts.driver id) where
@@ -131,7 +131,7 @@ module _ (parts : Parts) (events : ℕ) (state : State) (id page : ℕ) (stage :
   show_in : in_both_stages (shown_attachment (attachment_by_id parts.driver.devices id)) ≡ false → (scene : Scene) → IsSceneOf (values_of parts) scene → IsFaithful scene
       → MayShow state.history id page (translation.frame, translation.rights)
   show_in one scene is facts =
-      elim (reachable_in parts events state id page stage translation sound own shows owned cached false one scene is facts) [
+      elim (reachable_in parts events state id page stage translation invariants own shows owned cached false one scene is facts) [
         | inl held ↦ inl held
         | inr lingers ↦ inr (nothing lingers (held_at state.history id page) refl, lingers)
       ]
@@ -139,39 +139,39 @@ module _ (parts : Parts) (events : ℕ) (state : State) (id page : ℕ) (stage :
       nothing : Lingers state.history id page (translation.frame, translation.rights) → (held : Option Pair) → held_at state.history id page ≡ held → held ≡ None
       nothing lingers None at = refl
       nothing lingers (Some pair) at =
-          absurd ((in_history parts events state id page stage translation sound own shows owned cached scene is facts).order.apart id page lingers.0 pair (translation.frame, translation.rights) at lingers.1)
+          absurd ((in_history parts events state id page stage translation invariants own shows owned cached scene is facts).order.apart id page lingers.0 pair (translation.frame, translation.rights) at lingers.1)
 
   shown_cached : (mode : Mode) → in_both_stages (shown_attachment (attachment_by_id parts.driver.devices id)) ≡ is_both mode
       → MayTell (shown.Attached mode true) state id page (Page translation.frame translation.rights)
   shown_cached (First size) is =
-      shows_merely parts.driver.ledger state.history id page (translation.frame, translation.rights) shows.ledger (∥∥₁_map sound.copies (λ (scene, at, facts). show_in is scene at facts))
+      shows_merely parts.driver.ledger state.history id page (translation.frame, translation.rights) shows.ledger (∥∥₁_map invariants.copies (λ (scene, at, facts). show_in is scene at facts))
   shown_cached (Second size) is =
-      shows_merely parts.driver.ledger state.history id page (translation.frame, translation.rights) shows.ledger (∥∥₁_map sound.copies (λ (scene, at, facts). show_in is scene at facts))
+      shows_merely parts.driver.ledger state.history id page (translation.frame, translation.rights) shows.ledger (∥∥₁_map invariants.copies (λ (scene, at, facts). show_in is scene at facts))
   shown_cached (Both size) is = (
     allowed,
-    (λ kind allowing. may_merely state.history id translation.frame kind (∥∥₁_map sound.copies
-        (λ (scene, at, facts). reachable_in parts events state id page stage translation sound own shows owned cached true is scene at facts kind allowing))),
+    (λ kind allowing. may_merely state.history id translation.frame kind (∥∥₁_map invariants.copies
+        (λ (scene, at, facts). reachable_in parts events state id page stage translation invariants own shows owned cached true is scene at facts kind allowing))),
   )
 
-  -- of a device that is cut off it is what lingers
+  -- of a device that is quarantined it is what lingers
   cut_off : (ticket : ℕ) (s : Stages) → attachment_by_id parts.driver.devices id ≡ driver.Quarantined ticket s → s.ats ≡ true
       → MayTell (shown.Quarantined ticket s.mode s.ats) state id page (Page translation.frame translation.rights)
   cut_off ticket s is ats = inr (
     shows.none_later ticket (pending ticket s is),
     subst (λ b. MayTellFormerly s.mode b state.history id page (Page translation.frame translation.rights)) (sym ats)
         (show_formerly state.history id page translation.frame translation.rights (cut_off_holds parts.driver own state.history shows.ledger id ticket s is) s.mode allowed
-        (∥∥₁_map sound.copies (λ (scene, at, facts).
-        reachable_in parts events state id page stage translation sound own shows owned cached (is_both s.mode) (ap (λ a. in_both_stages (shown_attachment a)) is) scene at facts))),
+        (∥∥₁_map invariants.copies (λ (scene, at, facts).
+        reachable_in parts events state id page stage translation invariants own shows owned cached (is_both s.mode) (ap (λ a. in_both_stages (shown_attachment a)) is) scene at facts))),
   )
 
   pub cached_tell : (a : Attachment) → attachment_by_id parts.driver.devices id ≡ a → has_ats (shown_attachment a) ≡ true
       → MayTell (shown_attachment a) state id page (Page translation.frame translation.rights)
-  cached_tell driver.Detached is ats = absurd (detached_none parts events state id page stage translation sound own shows owned cached is)
+  cached_tell driver.Detached is ats = absurd (detached_none parts events state id page stage translation invariants own shows owned cached is)
   cached_tell (driver.Attached s) is ats =
       subst (λ b. MayTell (shown.Attached s.mode b) state id page (Page translation.frame translation.rights)) (sym ats)
       (shown_cached s.mode (ap (λ a. in_both_stages (shown_attachment a)) is))
   cached_tell (driver.Quarantined ticket s) is ats = cut_off ticket s is ats
-  cached_tell (driver.Leaving ticket s) is ats = absurd (leaves_none parts events state id page stage translation sound own shows owned cached ticket s is)
+  cached_tell (driver.Leaving ticket s) is ats = absurd (leaves_none parts events state id page stage translation invariants own shows owned cached ticket s is)
 
 -- WHAT A WALK GIVES
 walked_tell : (state : State) (ledger : Ledger) (mode : Mode) (id page : ℕ) (translation : Translation) → Agrees ledger state.history → HoldsWalked ledger mode id page translation
@@ -184,20 +184,20 @@ walked_tell state ledger (Both size) id page translation agrees (granted, rights
     (allowed, (λ kind allowing. (granted, rights, inl ((agrees.pages id granted).holds ∙ held), no_less kind allowing)))
 
 -- what the machine lets be told of a page
-pub may_tell : (parts : Parts) (events : ℕ) (state : State) (id address : ℕ) (answer : Translation) (sure : Bool) (new : Translations) → AreSound parts events → IsSoundDriver parts.driver
+pub may_tell : (parts : Parts) (events : ℕ) (state : State) (id address : ℕ) (answer : Translation) (sure : Bool) (new : Translations) → PartsInvariant parts events → DriverInvariant parts.driver
     → PartsShow parts state → has_ats (shown_attachment (attachment_by_id parts.driver.devices id)) ≡ true
     → IsAnswered sure parts.driver id address Read (translations_of parts.iommu) (Ok answer) new
     → MayTell (shown_attachment (attachment_by_id parts.driver.devices id)) state id (address / 4096) (Page answer.frame answer.rights)
-may_tell parts events state id address answer sure new sound own shows ats (inl reaches) =
+may_tell parts events state id address answer sure new invariants own shows ats (inl reaches) =
     let stage = reaches.stage in
     let with_ats : stage.ats ≡ true = sym (ap (λ a. has_ats (shown_attachment a)) reaches.attached) ∙ ats in
     subst (λ (t : Translation). MayTell (shown_attachment (attachment_by_id parts.driver.devices id)) state id (address / 4096) (Page t.frame t.rights)) (sym reaches.answer_is)
     (subst (λ a. MayTell (shown_attachment a) state id (address / 4096) (Page reaches.translation.frame reaches.translation.rights)) (sym reaches.attached)
     (subst (λ b. MayTell (shown.Attached stage.mode b) state id (address / 4096) (Page reaches.translation.frame reaches.translation.rights)) (sym with_ats)
     (walked_tell state parts.driver.ledger stage.mode id (address / 4096) reaches.translation shows.ledger reaches.held reaches.allowed)))
-may_tell parts events state id address answer sure new sound own shows ats (inr finds) =
+may_tell parts events state id address answer sure new invariants own shows ats (inr finds) =
     subst (λ (t : Translation). MayTell (shown_attachment (attachment_by_id parts.driver.devices id)) state id (address / 4096) (Page t.frame t.rights)) (sym finds.answer_is)
-    (cached_tell parts events state id (address / 4096) finds.stage finds.translation sound own shows finds.owned finds.cached finds.allowed finds.pending (attachment_by_id parts.driver.devices id) refl ats)
+    (cached_tell parts events state id (address / 4096) finds.stage finds.translation invariants own shows finds.owned finds.cached finds.allowed finds.pending (attachment_by_id parts.driver.devices id) refl ats)
 
 -- EACH REFUSAL
 attached_refuse : (mode : Mode) (state : State) (ledger : Ledger) (id page : ℕ) (cause : Cause) → Agrees ledger state.history → FaultsBy mode ledger id page Read cause
@@ -212,7 +212,7 @@ refuse_formerly stage state id address cause (inl (ats, page)) = subst (λ b. Ma
 refuse_formerly stage state id address cause (inr (none, disallowed)) =
     subst (λ b. MayTellFormerly stage.mode b state.history id (address / 4096) (Refused cause)) (sym none) (ap Refused disallowed)
 
-pub may_refuse : (a : Attachment) (parts : Parts) (state : State) (id address : ℕ) (cause : Cause) → IsSoundDriver parts.driver → PartsShow parts state
+pub may_refuse : (a : Attachment) (parts : Parts) (state : State) (id address : ℕ) (cause : Cause) → DriverInvariant parts.driver → PartsShow parts state
     → attachment_by_id parts.driver.devices id ≡ a → RefusedAs a parts.driver id address cause → MayTell (shown_attachment a) state id (address / 4096) (Refused cause)
 may_refuse driver.Detached parts state id address cause own shows is refused = ap Refused (refused ∙ ap (λ l. cause_at l id) (sym shows.levels))
 may_refuse (driver.Attached stage) parts state id address cause own shows is (inl (ats, faults)) =

@@ -27,11 +27,11 @@ use Rattle.iom_world_effects.specs.Frames.{ShowsFrames}
 use Rattle.iom_world_effects.specs.Parts.{Parts}
 use Rattle.iom_world_effects.specs.Places.{IsPresent}
 use Rattle.iom_world_effects.specs.Shows.{PartsShow}
-use Rattle.iom_world_effects.specs.Sound.{AreSound, HasAsker}
-use Rattle.iom_world_effects.proofs.DriverLemmas.{IsSoundDriver}
+use Rattle.iom_world_effects.specs.Invariant.{PartsInvariant, HasAsker}
+use Rattle.iom_world_effects.proofs.DriverLemmas.{DriverInvariant}
 use Rattle.iom_world_effects.proofs.PartsLemmas.{StaysReported}
 use Rattle.iom_world_effects.proofs.PresentLemmas.{kind_present}
-use Rattle.iom_world_effects.proofs.QuestionAnswers.{told_of}
+use Rattle.iom_world_effects.proofs.QuestionAnswers.{outcome_of_done}
 use Rattle.iom_world_refinement.proofs.QuestionMay.{may_tell, may_refuse}
 use Rattle.iom_world_invariant.proofs.RequestKeeps.{record_leaves}
 use Rattle.iom_world_invariant.proofs.RequestStep.{shows_where, shows_reported}
@@ -47,7 +47,7 @@ plugged_present devices id plugged = by (device_with devices id) refl plugged
     by None is plugged = cc
     by (Some device) is plugged = kind_present devices id device.kind (ap (option_map (λ (d : Device). d.kind)) is)
 
-module _ (laws : ServiceLaws) (old new : Parts) (events device page : ℕ) (sound : AreSound old events) (own : IsSoundDriver old.driver) (reported : StaysReported old.driver) (low : page < 2 ^ 52)
+module _ (laws : ServiceLaws) (old new : Parts) (events device page : ℕ) (invariants : PartsInvariant old events) (own : DriverInvariant old.driver) (reported : StaysReported old.driver) (low : page < 2 ^ 52)
     (state : State) (shows : PartsShow old state) where
   fits : page * 4096 < 2 ^ 64
   fits = omega (arith, low)
@@ -58,25 +58,25 @@ module _ (laws : ServiceLaws) (old new : Parts) (events device page : ℕ) (soun
   tells : (answer : Told) → AnswersQuestion old.memory old.iommu device page answer new.memory new.iommu
       → MayTell (shown_attachment (attachment_by_id old.driver.devices device)) state device page answer
   tells (Page frame rights) call =
-      let told = told_of laws old events sound own device (page * 4096) ioatc.SURE (translations_of old.iommu) (translations_of new.iommu) (Ok (record { frame = frame; rights = rights; level = call.0.level })) fits call.0.served in
+      let reply = outcome_of_done laws old events invariants own device (page * 4096) ioatc.SURE (translations_of old.iommu) (translations_of new.iommu) (Ok (record { frame = frame; rights = rights; level = call.0.level })) fits call.0.served in
       subst (λ p. MayTell (shown_attachment (attachment_by_id old.driver.devices device)) state device p (Page frame rights)) at_page
-      (may_tell old events state device (page * 4096) (record { frame = frame; rights = rights; level = call.0.level }) ioatc.SURE (translations_of new.iommu) sound own shows told.0 told.1)
+      (may_tell old events state device (page * 4096) (record { frame = frame; rights = rights; level = call.0.level }) ioatc.SURE (translations_of new.iommu) invariants own shows reply.0 reply.1)
   tells (Refused cause) call =
-      let told = told_of laws old events sound own device (page * 4096) ioatc.SURE (translations_of old.iommu) (translations_of new.iommu) (Err call.fault) fits call.served in
+      let reply = outcome_of_done laws old events invariants own device (page * 4096) ioatc.SURE (translations_of old.iommu) (translations_of new.iommu) (Err call.fault) fits call.served in
       subst (λ p. MayTell (shown_attachment (attachment_by_id old.driver.devices device)) state device p (Refused cause)) at_page
-      (subst (λ c. MayTell (shown_attachment (attachment_by_id old.driver.devices device)) state device (page * 4096 / 4096) (Refused c)) (sym call.told)
-      (may_refuse (attachment_by_id old.driver.devices device) old state device (page * 4096) call.fault.cause own shows refl told.0))
+      (subst (λ c. MayTell (shown_attachment (attachment_by_id old.driver.devices device)) state device (page * 4096 / 4096) (Refused c)) (sym call.reply)
+      (may_refuse (attachment_by_id old.driver.devices device) old state device (page * 4096) call.fault.cause own shows refl reply.0))
 
   -- a record of a fault is in a frame that is nobody's but the driver's
   frames_recorded : (cause : Cause) → (call : RefusesQuestion old.memory old.iommu device page cause new.memory new.iommu) → (b : Bool)
       → RecordsUnless b old.memory (registers_of old.iommu) (record_of (faulted_of device AtsRequest (page * 4096)) (fault_of call.fault)) new.memory (registers_of new.iommu)
-      → ShowsFrames new.memory old.driver.marks state.frames
+      → ShowsFrames new.memory old.driver.owners state.frames
   frames_recorded cause call true (memory, registers) = rw memory shows.frames
   frames_recorded cause call false (put, recorded) =
       let after : Parts = record old { memory = new.memory; iommu = new.iommu } in
       let leaves : LeavesReport old after =
-      record_leaves old after events (record_of (faulted_of device AtsRequest (page * 4096)) (fault_of call.fault)) put sound reported refl refl refl call.frames call.slots call.flights recorded in
-      shows_reported old after state leaves sound.ready.stand.size own shows
+      record_leaves old after events (record_of (faulted_of device AtsRequest (page * 4096)) (fault_of call.fault)) put invariants reported refl refl refl call.frames call.slots call.flights recorded in
+      shows_reported old after state leaves invariants.ready.stand.size own shows
 
   shows_answered : (answer : Told) → AnswersQuestion old.memory old.iommu device page answer new.memory new.iommu → new.driver ≡ old.driver → new.devices ≡ old.devices → PartsShow new state
   shows_answered (Page frame rights) call driver devices = shows_where old new state (rw call.1 shows.frames) driver devices call.0.flights shows
@@ -95,12 +95,12 @@ module _ (laws : ServiceLaws) (old new : Parts) (events device page : ℕ) (soun
       (subst (λ o. IsSomeAnd o (λ (d : machine.Device). MayTell d.attachment state d.id page answer)) (sym found) may, refl)
 
 -- A QUESTION IS ANSWERED
-pub answered_step : ServiceLaws → (old new : Parts) (events place device epoch page : ℕ) (told : Outcome) → AreSound old events → IsSoundDriver old.driver → StaysReported old.driver
-    → slice_get old.fabric place ≡ Some (record { device = device; message = sent.Ask epoch page }) → AnswersAsked old device epoch page (remove old.fabric place) told new
-    → (state : State) → PartsShow old state → Delivers device page state told state × PartsShow new state
-answered_step laws old new events place device epoch page told sound own reported at answers state shows =
-    let asker = All-at (HasAsker old.devices) old.fabric place (record { device = device; message = sent.Ask epoch page }) sound.known.askers at in (
-      subst (λ t. Delivers device page state t state) (sym answers.told_so)
-          (delivered laws old new events device page sound own reported asker.1 state shows answers.answer answers.call (plugged_present old.devices device asker.0)),
-      shows_answered laws old new events device page sound own reported asker.1 state shows answers.answer answers.call answers.driver answers.devices,
+pub answered_step : ServiceLaws → (old new : Parts) (events place device epoch page : ℕ) (reply : Outcome) → PartsInvariant old events → DriverInvariant old.driver → StaysReported old.driver
+    → slice_get old.fabric place ≡ Some (record { device = device; message = sent.Ask epoch page }) → AnswersAsked old device epoch page (remove old.fabric place) reply new
+    → (state : State) → PartsShow old state → Delivers device page state reply state × PartsShow new state
+answered_step laws old new events place device epoch page reply invariants own reported at answers state shows =
+    let asker = All-at (HasAsker old.devices) old.fabric place (record { device = device; message = sent.Ask epoch page }) invariants.known.askers at in (
+      subst (λ t. Delivers device page state t state) (sym answers.reply_is)
+          (delivered laws old new events device page invariants own reported asker.1 state shows answers.answer answers.call (plugged_present old.devices device asker.0)),
+      shows_answered laws old new events device page invariants own reported asker.1 state shows answers.answer answers.call answers.driver answers.devices,
     )

@@ -32,12 +32,12 @@ use Rattle.iom_machine.specs.declared.state.Attachment.TheVariants.{Detached}
 use Rattle.iom_machine.specs.declared.state.Device as declared
 use Rattle.iom_machine.specs.declared.state.Limits.{Limits}
 use Rattle.iom_machine.specs.declared.state.State.{State}
-use Rattle.iom_table_frames.specs.Marks.{is_marked}
+use Rattle.iom_table_frames.specs.Owners.{is_marked}
 use Rattle.iom_device.specs.declared.device.Device.{Device}
 use Rattle.iom_world_effects.specs.Devices.{shown_attachment, shown_devices}
 use Rattle.iom_world_effects.specs.Parts.{Parts}
 use Rattle.iom_world_effects.specs.Shows.{PartsShow}
-use Rattle.iom_world_effects.specs.Sound.{AreSound, known_ids, plugged_ids}
+use Rattle.iom_world_effects.specs.Invariant.{PartsInvariant, known_ids, plugged_ids}
 use Rattle.iom_world_effects.proofs.FrameLemmas.{reserved_shown}
 use Rattle.iom_world_refinement.proofs.PlaceLemmas.{shown_of}
 use Rattle.iom_coherence.specs.Attachments.{caches_translations}
@@ -57,13 +57,13 @@ tails_are : (a b : ℕ) (later others : List ℕ) → ◌≡◌ {A = List ℕ} (
 tails_are a b later others same = cc
 
 -- the machine finds a device with the id exactly where the driver knows one
-found_known : (told known : List driver.Device) (rows : List FlightRow) (devices : List Device) (id : ℕ) → IsKnown known devices → is_some (shown_of told rows devices id) ≡ has_device known id
-found_known told [] rows [] id same = refl
-found_known told [] rows (device ∷ others) id same = cc
-found_known told (one ∷ known) rows [] id same = cc
-found_known told (one ∷ known) rows (device ∷ others) id same =
+found_known : (reply known : List driver.Device) (rows : List FlightRow) (devices : List Device) (id : ℕ) → IsKnown known devices → is_some (shown_of reply rows devices id) ≡ has_device known id
+found_known reply [] rows [] id same = refl
+found_known reply [] rows (device ∷ others) id same = cc
+found_known reply (one ∷ known) rows [] id same = cc
+found_known reply (one ∷ known) rows (device ∷ others) id same =
     let own : one.id ≡ device.id = heads_are one.id device.id _ _ same in
-    let rest = found_known told known rows others id (tails_are one.id device.id _ _ same) in
+    let rest = found_known reply known rows others id (tails_are one.id device.id _ _ same) in
     rw own (elim (eqb_tells device.id id) [ inl e ↦ rw e.0 refl | inr ne ↦ rw ne.0 rest ])
 
 -- and it is attached as the driver knows
@@ -133,8 +133,8 @@ busy_shown a a' b b' one other = rw (one, other) refl
 
 -- FRAMES AND TICKETS
 
-pub frames_shown : (parts : Parts) (events : ℕ) (state : State) → AreSound parts events → PartsShow parts state → length state.frames ≡ length parts.driver.marks
-frames_shown parts events state sound shows = shows.frames.size ∙ sound.ready.stand.size
+pub frames_shown : (parts : Parts) (events : ℕ) (state : State) → PartsInvariant parts events → PartsShow parts state → length state.frames ≡ length parts.driver.owners
+frames_shown parts events state invariants shows = shows.frames.size ∙ invariants.ready.stand.size
 
 pub pending_shown : (parts : Parts) (state : State) → PartsShow parts state → pending_tickets state ≡ parts.driver.given - parts.driver.confirmed
 pending_shown parts state shows =
@@ -177,7 +177,7 @@ driver_first started there how later =
     (not started, NotStarted)
     ∷ (not there, NoSuchDevice)
     ∷ (is_away how, NotAttached)
-    ∷ (as_known.is_cut_off how, refusal.Quarantined)
+    ∷ (as_known.is_quarantined how, refusal.Quarantined)
     ∷ later)
 
 attachment_tests : (there : Bool) (how : owned.Attachment) (later later' : List (Bool × Refusal))
@@ -251,23 +251,23 @@ many_shown parts state shows =
     ap (λ (limits : Limits). nat_le limits.pending (pending_tickets state)) shows.limits ∙ ap (nat_le pending_limit) (pending_shown parts state shows)
 
 -- the driver's reasons against a plug are the machine's first two
-pub plug_first : (parts : Parts) (events : ℕ) (state : State) (id : ℕ) → AreSound parts events → PartsShow parts state
+pub plug_first : (parts : Parts) (events : ℕ) (state : State) (id : ℕ) → PartsInvariant parts events → PartsShow parts state
     → first_that_applies ((machine.is_plugged state id, AlreadyPlugged) ∷ (nat_le state.limits.devices (length state.devices), TooManyDevices) ∷ []) ≡ first_that_applies (why_not_plug parts.driver id)
-plug_first parts events state id sound shows =
+plug_first parts events state id invariants shows =
     let d = parts.driver in
     let rows = (flights_of parts.iommu).rows in
     plug_tests (machine.is_plugged state id) (has_device d.devices id) (nat_le state.limits.devices (length state.devices)) (nat_le 16 (length d.devices))
-    (plugged_shown d.devices rows parts.devices state id sound.known.driver shows.devices)
+    (plugged_shown d.devices rows parts.devices state id invariants.known.driver shows.devices)
     (ap (λ (limits : Limits). nat_le limits.devices (length state.devices)) shows.limits
-    ∙ ap (nat_le 16) (ap (λ (ds : List declared.Device). length ds) shows.devices ∙ length-shown d.devices rows parts.devices ∙ sym (length-known d.devices parts.devices sound.known.driver)))
+    ∙ ap (nat_le 16) (ap (λ (ds : List declared.Device). length ds) shows.devices ∙ length-shown d.devices rows parts.devices ∙ sym (length-known d.devices parts.devices invariants.known.driver)))
 
 -- whether the device is there, and how it is attached
-pub there_shown : (parts : Parts) (events : ℕ) (state : State) (id : ℕ) → AreSound parts events → PartsShow parts state → machine.is_plugged state id ≡ has_device parts.driver.devices id
-there_shown parts events state id sound shows = plugged_shown parts.driver.devices (flights_of parts.iommu).rows parts.devices state id sound.known.driver shows.devices
+pub there_shown : (parts : Parts) (events : ℕ) (state : State) (id : ℕ) → PartsInvariant parts events → PartsShow parts state → machine.is_plugged state id ≡ has_device parts.driver.devices id
+there_shown parts events state id invariants shows = plugged_shown parts.driver.devices (flights_of parts.iommu).rows parts.devices state id invariants.known.driver shows.devices
 
-pub how_shown : (parts : Parts) (events : ℕ) (state : State) (id : ℕ) → AreSound parts events → PartsShow parts state
+pub how_shown : (parts : Parts) (events : ℕ) (state : State) (id : ℕ) → PartsInvariant parts events → PartsShow parts state
     → attachment_of state id ≡ shown_attachment (as_known.attachment_by_id parts.driver.devices id)
-how_shown parts events state id sound shows = attachment_shown parts.driver.devices (flights_of parts.iommu).rows parts.devices state id sound.known.driver shows.devices
+how_shown parts events state id invariants shows = attachment_shown parts.driver.devices (flights_of parts.iommu).rows parts.devices state id invariants.known.driver shows.devices
 
 -- whether it has a cache of its own
 pub kind_shown : (known : List driver.Device) (rows : List FlightRow) (devices : List Device) (id : ℕ)
@@ -275,41 +275,41 @@ pub kind_shown : (known : List driver.Device) (rows : List FlightRow) (devices :
 kind_shown known rows [] id = refl
 kind_shown known rows (device ∷ others) id = elim (eqb_tells device.id id) [ inl e ↦ rw e.0 refl | inr ne ↦ rw ne.0 (kind_shown known rows others id) ]
 
-trusted_shown : (parts : Parts) (events : ℕ) (state : State) (id : ℕ) → AreSound parts events → PartsShow parts state → is_trusted state id ≡ as_known.has_trusted_cache parts.driver.devices id
-trusted_shown parts events state id sound shows =
+trusted_shown : (parts : Parts) (events : ℕ) (state : State) (id : ℕ) → PartsInvariant parts events → PartsShow parts state → is_trusted state id ≡ as_known.has_trusted_cache parts.driver.devices id
+trusted_shown parts events state id invariants shows =
     ap (λ (ds : List declared.Device). option_map_or (λ (device : declared.Device). has_cache device.kind) (find (λ (d : declared.Device). d.id == id) ds) false) shows.devices
-    ∙ kind_shown parts.driver.devices (flights_of parts.iommu).rows parts.devices id ∙ sym (sound.known.trusted id)
+    ∙ kind_shown parts.driver.devices (flights_of parts.iommu).rows parts.devices id ∙ sym (invariants.known.trusted id)
 
-pub attach_first : (parts : Parts) (events : ℕ) (state : State) (id : ℕ) (ats : Bool) → AreSound parts events → PartsShow parts state
+pub attach_first : (parts : Parts) (events : ℕ) (state : State) (id : ℕ) (ats : Bool) → PartsInvariant parts events → PartsShow parts state
     → first_that_applies (machine.attach_reasons state id ats) ≡ first_that_applies (why_not_attach parts.driver id ats)
-attach_first parts events state id ats sound shows =
+attach_first parts events state id ats invariants shows =
     let d = parts.driver in
     attach_same (machine.is_plugged state id) (has_device d.devices id) (is_too_wide state id) (nat_le (id_limit d.levels) id) ats (is_trusted state id)
     (as_known.has_trusted_cache d.devices id) d.started
     (attachment_of state id) (as_known.attachment_by_id d.devices id)
-    (there_shown parts events state id sound shows) (how_shown parts events state id sound shows)
-    (ap (λ levels. nat_le (id_limit levels) id) shows.levels) (trusted_shown parts events state id sound shows) sound.started
+    (there_shown parts events state id invariants shows) (how_shown parts events state id invariants shows)
+    (ap (λ levels. nat_le (id_limit levels) id) shows.levels) (trusted_shown parts events state id invariants shows) invariants.started
 
 -- so the pages that may be granted to an attached device are those that the driver grants
-limit_shown : (parts : Parts) (events : ℕ) (state : State) (id : ℕ) → AreSound parts events → PartsShow parts state → (stage : Stages)
+limit_shown : (parts : Parts) (events : ℕ) (state : State) (id : ℕ) → PartsInvariant parts events → PartsShow parts state → (stage : Stages)
     → as_known.attachment_by_id parts.driver.devices id ≡ attached.Attached stage → page_limit_under state.limits (attachment_of state id) ≡ page_limit_in (as_known.stages_of parts.driver.devices id)
-limit_shown parts events state id sound shows stage is =
+limit_shown parts events state id invariants shows stage is =
     ap (λ (limits : Limits). page_limit_under limits (attachment_of state id)) shows.limits
-    ∙ ap page_limit_at (how_shown parts events state id sound shows ∙ ap shown_attachment is) ∙ sym (ap (λ a. page_limit_in (attached_stages a)) is)
+    ∙ ap page_limit_at (how_shown parts events state id invariants shows ∙ ap shown_attachment is) ∙ sym (ap (λ a. page_limit_in (attached_stages a)) is)
 
-pub grant_first : (parts : Parts) (events : ℕ) (state : State) (id page frame : ℕ) → AreSound parts events → PartsShow parts state
+pub grant_first : (parts : Parts) (events : ℕ) (state : State) (id page frame : ℕ) → PartsInvariant parts events → PartsShow parts state
     → first_that_applies (machine.grant_reasons state id page frame) ≡ first_that_applies (why_not_grant parts.driver id page frame)
-grant_first parts events state id page frame sound shows =
+grant_first parts events state id page frame invariants shows =
     let d = parts.driver in
     attachment_same (machine.is_plugged state id) (has_device d.devices id) d.started (attachment_of state id) (as_known.attachment_by_id d.devices id)
     (granting_tests state id page frame) (granting_reasons d id page frame)
-    (there_shown parts events state id sound shows) (how_shown parts events state id sound shows) sound.started
+    (there_shown parts events state id invariants shows) (how_shown parts events state id invariants shows) invariants.started
     (λ stage is.
-    grant_same (length state.frames) (length d.marks) (page_limit_under state.limits (attachment_of state id)) (page_limit_in (as_known.stages_of d.devices id)) page frame (is_reserved state.frames frame)
-    (is_marked d.marks frame) (is_held state id page || is_lingering state id page) (is_busy d id page)
-    (frames_shown parts events state sound shows)
-    (reserved_shown parts.memory d.marks state.frames frame shows.frames)
-    (limit_shown parts events state id sound shows stage is)
+    grant_same (length state.frames) (length d.owners) (page_limit_under state.limits (attachment_of state id)) (page_limit_in (as_known.stages_of d.devices id)) page frame (is_reserved state.frames frame)
+    (is_marked d.owners frame) (is_held state id page || is_lingering state id page) (is_busy d id page)
+    (frames_shown parts events state invariants shows)
+    (reserved_shown parts.memory d.owners state.frames frame shows.frames)
+    (limit_shown parts events state id invariants shows stage is)
     (busy_shown _ _ _ _ (held_shown d.ledger state id page shows.ledger) (lingering_shown d.ledger state id page shows.ledger)))
 
 -- the machine's reasons of a release or of a detach, by what the driver knows
@@ -319,45 +319,45 @@ place_shown parts id test reason =
     machine_first (has_device d.devices id) (shown_attachment (as_known.attachment_by_id d.devices id))
     ((test, reason) ∷ (nat_le pending_limit (d.given - d.confirmed), TooManyPending) ∷ [])
 
-place_first : (parts : Parts) (events : ℕ) (state : State) (id : ℕ) (test test' : Bool) (reason : Refusal) → AreSound parts events → PartsShow parts state → test ≡ test'
+place_first : (parts : Parts) (events : ℕ) (state : State) (id : ℕ) (test test' : Bool) (reason : Refusal) → PartsInvariant parts events → PartsShow parts state → test ≡ test'
     → machine_first (machine.is_plugged state id) (attachment_of state id) ((test, reason) ∷ (nat_le state.limits.pending (pending_tickets state), TooManyPending) ∷ []) ≡ place_shown parts id test' reason
-place_first parts events state id test test' reason sound shows as_test =
+place_first parts events state id test test' reason invariants shows as_test =
     let d = parts.driver in
     place_same (machine.is_plugged state id) (has_device d.devices id) test test'
     (nat_le state.limits.pending (pending_tickets state)) (nat_le pending_limit (d.given - d.confirmed)) (attachment_of state id) (as_known.attachment_by_id d.devices id) reason
-    (there_shown parts events state id sound shows) (how_shown parts events state id sound shows) as_test
+    (there_shown parts events state id invariants shows) (how_shown parts events state id invariants shows) as_test
     (many_shown parts state shows)
 
-release_first : (parts : Parts) (events : ℕ) (state : State) (id page : ℕ) → AreSound parts events → PartsShow parts state
+release_first : (parts : Parts) (events : ℕ) (state : State) (id page : ℕ) → PartsInvariant parts events → PartsShow parts state
     → first_that_applies (machine.release_reasons state id page) ≡ place_shown parts id (is_none (held_in parts.driver.ledger id page)) NotGranted
-release_first parts events state id page sound shows =
+release_first parts events state id page invariants shows =
     let d = parts.driver in
-    place_first parts events state id (not (is_held state id page)) (is_none (held_in d.ledger id page)) NotGranted sound shows
+    place_first parts events state id (not (is_held state id page)) (is_none (held_in d.ledger id page)) NotGranted invariants shows
     (not_some (is_held state id page) (held_in d.ledger id page) (held_shown d.ledger state id page shows.ledger))
 
-started_first : (started there : Bool) (how : owned.Attachment) (later : List (Bool × Refusal)) (told : Option Refusal) → started ≡ true → driver_first started there how later ≡ told
-    → driver_first true there how later ≡ told
-started_first started there how later told on first = subst (λ s. driver_first s there how later ≡ told) on first
+started_first : (started there : Bool) (how : owned.Attachment) (later : List (Bool × Refusal)) (reply : Option Refusal) → started ≡ true → driver_first started there how later ≡ reply
+    → driver_first true there how later ≡ reply
+started_first started there how later reply on first = subst (λ s. driver_first s there how later ≡ reply) on first
 
-pub release_refused_by : (parts : Parts) (events : ℕ) (state : State) (id page : ℕ) (why : Refusal) → AreSound parts events → PartsShow parts state
+pub release_refused_by : (parts : Parts) (events : ℕ) (state : State) (id page : ℕ) (why : Refusal) → PartsInvariant parts events → PartsShow parts state
     → first_that_applies (why_not_release parts.driver (registers_of parts.iommu) id page) ≡ Some why → IsRefusedBy (machine.release_reasons state id page) MayFindNoPlace why
-release_refused_by parts events state id page why sound shows first =
+release_refused_by parts events state id page why invariants shows first =
     let d = parts.driver in
     let r = registers_of parts.iommu in
     let how = as_known.attachment_by_id d.devices id in
-    subst (λ o. MatchOption o (MayFindNoPlace why) (λ one. why ≡ one)) (sym (release_first parts events state id page sound shows))
+    subst (λ o. MatchOption o (MayFindNoPlace why) (λ one. why ≡ one)) (sym (release_first parts events state id page invariants shows))
     (place_refused (has_device d.devices id) how (is_none (held_in d.ledger id page)) (nat_le pending_limit (d.given - d.confirmed)) (lacks_places (release_places (as_known.stages_of d.devices id)) r) (nat_le 4294967295 (last_fence d)) NotGranted why
-    (started_first d.started (has_device d.devices id) how (releasing_reasons d r (release_places (as_known.stages_of d.devices id)) id page) (Some why) sound.started first))
+    (started_first d.started (has_device d.devices id) how (releasing_reasons d r (release_places (as_known.stages_of d.devices id)) id page) (Some why) invariants.started first))
 
-pub may_release : (parts : Parts) (events : ℕ) (state : State) (id page : ℕ) → AreSound parts events → PartsShow parts state
+pub may_release : (parts : Parts) (events : ℕ) (state : State) (id page : ℕ) → PartsInvariant parts events → PartsShow parts state
     → NoneApplies (why_not_release parts.driver (registers_of parts.iommu) id page) → NoneApplies (machine.release_reasons state id page)
-may_release parts events state id page sound shows none =
+may_release parts events state id page invariants shows none =
     let d = parts.driver in
     let r = registers_of parts.iommu in
     let how = as_known.attachment_by_id d.devices id in
-    release_first parts events state id page sound shows
+    release_first parts events state id page invariants shows
     ∙ place_none (has_device d.devices id) how (is_none (held_in d.ledger id page)) (nat_le pending_limit (d.given - d.confirmed)) (lacks_places (release_places (as_known.stages_of d.devices id)) r) (nat_le 4294967295 (last_fence d)) NotGranted
-    (started_first d.started (has_device d.devices id) how (releasing_reasons d r (release_places (as_known.stages_of d.devices id)) id page) None sound.started none)
+    (started_first d.started (has_device d.devices id) how (releasing_reasons d r (release_places (as_known.stages_of d.devices id)) id page) None invariants.started none)
 
 -- the machine finds that a device has grants exactly where the ledger has some
 pub grants_shown : (ledger : Ledger) (state : State) (id : ℕ) → Agrees ledger state.history → IsTrue (has_grants state id) ↔ HasGrants ledger id
@@ -376,25 +376,25 @@ grants_shown ledger state id agrees = (forward, backward)
     backward (page, inl held) = ((grants_are_at_pages state id).1 (page, inl (held_shown ledger state id page agrees ∙ held)))
     backward (page, inr lingers) = ((grants_are_at_pages state id).1 (page, inr (lingering_shown ledger state id page agrees ∙ lingers)))
 
-pub detach_refused_by : (parts : Parts) (events : ℕ) (state : State) (id : ℕ) (why : Refusal) → AreSound parts events → PartsShow parts state
+pub detach_refused_by : (parts : Parts) (events : ℕ) (state : State) (id : ℕ) (why : Refusal) → PartsInvariant parts events → PartsShow parts state
     → first_that_applies (why_not_detach parts.driver (registers_of parts.iommu) (has_grants state id) id) ≡ Some why → IsRefusedBy (machine.detach_reasons state id) MayFindNoPlace why
-detach_refused_by parts events state id why sound shows first =
+detach_refused_by parts events state id why invariants shows first =
     let d = parts.driver in
     let r = registers_of parts.iommu in
     let how = as_known.attachment_by_id d.devices id in
-    subst (λ o. MatchOption o (MayFindNoPlace why) (λ one. why ≡ one)) (sym (place_first parts events state id (has_grants state id) (has_grants state id) StillGranted sound shows refl))
+    subst (λ o. MatchOption o (MayFindNoPlace why) (λ one. why ≡ one)) (sym (place_first parts events state id (has_grants state id) (has_grants state id) StillGranted invariants shows refl))
     (place_refused (has_device d.devices id) how (has_grants state id) (nat_le pending_limit (d.given - d.confirmed)) (lacks_places 3 r) (nat_le 4294967295 (last_fence d)) StillGranted why
-    (started_first d.started (has_device d.devices id) how (detaching_reasons d r (has_grants state id)) (Some why) sound.started first))
+    (started_first d.started (has_device d.devices id) how (detaching_reasons d r (has_grants state id)) (Some why) invariants.started first))
 
-pub may_detach : (parts : Parts) (events : ℕ) (state : State) (id : ℕ) → AreSound parts events → PartsShow parts state
+pub may_detach : (parts : Parts) (events : ℕ) (state : State) (id : ℕ) → PartsInvariant parts events → PartsShow parts state
     → NoneApplies (why_not_detach parts.driver (registers_of parts.iommu) (has_grants state id) id) → NoneApplies (machine.detach_reasons state id)
-may_detach parts events state id sound shows none =
+may_detach parts events state id invariants shows none =
     let d = parts.driver in
     let r = registers_of parts.iommu in
     let how = as_known.attachment_by_id d.devices id in
-    place_first parts events state id (has_grants state id) (has_grants state id) StillGranted sound shows refl
+    place_first parts events state id (has_grants state id) (has_grants state id) StillGranted invariants shows refl
     ∙ place_none (has_device d.devices id) how (has_grants state id) (nat_le pending_limit (d.given - d.confirmed)) (lacks_places 3 r) (nat_le 4294967295 (last_fence d)) StillGranted
-    (started_first d.started (has_device d.devices id) how (detaching_reasons d r (has_grants state id)) None sound.started none)
+    (started_first d.started (has_device d.devices id) how (detaching_reasons d r (has_grants state id)) None invariants.started none)
 
 -- a refusal of the driver is one of the machine's, where what may come of the driver's after the reasons may come of the machine's
 pub refused_as : (reasons reasons' : List (Bool × Refusal)) (May May' : Refusal → Type 0) (why : Refusal) → first_that_applies reasons' ≡ first_that_applies reasons

@@ -16,19 +16,19 @@ use Rattle.iom_machine.specs.declared.outcome.Outcome.TheVariants as outcome
 use Rattle.iom_machine.specs.declared.state.State.{State}
 use Rattle.iom_machine.specs.Machine as machine
 use Rattle.iom_machine.specs.Refusals.{MayRefuseRestart}
-use Rattle.iom_world_effects.specs.Answers.{told_of}
+use Rattle.iom_world_effects.specs.Answers.{outcome_of_done}
 use Rattle.iom_world_effects.specs.Frames.{ShowsFrames}
-use Rattle.iom_world_effects.specs.Stays.{AreSame, SameIfRefused}
+use Rattle.iom_world_effects.specs.Unchanged.{AreSame, SameIfRefused}
 use Rattle.iom_iommu.specs.OwnIommu.{Iommu}
 use Rattle.iom_world_effects.specs.Parts.{Parts}
 use Rattle.iom_world_effects.specs.Recovery.{RestartsQueue}
 use Rattle.iom_world_effects.specs.Shows.{PartsShow}
-use Rattle.iom_world_effects.specs.Sound.{AreSound}
+use Rattle.iom_world_effects.specs.Invariant.{PartsInvariant}
 use Rattle.iom_world_effects.proofs.CallRefused.{same_of}
-use Rattle.iom_world_effects.proofs.DriverLemmas.{IsSoundDriver}
+use Rattle.iom_world_effects.proofs.DriverLemmas.{DriverInvariant}
 use Rattle.iom_world_effects.proofs.FrameLemmas.{shows_kept}
 use Rattle.iom_world_refinement.proofs.ReleaseStep.{flights_appended, not_ring}
-use Rattle.iom_world_effects.proofs.StayLemmas.{shows_same}
+use Rattle.iom_world_effects.proofs.UnchangedLemmas.{shows_same}
 
 -- a driver that is started refuses a restart only where its fences have no more numbers
 refused_so : (d : DriverState) (why : Refusal) → d.started ≡ true → first_that_applies (why_not_restart d) ≡ Some why → MayRefuseRestart why
@@ -38,18 +38,18 @@ refused_so d why started first = by (nat_le 4294967295 (last_fence d)) (rw start
     by true is = let same : NumbersUsedUp ≡ why = cc in subst MayRefuseRestart same tt
     by false is = cc
 
-shows_restarted : (old new : Parts) (events : ℕ) → AreSound old events → IsSoundDriver old.driver → length new.memory ≡ length old.memory
+shows_restarted : (old new : Parts) (events : ℕ) → PartsInvariant old events → DriverInvariant old.driver → length new.memory ≡ length old.memory
     → (queues : QueuesRestart mmio old.driver old.memory old.iommu new.driver new.memory new.iommu) → new.devices ≡ old.devices
     → (state : State) → PartsShow old state → PartsShow new state
-shows_restarted old new events sound own size queues devices state shows =
+shows_restarted old new events invariants own size queues devices state shows =
     let d = old.driver in
     let commands = restart_commands d.devices (completion_address (length old.memory)) (last_fence d + 1) in
     let flights : flights_of new.iommu ≡ flights_of old.iommu = flights_appended commands old.memory new.memory (turned_off_and_on mmio old.iommu) new.iommu queues.queued in
-    let ring = subst (λ n. slice_get d.marks (command_frame n) ≡ Some (Some System)) (sym sound.ready.stand.size) own.fixed.command in
-    let frames = shows_kept old.memory new.memory d.marks state.frames shows.frames (λ k free. queues.others k (not_ring d.marks k (length old.memory) ring free)) size in
+    let ring = subst (λ n. slice_get d.owners (command_frame n) ≡ Some (Some System)) (sym invariants.ready.stand.size) own.fixed.command in
+    let frames = shows_kept old.memory new.memory d.owners state.frames shows.frames (λ k free. queues.others k (not_ring d.owners k (length old.memory) ring free)) size in
     record {
       ledger = rw (ap (λ (x : DriverState). x.ledger) queues.driver) shows.ledger;
-      frames = subst (λ ms. ShowsFrames new.memory ms state.frames) (sym (ap (λ (x : DriverState). x.marks) queues.driver)) frames;
+      frames = subst (λ ms. ShowsFrames new.memory ms state.frames) (sym (ap (λ (x : DriverState). x.owners) queues.driver)) frames;
       devices = rw (devices, ap (λ (f : Flights). f.rows) flights, ap (λ (x : DriverState). x.devices) queues.driver) shows.devices;
       given = shows.given ∙ sym (ap (λ (x : DriverState). x.given) queues.driver);
       confirmed = shows.confirmed ∙ sym (ap (λ (x : DriverState). x.confirmed) queues.driver);
@@ -59,25 +59,25 @@ shows_restarted old new events sound own size queues devices state shows =
       limits = shows.limits;
     }
 
-pub restart_step : (old new : Parts) (events : ℕ) (told : Outcome) → AreSound old events → IsSoundDriver old.driver → length new.memory ≡ length old.memory
-    → RestartsQueue old told new → (state : State) → PartsShow old state → machine.Restarts state told state × PartsShow new state
-restart_step old new events told sound own size does state shows = by does.answer does.told_so does.call
+pub restart_step : (old new : Parts) (events : ℕ) (reply : Outcome) → PartsInvariant old events → DriverInvariant old.driver → length new.memory ≡ length old.memory
+    → RestartsQueue old reply new → (state : State) → PartsShow old state → machine.Restarts state reply state × PartsShow new state
+restart_step old new events reply invariants own size effect state shows = by effect.answer effect.reply_is effect.call
   where
-    by : (answer : Result (Unit {0}) Refusal) → told ≡ told_of answer → AnswersRestart mmio old.driver old.memory old.iommu answer new.driver new.memory new.iommu
-        → machine.Restarts state told state × PartsShow new state
-    by (Ok done) is call = (subst (λ t. machine.Restarts state t state) (sym is) refl, shows_restarted old new events sound own size call.1 does.devices state shows)
+    by : (answer : Result (Unit {0}) Refusal) → reply ≡ outcome_of_done answer → AnswersRestart mmio old.driver old.memory old.iommu answer new.driver new.memory new.iommu
+        → machine.Restarts state reply state × PartsShow new state
+    by (Ok done) is call = (subst (λ t. machine.Restarts state t state) (sym is) refl, shows_restarted old new events invariants own size call.1 effect.devices state shows)
     by (Err why) is call = (
-      subst (λ t. machine.Restarts state t state) (sym is) (refused_so old.driver why sound.started call.0, refl),
-      shows_same old new state call.2 (ap (λ (i : Iommu). flights_of i) call.3) does.devices call.1 shows,
+      subst (λ t. machine.Restarts state t state) (sym is) (refused_so old.driver why invariants.started call.0, refl),
+      shows_same old new state call.2 (ap (λ (i : Iommu). flights_of i) call.3) effect.devices call.1 shows,
     )
 
 -- what is done isn't refused
 done_refused : (why : Refusal) → outcome.Done ≡ outcome.Refused why → ⊥
 done_refused why same = cc
 
-pub restart_refused : (old new : Parts) (told : Outcome) → RestartsQueue old told new → SameIfRefused told old new
-restart_refused old new told does why is = by does.answer (sym does.told_so ∙ is) does.call
+pub restart_refused : (old new : Parts) (reply : Outcome) → RestartsQueue old reply new → SameIfRefused reply old new
+restart_refused old new reply effect why is = by effect.answer (sym effect.reply_is ∙ is) effect.call
   where
-    by : (answer : Result (Unit {0}) Refusal) → told_of answer ≡ outcome.Refused why → AnswersRestart mmio old.driver old.memory old.iommu answer new.driver new.memory new.iommu → AreSame old new
+    by : (answer : Result (Unit {0}) Refusal) → outcome_of_done answer ≡ outcome.Refused why → AnswersRestart mmio old.driver old.memory old.iommu answer new.driver new.memory new.iommu → AreSame old new
     by (Ok done) refused call = absurd (done_refused why refused)
-    by (Err reason) refused call = same_of old new call.2 call.3 does.devices does.fabric call.1
+    by (Err reason) refused call = same_of old new call.2 call.3 effect.devices effect.fabric call.1

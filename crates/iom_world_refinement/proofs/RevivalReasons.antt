@@ -17,11 +17,11 @@ use Rattle.iom_machine.specs.declared.state.State.{State}
 use Rattle.iom_world_effects.specs.Devices.{shown_attachment}
 use Rattle.iom_world_effects.specs.Parts.{Parts}
 use Rattle.iom_world_effects.specs.Shows.{PartsShow}
-use Rattle.iom_world_effects.specs.Sound.{AreSound}
-use Rattle.iom_world_effects.proofs.DriverLemmas.{IsSoundDriver}
+use Rattle.iom_world_effects.specs.Invariant.{PartsInvariant}
+use Rattle.iom_world_effects.proofs.DriverLemmas.{DriverInvariant}
 use Rattle.iom_world_refinement.proofs.ReasonLemmas.{there_shown, how_shown}
 
--- a device that is cut off may still reach what it held exactly while the driver waits for its ticket
+-- a device that is quarantined may still reach what it held exactly while the driver waits for its ticket
 waits_shown : (history : History) (confirmed : ℕ) (how : owned.Attachment) → ((ticket : ℕ) (stage : Stages) → how ≡ attached.Quarantined ticket stage → 0 < ticket)
     → ((ticket : ℕ) → 0 < ticket → ticket ≤ confirmed → confirms history ticket ≡ true) → ((ticket : ℕ) → confirmed < ticket → confirms history ticket ≡ false)
     → may_still_reach history (shown_attachment how) ≡ waits_for_its_ticket confirmed how
@@ -49,13 +49,13 @@ revive_same there there' started waits waits' attachment how same as_how on as_w
     by (attached.Leaving ticket stage) = refl
 
 -- THE CALL
-pub revive_first : (parts : Parts) (events : ℕ) (state : State) (id : ℕ) → AreSound parts events → IsSoundDriver parts.driver → PartsShow parts state
+pub revive_first : (parts : Parts) (events : ℕ) (state : State) (id : ℕ) → PartsInvariant parts events → DriverInvariant parts.driver → PartsShow parts state
     → first_that_applies (machine.revive_reasons state id) ≡ first_that_applies (why_not_revive parts.driver id)
-revive_first parts events state id sound own shows =
+revive_first parts events state id invariants own shows =
     let d = parts.driver in
     let how = as_known.attachment_by_id d.devices id in
-    let attachment = how_shown parts events state id sound shows in
+    let attachment = how_shown parts events state id invariants shows in
     revive_same (machine.is_plugged state id) (has_device d.devices id) d.started (may_still_reach state.history (attachment_of state id)) (waits_for_its_ticket d.confirmed how) (attachment_of state id) how
-    (there_shown parts events state id sound shows) attachment sound.started
+    (there_shown parts events state id invariants shows) attachment invariants.started
     (ap (may_still_reach state.history) attachment
     ∙ waits_shown state.history d.confirmed how (λ ticket stage is. (own.quarantined id ticket stage is).0) shows.all_earlier shows.none_later)

@@ -30,7 +30,7 @@ use Rattle.iom_registers.specs.declared.register.Register.TheVariants.{Ddtp, Cqb
 use Rattle.iom_registers.specs.declared.registers.Registers.{Registers}
 use Rattle.iom_registers.specs.Table.{written, at_power_on}
 use Rattle.iom_registers.specs.Queues.{command_status, is_command_queue_on}
-use Rattle.iom_table_frames.specs.Marks.{opening_marks}
+use Rattle.iom_table_frames.specs.Owners.{opening_owners}
 use Rattle.iom_tlb.specs.declared.trans_cache.Translation.{Translation}
 use Rattle.iom_tlb.specs.Content.{Key}
 use Rattle.iom_device.specs.declared.device.Device.{Device}
@@ -42,7 +42,7 @@ use Rattle.iom_world_effects.specs.Read.{space_at, values_of, accesses_of}
 use Rattle.iom_world_effects.specs.Scenes.{IsSceneOf}
 use Rattle.iom_world_effects.specs.Frames.{ShowsFrames}
 use Rattle.iom_world_effects.specs.Shows.{PartsShow}
-use Rattle.iom_world_effects.specs.Sound.{AreSound, known_ids, plugged_ids, row_ids, HasAsker, IsUnmarked}
+use Rattle.iom_world_effects.specs.Invariant.{PartsInvariant, known_ids, plugged_ids, row_ids, HasAsker, IsUnmarked}
 use Rattle.iom_world_effects.proofs.FrameLemmas.{shows_reserved}
 use Rattle.iom_coherence.specs.Attachments.{caches_translations}
 use Rattle.iom_fabric.specs.declared.fabric.OnLink.{OnLink}
@@ -73,7 +73,7 @@ bytes_at_start (suc n) (suc k) = bytes_at_start n k
 frames_at_start : (n : ℕ) → ShowsFrames (replicate n zeroed) (replicate n None) (replicate n empty_frame)
 frames_at_start n = record {
   size = length-replicate n empty_frame ∙ sym (length-replicate n zeroed);
-  owners = owners_at_start n;
+  same_owners = owners_at_start n;
   bytes = λ k free. bytes_at_start n k;
 }
 
@@ -94,18 +94,18 @@ set_last_four {X} xs a b n long =
 
 -- the last four frames are marked as the system's
 four_marked : (n : ℕ) → 4 ≤ n
-    → set (set (set (set (replicate n None) (n - 4) (Some System)) (n - 3) (Some System)) (n - 2) (Some System)) (n - 1) (Some System) ≡ opening_marks n
+    → set (set (set (set (replicate n None) (n - 4) (Some System)) (n - 3) (Some System)) (n - 2) (Some System)) (n - 1) (Some System) ≡ opening_owners n
 four_marked n le =
     let behind : n - 4 + 4 ≡ n = omega arith in
     let bare : List (Option Owner) = replicate (n - 4) None in
     let long : length bare ≡ n - 4 = length-replicate {A = Option Owner} (n - 4) None in
     let cut : ◌≡◌ {A = List (Option Owner)} (replicate n None) (bare ++ None ∷ None ∷ None ∷ None ∷ []) =
     sym (replicate-append-replicate {A = Option Owner} (n - 4) 4 None ∙ ap (λ j. replicate {A = Option Owner} j None) behind) in
-    ap (λ (marks : List (Option Owner)). set (set (set (set marks (n - 4) (Some System)) (n - 3) (Some System)) (n - 2) (Some System)) (n - 1) (Some System)) cut
+    ap (λ (owners : List (Option Owner)). set (set (set (set owners (n - 4) (Some System)) (n - 3) (Some System)) (n - 2) (Some System)) (n - 1) (Some System)) cut
     ∙ set_last_four bare None (Some System) n (omega arith)
 
 -- what the ledger machine sees of the frames at power-on
-pub shows_frames : (n levels : ℕ) (disks : List ℕ) → IsMemorySize n → ShowsFrames (replicate n zeroed) (opening_marks n) (opening model_limits n levels disks).frames
+pub shows_frames : (n levels : ℕ) (disks : List ℕ) → IsMemorySize n → ShowsFrames (replicate n zeroed) (opening_owners n) (opening model_limits n levels disks).frames
 shows_frames n levels disks size =
     let le : 64 ≤ n = size.0 in
     let long : length (replicate n zeroed) ≡ n = length-replicate n zeroed in
@@ -122,7 +122,7 @@ shows_frames n levels disks size =
     let two = shows_reserved memory memory one_mark _ (n - 3) System one (rw long (omega arith)) marked_1 (λ k ne. refl) refl in
     let three = shows_reserved memory memory two_marks _ (n - 2) System two (rw long (omega arith)) marked_2 (λ k ne. refl) refl in
     let four = shows_reserved memory memory three_marks _ (n - 1) System three (rw long (omega arith)) marked_3 (λ k ne. refl) refl in
-    subst (λ (marks : List (Option Owner)). ShowsFrames memory marks (opening model_limits n levels disks).frames) (four_marked n (omega arith)) four
+    subst (λ (owners : List (Option Owner)). ShowsFrames memory owners (opening model_limits n levels disks).frames) (four_marked n (omega arith)) four
 
 -- a frame of zeros, where a word of zero is stored at its beginning, and one that is put where it stands
 zero_stays : with_bytes zeroed 0 (little_bytes 4 0) ≡ zeroed
@@ -211,7 +211,7 @@ module _ (first_fence n levels : ℕ) (first next : DriverState) (before memory 
   completed : completed_in memory ≡ 0
   completed = ap completed_in memory_is ∙ completed_zero n started.size.0
 
-  driver_is : next ≡ record first { marks = opening_marks n; devices = []; levels = levels; started = true; given = 0; confirmed = 0; restarts = first_fence - 1; restarted = 0 }
+  driver_is : next ≡ record first { owners = opening_owners n; devices = []; levels = levels; started = true; given = 0; confirmed = 0; restarts = first_fence - 1; restarted = 0 }
   driver_is = started.starts.driver ∙ ap (λ (d : DriverState). record d { started = true; restarts = first_fence - 1 }) started.opening_driver.rest
 
   agrees : Agrees next.ledger []
@@ -307,7 +307,7 @@ module _ (first_fence n levels : ℕ) (first next : DriverState) (before memory 
   no_context : (id : ℕ) (context : Context) → contexts_of iommu id ≡ Some context → ⊥
   no_context id context cached = let both : ◌≡◌ {A = Option Context} None (Some context) = sym (none_cached id) ∙ cached in cc
 
-  pub sound_started : AreSound parts 0
+  pub sound_started : PartsInvariant parts 0
   sound_started = record {
     ready = started.ready;
     started = ap (λ (d : DriverState). d.started) started.starts.driver;
@@ -346,7 +346,7 @@ module _ (first_fence n levels : ℕ) (first next : DriverState) (before memory 
   pub shows_started : (disks : List ℕ) → PartsShow parts (opening model_limits n levels disks)
   shows_started disks = record {
     ledger = agrees;
-    frames = rw (memory_is, ap (λ (d : DriverState). d.marks) driver_is) (shows_frames n levels disks started.size);
+    frames = rw (memory_is, ap (λ (d : DriverState). d.owners) driver_is) (shows_frames n levels disks started.size);
     devices = rw started.unplugged refl;
     given = rw given_none refl;
     confirmed = rw confirmed_none refl;

@@ -16,9 +16,9 @@ frame_by_bytes None bytes is = cc
 frame_by_bytes (Some frame) bytes is = (frame, refl, (let same : frame.bytes ≡ bytes = cc in same))
 
 -- what the machine shows of the bytes of a frame that is nobody's
-pub bytes_shown : (memory : List (List ℕ)) (marks : List (Option Owner)) (frames : List Frame) (n : ℕ) (bytes : List ℕ) → ShowsFrames memory marks frames → slice_get marks n ≡ Some None
+pub bytes_shown : (memory : List (List ℕ)) (owners : List (Option Owner)) (frames : List Frame) (n : ℕ) (bytes : List ℕ) → ShowsFrames memory owners frames → slice_get owners n ≡ Some None
     → slice_get memory n ≡ Some bytes → bytes_of frames n ≡ bytes
-bytes_shown memory marks frames n bytes shows free there = by (slice_get frames n) (shows.bytes n free ∙ there)
+bytes_shown memory owners frames n bytes shows free there = by (slice_get frames n) (shows.bytes n free ∙ there)
   where
     by : (o : Option Frame) → option_map (λ (f : Frame). f.bytes) o ≡ Some bytes → option_map_or (λ (f : Frame). f.bytes) o [] ≡ bytes
     by None is = cc
@@ -29,16 +29,16 @@ abbrev rewritten : Frame → ℕ → List ℕ → Frame
 rewritten frame offset bytes = record frame { bytes = with_bytes frame.bytes offset bytes }
 
 -- the machine's frames show the memory where bytes are stored
-pub frames_stored : (memory : List (List ℕ)) (marks : List (Option Owner)) (frames : List Frame) (n offset : ℕ) (bytes replacement : List ℕ)
-    → ShowsFrames memory marks frames → slice_get marks n ≡ Some None → slice_get memory n ≡ Some bytes
-    → ShowsFrames (slice_set memory n (with_bytes bytes offset replacement)) marks (stored frames n offset replacement)
-frames_stored memory marks frames n offset bytes replacement shows free there =
-    subst (λ (fs : List Frame). ShowsFrames (slice_set memory n (with_bytes bytes offset replacement)) marks fs) (sym stored_is) (record {
+pub frames_stored : (memory : List (List ℕ)) (owners : List (Option Owner)) (frames : List Frame) (n offset : ℕ) (bytes replacement : List ℕ)
+    → ShowsFrames memory owners frames → slice_get owners n ≡ Some None → slice_get memory n ≡ Some bytes
+    → ShowsFrames (slice_set memory n (with_bytes bytes offset replacement)) owners (stored frames n offset replacement)
+frames_stored memory owners frames n offset bytes replacement shows free there =
+    subst (λ (fs : List Frame). ShowsFrames (slice_set memory n (with_bytes bytes offset replacement)) owners fs) (sym stored_is) (record {
       size = length-set frames n frame' ∙ shows.size ∙ sym (length-set memory n (with_bytes bytes offset replacement));
-      owners = λ k. elim (eqb_tells k n) [
-        | inl same ↦ subst (λ (j : ℕ). option_map (λ (f : Frame). f.owner) (slice_get (slice_set frames n frame') j) ≡ slice_get marks j) (sym same.1)
-            (ap (option_map (λ (f : Frame). f.owner)) (get_set_same frames n frame' inside) ∙ sym (ap (option_map (λ (f : Frame). f.owner)) at.1) ∙ shows.owners n)
-        | inr other ↦ ap (option_map (λ (f : Frame). f.owner)) (get_set_other frames n k frame' other.1) ∙ shows.owners k
+      same_owners = λ k. elim (eqb_tells k n) [
+        | inl same ↦ subst (λ (j : ℕ). option_map (λ (f : Frame). f.owner) (slice_get (slice_set frames n frame') j) ≡ slice_get owners j) (sym same.1)
+            (ap (option_map (λ (f : Frame). f.owner)) (get_set_same frames n frame' inside) ∙ sym (ap (option_map (λ (f : Frame). f.owner)) at.1) ∙ shows.same_owners n)
+        | inr other ↦ ap (option_map (λ (f : Frame). f.owner)) (get_set_other frames n k frame' other.1) ∙ shows.same_owners k
       ];
       bytes = λ k unreserved. elim (eqb_tells k n) [
         | inl same ↦ subst (λ (j : ℕ). option_map (λ (f : Frame). f.bytes) (slice_get (slice_set frames n frame') j) ≡ slice_get (slice_set memory n (with_bytes bytes offset replacement)) j) (sym same.1)

@@ -22,10 +22,10 @@ use Rattle.iom_stage_walk.specs.Both.{plain}
 use Rattle.iom_tlb.specs.declared.trans_cache.Translation.{Translation}
 use Rattle.iom_world_effects.specs.Devices.{shown_attachment, shown_device}
 use Rattle.iom_world_effects.specs.Parts.{Parts}
-use Rattle.iom_world_effects.specs.Requests.{AsksTranslated, reply_told_of}
+use Rattle.iom_world_effects.specs.Requests.{AsksTranslated, outcome_of_reply}
 use Rattle.iom_world_effects.specs.Shows.{PartsShow}
-use Rattle.iom_world_effects.specs.Sound.{AreSound}
-use Rattle.iom_world_effects.proofs.DriverLemmas.{IsSoundDriver}
+use Rattle.iom_world_effects.specs.Invariant.{PartsInvariant}
+use Rattle.iom_world_effects.proofs.DriverLemmas.{DriverInvariant}
 use Rattle.iom_world_effects.proofs.PartsLemmas.{StaysReported}
 use Rattle.iom_world_effects.proofs.PresentLemmas.{kind_present}
 use Rattle.iom_world_invariant.proofs.RequestKeeps.{report_leaves}
@@ -53,59 +53,59 @@ may_fault_translated parts state device id cause shows attached is (inr lacks) =
   subst (λ n. cause ≡ cause_without_context state n) (sym is) (lacks.1 ∙ ap (λ l. cause_at l id) (sym shows.levels)),
 )
 
-module _ (laws : ServiceLaws) (old new : Parts) (events id : ℕ) (access : Access) (sound : AreSound old events) (own : IsSoundDriver old.driver)
+module _ (laws : ServiceLaws) (old new : Parts) (events id : ℕ) (access : Access) (invariants : PartsInvariant old events) (own : DriverInvariant old.driver)
     (reported : StaysReported old.driver) (driver : new.driver ≡ old.driver) (devices : new.devices ≡ old.devices) (fabric : new.fabric ≡ old.fabric) (state : State) (shows : PartsShow old state)
     (is : IsFound old.driver.devices (flights_of old.iommu).rows old.devices id) (able : forges is.device.kind ≡ true) (why : Cause)
     (found : ats_context_for old.memory (registers_of old.iommu) (contexts_of old.iommu) id ≡ Err why)
     (not_let_for : IsNotLet (attachment_by_id old.driver.devices id) old.driver.levels id why) where
   -- what it leads to: the machine may answer so, and shows the parts as before
   abbrev Steps : Outcome → Type 0
-  Steps told = RequestsTranslated state id access told state × PartsShow new state
+  Steps answer = RequestsTranslated state id access answer state × PartsShow new state
 
-  step_same : (told : Outcome) → MayAnswerTranslated state (shown_device old.driver.devices (flights_of old.iommu).rows is.device) access told → PartsShow new state
-      → RequestsTranslated state id access told state × PartsShow new state
-  step_same told may shown = (acts_at forges (λ device. MayAnswerTranslated state device access told × (state ≡ state)) old state id told state shows.devices is able (may, refl), shown)
+  step_same : (answer : Outcome) → MayAnswerTranslated state (shown_device old.driver.devices (flights_of old.iommu).rows is.device) access answer → PartsShow new state
+      → RequestsTranslated state id access answer state × PartsShow new state
+  step_same answer may shown = (acts_at forges (λ device. MayAnswerTranslated state device access answer × (state ≡ state)) old state id answer state shows.devices is able (may, refl), shown)
 
   unchanged : new.memory ≡ old.memory → new.iommu ≡ old.iommu → PartsShow new state
   unchanged memory iommu = shows_where old new state (rw memory shows.frames) driver devices (ap flights_of iommu) shows
 
   step_fault : (cause : Cause) → RefusesTranslated old.memory old.iommu id access cause new.memory new.iommu → Steps (outcome.Fault cause)
   step_fault cause call =
-      let leaves = report_leaves old new events id access sound reported driver devices fabric cause call in
-      let same = call.told ∙ told_cause old.memory access (ats_context_for old.memory (registers_of old.iommu) (contexts_of old.iommu) id) why call.fault found call.served.0 in
+      let leaves = report_leaves old new events id access invariants reported driver devices fabric cause call in
+      let same = call.reply ∙ told_cause old.memory access (ats_context_for old.memory (registers_of old.iommu) (contexts_of old.iommu) id) why call.fault found call.served.0 in
       step_same (outcome.Fault cause) (
-        (call.within, not_busy old new events id sound state shows is call.room.row call.room.stands call.room.room),
+        (call.within, not_busy old new events id invariants state shows is call.room.row call.room.stands call.room.room),
         may_fault_translated old state (shown_device old.driver.devices (flights_of old.iommu).rows is.device) id cause shows
             (ap (λ n. shown_attachment (attachment_by_id old.driver.devices n)) is.own) is.own
             (subst (IsNotLet (attachment_by_id old.driver.devices id) old.driver.levels id) (sym same) not_let_for),
       )
-      (shows_where old new state (shows_reported old new state leaves sound.ready.stand.size own shows) driver devices call.flights shows)
+      (shows_where old new state (shows_reported old new state leaves invariants.ready.stand.size own shows) driver devices call.flights shows)
 
-  step_replied : (reply : Reply) → AnswersTranslated old.memory old.iommu id access reply new.memory new.iommu → RequestsTranslated state id access (reply_told_of reply) state × PartsShow new state
+  step_replied : (reply : Reply) → AnswersTranslated old.memory old.iommu id access reply new.memory new.iommu → RequestsTranslated state id access (outcome_of_reply reply) state × PartsShow new state
   step_replied (Accepted number) call = absurd (never_accepted old id access number new why found call.0)
-  step_replied Busy call = step_same outcome.Busy (call.0, is_busy old new events id sound state shows is call.1) (unchanged call.3 call.2)
+  step_replied Busy call = step_same outcome.Busy (call.0, is_busy old new events id invariants state shows is call.1) (unchanged call.3 call.2)
   step_replied BadSpan call = step_same outcome.BadSpan call.0 (unchanged call.2 call.1)
   step_replied (Fault cause) call = step_fault cause call
 
-pub translated_step : ServiceLaws → (old new : Parts) (events id : ℕ) (access : Access) (told : Outcome) → AreSound old events → IsSoundDriver old.driver → StaysReported old.driver
-    → AsksTranslated old id access told new → (state : State) → PartsShow old state → RequestsTranslated state id access told state × PartsShow new state
-translated_step laws old new events id access told sound own reported asks state shows = elim asks [
+pub translated_step : ServiceLaws → (old new : Parts) (events id : ℕ) (access : Access) (answer : Outcome) → PartsInvariant old events → DriverInvariant old.driver → StaysReported old.driver
+    → AsksTranslated old id access answer new → (state : State) → PartsShow old state → RequestsTranslated state id access answer state × PartsShow new state
+translated_step laws old new events id access answer invariants own reported asks state shows = elim asks [
   | inl unknown ↦ (
-    acts_absent forges (λ device. MayAnswerTranslated state device access told × (state ≡ state)) old state id told shows.devices unknown.absent unknown.told_so,
+    acts_absent forges (λ device. MayAnswerTranslated state device access answer × (state ≡ state)) old state id answer shows.devices unknown.absent unknown.reply_is,
     shows_same old new state unknown.same shows,
   )
   | inr (inl unable) ↦
       let is = present_found old.driver.devices (flights_of old.iommu).rows old.devices id (kind_present old.devices id unable.kind unable.there) in (
-        acts_unable forges (λ device. MayAnswerTranslated state device access told × (state ≡ state)) old state id told shows.devices is
-            (ap forges (kind_found old.driver.devices (flights_of old.iommu).rows old.devices id unable.kind is unable.there) ∙ unable.cannot) unable.told_so,
+        acts_unable forges (λ device. MayAnswerTranslated state device access answer × (state ≡ state)) old state id answer shows.devices is
+            (ap forges (kind_found old.driver.devices (flights_of old.iommu).rows old.devices id unable.kind is unable.there) ∙ unable.cannot) unable.reply_is,
         shows_same old new state unable.same shows,
       )
   | inr (inr answered) ↦
       let kind = answered.0.0 in
       let is = present_found old.driver.devices (flights_of old.iommu).rows old.devices id (kind_present old.devices id kind answered.0.1) in
       let reply = answered.1 in
-      let found = not_let laws old events id kind sound own answered.0.1 answered.0.2 in
-      let step = step_replied laws old new events id access sound own reported reply.driver reply.devices reply.fabric state shows is
+      let found = not_let laws old events id kind invariants own answered.0.1 answered.0.2 in
+      let step = step_replied laws old new events id access invariants own reported reply.driver reply.devices reply.fabric state shows is
       (ap forges (kind_found old.driver.devices (flights_of old.iommu).rows old.devices id kind is answered.0.1) ∙ answered.0.2) found.0 found.1 found.2 reply.reply reply.call in
-      (subst (λ t. RequestsTranslated state id access t state) (sym reply.told_so) step.0, step.1)
+      (subst (λ t. RequestsTranslated state id access t state) (sym reply.reply_is) step.0, step.1)
 ]

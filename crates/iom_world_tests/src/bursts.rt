@@ -105,11 +105,11 @@ fn chain_word(draw: &mut Draw, number: u64, page: u64) -> (u64, u64) {
 }
 
 /// The device of the event of a part with the number.
-fn device_of(task: Task, call: Call, seen: Seen, who: Who, number: u64) -> DeviceId {
+fn device_of(task: Task, call: Call, shown: Seen, who: Who, number: u64) -> DeviceId {
     match who {
         Who::Drawn => call.device,
         Who::Subject => task.device,
-        Who::This(WIDE) => seen.wide,
+        Who::This(WIDE) => shown.wide,
         Who::This(id) => id,
         Who::Each(first) => first.wrapping_add((number % 16) as u32),
     }
@@ -158,15 +158,15 @@ fn settle_fields(
 }
 
 /// The next event of the task, if it has one.
-pub(crate) fn planned(draw: &mut Draw, knows: &Knows, seen: Seen, task: Task) -> Option<Call> {
+pub(crate) fn planned(draw: &mut Draw, knows: &Knows, shown: Seen, task: Task) -> Option<Call> {
     let (act, who, at, number) = part_of(task.burst, task.at)?;
-    let mut call = call_of(draw, act, seen);
-    call.device = device_of(task, call, seen, who, number);
+    let mut call = call_of(draw, act, shown);
+    call.device = device_of(task, call, shown, who, number);
     if task.burst == Burst::Devices || task.burst == Burst::Crowded {
         call.new = new_device(call.device);
     }
     call.place = if task.burst == Burst::CutOff {
-        seen.messages.saturating_sub(1)
+        shown.messages.saturating_sub(1)
     } else {
         0
     };

@@ -2,12 +2,12 @@
 
 use crate::bursts::{Task, drawn_task, planned};
 use crate::call::{Act, Call};
-use crate::choosing::{Seen, act, call_of, seen_of};
+use crate::choosing::{Seen, act, call_of, shown_of};
 use crate::devices::{ABLK, BLK};
 use crate::draw::Draw;
 use crate::knows::Knows;
 use crate::parts::Burst;
-use crate::told::Told;
+use crate::reply::Told;
 use iom_base::{Cause, DeviceId};
 use iom_machine::CommandName;
 use iom_virtqueue::ChainFault;
@@ -88,16 +88,16 @@ pub(crate) struct Chooser {
     focused: u64,
     /// What happened last, and what came of it.
     last: Call,
-    told: Told,
+    reply: Told,
     happened: u64,
     /// Whether no fault record is taken for a long time.
     keeps_faults: bool,
 }
 
 /// What the outcome calls for, if it calls for something.
-fn listed(told: Told) -> Option<Act> {
+fn listed(reply: Told) -> Option<Act> {
     for (what, act) in CALLED_FOR.iter() {
-        if *what == told {
+        if *what == reply {
             return Some(*act);
         }
     }
@@ -105,11 +105,11 @@ fn listed(told: Told) -> Option<Act> {
 }
 
 /// What the last outcome calls for, if anything does.
-fn called_for(draw: &mut Draw, last: Call, told: Told) -> Option<Act> {
-    if told == Told::Waits {
+fn called_for(draw: &mut Draw, last: Call, reply: Told) -> Option<Act> {
+    if reply == Told::Waits {
         return Some(FOR_WAITING[draw.below(6) as usize]);
     }
-    let act = listed(told)?;
+    let act = listed(reply)?;
     let may = match act {
         Act::Step => last.device == BLK || last.device == ABLK,
         Act::Commit => last.act == Act::Step || draw.one_in(3),
@@ -119,18 +119,18 @@ fn called_for(draw: &mut Draw, last: Call, told: Told) -> Option<Act> {
 }
 
 /// The act of the device, and where it is a delivery, of the last message.
-fn call_for(draw: &mut Draw, act: Act, device: DeviceId, seen: Seen) -> Call {
-    let mut call = call_of(draw, act, seen);
+fn call_for(draw: &mut Draw, act: Act, device: DeviceId, shown: Seen) -> Call {
+    let mut call = call_of(draw, act, shown);
     call.device = device;
-    call.place = seen.messages.saturating_sub(1);
+    call.place = shown.messages.saturating_sub(1);
     call
 }
 
 impl Chooser {
     /// Begins with the seed, with the burst after the devices are there.
-    pub(crate) fn new(seed: u64, later: Burst, keeps_faults: bool, seen: Seen) -> Chooser {
+    pub(crate) fn new(seed: u64, later: Burst, keeps_faults: bool, shown: Seen) -> Chooser {
         let mut draw = Draw::new(seed);
-        let last = call_of(&mut draw, Act::Poll, seen);
+        let last = call_of(&mut draw, Act::Poll, shown);
         Chooser {
             draw,
             task: Task::new(Burst::Devices, 0, 0),
@@ -139,15 +139,15 @@ impl Chooser {
             focus: BLK,
             focused: 0,
             last,
-            told: Told::NoEffect,
+            reply: Told::NoEffect,
             happened: 0,
             keeps_faults,
         }
     }
 
     /// The next of what is planned.
-    fn next_planned(&mut self, knows: &Knows, seen: Seen) -> Option<Call> {
-        let call = planned(&mut self.draw, knows, seen, self.task);
+    fn next_planned(&mut self, knows: &Knows, shown: Seen) -> Option<Call> {
+        let call = planned(&mut self.draw, knows, shown, self.task);
         if call.is_some() {
             self.task.at = self.task.at.wrapping_add(1);
             return call;
@@ -159,52 +159,52 @@ impl Chooser {
         self.is_strict = self.later != Burst::Nothing;
         self.task = Task::new(self.later, 0, 0);
         self.later = Burst::Nothing;
-        planned(&mut self.draw, knows, seen, self.task)
+        planned(&mut self.draw, knows, shown, self.task)
     }
 
     /// The block device that goes on does so.
-    fn go_on(&mut self, seen: Seen) -> Call {
-        let act = match listed(self.told) {
+    fn go_on(&mut self, shown: Seen) -> Call {
+        let act = match listed(self.reply) {
             Some(act) => act,
-            None if self.told == Told::Busy => Act::Commit,
+            None if self.reply == Told::Busy => Act::Commit,
             None => Act::Step,
         };
-        let has_ended = self.told == Told::Idle || act == Act::Status;
+        let has_ended = self.reply == Told::Idle || act == Act::Status;
         self.focused = if has_ended {
             0
         } else {
             self.focused.saturating_sub(1)
         };
-        call_for(&mut self.draw, act, self.focus, seen)
+        call_for(&mut self.draw, act, self.focus, shown)
     }
 
     /// What nothing was planned for: what the last outcome calls for, or anything.
-    fn unplanned(&mut self, knows: &Knows, seen: Seen) -> Call {
+    fn unplanned(&mut self, knows: &Knows, shown: Seen) -> Call {
         if self.draw.one_in(24) {
             self.task = drawn_task(&mut self.draw, knows);
         } else if self.draw.one_in(2) {
-            if let Some(act) = called_for(&mut self.draw, self.last, self.told) {
-                return call_for(&mut self.draw, act, self.last.device, seen);
+            if let Some(act) = called_for(&mut self.draw, self.last, self.reply) {
+                return call_for(&mut self.draw, act, self.last.device, shown);
             }
         }
         let act = act(&mut self.draw);
-        call_of(&mut self.draw, act, seen)
+        call_of(&mut self.draw, act, shown)
     }
 
     /// The next event.
     fn choose(&mut self, knows: &Knows) -> Call {
-        let seen = seen_of(knows);
+        let shown = shown_of(knows);
         if !self.is_strict && self.draw.one_in(8) {
             let act = act(&mut self.draw);
-            return call_of(&mut self.draw, act, seen);
+            return call_of(&mut self.draw, act, shown);
         }
-        if let Some(call) = self.next_planned(knows, seen) {
+        if let Some(call) = self.next_planned(knows, shown) {
             return call;
         }
         if self.focused > 0 {
-            return self.go_on(seen);
+            return self.go_on(shown);
         }
-        self.unplanned(knows, seen)
+        self.unplanned(knows, shown)
     }
 
     /// The next event.
@@ -219,8 +219,8 @@ impl Chooser {
     }
 
     /// This came of it.
-    pub(crate) fn hear(&mut self, told: Told) {
-        self.told = told;
+    pub(crate) fn hear(&mut self, reply: Told) {
+        self.reply = reply;
     }
 
     /// What happened last.

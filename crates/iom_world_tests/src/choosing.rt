@@ -92,7 +92,7 @@ pub(crate) struct Seen {
     pub(crate) requests: u64,
 }
 
-pub(crate) fn seen_of(knows: &Knows) -> Seen {
+pub(crate) fn shown_of(knows: &Knows) -> Seen {
     Seen {
         wide: knows.wide,
         messages: knows.messages.len() as u64,
@@ -177,8 +177,8 @@ fn place(draw: &mut Draw, messages: u64) -> u64 {
 }
 
 /// The act, with all else drawn.
-pub(crate) fn call_of(draw: &mut Draw, act: Act, seen: Seen) -> Call {
-    let device = device_for(draw, act, seen.wide);
+pub(crate) fn call_of(draw: &mut Draw, act: Act, shown: Seen) -> Call {
+    let device = device_for(draw, act, shown.wide);
     Call {
         act,
         device,
@@ -196,8 +196,8 @@ pub(crate) fn call_of(draw: &mut Draw, act: Act, seen: Seen) -> Call {
         ats: new_device(device).kind().has_cache() != draw.one_in(8),
         new: LATE[draw.below(8) as usize],
         disk: draw.below(DISKS + 2),
-        place: place(draw, seen.messages),
-        serial: seen.requests.wrapping_sub(draw.below(3)),
+        place: place(draw, shown.messages),
+        serial: shown.requests.wrapping_sub(draw.below(3)),
         size: SIZES[draw.below(8) as usize],
     }
 }

@@ -1,7 +1,7 @@
 //! A hundred drawn runs keep the rules, and meet all that there is to meet.
 
 use crate::chooser::Chooser;
-use crate::choosing::seen_of;
+use crate::choosing::shown_of;
 use crate::judge::Rule;
 use crate::met::Row;
 use crate::parts::Burst;
@@ -35,11 +35,11 @@ fn broken_by(alloc: Global, seed: u64, met: &mut Vec<Row>) -> Result<Option<Rule
     };
     let burst = beginning(seed);
     let mut run = Run::new(alloc, levels, wide, burst == Burst::Crowded)?;
-    let mut chooser = Chooser::new(seed, burst, seed % 8 == 3, seen_of(&run.knows));
+    let mut chooser = Chooser::new(seed, burst, seed % 8 == 3, shown_of(&run.knows));
     for number in 0..EVENTS {
         let call = chooser.next(&run.knows);
-        let told = run.happen(call, met)?;
-        chooser.hear(told);
+        let reply = run.happen(call, met)?;
+        chooser.hear(reply);
     }
     run.end(chooser.last())?;
     Ok(run.broken)

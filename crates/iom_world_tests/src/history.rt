@@ -63,7 +63,13 @@ fn is_asked_for(call: Call, which: Which) -> bool {
 
 /// Whether what was granted at this place of the list is held still; or lingers, where that counts too. All tickets up to the
 /// given one are confirmed.
-fn stays(entries: &[Entry], place: usize, granted: Call, confirmed: u64, lingering: bool) -> bool {
+fn unchanged(
+    entries: &[Entry],
+    place: usize,
+    granted: Call,
+    confirmed: u64,
+    lingering: bool,
+) -> bool {
     for later in place..entries.len() {
         let Entry { call, ticket } = entries[later];
         let is_all = call.act == Act::Quarantine;
@@ -80,7 +86,9 @@ pub(crate) fn frames(entries: &[Entry], confirmed: u64, which: Which) -> u64 {
     let mut set = 0;
     for place in 0..entries.len() {
         let call = entries[place].call;
-        if is_asked_for(call, which) && stays(entries, place, call, confirmed, which.lingering) {
+        if is_asked_for(call, which)
+            && unchanged(entries, place, call, confirmed, which.lingering)
+        {
             set |= set_of(call.frame);
         }
     }
@@ -102,7 +110,7 @@ pub(crate) enum Tie {
 #[derive(Clone, Copy)]
 pub(crate) struct Standing {
     pub(crate) tie: Tie,
-    /// Whether it was detached or cut off under a ticket that isn't confirmed.
+    /// Whether it was detached or quarantined under a ticket that isn't confirmed.
     pub(crate) is_pending: bool,
     pub(crate) mode: Mode,
     pub(crate) ats: bool,

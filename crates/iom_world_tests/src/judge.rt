@@ -5,10 +5,10 @@ use crate::flights::{Flying, MOST_IN_FLIGHT, flights_of};
 use crate::history::{Right, Tie, has, kind_of, standing_of};
 use crate::knows::Knows;
 use crate::messages::{MOST_MESSAGES, Message, What};
+use crate::reply::{Heard, Told};
 use crate::rules::{
     accepting, is_fault_of_translated, may_answer, may_fault, may_fault_somewhere, right_for,
 };
-use crate::told::{Heard, Told};
 use iom_base::{AccessKind, DeviceKind, Refusal};
 use iom_inflight::MadeAt;
 
@@ -38,7 +38,7 @@ pub(crate) enum Rule {
     Bytes,
     /// No page is granted that is held or lingers.
     Grant,
-    /// What is released was held, and what is detached or cut off was attached; tickets come in order, and are confirmed so.
+    /// What is released was held, and what is detached or quarantined was attached; tickets come in order, and are confirmed so.
     Ticket,
     /// There is a fault record exactly where one was written.
     Record,
@@ -63,10 +63,10 @@ fn can_send(kind: DeviceKind, act: Act) -> bool {
 fn may_reply_in_page(knows: &Knows, call: Call, heard: Heard) -> bool {
     let flights = flights_of(&knows.flights, call.device);
     if flights.waiting >= MOST_IN_FLIGHT {
-        return heard.told == Told::Busy;
+        return heard.reply == Told::Busy;
     }
     let is_translated = matches!(call.act, Act::ReadTranslated | Act::WriteTranslated);
-    match heard.told {
+    match heard.reply {
         Told::Accepted => {
             !is_translated
                 && accepting(knows, call.device, Some(call.page), call.kind()) != 0
@@ -81,12 +81,12 @@ fn may_reply_in_page(knows: &Knows, call: Call, heard: Heard) -> bool {
 /// Whether the request may be answered so.
 fn may_reply(knows: &Knows, call: Call, heard: Heard) -> bool {
     let Some(kind) = kind_of(&knows.entries, call.device) else {
-        return heard.told == Told::Refused(Refusal::NoSuchDevice);
+        return heard.reply == Told::Refused(Refusal::NoSuchDevice);
     };
     if !can_send(kind, call.act) {
-        heard.told == Told::Refused(Refusal::WrongKind)
+        heard.reply == Told::Refused(Refusal::WrongKind)
     } else if !call.is_in_page() {
-        heard.told == Told::BadSpan
+        heard.reply == Told::BadSpan
     } else {
         may_reply_in_page(knows, call, heard)
     }
@@ -95,11 +95,11 @@ fn may_reply(knows: &Knows, call: Call, heard: Heard) -> bool {
 /// Whether this may come of a step of a block device.
 fn may_step(knows: &Knows, call: Call, heard: Heard) -> bool {
     let Some(kind) = kind_of(&knows.entries, call.device) else {
-        return heard.told == Told::Refused(Refusal::NoSuchDevice);
+        return heard.reply == Told::Refused(Refusal::NoSuchDevice);
     };
     let flights = flights_of(&knows.flights, call.device);
     let is_full = flights.waiting >= MOST_IN_FLIGHT;
-    match heard.told {
+    match heard.reply {
         Told::Refused(why) => why == Refusal::WrongKind && !kind.is_block_device(),
         _ if !kind.is_block_device() => false,
         Told::Accepted => !is_full && heard.number == flights.accepted.wrapping_add(1),
@@ -124,7 +124,7 @@ fn judge_access(knows: &Knows, flying: Flying, made: MadeAt, heard: Heard) -> (R
         || u64::from(made.offset) == call.offset
             && u64::from(made.len) == call.len
             && made.kind == call.kind();
-    let is_told = match heard.told {
+    let is_told = match heard.reply {
         Told::Read => made.kind == AccessKind::Read,
         Told::Wrote => { made.kind == AccessKind::Write && heard.number == u64::from(made.len) }
         _ => false,
@@ -151,7 +151,7 @@ pub(crate) fn judge_commit(
         (Some(flying), Some(made)) => judge_access(knows, flying, made, heard),
         (None, None) => {
             let is_plugged = kind_of(&knows.entries, call.device).is_some();
-            let may = match heard.told {
+            let may = match heard.reply {
                 Told::NothingInFlight => is_plugged,
                 Told::Refused(why) => !is_plugged && why == Refusal::NoSuchDevice,
                 _ => false,
@@ -168,7 +168,7 @@ fn may_hear(knows: &Knows, message: Message, heard: Heard) -> bool {
         Some(kind) => kind.has_cache(),
         None => false,
     };
-    match heard.told {
+    match heard.reply {
         Told::Kept => has_cache && !message.is_refused,
         Told::Stale => has_cache,
         Told::AnswerRefused => has_cache && message.is_refused,
@@ -187,14 +187,14 @@ fn judge_delivery(knows: &Knows, message: Message, heard: Heard) -> (Rule, bool)
             (Rule::Answer, may)
         }
         What::Answer => (Rule::Delivery, may_hear(knows, message, heard)),
-        What::Request => (Rule::Delivery, is_it && heard.told == Told::Invalidated),
+        What::Request => (Rule::Delivery, is_it && heard.reply == Told::Invalidated),
         What::Word => {
-            let told = if counts {
+            let reply = if counts {
                 Told::Closed
             } else {
                 Told::NotClosed
             };
-            (Rule::Delivery, is_it && heard.told == told)
+            (Rule::Delivery, is_it && heard.reply == reply)
         }
     }
 }
@@ -202,25 +202,25 @@ fn judge_delivery(knows: &Knows, message: Message, heard: Heard) -> (Rule, bool)
 /// Whether this may come of a message's being sent, lost, copied or delivered.
 fn judge_message(knows: &Knows, call: Call, heard: Heard) -> (Rule, bool) {
     let is_full = knows.messages.len() >= MOST_MESSAGES;
-    let told = heard.told;
+    let reply = heard.reply;
     match (knows.message(call.place), call.act) {
         (_, Act::Ask | Act::Forge) => {
-            let may = match told {
+            let may = match reply {
                 Told::Sent => !is_full,
                 Told::Lost => is_full,
                 _ => true,
             };
             (Rule::Message, may)
         }
-        (None, _) => (Rule::Message, told == Told::NoMessage),
-        (_, Act::Drop) => (Rule::Message, told == Told::Dropped),
-        (_, Act::Repeat) if is_full => (Rule::Message, told == Told::Lost),
-        (_, Act::Repeat) => (Rule::Message, told == Told::Repeated),
+        (None, _) => (Rule::Message, reply == Told::NoMessage),
+        (_, Act::Drop) => (Rule::Message, reply == Told::Dropped),
+        (_, Act::Repeat) if is_full => (Rule::Message, reply == Told::Lost),
+        (_, Act::Repeat) => (Rule::Message, reply == Told::Repeated),
         (Some(message), _) => judge_delivery(knows, message, heard),
     }
 }
 
-/// Whether what was released, detached or cut off can have been.
+/// Whether what was released, detached or quarantined can have been.
 fn may_part(knows: &Knows, call: Call) -> bool {
     let standing = standing_of(&knows.entries, knows.confirmed, call.device);
     let is_attached = standing.tie == Tie::Attached;
@@ -239,7 +239,7 @@ fn may_give(knows: &Knows, ticket: u64) -> bool {
 
 /// Whether this may come of a poll.
 fn may_confirm(knows: &Knows, heard: Heard) -> bool {
-    match heard.told {
+    match heard.reply {
         Told::Confirmed { .. } => {
             heard.number == knows.confirmed.wrapping_add(1)
                 && heard.number <= heard.last
@@ -262,7 +262,7 @@ fn may_be_free(knows: &Knows, frame: u64, is_free: bool) -> bool {
 
 /// Whether this may come of a call of the driver or a step of the IOMMU.
 fn judge_driver(knows: &Knows, call: Call, heard: Heard) -> (Rule, bool) {
-    match (call.act, heard.told) {
+    match (call.act, heard.reply) {
         (_, Told::Ticket) => {
             let may = may_give(knows, heard.number) && may_part(knows, call);
             (Rule::Ticket, may)
@@ -278,7 +278,7 @@ fn judge_driver(knows: &Knows, call: Call, heard: Heard) -> (Rule, bool) {
                 standing.tie == Tie::CutOff && !standing.is_pending,
             )
         }
-        (Act::Faults, told) => (Rule::Record, (told == Told::Record) == (knows.records > 0)),
+        (Act::Faults, reply) => (Rule::Record, (reply == Told::Record) == (knows.records > 0)),
         (Act::Poll, _) => (Rule::Ticket, may_confirm(knows, heard)),
         (Act::Free, Told::Free(is_free)) => {
             (Rule::Free, may_be_free(knows, call.frame, is_free))

@@ -4,8 +4,8 @@ use crate::call::{Act, Call};
 use crate::flights::{Flying, make_oldest};
 use crate::history::{Entry, Right, Which, frames};
 use crate::messages::{Message, What, send};
+use crate::reply::{Heard, Told};
 use crate::rules::accepting;
-use crate::told::{Heard, Told};
 use iom_base::{AccessKind, Cause, DeviceId};
 use iom_machine::CommandName;
 use std::alloc::{AllocError, Global};
@@ -117,16 +117,16 @@ impl Knows {
     }
 
     /// The message at the place arrived, or was lost.
-    fn keep_taken(&mut self, place: usize, told: Told) -> Result<(), AllocError> {
+    fn keep_taken(&mut self, place: usize, reply: Told) -> Result<(), AllocError> {
         if place >= self.messages.len() {
             return Ok(());
         }
         let message = self.messages.remove(place);
         match message.what {
-            _ if told == Told::Dropped => Ok(()),
+            _ if reply == Told::Dropped => Ok(()),
             What::Question => {
                 let mut answer = Message::new(What::Answer, message.device, 0);
-                answer.is_refused = matches!(told, Told::AnsweredFault(_));
+                answer.is_refused = matches!(reply, Told::AnsweredFault(_));
                 send(&mut self.messages, answer)
             }
             What::Request => {
@@ -170,7 +170,7 @@ impl Knows {
 
     /// What a driver that looks finds.
     fn keep_looks(&mut self, heard: Heard) {
-        match heard.told {
+        match heard.reply {
             Told::Confirmed { .. } => self.confirmed = heard.last,
             Told::Record => self.records = self.records.saturating_sub(1),
             Told::NoRecord => self.has_lost = false,
@@ -193,7 +193,7 @@ impl Knows {
     /// What came of the call is known from now on.
     pub(crate) fn keep(&mut self, call: Call, heard: Heard) -> Result<(), AllocError> {
         self.keep_looks(heard);
-        match (call.act, heard.told) {
+        match (call.act, heard.reply) {
             (Act::Restart, Told::Done) => {
                 self.open.clear();
                 Ok(())
@@ -203,7 +203,7 @@ impl Knows {
             (_, Told::Accepted) => self.keep_flying(call),
             (_, Told::Did(CommandName::AtsInval)) => self.open_next(),
             (_, Told::Sent | Told::Asked | Told::Repeated) => self.keep_message(call),
-            (Act::Deliver | Act::Drop, _) => self.keep_taken(call.place as usize, heard.told),
+            (Act::Deliver | Act::Drop, _) => self.keep_taken(call.place as usize, heard.reply),
             (Act::Commit, Told::Read | Told::Wrote) => {
                 make_oldest(&mut self.flights, call.device);
                 Ok(())

@@ -4,7 +4,7 @@
 //! happens: a guest's tables, rings and descriptors stand in the very frames that are granted (hypervisor extension,
 //! "Two-Stage Address Translation"; virtio 1.2, section 2.7), and the processor and the devices write them between any
 //! two events; messages are delivered in any order, lost, repeated and forged (PCI Express Base Specification, chapter
-//! 10); fences are given up, devices cut off, revived, detached and reset.
+//! 10); fences are given up, devices quarantined, revived, detached and reset.
 //!
 //! The test is no run of the ledger machine, and doesn't use its judge. It keeps what was done about devices and grants as
 //! a list of entries that it reads off the outcomes (`history`), and from it alone decides which frames a device may reach.
@@ -44,10 +44,10 @@ mod met;
 #[cfg(test)]
 mod parts;
 #[cfg(test)]
+mod reply;
+#[cfg(test)]
 mod rules;
 #[cfg(test)]
 mod run;
-#[cfg(test)]
-mod told;
 #[cfg(test)]
 mod wanted;

@@ -5,7 +5,7 @@ use crate::history::{Tie, kind_of, standing_of};
 use crate::judge::MOST_TICKETS;
 use crate::knows::{Knows, MOST_RECORDS};
 use crate::messages::{MOST_MESSAGES, Message};
-use crate::told::{Heard, Told};
+use crate::reply::{Heard, Told};
 use iom_machine::CommandName;
 use std::alloc::AllocError;
 
@@ -15,9 +15,9 @@ const MANY_OPEN: usize = 8;
 /// What came of such an event.
 pub(crate) type Row = (Act, Told);
 
-pub(crate) fn has_met(met: &[Row], act: Act, told: Told) -> bool {
+pub(crate) fn has_met(met: &[Row], act: Act, reply: Told) -> bool {
     for (other, what) in met {
-        if *other == act && *what == told {
+        if *other == act && *what == reply {
             return true;
         }
     }
@@ -25,9 +25,9 @@ pub(crate) fn has_met(met: &[Row], act: Act, told: Told) -> bool {
 }
 
 /// It was met, and is noted once.
-fn meet(met: &mut Vec<Row>, act: Act, told: Told) -> Result<(), AllocError> {
-    if !has_met(met.as_slice(), act, told) {
-        met.push((act, told))?;
+fn meet(met: &mut Vec<Row>, act: Act, reply: Told) -> Result<(), AllocError> {
+    if !has_met(met.as_slice(), act, reply) {
+        met.push((act, reply))?;
     }
     Ok(())
 }
@@ -47,19 +47,19 @@ pub(crate) fn meet_all(
     call: Call,
     heard: Heard,
 ) -> Result<(), AllocError> {
-    if let Some(told) = beside(knows, call, heard) {
-        meet(met, call.act, told)?;
+    if let Some(reply) = beside(knows, call, heard) {
+        meet(met, call.act, reply)?;
     }
-    if heard.told == Told::TimedOut {
+    if heard.reply == Told::TimedOut {
         meet_under_way(met, knows.messages.as_slice())?;
     }
-    meet(met, call.act, heard.told)
+    meet(met, call.act, heard.reply)
 }
 
 /// What the outcome doesn't show by itself, if there is something; before it is known.
 fn beside(knows: &Knows, call: Call, heard: Heard) -> Option<Told> {
     let is_full = knows.messages.len() >= MOST_MESSAGES;
-    match (call.act, heard.told) {
+    match (call.act, heard.reply) {
         (_, Told::Did(CommandName::AtsInval)) if is_full => Some(Told::InvalidationLost),
         (_, Told::Waits) if knows.open.len() >= MANY_OPEN => Some(Told::ManyOpen),
         (_, Told::Fault(_)) if knows.records == MOST_RECORDS && !knows.has_lost => {

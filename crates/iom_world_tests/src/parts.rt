@@ -28,7 +28,7 @@ pub(crate) enum Burst {
     Deliveries,
     /// The command queue begins anew, and all is fetched that can be.
     Restart,
-    /// The device with a cache is told of a page, and then cut off: its cache still has the page when its context is gone.
+    /// The device with a cache is told of a page, and then quarantined: its cache still has the page when its context is gone.
     CutOff,
     /// Fences are done, and another is given up before a poll.
     GivenUp,

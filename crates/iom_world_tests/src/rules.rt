@@ -3,7 +3,7 @@
 use crate::call::{Act, Call};
 use crate::history::{Right, Standing, Tie, has, standing_of};
 use crate::knows::Knows;
-use crate::told::{Heard, Told};
+use crate::reply::{Heard, Told};
 use iom_base::{AccessKind, Cause, DeviceId, Mode};
 
 /// Whether this is a fault of the mode's stages at such an access.
@@ -96,7 +96,7 @@ pub(crate) fn may_fault_somewhere(knows: &Knows, device: DeviceId, cause: Cause)
 /// Whether a device with ATS in the mode may be told so of the page, or of any page, by its tables.
 fn may_tell(knows: &Knows, device: DeviceId, mode: Mode, page: Option<u64>, heard: Heard) -> bool {
     let is_both = mode.is_both();
-    match heard.told {
+    match heard.reply {
         Told::Answered {
             can_read,
             can_write,
@@ -129,7 +129,7 @@ pub(crate) fn may_answer(knows: &Knows, device: DeviceId, page: Option<u64>, hea
     if has_tables && standing.ats && may_tell(knows, device, standing.mode, page, heard) {
         return true;
     }
-    match heard.told {
+    match heard.reply {
         Told::AnsweredFault(cause) => {
             is_directory_fault(knows, device, standing, cause)
                 || has_tables && !standing.ats && cause == Cause::TransactionTypeDisallowed

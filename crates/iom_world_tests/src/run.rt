@@ -7,7 +7,7 @@ use crate::history::has;
 use crate::judge::{Rule, judge, judge_commit};
 use crate::knows::Knows;
 use crate::met::{Row, meet_all};
-use crate::told::{Heard, Told, heard_of};
+use crate::reply::{Heard, Told, heard_of};
 use iom_base::{AccessKind, DeviceId, Refusal};
 use iom_inflight::MadeAt;
 use iom_machine::{Event, Outcome};
@@ -161,7 +161,7 @@ impl Run {
         let heard = self.take(call)?;
         let (rule, holds) = judge(&self.knows, call, heard);
         self.expect(rule, holds);
-        if call.act == Act::Poke && heard.told == Told::Done {
+        if call.act == Act::Poke && heard.reply == Told::Done {
             let first = index_of(call.frame, call.offset);
             write(&mut self.bytes, first, call.len, call.word);
         }
@@ -177,7 +177,7 @@ impl Run {
         };
         meet_all(met, &self.knows, call, heard)?;
         self.knows.keep(call, heard)?;
-        Ok(heard.told)
+        Ok(heard.reply)
     }
 
     /// Whether a table is in the frame: the processor may not write it.
@@ -187,7 +187,7 @@ impl Run {
         poke.offset = 0;
         poke.len = 1;
         let heard = self.take(poke)?;
-        Ok(heard.told == Told::Refused(Refusal::FrameReserved))
+        Ok(heard.reply == Told::Refused(Refusal::FrameReserved))
     }
 
     /// The world settles in 400 events at most; then a frame is free where nobody holds it, and else isn't.
@@ -200,7 +200,7 @@ impl Run {
         free.act = Act::Free;
         for frame in FIRST_FRAME..FIRST_FRAME + FRAMES {
             free.frame = frame;
-            let is_free = self.take(free)?.told == Told::Free(true);
+            let is_free = self.take(free)?.reply == Told::Free(true);
             let may_be_table = self.knows.is_crowded && self.is_table(free)?;
             let is_held = has(held, frame);
             self.expect(Rule::Free, is_free != is_held || may_be_table && !is_free);

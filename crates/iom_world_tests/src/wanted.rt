@@ -3,7 +3,7 @@
 use crate::call::Act;
 use crate::messages::What;
 use crate::met::{Row, has_met};
-use crate::told::Told;
+use crate::reply::Told;
 use iom_base::{Cause, DeviceKind, Mode, Refusal, Size};
 use iom_machine::CommandName;
 use iom_virtqueue::ChainFault;
@@ -337,8 +337,8 @@ static WANTED: [(Act, Told); 215] = [
 /// The first row, counted from 0, that wasn't met.
 pub(crate) fn first_missing(met: &[Row]) -> Option<usize> {
     for row in 0..WANTED.len() {
-        let (act, told) = WANTED[row];
-        if !has_met(met, act, told) {
+        let (act, reply) = WANTED[row];
+        if !has_met(met, act, reply) {
             return Some(row);
         }
     }

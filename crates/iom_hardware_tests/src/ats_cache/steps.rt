@@ -103,7 +103,7 @@ fn find_each(rt: &impl Abort, atc: &Atc, from: u32, to: u32) {
     }
 }
 
-fn does(rt: &impl Abort, atc: &mut Atc, step: Step) {
+fn effect(rt: &impl Abort, atc: &mut Atc, step: Step) {
     match step {
         Step::Answer(epoch, number, frame, rights, want) => {
             answer_page(rt, atc, epoch, number, frame, rights, want);
@@ -129,7 +129,7 @@ fn does(rt: &impl Abort, atc: &mut Atc, step: Step) {
 pub(crate) fn follow(rt: &impl Abort, steps: &[Step]) {
     let mut atc = Atc::new();
     for step in steps.iter() {
-        does(rt, &mut atc, *step);
+        effect(rt, &mut atc, *step);
     }
 }
 

@@ -85,7 +85,7 @@ impl Bench {
         }
     }
 
-    fn does(&mut self, rt: &impl Abort, step: Step) {
+    fn effect(&mut self, rt: &impl Abort, step: Step) {
         match step {
             Step::GoesRound(first, count) => self.goes_round(rt, first, count),
             Step::Reads(register, value) => expect(rt, self.registers.value(register) == value),
@@ -98,7 +98,7 @@ impl Bench {
 
     fn follow(&mut self, rt: &impl Abort, steps: &[Step]) {
         for step in steps.iter() {
-            self.does(rt, *step);
+            self.effect(rt, *step);
         }
     }
 }

@@ -27,7 +27,7 @@ fn open_each(rt: &impl Abort, slots: &mut Slots, device: u32, count: u64) {
     }
 }
 
-fn does(rt: &impl Abort, slots: &mut Slots, step: Step) -> bool {
+fn effect(rt: &impl Abort, slots: &mut Slots, step: Step) -> bool {
     match step {
         Step::Open(device, number) => open(rt, slots, device) == number,
         Step::OpenEach(device, count) => {
@@ -76,6 +76,6 @@ fn a_request_makes_slots_differ(rt: HostRuntime) {
 fn slots_open_and_close(rt: HostRuntime) {
     let mut slots = Slots::new();
     for step in STEPS.iter() {
-        expect(&rt, does(&rt, &mut slots, *step));
+        expect(&rt, effect(&rt, &mut slots, *step));
     }
 }

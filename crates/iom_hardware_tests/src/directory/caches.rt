@@ -42,12 +42,12 @@ fn keep_each(rt: &impl Abort, cache: &mut DirCache, first: u16, last: u16) {
 fn look_each(rt: &impl Abort, cache: &mut DirCache, first: u16, last: u16, are_there: bool) {
     for number in first..last {
         let found = cache.look(DeviceId::from(number));
-        let seen = found.map(|context| context.gscid);
-        expect(rt, seen == are_there.then_some(number));
+        let shown = found.map(|context| context.gscid);
+        expect(rt, shown == are_there.then_some(number));
     }
 }
 
-fn does(rt: &impl Abort, cache: &mut DirCache, step: Step) {
+fn effect(rt: &impl Abort, cache: &mut DirCache, step: Step) {
     match step {
         Step::Keep(first, last) => keep_each(rt, cache, first, last),
         Step::Has(first, last) => look_each(rt, cache, first, last, true),
@@ -61,7 +61,7 @@ fn does(rt: &impl Abort, cache: &mut DirCache, step: Step) {
 fn follow(rt: &impl Abort, alloc: Global, steps: &[Step]) {
     let mut cache = DirCache::new(alloc).expect(rt, "memory for the cache");
     for step in steps.iter() {
-        does(rt, &mut cache, *step);
+        effect(rt, &mut cache, *step);
     }
 }
 

@@ -81,7 +81,7 @@ fn end_each(rt: &impl Abort, memory: &Memory) {
     }
 }
 
-fn does(rt: &impl Abort, memory: &mut Memory, step: Step) {
+fn effect(rt: &impl Abort, memory: &mut Memory, step: Step) {
     match step {
         Step::Store(address, word) => store(rt, memory, address, word),
         Step::Context(address, root) => {
@@ -95,7 +95,7 @@ fn does(rt: &impl Abort, memory: &mut Memory, step: Step) {
 
 fn takes(rt: &impl Abort, memory: &mut Memory, steps: &[Step]) {
     for step in steps.iter() {
-        does(rt, memory, *step);
+        effect(rt, memory, *step);
     }
 }
 

@@ -40,12 +40,12 @@ fn takes(fabric: &mut Fabric, place: usize, serial: u64) -> bool {
 
 fn has_nothing(fabric: &mut Fabric, place: usize) -> bool {
     let len = fabric.len();
-    let seen = fabric.get(place).is_none() && fabric.take(place).is_none();
+    let shown = fabric.get(place).is_none() && fabric.take(place).is_none();
     let done = fabric.drop(place) || fabric.repeat(place) != Repeat::Nothing;
-    seen && !done && fabric.len() == len
+    shown && !done && fabric.len() == len
 }
 
-fn does(fabric: &mut Fabric, step: Step) -> bool {
+fn effect(fabric: &mut Fabric, step: Step) -> bool {
     match step {
         Step::Send(serial, is_sent) => send(fabric, serial) == is_sent,
         Step::SendEach(count) => send_each(fabric, count),
@@ -91,7 +91,7 @@ static STEPS: [Step; 13] = [
 fn places_close_up_and_copies_go_last(rt: HostRuntime) {
     let mut fabric = Fabric::new();
     for step in STEPS.iter() {
-        expect(&rt, does(&mut fabric, *step));
+        expect(&rt, effect(&mut fabric, *step));
     }
 }
 

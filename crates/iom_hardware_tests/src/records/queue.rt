@@ -122,7 +122,7 @@ impl Machine {
     }
 
     // Whether the step is done and answered so.
-    fn does(&mut self, step: Step) -> bool {
+    fn effect(&mut self, step: Step) -> bool {
         match step {
             Step::Write(register, value) => self.writes(register, value),
             Step::Reads(register, value) => self.reads(register, value),
@@ -143,7 +143,7 @@ impl Machine {
 fn follow(rt: &impl Abort, alloc: Global, fqb: u64, fqcsr: u64, steps: &[Step]) {
     let mut machine = Machine::new(rt, alloc, fqb, fqcsr);
     for step in steps.iter() {
-        expect(rt, machine.does(*step));
+        expect(rt, machine.effect(*step));
     }
 }
 

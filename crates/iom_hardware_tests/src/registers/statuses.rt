@@ -106,13 +106,13 @@ static STOPS: [(Step, [bool; 4]); 6] = [
 ];
 
 fn are_on(rt: &impl Abort, registers: &Registers, expected: &[bool; 4]) {
-    let seen = [
+    let shown = [
         registers.is_command_queue_on(),
         registers.is_processing_commands(),
         registers.is_fault_queue_on(),
         registers.is_fault_queue_marked(),
     ];
-    expect(rt, seen == *expected);
+    expect(rt, shown == *expected);
 }
 
 // Commands are processed while the queue is on and none of its errors is set.

@@ -3,7 +3,7 @@ ghost use Rattle.iom_virtqueue.specs.Layouts.{IsLayout};
 use crate::block::disk::FailingDisk;
 use crate::expect::expect;
 use crate::memory::Memory;
-use crate::seen::Seen;
+use crate::shown::Seen;
 use iom_virtio_blk::{Blk, OFFERED_FEATURES, Reply, Step as Stepped, WantedAccess};
 use iom_virtqueue::{Layout, Want};
 use std::alloc::Global;
@@ -162,17 +162,17 @@ impl Bench {
 
     /// One turn for each of these.
     fn turns_all(&mut self, rt: &impl Abort, expected: &[Seen]) {
-        for seen in expected.iter() {
-            self.turns(rt, *seen);
+        for shown in expected.iter() {
+            self.turns(rt, *shown);
         }
     }
 
     /// Takes turns until one makes no access: this one.
     pub(crate) fn ends(&mut self, rt: &impl Abort, expected: Seen) {
         for _ in 0..1024 {
-            let seen = self.turn();
-            if !seen.is_access() {
-                return expect(rt, seen == expected);
+            let shown = self.turn();
+            if !shown.is_access() {
+                return expect(rt, shown == expected);
             }
         }
         expect(rt, false);
@@ -201,8 +201,8 @@ impl Bench {
                 .memory
                 .poke_descriptor(rt, index, address, len, flags, next),
             Step::Poke(at, bytes) => self.memory.poke(rt, at, bytes),
-            Step::Turns(seen) => self.turns_all(rt, seen),
-            Step::Ends(seen) => self.ends(rt, seen),
+            Step::Turns(shown) => self.turns_all(rt, shown),
+            Step::Ends(shown) => self.ends(rt, shown),
             Step::Status(status) => self.expect_status(rt, status),
             Step::Bytes(at, bytes) => self.memory.expect(rt, at, bytes),
         }

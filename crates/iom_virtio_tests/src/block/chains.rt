@@ -1,5 +1,5 @@
 use crate::block::bench::Bench;
-use crate::seen::Seen;
+use crate::shown::Seen;
 use iom_virtqueue::ChainFault;
 use std::process::Abort;
 

@@ -33,7 +33,7 @@ impl FailingDisk {
 
 impl Disk for FailingDisk {
     // Which of its calls fail isn't told beforehand, as of a disk outside.
-    ghost seen = { λ disk. record { name = 0; sectors = disk.sectors; failures = disk.failures; failing = None } };
+    ghost shown = { λ disk. record { name = 0; sectors = disk.sectors; failures = disk.failures; failing = None } };
 
     fn name(&self) -> u64 {
         0

@@ -4,7 +4,7 @@ ghost use Rattle.std.specs.Prelude.{◌<◌};
 
 use crate::block::bench::Bench;
 use crate::expect::expect;
-use crate::seen::Seen;
+use crate::shown::Seen;
 use std::alloc::Global;
 use std::process::Abort;
 

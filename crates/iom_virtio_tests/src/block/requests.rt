@@ -1,5 +1,5 @@
 use crate::block::bench::{Bench, Step};
-use crate::seen::Seen;
+use crate::shown::Seen;
 
 /// A call at which the disk fails, or 0, and what is done then.
 static RUNS: [(u64, &[Step]); 10] = [

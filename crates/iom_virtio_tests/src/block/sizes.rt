@@ -1,7 +1,7 @@
 // The smallest queue and the largest, the longest chain, and a disk that fails at each of its calls.
 
 use crate::block::bench::{Bench, Step};
-use crate::seen::Seen;
+use crate::shown::Seen;
 use iom_virtqueue::ChainFault;
 use std::process::Abort;
 

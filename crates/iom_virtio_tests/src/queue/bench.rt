@@ -1,6 +1,6 @@
 use crate::expect::expect;
 use crate::memory::Memory;
-use crate::seen::Seen;
+use crate::shown::Seen;
 use iom_virtqueue::{ChainFault, Layout, Phase, Queue, Want};
 use std::alloc::Global;
 use std::process::Abort;
@@ -13,7 +13,7 @@ pub(crate) struct Bench {
 }
 
 // The bytes were taken, or why they weren't.
-fn seen(taken: Result<(), ChainFault>, access: Seen) -> Seen {
+fn shown(taken: Result<(), ChainFault>, access: Seen) -> Seen {
     match taken {
         Ok(()) => access,
         Err(fault) => Seen::Chain(fault),
@@ -33,7 +33,7 @@ impl Bench {
         match self.queue.next() {
             Want::Nothing => Seen::Idle,
             Want::Read { address, len } => match self.memory.load(address, len) {
-                Some(bytes) => seen(self.queue.took(bytes), Seen::Read(address, len)),
+                Some(bytes) => shown(self.queue.took(bytes), Seen::Read(address, len)),
                 None => Seen::Outside(address),
             },
             Want::Write { address, bytes } => {
@@ -41,7 +41,7 @@ impl Bench {
                     return Seen::Outside(address);
                 }
                 let len = bytes.len() as u16;
-                seen(self.queue.took(&[]), Seen::Wrote(address, len))
+                shown(self.queue.took(&[]), Seen::Wrote(address, len))
             }
         }
     }

@@ -1,6 +1,6 @@
 use crate::expect::expect;
 use crate::queue::bench::Bench;
-use crate::seen::Seen;
+use crate::shown::Seen;
 use iom_virtqueue::{ChainFault, Layout};
 use std::process::Abort;
 
@@ -74,10 +74,10 @@ static AHEAD: [(u64, u16, Seen); 4] = [
 // The avail idx may be as far ahead as the queue is large, and not one farther.
 #[test]
 fn an_index_too_far_ahead_is_a_fault(rt: HostRuntime) {
-    for (size, idx, seen) in AHEAD.iter() {
+    for (size, idx, shown) in AHEAD.iter() {
         let mut bench = Bench::new(&rt, rt.alloc(), *size);
         bench.memory.poke_half(&rt, 0x1002, *idx);
-        bench.turns(&rt, *seen);
+        bench.turns(&rt, *shown);
     }
 }
 

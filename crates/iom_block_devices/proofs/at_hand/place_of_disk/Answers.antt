@@ -4,7 +4,7 @@ use Rattle.iom_block_devices.proofs.at_hand.place_of_disk.Goals as goal
 
 pub returns-then-at_hand-place : goal.returns-then-at_hand-place
 returns-then-at_hand-place g c =
-    disk_at g.D.Disk.seen c.args.at_hand.now c.args.number c.loop-place.place c.index-at_hand-place.result c.loop-place-test.true c.if-at_hand-place.true c.loop-place.invariant
+    disk_at g.D.Disk.shown c.args.at_hand.now c.args.number c.loop-place.place c.index-at_hand-place.result c.loop-place-test.true c.if-at_hand-place.true c.loop-place.invariant
 
 pub loop-place-preserved : goal.loop-place-preserved
 loop-place-preserved g c = none_later c.args.at_hand.now c.args.number c.loop-place.place c.index-at_hand-place.result c.if-at_hand-place.false c.loop-place.invariant

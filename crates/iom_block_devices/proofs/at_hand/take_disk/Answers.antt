@@ -18,7 +18,7 @@ remove-taken-requires g c =
 
 pub returns : goal.returns
 returns g c =
-    let is = subst (λ at_hand. IsDiskAt g.D.Disk.seen at_hand c.args.number c.in-Some.place) c.deref.ensures.value c.in-Some.ensures in
+    let is = subst (λ at_hand. IsDiskAt g.D.Disk.shown at_hand c.args.number c.in-Some.place) c.deref.ensures.value c.in-Some.ensures in
     let taken = c.remove-taken.ensures.value ∙ get_or_from_slice_get c.args.at_hand.now.items c.in-Some.place is.one c.remove-taken.result is.there in
-    takes_out g.D.Disk.seen c.args.at_hand.now.items c.leave_out.new.at_hand.items c.args.number c.in-Some.place c.remove-taken.result is taken
+    takes_out g.D.Disk.shown c.args.at_hand.now.items c.leave_out.new.at_hand.items c.args.number c.in-Some.place c.remove-taken.result is taken
     (c.leave_out.ensures ∙ ap (others_than c.args.number) c.remove-taken.ensures.items)

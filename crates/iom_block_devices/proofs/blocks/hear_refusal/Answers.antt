@@ -1,7 +1,7 @@
 use Rattle.std.proofs.Common.{◌≡◌, None, refl, subst, arith}
 use Rattle.iom_block_devices.specs.Changes.{block_with, HearsRefusal}
 use Rattle.iom_block_devices.specs.Places.{IsBlockPlace}
-use Rattle.iom_block_devices.specs.Seen.{blocks_seen}
+use Rattle.iom_block_devices.specs.Shown.{shown_blocks}
 use Rattle.iom_block_devices.proofs.BlockLemmas.{hears_refusal, entries_kept}
 use Rattle.iom_block_devices.proofs.PlaceLemmas.{at_place, changed_from, changed_none}
 use Rattle.iom_block_devices.proofs.Lists.{get_lt}
@@ -13,22 +13,22 @@ index_mut-requires g c =
     let len = c.deref.ensures.len in
     omega (arith, lt, len)
 
-pub returns-in_default-clause-seen : goal.returns-in_default-clause-seen
-returns-in_default-clause-seen g c =
-    changed_none (HearsRefusal c.args.page) (blocks_seen g.D.Disk.seen c.args.blocks.now.items) c.args.id
-    (subst (λ blocks. block_with (blocks_seen g.D.Disk.seen blocks) c.args.id ≡ None) c.deref.ensures.value c.in_default.ensures)
+pub returns-in_default-clause-shown : goal.returns-in_default-clause-shown
+returns-in_default-clause-shown g c =
+    changed_none (HearsRefusal c.args.page) (shown_blocks g.D.Disk.shown c.args.blocks.now.items) c.args.id
+    (subst (λ blocks. block_with (shown_blocks g.D.Disk.shown blocks) c.args.id ≡ None) c.deref.ensures.value c.in_default.ensures)
 
-pub returns-in-Some-clause-seen : goal.returns-in-Some-clause-seen
-returns-in-Some-clause-seen g c =
-    let here = subst (λ blocks. IsBlockPlace g.D.Disk.seen blocks c.args.id c.in-Some.place) c.deref.ensures.value c.in-Some.ensures in
+pub returns-in-Some-clause-shown : goal.returns-in-Some-clause-shown
+returns-in-Some-clause-shown g c =
+    let here = subst (λ blocks. IsBlockPlace g.D.Disk.shown blocks c.args.id c.in-Some.place) c.deref.ensures.value c.in-Some.ensures in
     let at = c.index_mut.result.now in
-    let is = at_place g.D.Disk.seen c.args.blocks.now.items c.args.id c.in-Some.place at here c.index_mut.ensures.value in
-    changed_from g.D.Disk.seen (HearsRefusal c.args.page) c.args.blocks.now.items c.args.id c.in-Some.place at (record { id = at.id; blk = c.refused.new.self }) here is refl
-    (hears_refusal g.D.Disk.seen at (record { id = at.id; blk = c.refused.new.self }) c.args.page c.refused.ensures.own c.refused.ensures.others c.refused.ensures.disk)
+    let is = at_place g.D.Disk.shown c.args.blocks.now.items c.args.id c.in-Some.place at here c.index_mut.ensures.value in
+    changed_from g.D.Disk.shown (HearsRefusal c.args.page) c.args.blocks.now.items c.args.id c.in-Some.place at (record { id = at.id; blk = c.refused.new.self }) here is refl
+    (hears_refusal g.D.Disk.shown at (record { id = at.id; blk = c.refused.new.self }) c.args.page c.refused.ensures.own c.refused.ensures.others c.refused.ensures.disk)
 
 pub returns-in-Some-clause-entries : goal.returns-in-Some-clause-entries
 returns-in-Some-clause-entries g c =
-    let here = subst (λ blocks. IsBlockPlace g.D.Disk.seen blocks c.args.id c.in-Some.place) c.deref.ensures.value c.in-Some.ensures in
+    let here = subst (λ blocks. IsBlockPlace g.D.Disk.shown blocks c.args.id c.in-Some.place) c.deref.ensures.value c.in-Some.ensures in
     let at = c.index_mut.result.now in
-    let is = at_place g.D.Disk.seen c.args.blocks.now.items c.args.id c.in-Some.place at here c.index_mut.ensures.value in
-    entries_kept g.D.Disk.seen c.args.blocks.now.items c.args.id c.in-Some.place at (record { id = at.id; blk = c.refused.new.self }) here is refl c.refused.ensures.disk
+    let is = at_place g.D.Disk.shown c.args.blocks.now.items c.args.id c.in-Some.place at here c.index_mut.ensures.value in
+    entries_kept g.D.Disk.shown c.args.blocks.now.items c.args.id c.in-Some.place at (record { id = at.id; blk = c.refused.new.self }) here is refl c.refused.ensures.disk

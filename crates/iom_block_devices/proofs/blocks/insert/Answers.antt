@@ -2,7 +2,7 @@ use Rattle.std.proofs.Common.{◌≡◌, None, refl, subst, false, true, is_some
 use Rattle.iom_block_devices.specs.Entries.{disk_entries_of}
 use Rattle.iom_block_devices.specs.Changes.{block_with, HasDisk}
 use Rattle.iom_block_devices.specs.Places.{IsBlockPlace}
-use Rattle.iom_block_devices.specs.Seen.{blocks_seen}
+use Rattle.iom_block_devices.specs.Shown.{shown_blocks}
 use Rattle.iom_block_devices.proofs.BlockLemmas.{has_disk, entries_as}
 use Rattle.iom_block_devices.proofs.PlaceLemmas.{at_place, changed_from, none_entries, none_some, is_empty}
 use Rattle.iom_block_devices.proofs.Lists.{get_lt}
@@ -14,31 +14,31 @@ index_mut-requires g c =
     let len = c.deref.ensures.len in
     omega (arith, lt, len)
 
-pub returns-in-Some-clause-seen : goal.returns-in-Some-clause-seen
-returns-in-Some-clause-seen g c =
-    let here = subst (λ blocks. IsBlockPlace g.D.Disk.seen blocks c.args.id c.in-Some.place) c.deref.ensures.value c.in-Some.ensures in
+pub returns-in-Some-clause-shown : goal.returns-in-Some-clause-shown
+returns-in-Some-clause-shown g c =
+    let here = subst (λ blocks. IsBlockPlace g.D.Disk.shown blocks c.args.id c.in-Some.place) c.deref.ensures.value c.in-Some.ensures in
     let at = c.index_mut.result.now in
-    let is = at_place g.D.Disk.seen c.args.blocks.now.items c.args.id c.in-Some.place at here c.index_mut.ensures.value in
-    changed_from g.D.Disk.seen (HasDisk (g.D.Disk.seen c.args.disk)) c.args.blocks.now.items c.args.id c.in-Some.place at (record { id = at.id; blk = c.insert.new.self }) here is refl
-    (has_disk g.D.Disk.seen at (record { id = at.id; blk = c.insert.new.self }) c.args.disk (is_empty g.D.Disk.seen c.args.blocks.now.items c.args.id c.in-Some.place at here is c.requires) c.insert.ensures.front c.insert.ensures.disk)
+    let is = at_place g.D.Disk.shown c.args.blocks.now.items c.args.id c.in-Some.place at here c.index_mut.ensures.value in
+    changed_from g.D.Disk.shown (HasDisk (g.D.Disk.shown c.args.disk)) c.args.blocks.now.items c.args.id c.in-Some.place at (record { id = at.id; blk = c.insert.new.self }) here is refl
+    (has_disk g.D.Disk.shown at (record { id = at.id; blk = c.insert.new.self }) c.args.disk (is_empty g.D.Disk.shown c.args.blocks.now.items c.args.id c.in-Some.place at here is c.requires) c.insert.ensures.front c.insert.ensures.disk)
 
 pub returns-in-Some-clause-entries : goal.returns-in-Some-clause-entries
 returns-in-Some-clause-entries g c =
-    let here = subst (λ blocks. IsBlockPlace g.D.Disk.seen blocks c.args.id c.in-Some.place) c.deref.ensures.value c.in-Some.ensures in
+    let here = subst (λ blocks. IsBlockPlace g.D.Disk.shown blocks c.args.id c.in-Some.place) c.deref.ensures.value c.in-Some.ensures in
     let at = c.index_mut.result.now in
-    let is = at_place g.D.Disk.seen c.args.blocks.now.items c.args.id c.in-Some.place at here c.index_mut.ensures.value in
-    entries_as g.D.Disk.seen c.args.blocks.now.items c.args.id c.in-Some.place at (record { id = at.id; blk = c.insert.new.self }) true here is refl (ap (λ disk. is_some disk) c.insert.ensures.disk)
+    let is = at_place g.D.Disk.shown c.args.blocks.now.items c.args.id c.in-Some.place at here c.index_mut.ensures.value in
+    entries_as g.D.Disk.shown c.args.blocks.now.items c.args.id c.in-Some.place at (record { id = at.id; blk = c.insert.new.self }) true here is refl (ap (λ disk. is_some disk) c.insert.ensures.disk)
 
-pub returns-in_default-clause-seen : goal.returns-in_default-clause-seen
-returns-in_default-clause-seen g c =
-    absurd (none_some (disk_entries_of c.args.blocks.now.items) c.args.id false (none_entries g.D.Disk.seen c.args.blocks.now.items c.args.id (subst (λ blocks. block_with (blocks_seen g.D.Disk.seen blocks) c.args.id ≡ None) c.deref.ensures.value c.in_default.ensures)) c.requires)
+pub returns-in_default-clause-shown : goal.returns-in_default-clause-shown
+returns-in_default-clause-shown g c =
+    absurd (none_some (disk_entries_of c.args.blocks.now.items) c.args.id false (none_entries g.D.Disk.shown c.args.blocks.now.items c.args.id (subst (λ blocks. block_with (shown_blocks g.D.Disk.shown blocks) c.args.id ≡ None) c.deref.ensures.value c.in_default.ensures)) c.requires)
 
 pub returns-in_default-clause-entries : goal.returns-in_default-clause-entries
 returns-in_default-clause-entries g c =
-    absurd (none_some (disk_entries_of c.args.blocks.now.items) c.args.id false (none_entries g.D.Disk.seen c.args.blocks.now.items c.args.id (subst (λ blocks. block_with (blocks_seen g.D.Disk.seen blocks) c.args.id ≡ None) c.deref.ensures.value c.in_default.ensures)) c.requires)
+    absurd (none_some (disk_entries_of c.args.blocks.now.items) c.args.id false (none_entries g.D.Disk.shown c.args.blocks.now.items c.args.id (subst (λ blocks. block_with (shown_blocks g.D.Disk.shown blocks) c.args.id ≡ None) c.deref.ensures.value c.in_default.ensures)) c.requires)
 
 pub insert-requires : goal.insert-requires
 insert-requires g c =
-    let here = subst (λ blocks. IsBlockPlace g.D.Disk.seen blocks c.args.id c.in-Some.place) c.deref.ensures.value c.in-Some.ensures in
-    let is = at_place g.D.Disk.seen c.args.blocks.now.items c.args.id c.in-Some.place c.index_mut.result.now here c.index_mut.ensures.value in
-    is_empty g.D.Disk.seen c.args.blocks.now.items c.args.id c.in-Some.place c.index_mut.result.now here is c.requires
+    let here = subst (λ blocks. IsBlockPlace g.D.Disk.shown blocks c.args.id c.in-Some.place) c.deref.ensures.value c.in-Some.ensures in
+    let is = at_place g.D.Disk.shown c.args.blocks.now.items c.args.id c.in-Some.place c.index_mut.result.now here c.index_mut.ensures.value in
+    is_empty g.D.Disk.shown c.args.blocks.now.items c.args.id c.in-Some.place c.index_mut.result.now here is c.requires

@@ -2,7 +2,7 @@ use Rattle.std.proofs.Common.{◌≡◌, ◌∙◌, None, refl, subst, false, is
 use Rattle.iom_block_devices.specs.Entries.{disk_entries_of}
 use Rattle.iom_block_devices.specs.Changes.{block_with, IsGivenUp}
 use Rattle.iom_block_devices.specs.Places.{IsBlockPlace}
-use Rattle.iom_block_devices.specs.Seen.{blocks_seen}
+use Rattle.iom_block_devices.specs.Shown.{shown_blocks}
 use Rattle.iom_block_devices.proofs.BlockLemmas.{is_left, entries_as}
 use Rattle.iom_block_devices.proofs.PlaceLemmas.{at_place, changed_from, changed_none, none_entries, with_none}
 use Rattle.iom_block_devices.proofs.Lists.{get_lt}
@@ -14,26 +14,26 @@ index_mut-requires g c =
     let len = c.deref.ensures.len in
     omega (arith, lt, len)
 
-pub returns-in_default-clause-seen : goal.returns-in_default-clause-seen
-returns-in_default-clause-seen g c =
-    changed_none IsGivenUp (blocks_seen g.D.Disk.seen c.args.blocks.now.items) c.args.id
-    (subst (λ blocks. block_with (blocks_seen g.D.Disk.seen blocks) c.args.id ≡ None) c.deref.ensures.value c.in_default.ensures)
+pub returns-in_default-clause-shown : goal.returns-in_default-clause-shown
+returns-in_default-clause-shown g c =
+    changed_none IsGivenUp (shown_blocks g.D.Disk.shown c.args.blocks.now.items) c.args.id
+    (subst (λ blocks. block_with (shown_blocks g.D.Disk.shown blocks) c.args.id ≡ None) c.deref.ensures.value c.in_default.ensures)
 
-pub returns-in-Some-clause-seen : goal.returns-in-Some-clause-seen
-returns-in-Some-clause-seen g c =
-    let here = subst (λ blocks. IsBlockPlace g.D.Disk.seen blocks c.args.id c.in-Some.place) c.deref.ensures.value c.in-Some.ensures in
+pub returns-in-Some-clause-shown : goal.returns-in-Some-clause-shown
+returns-in-Some-clause-shown g c =
+    let here = subst (λ blocks. IsBlockPlace g.D.Disk.shown blocks c.args.id c.in-Some.place) c.deref.ensures.value c.in-Some.ensures in
     let at = c.index_mut.result.now in
-    let is = at_place g.D.Disk.seen c.args.blocks.now.items c.args.id c.in-Some.place at here c.index_mut.ensures.value in
-    changed_from g.D.Disk.seen IsGivenUp c.args.blocks.now.items c.args.id c.in-Some.place at (record { id = at.id; blk = c.eject.new.self }) here is refl
-    (is_left g.D.Disk.seen at (record { id = at.id; blk = c.eject.new.self }) (c.eject.ensures.front ∙ c.reset.ensures.front) c.eject.ensures.disk)
+    let is = at_place g.D.Disk.shown c.args.blocks.now.items c.args.id c.in-Some.place at here c.index_mut.ensures.value in
+    changed_from g.D.Disk.shown IsGivenUp c.args.blocks.now.items c.args.id c.in-Some.place at (record { id = at.id; blk = c.eject.new.self }) here is refl
+    (is_left g.D.Disk.shown at (record { id = at.id; blk = c.eject.new.self }) (c.eject.ensures.front ∙ c.reset.ensures.front) c.eject.ensures.disk)
 
 pub returns-in-Some-clause-entries : goal.returns-in-Some-clause-entries
 returns-in-Some-clause-entries g c =
-    let here = subst (λ blocks. IsBlockPlace g.D.Disk.seen blocks c.args.id c.in-Some.place) c.deref.ensures.value c.in-Some.ensures in
+    let here = subst (λ blocks. IsBlockPlace g.D.Disk.shown blocks c.args.id c.in-Some.place) c.deref.ensures.value c.in-Some.ensures in
     let at = c.index_mut.result.now in
-    let is = at_place g.D.Disk.seen c.args.blocks.now.items c.args.id c.in-Some.place at here c.index_mut.ensures.value in
-    entries_as g.D.Disk.seen c.args.blocks.now.items c.args.id c.in-Some.place at (record { id = at.id; blk = c.eject.new.self }) false here is refl (ap (λ disk. is_some disk) c.eject.ensures.disk)
+    let is = at_place g.D.Disk.shown c.args.blocks.now.items c.args.id c.in-Some.place at here c.index_mut.ensures.value in
+    entries_as g.D.Disk.shown c.args.blocks.now.items c.args.id c.in-Some.place at (record { id = at.id; blk = c.eject.new.self }) false here is refl (ap (λ disk. is_some disk) c.eject.ensures.disk)
 
 pub returns-in_default-clause-entries : goal.returns-in_default-clause-entries
 returns-in_default-clause-entries g c =
-    sym (with_none (disk_entries_of c.args.blocks.now.items) c.args.id false (none_entries g.D.Disk.seen c.args.blocks.now.items c.args.id (subst (λ blocks. block_with (blocks_seen g.D.Disk.seen blocks) c.args.id ≡ None) c.deref.ensures.value c.in_default.ensures)))
+    sym (with_none (disk_entries_of c.args.blocks.now.items) c.args.id false (none_entries g.D.Disk.shown c.args.blocks.now.items c.args.id (subst (λ blocks. block_with (shown_blocks g.D.Disk.shown blocks) c.args.id ≡ None) c.deref.ensures.value c.in_default.ensures)))

@@ -1,5 +1,5 @@
-use Rattle.iom_directory_build.proofs.Stays.{stays}
+use Rattle.iom_directory_build.proofs.Unchanged.{unchanged}
 use Rattle.iom_directory_build.proofs.laws.directory_stays.Goals as goal
 
 pub returns : goal.returns
-returns c = stays
+returns c = unchanged

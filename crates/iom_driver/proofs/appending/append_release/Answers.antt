@@ -54,9 +54,9 @@ append-requires-2 g c =
     }
 
 -- what stays over all three
-stays : (frames : ℕ) (r r' : Registers) (memory memory' : List (List ℕ)) → length memory ≡ frames → GoesOn r r' memory memory'
+unchanged : (frames : ℕ) (r r' : Registers) (memory memory' : List (List ℕ)) → length memory ≡ frames → GoesOn r r' memory memory'
     → (n : ℕ) → n ≢ command_frame frames → slice_get memory' n ≡ slice_get memory n
-stays frames r r' memory memory' size on = subst (λ k. (n : ℕ) → n ≢ command_frame k → slice_get memory' n ≡ slice_get memory n) size on.other_frames
+unchanged frames r r' memory memory' size on = subst (λ k. (n : ℕ) → n ≢ command_frame k → slice_get memory' n ≡ slice_get memory n) size on.other_frames
 
 pub returns-clause-ring : goal.returns-clause-ring
 returns-clause-ring g c =
@@ -77,4 +77,4 @@ returns-clause-other_frames g c =
     let one : GoesOn r0 r1 m0 m1 = record { named = c.append.ensures.named; faults = c.append.ensures.faults; other_frames = c.append.ensures.other_frames; size = c.append.ensures.size } in
     let two : GoesOn r1 r2 m1 m2 = record { named = own.named; faults = own.faults; other_frames = own.other_frames; size = own.size } in
     let three : GoesOn r2 r3 m2 m3 = record { named = c.append-2.ensures.named; faults = c.append-2.ensures.faults; other_frames = c.append-2.ensures.other_frames; size = c.append-2.ensures.size } in
-    stays c.args.frames r0 r3 m0 m3 c.requires.frames (goes_on r0 r2 r3 m0 m2 m3 (goes_on r0 r1 r2 m0 m1 m2 one two) three)
+    unchanged c.args.frames r0 r3 m0 m3 c.requires.frames (goes_on r0 r2 r3 m0 m2 m3 (goes_on r0 r1 r2 m0 m1 m2 one two) three)

@@ -4,12 +4,12 @@ use Rattle.iom_driver.proofs.building.opening.Goals as goal
 
 pub invariant_of-result : goal.invariant_of-result
 invariant_of-result c = record {
-  sound = sound_opening c.in_ok-ledger.ledger c.in_ok-marks.marks c.in_ok-devices.devices.items c.args.frames c.args.levels
-      c.in_ok-marks.ensures c.in_ok-devices.ensures.items c.requires.size c.requires.levels c.in_ok-ledger.ensures.agrees;
+  invariants = sound_opening c.in_ok-ledger.ledger c.in_ok-owners.owners c.in_ok-devices.devices.items c.args.frames c.args.levels
+      c.in_ok-owners.ensures c.in_ok-devices.ensures.items c.requires.size c.requires.levels c.in_ok-ledger.ensures.agrees;
 }
 
 pub returns-clause-ready : goal.returns-clause-ready
 returns-clause-ready c = λ memory r size.
-    let sound = sound_opening c.in_ok-ledger.ledger c.in_ok-marks.marks c.in_ok-devices.devices.items c.args.frames c.args.levels
-    c.in_ok-marks.ensures c.in_ok-devices.ensures.items c.requires.size c.requires.levels c.in_ok-ledger.ensures.agrees in
-    ready_opening _ c.args.frames memory r sound.sizes.marked size c.in_ok-devices.ensures.items refl
+    let invariants = sound_opening c.in_ok-ledger.ledger c.in_ok-owners.owners c.in_ok-devices.devices.items c.args.frames c.args.levels
+    c.in_ok-owners.ensures c.in_ok-devices.ensures.items c.requires.size c.requires.levels c.in_ok-ledger.ensures.agrees in
+    ready_opening _ c.args.frames memory r invariants.sizes.marked size c.in_ok-devices.ensures.items refl

@@ -4,7 +4,7 @@ use Rattle.iom_driver.proofs.choosing.reserve_all.Goals as goal
 
 pub loop-frame-preserved : goal.loop-frame-preserved
 loop-frame-preserved c = record {
-  marks = grind (arith, common_steps);
+  owners = grind (arith, common_steps);
   memory = grind (arith, common_steps);
   marked = search rules;
   inside = search rules;

@@ -4,8 +4,8 @@ use Rattle.iom_driver.proofs.choosing.reserve_all.Given as goal
 
 abbrev pub invariant-loop-frame : goal.invariant-loop-frame
 invariant-loop-frame l = record {
-  marks : marked_for l.owner (drop l.frame-index l.frames) l.marks ≡ marked_for l.owner l.frames l.initial.marks;
+  owners : marked_for l.owner (drop l.frame-index l.frames) l.owners ≡ marked_for l.owner l.frames l.initial.owners;
   memory : cleared (drop l.frame-index l.frames) l.memory ≡ cleared l.frames l.initial.memory;
-  marked : length l.marks ≡ length l.initial.marks;
+  marked : length l.owners ≡ length l.initial.owners;
   inside : length l.memory ≡ length l.initial.memory;
 }

@@ -6,7 +6,7 @@ use Rattle.std.proofs.lemmas.Option.{slice_get-map, slice_get_past}
 use Rattle.iom_driver.specs.declared.device.Attachment.TheVariants.{Detached}
 use Rattle.iom_driver.specs.declared.device.Device.{Device}
 use Rattle.iom_driver.specs.Confirmed.{has_left_until, driven_once_confirmed}
-use Rattle.iom_driver.proofs.GoneMore.{none_before, marks_stay, clears_stay, marks_back, clears_back, marks_at_first, clears_at_first}
+use Rattle.iom_driver.proofs.GoneMore.{none_before, owners_unchanged, clears_stay, marks_back, clears_back, marks_at_first, clears_at_first}
 use Rattle.iom_driver.proofs.Lists.{same_items, take_more, get_there, get_set_same, get_set_other, read_is}
 use Rattle.iom_driver.proofs.polling.let_go.Goals.{then-has_left, else-has_left}
 use Rattle.iom_driver.proofs.polling.let_go.Goals as goal
@@ -36,11 +36,11 @@ one_left done old now now' place device new before at inside is same = record {
 
 one_stays : (done : ℕ) (old now : List Device) (place : ℕ) (device : Device) → DoneTo done old now place → slice_get old place ≡ Some device → has_left_until done device.attachment ≡ false
     → DoneTo done old now (place + 1)
-one_stays done old now place device before at stays = record {
+one_stays done old now place device before at unchanged = record {
   many = before.many;
   so_far = λ k lt. elim (eqb_tells k place) [
     | inl e ↦
-        let kept : Some device ≡ Some (driven_once_confirmed done device) = rw stays refl in
+        let kept : Some device ≡ Some (driven_once_confirmed done device) = rw unchanged refl in
         before.rest k (omega (arith, e.1)) ∙ ap (λ n. slice_get old n) e.1 ∙ at ∙ kept
         ∙ sym (ap (λ n. option_map (driven_once_confirmed done) (slice_get old n)) e.1 ∙ ap (option_map (driven_once_confirmed done)) at)
     | inr ne ↦ before.so_far k (omega (arith, lt, ne.1))
@@ -56,8 +56,8 @@ loop-place-init c = record {
   many = refl;
   so_far = λ k lt. absurd (omega arith);
   rest = λ k le. refl;
-  marks = marks_at_first c.args.done c.args.marks.now;
-  memory = clears_at_first c.args.done c.args.marks.now c.args.memory.now;
+  owners = marks_at_first c.args.done c.args.owners.now;
+  memory = clears_at_first c.args.done c.args.owners.now c.args.memory.now;
 }
 
 pub loop-place-preserved : goal.loop-place-preserved
@@ -83,23 +83,23 @@ loop-place-preserved c =
           let gone : ◌≡◌ {A = Device} (record { id = w.index_mut.result.now.id; trusted = w.index_mut.result.now.trusted; attachment = Detached }) (driven_once_confirmed done device) =
           ap (λ (d : Device). record d { attachment = Detached }) (read ∙ sym same) ∙ rw left refl in
           let all = one_left done old now c.if-has_left.devices.items place device (record { id = w.index_mut.result.now.id; trusted = w.index_mut.result.now.trusted; attachment = Detached }) before at inside is gone in
-          rw (w.marks-is, w.memory-is, more) record {
+          rw (w.owners-is, w.memory-is, more) record {
             many = all.many;
             so_far = all.so_far;
             rest = all.rest;
-            marks = marks_back done (take place old) device c.loop-place.marks w.give_back.new.self c.args.marks.now c.loop-place.memory w.give_back.new.memory none left c.loop-place.invariant.marks w.give_back.ensures;
-            memory = clears_back done (take place old) device c.loop-place.marks w.give_back.new.self c.args.marks.now c.args.memory.now c.loop-place.memory w.give_back.new.memory none left
-                c.loop-place.invariant.marks w.give_back.ensures c.loop-place.invariant.memory;
+            owners = marks_back done (take place old) device c.loop-place.owners w.give_back.new.self c.args.owners.now c.loop-place.memory w.give_back.new.memory none left c.loop-place.invariant.owners w.give_back.ensures;
+            memory = clears_back done (take place old) device c.loop-place.owners w.give_back.new.self c.args.owners.now c.args.memory.now c.loop-place.memory w.give_back.new.memory none left
+                c.loop-place.invariant.owners w.give_back.ensures c.loop-place.invariant.memory;
           }
       | else-has_left w ↦
-          let stays : has_left_until done device.attachment ≡ false = sym c.has_left.ensures ∙ w.if-has_left.false in
-          let all = one_stays done old now place device before at stays in
-          rw (w.devices-is, w.marks-is, w.memory-is, more) record {
+          let unchanged : has_left_until done device.attachment ≡ false = sym c.has_left.ensures ∙ w.if-has_left.false in
+          let all = one_stays done old now place device before at unchanged in
+          rw (w.devices-is, w.owners-is, w.memory-is, more) record {
             many = all.many;
             so_far = all.so_far;
             rest = all.rest;
-            marks = marks_stay done (take place old) device c.loop-place.marks c.args.marks.now none stays c.loop-place.invariant.marks;
-            memory = clears_stay done (take place old) device c.args.marks.now c.args.memory.now c.loop-place.memory none stays c.loop-place.invariant.memory;
+            owners = owners_unchanged done (take place old) device c.loop-place.owners c.args.owners.now none unchanged c.loop-place.invariant.owners;
+            memory = clears_stay done (take place old) device c.args.owners.now c.args.memory.now c.loop-place.memory none unchanged c.loop-place.invariant.memory;
           }
     ]
 

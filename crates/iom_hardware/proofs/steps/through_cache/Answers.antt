@@ -4,7 +4,7 @@ use Rattle.iom_board.specs.BoardParts.{board_parts}
 use Rattle.iom_board.specs.declared.answers.CacheReply.{CacheReply}
 use Rattle.iom_board.specs.declared.answers.CacheReply.TheVariants.{Miss}
 use Rattle.iom_board.specs.Messages.{with_message}
-use Rattle.iom_board.specs.Sound.{IsSoundBoard}
+use Rattle.iom_board.specs.Invariant.{BoardInvariant}
 use Rattle.iom_board.proofs.Sent.{sent_as}
 use Rattle.iom_base.specs.DeviceKinds.{is_block_device}
 use Rattle.iom_device.specs.Caches.{epoch_in}
@@ -61,14 +61,14 @@ returns-clause-begins c =
           (ap (λ (f : List OnLink). record between { fabric = f }) (sent_so after));
     }
 
-pub returns-clause-sound : goal.returns-clause-sound
-returns-clause-sound c =
+pub returns-clause-invariants : goal.returns-clause-invariants
+returns-clause-invariants c =
     let access = access_of c.args.address c.args.len c.args.kind c.args.bytes.now in
     let old = board_parts c.args.board.now in
     let between = board_parts c.through_cache.new.self in
-    let after = (goal.at.returns-clause-sound c).After-send in
+    let after = (goal.at.returns-clause-invariants c).After-send in
     let fits = c.ranges.address.fits in
-    subst (λ (f : List OnLink). IsSoundBoard (record between { fabric = f }) c.through_cache.new.self.events) (sym (sent_so after))
+    subst (λ (f : List OnLink). BoardInvariant (record between { fabric = f }) c.through_cache.new.self.events) (sym (sent_so after))
     (asked_sound old between c.through_cache.new.self.events c.args.id (epoch_in between.devices c.args.id) (c.args.address / 4096) access c.through_cache.result Miss
-    c.through_cache.ensures.sound c.through_cache.ensures.effect (c.in-Ok-Miss.is ∙ ap (λ (r : CacheReply). Ok r) c.in-Ok-Miss.field-0-is)
+    c.through_cache.ensures.invariants c.through_cache.ensures.effect (c.in-Ok-Miss.is ∙ ap (λ (r : CacheReply). Ok r) c.in-Ok-Miss.field-0-is)
     (cached_devices is_block_device old between c.args.id access c.through_cache.result c.through_cache.ensures.effect) (omega (arith, fits)))

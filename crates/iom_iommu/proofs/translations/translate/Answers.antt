@@ -15,5 +15,5 @@ returns-in-None-clause-translated g c =
     (sym c.space_of.ensures ∙ c.in-Some.is)
     (walked sure (ReachesThrough context.first_stage context.second_stage memory c.args.address c.args.kind)
     (StopsThrough context.first_stage context.second_stage memory c.args.address c.args.kind) c.args.kind (c.in-Some.space, c.args.address / 4096) old c.find_cached.result
-    c.find_cached.ensures.found (g.C.TransCache.content c.find_cached.new.translations) new c.walk_and_keep.result c.in-None.is c.find_cached.ensures.stays
+    c.find_cached.ensures.found (g.C.TransCache.content c.find_cached.new.translations) new c.walk_and_keep.result c.in-None.is c.find_cached.ensures.unchanged
     c.walk_and_keep.ensures.walked)

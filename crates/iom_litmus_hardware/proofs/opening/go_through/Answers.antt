@@ -13,7 +13,7 @@ loop-line-preserved c =
     let said = c.line.ensures in
     through_more c.args.lines.now c.loop-line.line-index c.line-item.result c.args.session.now c.loop-line.session c.line.new.self c.line.result c.loop-line-test.true c.line-item.is
     (λ claimed shows. record {
-      does = said.does;
+      effect = said.effect;
       claimed = said.claimed claimed shows;
       trusted = said.trusted;
       admitted = said.admitted claimed shows;

@@ -4,12 +4,12 @@ use Rattle.iom_machine_judge.proofs.commits.gives.Goals as goal
 
 pub returns-else-may_make : goal.returns-else-may_make
 returns-else-may_make c = λ h past. (
-  (λ told. absurd (false≢true (sym c.if-may_make.false ∙ told))),
+  (λ reply. absurd (false≢true (sym c.if-may_make.false ∙ reply))),
   (λ given. absurd (false≢true (sym c.if-may_make.false ∙ (c.may_make.ensures h past).1 (given.0, given.1)))),
 )
 
 pub returns-then-may_make : goal.returns-then-may_make
 returns-then-may_make c = λ h past. (
-  (λ told. let able = (c.may_make.ensures h past).0 c.if-may_make.true in (able.0, able.1, c.shows.ensures.0 told)),
+  (λ reply. let able = (c.may_make.ensures h past).0 c.if-may_make.true in (able.0, able.1, c.shows.ensures.0 reply)),
   (λ given. c.shows.ensures.1 given.2),
 )

@@ -4,12 +4,12 @@ use Rattle.iom_machine_judge.proofs.commits.may_make.Goals as goal
 
 pub returns-else-is_of_kind : goal.returns-else-is_of_kind
 returns-else-is_of_kind c = λ h past. (
-  (λ told. absurd (false≢true (sym c.if-is_of_kind.false ∙ told))),
+  (λ reply. absurd (false≢true (sym c.if-is_of_kind.false ∙ reply))),
   (λ both. absurd (false≢true (sym c.if-is_of_kind.false ∙ c.is_of_kind.ensures.1 both.0))),
 )
 
 pub returns-then-is_of_kind : goal.returns-then-is_of_kind
 returns-then-is_of_kind c = λ h past. (
-  (λ told. (c.is_of_kind.ensures.0 c.if-is_of_kind.true, (c.may.ensures.may h past).0 told)),
+  (λ reply. (c.is_of_kind.ensures.0 c.if-is_of_kind.true, (c.may.ensures.may h past).0 reply)),
   (λ both. (c.may.ensures.may h past).1 both.1),
 )

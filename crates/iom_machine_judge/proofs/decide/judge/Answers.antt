@@ -3,17 +3,17 @@ use Rattle.iom_machine_judge.proofs.decide.judge.Goals as goal
 
 pub returns-in-Restart : goal.returns-in-Restart
 returns-in-Restart c = elim c.in-Restart.is [
-  | inl is ↦ rw is (rw is at c.judge_staying-in-Restart.ensures)
-  | inr (inl is) ↦ rw is (rw is at c.judge_staying-in-Restart.ensures)
-  | inr (inr (inl is)) ↦ rw is (rw is at c.judge_staying-in-Restart.ensures)
-  | inr (inr (inr is)) ↦ rw is (rw is at c.judge_staying-in-Restart.ensures)
+  | inl is ↦ rw is (rw is at c.judge_unchanged-in-Restart.ensures)
+  | inr (inl is) ↦ rw is (rw is at c.judge_unchanged-in-Restart.ensures)
+  | inr (inr (inl is)) ↦ rw is (rw is at c.judge_unchanged-in-Restart.ensures)
+  | inr (inr (inr is)) ↦ rw is (rw is at c.judge_unchanged-in-Restart.ensures)
 ]
 
 pub returns-in-Deliver : goal.returns-in-Deliver
 returns-in-Deliver c = elim c.in-Deliver.is [
-  | inl (place, is) ↦ rw is (rw is at c.judge_staying.ensures)
-  | inr (inl (place, is)) ↦ rw is (rw is at c.judge_staying.ensures)
-  | inr (inr (place, is)) ↦ rw is (rw is at c.judge_staying.ensures)
+  | inl (place, is) ↦ rw is (rw is at c.judge_unchanged.ensures)
+  | inr (inl (place, is)) ↦ rw is (rw is at c.judge_unchanged.ensures)
+  | inr (inr (place, is)) ↦ rw is (rw is at c.judge_unchanged.ensures)
 ]
 
 pub returns-in-Poll : goal.returns-in-Poll

@@ -8,7 +8,7 @@ use Rattle.iom_machine.specs.Machine.{TellsFree}
 use Rattle.iom_machine.specs.Refusals.{NeverElse, frame_reasons}
 use Rattle.iom_machine.proofs.CallLemmas.{none_if_not_some}
 use Rattle.iom_kept_state.specs.States.{state_of}
-use Rattle.iom_machine_judge.proofs.LeftLemmas.{stays_by, refused_by, some_applies, decides_alike, never_so, told_so}
+use Rattle.iom_machine_judge.proofs.LeftLemmas.{stays_by, refused_by, some_applies, decides_alike, never_so, reply_is}
 use Rattle.iom_machine_judge.proofs.processor.judge_free.Goals as goal
 
 pub returns-then-is_some : goal.returns-then-is_some
@@ -28,8 +28,8 @@ returns-else-is_some c =
     let none : (h : History) → NoneApplies (frame_reasons (state_of c.args.kept.now h) c.args.frame) =
     λ h. sym (c.frame_refusal-first.ensures h) ∙ none_if_not_some _ (sym c.is_some.ensures ∙ c.if-is_some.false) in
     rw c.in-Free.is
-    (decides_alike c.are_same.result c.args.kept.now c.args.kept.now (λ (before after : State). (IsTrue c.in-Free.told ↔ IsFree before c.args.frame) × (after ≡ before))
-    (λ (before after : State). TellsFree before c.args.frame (Free c.in-Free.told) after)
+    (decides_alike c.are_same.result c.args.kept.now c.args.kept.now (λ (before after : State). (IsTrue c.in-Free.reply ↔ IsFree before c.args.frame) × (after ≡ before))
+    (λ (before after : State). TellsFree before c.args.frame (Free c.in-Free.reply) after)
     (λ h after. ((λ step. (none h, step.0, step.1)), (λ step. (step.1, step.2))))
-    (stays_by c.are_same.result (λ (before : State). IsTrue c.in-Free.told ↔ IsFree before c.args.frame) c.args.kept.now
-    (λ h past. told_so c.in-Free.told c.is_free.result c.are_same.result (IsFree (state_of c.args.kept.now h) c.args.frame) c.are_same.ensures (c.is_free.ensures h past))))
+    (stays_by c.are_same.result (λ (before : State). IsTrue c.in-Free.reply ↔ IsFree before c.args.frame) c.args.kept.now
+    (λ h past. reply_is c.in-Free.reply c.is_free.result c.are_same.result (IsFree (state_of c.args.kept.now h) c.args.frame) c.are_same.ensures (c.is_free.ensures h past))))

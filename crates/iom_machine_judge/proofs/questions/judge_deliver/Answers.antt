@@ -8,5 +8,5 @@ pub returns-in-Answered : goal.returns-in-Answered
 returns-in-Answered c =
     rw c.in-Answered.is
     (stays_by c.is_told.result
-    (λ before. IsSomeAnd (device_of before c.args.choice.now.device) (λ device. MayTell device.attachment before device.id c.args.choice.now.page c.in-Answered.told)) c.args.kept.now
+    (λ before. IsSomeAnd (device_of before c.args.choice.now.device) (λ device. MayTell device.attachment before device.id c.args.choice.now.page c.in-Answered.reply)) c.args.kept.now
     c.is_told.ensures)

@@ -28,7 +28,7 @@ returns-in_ok-release_all-in-Ticket c =
           (λ after. Quarantines (state_of c.args.kept.now h) c.args.id (Ticket c.in-Ticket.ticket) after)
           c.in_ok-release_all-in-Ticket.ensures.tickets.0
           (cut_off_as c.in-Ticket.ticket (state_of c.args.kept.now h) c.args.id c.in-Some.place found.0 _ _
-          (sym (c.quarantine_refusal-first.ensures h past) ∙ gives.0) gives.1 place found.1 refl (c.cut_off.ensures found.0 found.1)),
+          (sym (c.quarantine_refusal-first.ensures h past) ∙ gives.0) gives.1 place found.1 refl (c.under_ticket.ensures found.0 found.1)),
     ))
 
 pub returns-in-Refused : goal.returns-in-Refused

@@ -2,7 +2,7 @@
 use Rattle.std.proofs.Common.{◌≡◌, ◌∙◌, Some, slice_get, replicate, ap, arith}
 use Rattle.iom_phys_mem.specs.Words.{zeroed}
 use Rattle.iom_memory_tests.proofs.Spare.{zero_frame}
-use Rattle.iom_page_table.proofs.Stays.{zeroed_frames}
+use Rattle.iom_page_table.proofs.Unchanged.{zeroed_frames}
 use Rattle.iom_memory_tests.proofs.page_table.empty.Goals as goal
 
 pub returns-clause-spare : goal.returns-clause-spare

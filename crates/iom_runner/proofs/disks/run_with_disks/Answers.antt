@@ -28,4 +28,4 @@ returns-clause-ran g c =
     let script = c.in_ok-script.script in
     let read = IfSome_then known c.in_ok-bytes.ensures.bytes (λ input is. c.deref.ensures.value ∙ is) in
     let is = whole_script known bytes 1048577 script (lit< tt) read c.in_ok-script.ensures.script in
-    (input_of known bytes, input_is_left known bytes, runs_script (program_setting c.args.counts) (input_of known bytes) script c.tell_with_disks-told.result _ _ is c.tell_with_disks-told.ensures)
+    (input_of known bytes, input_is_left known bytes, runs_script (program_setting c.args.counts) (input_of known bytes) script c.tell_with_disks-reply.result _ _ is c.tell_with_disks-reply.ensures)

@@ -10,10 +10,10 @@ use Rattle.iom_runner.proofs.program.run_words.Goals as goal
 pub returns-in_err-args-clause-ran : goal.returns-in_err-args-clause-ran
 returns-in_err-args-clause-ran g c = λ lawful.
     let known = g.R.Read.remaining c.args.input.now in
-    let told = err_from_is_err_and c.from_residual.result c.from_residual.ensures.1 in (
+    let reply = err_from_is_err_and c.from_residual.result c.from_residual.ensures.1 in (
       input_of known [],
       (λ none. input_is_left known []),
-      words_unread (program_setting (wants_trace (map (λ word. word.now) c.args.words.now))) (input_of known []) c.from_residual.result c.in_err-args.field-0.0 _ (told.1 ∙ ap (λ f. Err f) told.2)
+      words_unread (program_setting (wants_trace (map (λ word. word.now) c.args.words.now))) (input_of known []) c.from_residual.result c.in_err-args.field-0.0 _ (reply.1 ∙ ap (λ f. Err f) reply.2)
           (λ bad. c.read_words.ensures.lawful lawful (c.in_err-args.was ∙ ap (λ f. Err f) bad)),
     )
 
@@ -24,14 +24,14 @@ returns-in-Err-clause-ran g c = λ lawful.
 
 pub returns-in_err-run_with_disks-in-None-clause-ran : goal.returns-in_err-run_with_disks-in-None-clause-ran
 returns-in_err-run_with_disks-in-None-clause-ran g c = λ lawful.
-    let told = err_from_is_err_and c.from_residual-in_err-run_with_disks-in-None.result c.from_residual-in_err-run_with_disks-in-None.ensures.1 in
+    let reply = err_from_is_err_and c.from_residual-in_err-run_with_disks-in-None.result c.from_residual-in_err-run_with_disks-in-None.ensures.1 in
     let ran = c.run_with_disks.ensures.ran in
     let args = c.in_ok-args.args in (
       ran.0,
       (λ none. ran.1),
       program_as args.trace (wants_trace (map (λ word. word.now) c.args.words.now)) ran.0 _ _ _ c.in_ok-args.ensures.trace
           (program_failed (program_setting args.trace) ran.0 c.run_with_disks.result c.from_residual-in_err-run_with_disks-in-None.result c.in_err-run_with_disks-in-None.field-0.0 _ _
-          c.in_err-run_with_disks-in-None.was (told.1 ∙ ap (λ f. Err f) told.2) ran.2),
+          c.in_err-run_with_disks-in-None.was (reply.1 ∙ ap (λ f. Err f) reply.2) ran.2),
     )
 
 pub returns-in_ok-run_with_disks-in-None-clause-ran : goal.returns-in_ok-run_with_disks-in-None-clause-ran

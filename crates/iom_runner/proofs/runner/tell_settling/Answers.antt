@@ -1,15 +1,15 @@
 -- The world settles, and the line tells it.
 use Rattle.std.proofs.Common.{inr, arith}
-use Rattle.iom_world.specs.Seen.{seen_of}
+use Rattle.iom_world.specs.Shown.{shown_of}
 use Rattle.iom_runner.proofs.AlongLemmas.{settling_happens}
 use Rattle.iom_runner.proofs.runner.tell_settling.Goals as goal
 
-pub returns-clause-told : goal.returns-clause-told
-returns-clause-told g c =
+pub returns-clause-reply : goal.returns-clause-reply
+returns-clause-reply g c =
     let counts = c.trace_for-trace.ensures in (
       inr c.settle-answer.result,
       c.trace_for-trace.result,
-      settling_happens (seen_of g.D.Disk.seen) (λ world. (world.sound.known.own_ids, world.sound.known.iommu)) c.args.world.now c.settle-answer.new.self c.settle-answer.result c.trace_for-trace.result c.settle-answer.ensures.settled counts.counts,
+      settling_happens (shown_of g.D.Disk.shown) (λ world. (world.invariants.known.own_ids, world.invariants.known.iommu)) c.args.world.now c.settle-answer.new.self c.settle-answer.result c.trace_for-trace.result c.settle-answer.ensures.settled counts.counts,
       counts.wanted,
       c.put_settled.ensures.taken,
       c.put_settled.ensures.failed,

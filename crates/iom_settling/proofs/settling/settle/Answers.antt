@@ -4,7 +4,7 @@ use Rattle.iom_settling.proofs.settling.settle.Goals as goal
 
 pub returns-clause-settled : goal.returns-clause-settled
 returns-clause-settled g c =
-    settled_then g.T.TakesEvents.parts g.T.TakesEvents.counted g.T.TakesEvents.happens (record { does = g.met.T.TakesEvents.does; commands = g.met.T.TakesEvents.commands; counts = g.met.T.TakesEvents.counts; sound = g.met.T.TakesEvents.sound; own = g.met.T.TakesEvents.own }) _ _ _ c.quiet_down-events.result c.catch_up.result c.has_pending.result c.quiet_down-events.ensures.went c.quiet_down-events.ensures.few
+    settled_then g.T.TakesEvents.parts g.T.TakesEvents.counted g.T.TakesEvents.happens (record { effect = g.met.T.TakesEvents.effect; commands = g.met.T.TakesEvents.commands; counts = g.met.T.TakesEvents.counts; invariants = g.met.T.TakesEvents.invariants; own = g.met.T.TakesEvents.own }) _ _ _ c.quiet_down-events.result c.catch_up.result c.has_pending.result c.quiet_down-events.ensures.went c.quiet_down-events.ensures.few
     c.quiet_down-events.ensures.driver c.has_pending.ensures c.if-not-has_pending.false c.catch_up.ensures.went c.catch_up.ensures.few c.catch_up.ensures.idle c.catch_up.ensures.confirmed
 
 pub returns-then-not-has_pending-clause-counted : goal.returns-then-not-has_pending-clause-counted

@@ -9,5 +9,5 @@ returns c = record {
   now = standing_walks_are_of_now;
   first = first_ends_as_now;
   second = second_ends_as_now;
-  stays = standing_stays;
+  unchanged = standing_stays;
 }

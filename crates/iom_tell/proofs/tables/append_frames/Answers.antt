@@ -1,5 +1,5 @@
 use Rattle.std.proofs.Common.{◌∙◌, sym, arith, append-nil}
-use Rattle.iom_world.specs.Seen.{seen_of}
+use Rattle.iom_world.specs.Shown.{shown_of}
 use Rattle.iom_tell.specs.Told.{is_taken_since}
 use Rattle.iom_tell.proofs.TakenLemmas.{taken_none, frames_more, frames_same}
 use Rattle.iom_tell.proofs.tables.append_frames.Goals as goal
@@ -7,13 +7,13 @@ use Rattle.iom_tell.proofs.tables.append_frames.Goals.{then-is_taken, else-is_ta
 
 pub loop-frame-init : goal.loop-frame-init
 loop-frame-init g c = record {
-  written = rw (taken_none (is_taken_since c.args.before.now (seen_of g.D.Disk.seen c.args.world.now))) (sym (append-nil c.args.out.now));
+  written = rw (taken_none (is_taken_since c.args.before.now (shown_of g.D.Disk.shown c.args.world.now))) (sym (append-nil c.args.out.now));
   short = omega arith;
 }
 
 pub loop-frame-preserved : goal.loop-frame-preserved
 loop-frame-preserved g c =
-    let taken = is_taken_since c.args.before.now (seen_of g.D.Disk.seen c.args.world.now) in
+    let taken = is_taken_since c.args.before.now (shown_of g.D.Disk.shown c.args.world.now) in
     let so_far = c.loop-frame.invariant in
     elim c.if-is_taken.branch [
       | then-is_taken w ↦ record {

@@ -7,16 +7,16 @@ use Rattle.iom_telling.proofs.script.tell_line.Goals as goal
 
 pub returns-in-Event-clause-told : goal.returns-in-Event-clause-told
 returns-in-Event-clause-told g c =
-    subst (λ (l : ScriptLine). GoesByLine g.W.Write.contents g.D.Disk.seen c.args.teller.now l c.take.new.self) (sym c.in-Event.is)
-    (event_told g.W.Write.contents g.D.Disk.seen c.args.teller.now c.take.new.self c.in-Event.event c.take.ensures.0 c.take.ensures.1)
+    subst (λ (l : ScriptLine). GoesByLine g.W.Write.contents g.D.Disk.shown c.args.teller.now l c.take.new.self) (sym c.in-Event.is)
+    (event_told g.W.Write.contents g.D.Disk.shown c.args.teller.now c.take.new.self c.in-Event.event c.take.ensures.0 c.take.ensures.1)
 
 pub returns-in-Event-clause-counted : goal.returns-in-Event-clause-counted
 returns-in-Event-clause-counted g c = let one = c.take.ensures.1.happens.events in omega (arith, one)
 
 pub returns-in-Settle-clause-told : goal.returns-in-Settle-clause-told
 returns-in-Settle-clause-told g c =
-    subst (λ (l : ScriptLine). GoesByLine g.W.Write.contents g.D.Disk.seen c.args.teller.now l c.settle-answer.new.world) (sym c.in-Settle.is)
-    (settling_told g.W.Write.contents g.D.Disk.seen c.args.teller.now c.settle-answer.new.world c.settle-answer.result c.settle-answer.ensures.settled)
+    subst (λ (l : ScriptLine). GoesByLine g.W.Write.contents g.D.Disk.shown c.args.teller.now l c.settle-answer.new.world) (sym c.in-Settle.is)
+    (settling_told g.W.Write.contents g.D.Disk.shown c.args.teller.now c.settle-answer.new.world c.settle-answer.result c.settle-answer.ensures.settled)
 
 pub returns-in-Settle-clause-counted : goal.returns-in-Settle-clause-counted
 returns-in-Settle-clause-counted g c = let few = c.settle-answer.ensures.counted in omega (arith, few)

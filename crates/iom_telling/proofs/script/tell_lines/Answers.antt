@@ -5,7 +5,7 @@ use Rattle.iom_telling.proofs.script.tell_lines.Goals as goal
 
 pub loop-line-init : goal.loop-line-init
 loop-line-init g c = record {
-  ran = goes_none g.W.Write.contents g.D.Disk.seen c.args.teller.now;
+  ran = goes_none g.W.Write.contents g.D.Disk.shown c.args.teller.now;
   fresh = c.requires.fresh;
   counted = omega arith;
 }
@@ -22,7 +22,7 @@ loop-line-preserved g c =
     let so_far = c.loop-line.invariant.counted in
     let more = c.tell_line.ensures.counted in
     record {
-      ran = goes_more g.W.Write.contents g.D.Disk.seen c.args.teller.now c.loop-line.teller c.tell_line.new.teller c.args.script.now c.loop-line.line-index c.line-item.result
+      ran = goes_more g.W.Write.contents g.D.Disk.shown c.args.teller.now c.loop-line.teller c.tell_line.new.teller c.args.script.now c.loop-line.line-index c.line-item.result
           c.loop-line.invariant.ran c.line-item.is c.loop-line-test.true c.tell_line.ensures.told;
       fresh = c.in-None.is;
       counted = omega (arith, so_far, more);
@@ -33,7 +33,7 @@ returns-in-Some-clause-failed g c = (
   c.in-Some.is,
   (
     c.loop-line.line-index + 1,
-    goes_more g.W.Write.contents g.D.Disk.seen c.args.teller.now c.loop-line.teller c.tell_line.new.teller c.args.script.now c.loop-line.line-index c.line-item.result
+    goes_more g.W.Write.contents g.D.Disk.shown c.args.teller.now c.loop-line.teller c.tell_line.new.teller c.args.script.now c.loop-line.line-index c.line-item.result
         c.loop-line.invariant.ran c.line-item.is c.loop-line-test.true c.tell_line.ensures.told,
   ),
 )

@@ -1,13 +1,13 @@
 -- An event happens, and its line goes to the lines, or a beginning of it.
 use Rattle.std.proofs.Common.{[], ◌∷◌, ◌++◌, None}
 use Rattle.iom_tell.specs.Told.{told_line}
-use Rattle.iom_world.specs.Seen.{seen_of}
+use Rattle.iom_world.specs.Shown.{shown_of}
 use Rattle.iom_telling.proofs.TellingLemmas.{begins_longer, fails_begins, line_alone, told_more}
 use Rattle.iom_telling.proofs.teller.tell_one.Goals as goal
 
 pub returns-in-Err-clause-told : goal.returns-in-Err-clause-told
 returns-in-Err-clause-told g c =
-    let line = told_line (seen_of g.D.Disk.seen c.args.world.now) c.args.event.now c.step.result (seen_of g.D.Disk.seen c.step.new.self) in
+    let line = told_line (shown_of g.D.Disk.shown c.args.world.now) c.args.event.now c.step.result (shown_of g.D.Disk.shown c.step.new.self) in
     record {
       text = line ++ 10 ∷ [];
       told = line_alone c.args.explains line;

@@ -3,8 +3,8 @@ use Rattle.lru.specs.LruCache.{LruCache}
 use Rattle.iom_tlb.proofs.PlainLemmas.{looked, looked_order}
 use Rattle.iom_tlb.proofs.entries.find.Goals as goal
 
-pub returns-clause-stays : goal.returns-clause-stays
-returns-clause-stays c = rw c.promote.ensures.entries (looked c.args.key c.args.entries.now.entries c.len.ensures.valid.0)
+pub returns-clause-unchanged : goal.returns-clause-unchanged
+returns-clause-unchanged c = rw c.promote.ensures.entries (looked c.args.key c.args.entries.now.entries c.len.ensures.valid.0)
 
 pub returns-clause-order : goal.returns-clause-order
 returns-clause-order c =

@@ -5,6 +5,6 @@ use Rattle.iom_tlb.proofs.way_cache.are_same_sets.Goals as goal
 
 pub returns : goal.returns
 returns c = (
-  λ told. ext_get_or no_ways c.args.one.now c.args.other.now c.if-one-other.false (λ number less. c.loop-number.invariant number (omega (arith, less, c.loop-number-test.false))),
+  λ reply. ext_get_or no_ways c.args.one.now c.args.other.now c.if-one-other.false (λ number less. c.loop-number.invariant number (omega (arith, less, c.loop-number-test.false))),
   λ same. refl,
 )

@@ -7,8 +7,8 @@ use Rattle.iom_board.proofs.board.Board.look.Goals as goal
 
 pub returns-in-Stopped : goal.returns-in-Stopped
 returns-in-Stopped c =
-    looked c.args.self.now Stopped c.look.new.self c.requires.sound refl (looked_stopped c.args.self.now.memory c.args.self.now.iommu c.look.new.self c.in-Stopped.ensures)
+    looked c.args.self.now Stopped c.look.new.self c.requires.invariants refl (looked_stopped c.args.self.now.memory c.args.self.now.iommu c.look.new.self c.in-Stopped.ensures)
 
 pub returns-in-Empty : goal.returns-in-Empty
 returns-in-Empty c =
-    looked c.args.self.now Empty c.look.new.self c.requires.sound refl (looked_empty c.args.self.now.memory c.args.self.now.iommu c.look.new.self c.in-Empty.ensures)
+    looked c.args.self.now Empty c.look.new.self c.requires.invariants refl (looked_empty c.args.self.now.memory c.args.self.now.iommu c.look.new.self c.in-Empty.ensures)

@@ -5,9 +5,9 @@ use Rattle.iom_board.proofs.SoundPlugging.{has_keeps}
 use Rattle.iom_board.proofs.SoundThen.{KeepsDevices, devices_sound}
 use Rattle.iom_board.proofs.board.Board.medium.Goals as goal
 
-pub returns-clause-sound : goal.returns-clause-sound
-returns-clause-sound c =
+pub returns-clause-invariants : goal.returns-clause-invariants
+returns-clause-invariants c =
     let h = c.args.self.now in
     let old : BoardParts = board_parts h in
-    devices_sound old c.set_has_disk.new.devices.items h.events c.requires.sound
-    (subst (λ (ds : List Device). KeepsDevices old.devices ds h.events) (sym c.set_has_disk.ensures) (has_keeps old h.events c.args.id true c.requires.sound))
+    devices_sound old c.set_has_disk.new.devices.items h.events c.requires.invariants
+    (subst (λ (ds : List Device). KeepsDevices old.devices ds h.events) (sym c.set_has_disk.ensures) (has_keeps old h.events c.args.id true c.requires.invariants))

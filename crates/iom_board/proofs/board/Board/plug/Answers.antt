@@ -14,15 +14,15 @@ returns-clause-effect c =
     let admitted : NoneApplies (why_not_plugged disks old c.args.id c.args.what) = sym c.why_not.ensures.reason ∙ c.in_default.is in
     record {
       admitted = admitted;
-      row = added_new disks old h.events c.args.id c.args.what c.add.result c.add.new.self c.requires.sound admitted c.add.ensures;
+      row = added_new disks old h.events c.args.id c.args.what c.add.result c.add.new.self c.requires.invariants admitted c.add.ensures;
       devices = search rules;
       memory = refl;
       fabric = refl;
       taken = c.take_out.ensures ∙ ap (λ named. without_disk named disks) c.disk.ensures;
     }
 
-pub returns-clause-sound : goal.returns-clause-sound
-returns-clause-sound c =
+pub returns-clause-invariants : goal.returns-clause-invariants
+returns-clause-invariants c =
     let h = c.args.self.now in
     let old : BoardParts = board_parts h in
     let disks : List ℕ = disks_at_hand h in
@@ -30,10 +30,10 @@ returns-clause-sound c =
     let admitted : NoneApplies (why_not_plugged disks old c.args.id c.args.what) = sym c.why_not.ensures.reason ∙ c.in_default.is in
     let adds : StandsBehindOthers disks old c.args.id c.args.what new c.take_out.new.disks.items = record {
       admitted = admitted;
-      row = added_new disks old h.events c.args.id c.args.what c.add.result c.add.new.self c.requires.sound admitted c.add.ensures;
+      row = added_new disks old h.events c.args.id c.args.what c.add.result c.add.new.self c.requires.invariants admitted c.add.ensures;
       devices = search rules;
       memory = refl;
       fabric = refl;
       taken = c.take_out.ensures ∙ ap (λ named. without_disk named disks) c.disk.ensures;
     } in
-    adds_sound disks old new h.events c.args.id c.args.what c.take_out.new.disks.items c.requires.sound adds
+    adds_sound disks old new h.events c.args.id c.args.what c.take_out.new.disks.items c.requires.invariants adds

@@ -13,14 +13,14 @@ reset_block-requires-clause-epoch c =
     let h = c.args.self.now in
     let same : epoch_in c.set_has_disk.new.devices.items c.args.id ≡ epoch_in h.devices.items c.args.id =
     ap (λ (ds : List Device). epoch_in ds c.args.id) c.set_has_disk.ensures ∙ epoch_has h.devices.items c.args.id false c.args.id in
-    let low = c.requires.sound.epochs c.args.id in
+    let low = c.requires.invariants.epochs c.args.id in
     let count = c.requires.count in
     omega (arith, same, low, count)
 
-pub returns-clause-sound : goal.returns-clause-sound
-returns-clause-sound c =
+pub returns-clause-invariants : goal.returns-clause-invariants
+returns-clause-invariants c =
     let h = c.args.self.now in
     let old : BoardParts = board_parts h in
     let is = c.reset_block.ensures ∙ ap (λ (ds : List Device). with_block_reset ds c.args.id) c.set_has_disk.ensures in
-    devices_sound old c.reset_block.new.devices.items h.events c.requires.sound
-    (subst (λ (ds : List Device). KeepsDevices old.devices ds h.events) (sym is) (gone_keeps old h.events c.args.id c.requires.sound))
+    devices_sound old c.reset_block.new.devices.items h.events c.requires.invariants
+    (subst (λ (ds : List Device). KeepsDevices old.devices ds h.events) (sym is) (gone_keeps old h.events c.args.id c.requires.invariants))

@@ -12,13 +12,13 @@ use Rattle.iom_board.proofs.board.Board.request.Goals as goal
 pub request-requires-clause-added : goal.request-requires-clause-added
 request-requires-clause-added c =
     let h = c.args.self.now in
-    added (untranslated_by c.args.sender) (flights_of h.iommu).rows h.devices.items c.args.id c.refusal.result c.requires.sound.rows c.refusal.ensures c.in_default.is
+    added (untranslated_by c.args.sender) (flights_of h.iommu).rows h.devices.items c.args.id c.refusal.result c.requires.invariants.rows c.refusal.ensures c.in_default.is
 
-pub returns-clause-sound : goal.returns-clause-sound
-returns-clause-sound c =
+pub returns-clause-invariants : goal.returns-clause-invariants
+returns-clause-invariants c =
     let h = c.args.self.now in
     let old : BoardParts = board_parts h in
     let new : BoardParts = record old { memory = c.request.new.memory; iommu = c.request.new.self } in
     let access : Access = access_of c.args.address c.args.len c.args.kind c.args.bytes.now in
-    replied_sound (ServesRequest old.memory old.iommu c.args.id access) (untranslated_of c.args.kind) old new h.events c.args.id access c.request.result c.requires.sound c.request.ensures.answered
+    replied_sound (ServesRequest old.memory old.iommu c.args.id access) (untranslated_of c.args.kind) old new h.events c.args.id access c.request.result c.requires.invariants c.request.ensures.answered
     c.request.ensures.frames refl refl

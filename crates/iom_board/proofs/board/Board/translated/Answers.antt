@@ -13,13 +13,13 @@ use Rattle.iom_board.proofs.board.Board.translated.Goals as goal
 pub translated-requires-clause-added : goal.translated-requires-clause-added
 translated-requires-clause-added c =
     let h = c.args.self.now in
-    added forges (flights_of h.iommu).rows h.devices.items c.args.id c.refusal.result c.requires.sound.rows c.refusal.ensures c.in_default.is
+    added forges (flights_of h.iommu).rows h.devices.items c.args.id c.refusal.result c.requires.invariants.rows c.refusal.ensures c.in_default.is
 
-pub returns-clause-sound : goal.returns-clause-sound
-returns-clause-sound c =
+pub returns-clause-invariants : goal.returns-clause-invariants
+returns-clause-invariants c =
     let h = c.args.self.now in
     let old : BoardParts = board_parts h in
     let new : BoardParts = record old { memory = c.translated.new.memory; iommu = c.translated.new.self } in
     let access : Access = access_of c.args.address c.args.len c.args.kind c.args.bytes.now in
-    replied_sound (ServesTranslated old.memory old.iommu c.args.id access) (translated_of c.args.kind) old new h.events c.args.id access c.translated.result c.requires.sound c.translated.ensures.answered
+    replied_sound (ServesTranslated old.memory old.iommu c.args.id access) (translated_of c.args.kind) old new h.events c.args.id access c.translated.result c.requires.invariants c.translated.ensures.answered
     c.translated.ensures.frames refl refl

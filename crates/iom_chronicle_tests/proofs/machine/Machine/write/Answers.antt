@@ -7,6 +7,6 @@ pub invariant_of-self : goal.invariant_of-self
 invariant_of-self g c =
     let h = c.args.self.now.hardware in
     record {
-      sound = written_sound c.software_keeps_sound.ensures.keeps c.software_keeps_sound.ensures.writes (board_parts h) h.events c.args.value (register_at c.args.offset c.args.width)
-          c.write-written.new.self c.args.self.now.sound c.write-written.ensures.left;
+      invariants = written_sound c.software_keeps_invariant.ensures.keeps c.software_keeps_invariant.ensures.writes (board_parts h) h.events c.args.value (register_at c.args.offset c.args.width)
+          c.write-written.new.self c.args.self.now.invariants c.write-written.ensures.left;
     }

@@ -17,6 +17,6 @@ same_contexts one other same =
 
 pub returns : goal.returns
 returns c = (
-  λ told. same_contexts c.args.self.now c.args.other.now (c.have_same_entries.ensures.0 told),
+  λ reply. same_contexts c.args.self.now c.args.other.now (c.have_same_entries.ensures.0 reply),
   λ same. c.have_same_entries.ensures.1 (ap (λ (cache : DirCache). cache.contexts.entries) same),
 )

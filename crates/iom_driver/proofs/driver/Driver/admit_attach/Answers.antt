@@ -5,7 +5,7 @@ use Rattle.iom_driver.specs.declared.device.Stages.{Stages}
 use Rattle.iom_driver.specs.Admitted.{MayBeAttached}
 use Rattle.iom_driver.specs.Devices.{device_by_id, has_device, has_trusted_cache, owned_stages, owned_stages_of}
 use Rattle.iom_driver.specs.Places.{IsAttachmentPlace}
-use Rattle.iom_driver.specs.Seen.{state_of}
+use Rattle.iom_driver.specs.StateOf.{state_of}
 use Rattle.iom_driver.proofs.AttachReasons.{not_started, no_such_device, already_attached, id_too_wide, not_trusted, may_attach}
 use Rattle.iom_driver.proofs.Lists.{read_is}
 use Rattle.iom_driver.proofs.Places.{attachment_is, trusted}

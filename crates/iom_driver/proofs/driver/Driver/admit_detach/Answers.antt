@@ -5,8 +5,8 @@ use Rattle.iom_base.specs.declared.refusal.Refusal.TheVariants.{StillGranted}
 use Rattle.iom_ledger.specs.Shown.{held_in}
 use Rattle.iom_driver.specs.Fences.{last_fence}
 use Rattle.iom_driver.specs.Reasons.{detaching_reasons, lacks_places, HasGrants}
-use Rattle.iom_driver.specs.Seen.{state_of}
-use Rattle.iom_driver.proofs.Told.{applies, passes, queueing, too_many, queue_full, used_up, may_queue, fits, more_numbers, no_more_numbers}
+use Rattle.iom_driver.specs.StateOf.{state_of}
+use Rattle.iom_driver.proofs.FirstRefusals.{applies, passes, queueing, too_many, queue_full, used_up, may_queue, fits, more_numbers, no_more_numbers}
 use Rattle.iom_driver.proofs.driver.Driver.admit_detach.Goals as goal
 
 -- what holds of nothing that is there is of nothing
@@ -72,7 +72,7 @@ returns g c =
     let d = state_of c.args.self.now in
     let r = g.M.Mmio.registers c.args.io.now in
     let test : lacks_places 3 r ≡ false = sym c.lacks_places.ensures ∙ c.if-lacks_places.false in
-    let more = more_numbers (last_fence d) c.last_fence.result c.args.self.now.sound.fences.numbered c.last_fence.ensures c.if-last_fence-eq4294967295.false in
+    let more = more_numbers (last_fence d) c.last_fence.result c.args.self.now.invariants.fences.numbered c.last_fence.ensures c.if-last_fence-eq4294967295.false in
     let none : HasGrants d.ledger c.args.id → ⊥ = λ has. not_true c.has_grants.result c.if-has_grants.false (c.has_grants.ensures.1 has) in
     record {
       admitted =

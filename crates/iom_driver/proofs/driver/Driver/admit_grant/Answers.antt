@@ -1,6 +1,6 @@
 use Rattle.std.proofs.lemmas.Result.{err_from_is_err_and}
 use Rattle.iom_driver.specs.Reasons.{granting_reasons}
-use Rattle.iom_driver.specs.Seen.{state_of}
+use Rattle.iom_driver.specs.StateOf.{state_of}
 use Rattle.iom_driver.proofs.driver.Driver.admit_grant.Goals as goal
 
 pub returns-in_err-stage-clause-refused : goal.returns-in_err-stage-clause-refused

@@ -2,8 +2,8 @@ use Rattle.std.proofs.Common.{◌≡◌, ◌∙◌, true, false, sym}
 use Rattle.std.proofs.lemmas.Result.{err_from_is_err_and}
 use Rattle.iom_driver.specs.Fences.{last_fence}
 use Rattle.iom_driver.specs.Reasons.{quarantining_reasons, lacks_places}
-use Rattle.iom_driver.specs.Seen.{state_of}
-use Rattle.iom_driver.proofs.Told.{too_many, queue_full, used_up, may_queue, fits, more_numbers, no_more_numbers}
+use Rattle.iom_driver.specs.StateOf.{state_of}
+use Rattle.iom_driver.proofs.FirstRefusals.{too_many, queue_full, used_up, may_queue, fits, more_numbers, no_more_numbers}
 use Rattle.iom_driver.proofs.driver.Driver.admit_quarantine.Goals as goal
 
 pub returns-in_err-stage-clause-refused : goal.returns-in_err-stage-clause-refused
@@ -37,7 +37,7 @@ returns g c =
     let d = state_of c.args.self.now in
     let r = g.M.Mmio.registers c.args.io.now in
     let test : lacks_places 3 r ≡ false = sym c.lacks_places.ensures ∙ c.if-lacks_places.false in
-    let more = more_numbers (last_fence d) c.last_fence.result c.args.self.now.sound.fences.numbered c.last_fence.ensures c.if-last_fence-eq4294967295.false in
+    let more = more_numbers (last_fence d) c.last_fence.result c.args.self.now.invariants.fences.numbered c.last_fence.ensures c.if-last_fence-eq4294967295.false in
     record {
       admitted = c.in_ok-stage.ensures.goes_on (quarantining_reasons d r) ∙ may_queue d r 3 c.if-self.false test more;
       may = record {

@@ -8,8 +8,8 @@ use Rattle.iom_driver.specs.declared.device.Stages.{Stages}
 use Rattle.iom_driver.specs.Devices.{stages_of}
 use Rattle.iom_driver.specs.Fences.{last_fence}
 use Rattle.iom_driver.specs.Reasons.{releasing_reasons, release_places, lacks_places}
-use Rattle.iom_driver.specs.Seen.{state_of}
-use Rattle.iom_driver.proofs.Told.{applies, passes, queueing, too_many, queue_full, used_up, may_queue, fits, more_numbers, no_more_numbers}
+use Rattle.iom_driver.specs.StateOf.{state_of}
+use Rattle.iom_driver.proofs.FirstRefusals.{applies, passes, queueing, too_many, queue_full, used_up, may_queue, fits, more_numbers, no_more_numbers}
 use Rattle.iom_driver.proofs.driver.Driver.admit_release.Goals as goal
 
 -- whether there is nothing, as it is tested
@@ -75,7 +75,7 @@ returns g c =
     let places = release_places (stages_of d.devices c.args.id) in
     let same : c.release_places.result ≡ places = c.release_places.ensures ∙ ap release_places (sym c.in_ok-stage.ensures.attached) in
     let test : lacks_places places r ≡ false = ap (λ n. lacks_places n r) (sym same) ∙ sym c.lacks_places.ensures ∙ c.if-lacks_places.false in
-    let more = more_numbers (last_fence d) c.last_fence.result c.args.self.now.sound.fences.numbered c.last_fence.ensures c.if-last_fence-eq4294967295.false in
+    let more = more_numbers (last_fence d) c.last_fence.result c.args.self.now.invariants.fences.numbered c.last_fence.ensures c.if-last_fence-eq4294967295.false in
     record {
       admitted =
           c.in_ok-stage.ensures.goes_on (releasing_reasons d r places c.args.id c.args.page)

@@ -1,7 +1,7 @@
 use Rattle.std.proofs.Common.{zero, suc, ◌≡◌, ◌+◌, ◌-◌, ◌∙◌, inl, inr, ℕ, List, [], ◌∷◌, length, None, slice_get, refl, ap, subst, arith}
 use Rattle.std.specs.Option.{unwrap_or}
 use Rattle.iom_driver.specs.Attaching.{IsRootBelow, NoRootBelow, limit_below}
-use Rattle.iom_driver.specs.Seen.{state_of}
+use Rattle.iom_driver.specs.StateOf.{state_of}
 use Rattle.iom_driver.proofs.Chosen.{last_low}
 use Rattle.iom_driver.proofs.driver.Driver.choose_with_root.Goals as goal
 
@@ -24,7 +24,7 @@ choose_root-requires c =
     let is : c.unwrap_or-limit.result ≡ limit_below driver.frames chosen =
     c.unwrap_or-limit.ensures ∙ ap (λ o. unwrap_or o driver.frames) (c.copied.ensures ∙ c.last.ensures.value)
     ∙ ap (λ (xs : List ℕ). unwrap_or (slice_get xs (length xs - 1)) driver.frames) c.deref.ensures.0 ∙ last_or driver.frames chosen in
-    let low = last_low driver.marks driver.ledger None driver.frames c.args.pages chosen c.in_ok-pages.ensures.chosen in
+    let low = last_low driver.owners driver.ledger None driver.frames c.args.pages chosen c.in_ok-pages.ensures.chosen in
     omega (arith, is, low)
 
 pub returns-in_err-pages-clause-none : goal.returns-in_err-pages-clause-none

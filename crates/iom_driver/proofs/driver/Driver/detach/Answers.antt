@@ -12,26 +12,26 @@ use Rattle.iom_driver.specs.Devices.{attachment_by_id, attached_stages, stages_o
 use Rattle.iom_driver.specs.Directory.{NamesDirectory}
 use Rattle.iom_driver.specs.Layout.{command_frame, fault_frame, completion_address, directory_frame}
 use Rattle.iom_driver.specs.Ready.{IsRing}
-use Rattle.iom_driver.specs.Sound.{IsSound}
+use Rattle.iom_driver.specs.Invariant.{StateInvariant}
 use Rattle.iom_driver.specs.Tables.{HaveTables}
-use Rattle.iom_driver.proofs.CuttingOff.{IsCleared, not_of_device, tables_uncontexted}
+use Rattle.iom_driver.proofs.QuarantineLemmas.{IsCleared, not_of_device, tables_uncontexted}
 use Rattle.iom_driver.proofs.Directories.{DirectoryIn, low_id, room_for_ids, in_stands, stands_in, directory_cleared, directory_stay}
 use Rattle.iom_driver.proofs.FaultRings.{fault_ring_stays}
 use Rattle.iom_driver.proofs.Keeps.{sound_detached, owned_leaving}
 use Rattle.iom_driver.proofs.Orders.{maps_nothing}
 use Rattle.iom_driver.proofs.Places.{attached_owns, attached_there, attachment_set, attachment_other}
 use Rattle.iom_driver.proofs.Ring.{same_commands, all_last, stays_named}
-use Rattle.iom_driver.proofs.Stays.{all_stay, of_one}
+use Rattle.iom_driver.proofs.Unchanged.{all_stay, of_one}
 use Rattle.iom_driver.proofs.driver.Driver.detach.Goals as goal
 
 -- the tables of devices that own the same stages
-owned_tables : (memory : List (List ℕ)) (marks : List (Option Owner)) (ledger : Ledger) (devices devices' : List Device) → ((id : ℕ) → owned_stages_of devices' id ≡ owned_stages_of devices id)
-    → HaveTables memory marks ledger devices → HaveTables memory marks ledger devices'
-owned_tables memory marks ledger devices devices' same tables id stage at = tables id stage (sym (same id) ∙ at)
+owned_tables : (memory : List (List ℕ)) (owners : List (Option Owner)) (ledger : Ledger) (devices devices' : List Device) → ((id : ℕ) → owned_stages_of devices' id ≡ owned_stages_of devices id)
+    → HaveTables memory owners ledger devices → HaveTables memory owners ledger devices'
+owned_tables memory owners ledger devices devices' same tables id stage at = tables id stage (sym (same id) ∙ at)
 
 pub returns-in-Err : goal.returns-in-Err
 returns-in-Err g c = record {
-  effect = record { told = c.in-Err.ensures.refused; effect = (refl, refl, refl) };
+  effect = record { reply = c.in-Err.ensures.refused; effect = (refl, refl, refl) };
   ready = c.requires.ready;
 }
 
@@ -40,37 +40,37 @@ invariant_of-self g c =
     let driver = c.args.self.now in
     let may = c.in-Ok.ensures.may in
     record {
-      sound =
-          subst (λ (ds : List Device). IsSound driver.ledger driver.marks ds driver.frames driver.levels driver.started (driver.given + 1) driver.confirmed driver.restarts driver.restarted) (sym {A = List Device} c.set_attachment.ensures)
-          (sound_detached driver.ledger driver.marks driver.devices.items driver.frames driver.levels driver.started driver.given driver.confirmed driver.restarts driver.restarted c.args.id c.in-Ok.stage
-          driver.sound may.started may.attached may.none_held may.number);
+      invariants =
+          subst (λ (ds : List Device). StateInvariant driver.ledger driver.owners ds driver.frames driver.levels driver.started (driver.given + 1) driver.confirmed driver.restarts driver.restarted) (sym {A = List Device} c.set_attachment.ensures)
+          (sound_detached driver.ledger driver.owners driver.devices.items driver.frames driver.levels driver.started driver.given driver.confirmed driver.restarts driver.restarted c.args.id c.in-Ok.stage
+          driver.invariants may.started may.attached may.none_held may.number);
     }
 
 pub clear_context-requires-clause-levels : goal.clear_context-requires-clause-levels
-clear_context-requires-clause-levels g c = c.args.self.now.sound.sizes.in_range
+clear_context-requires-clause-levels g c = c.args.self.now.invariants.sizes.in_range
 
 pub clear_context-requires-clause-id : goal.clear_context-requires-clause-id
 clear_context-requires-clause-id g c =
     let driver = c.args.self.now in
-    subst (λ n. c.args.id < n) (room_for_ids driver.levels driver.sound.sizes.in_range)
-    (driver.sound.named c.args.id c.in-Ok.stage (attached_owns (attachment_by_id driver.devices.items c.args.id) c.in-Ok.stage c.in-Ok.ensures.may.attached))
+    subst (λ n. c.args.id < n) (room_for_ids driver.levels driver.invariants.sizes.in_range)
+    (driver.invariants.named c.args.id c.in-Ok.stage (attached_owns (attachment_by_id driver.devices.items c.args.id) c.in-Ok.stage c.in-Ok.ensures.may.attached))
 
 pub clear_context-requires-clause-directory : goal.clear_context-requires-clause-directory
 clear_context-requires-clause-directory g c =
     let driver = c.args.self.now in
     let stand = c.requires.ready.stand in
     rw c.directory_frame-directory.ensures
-    (in_stands driver.frames c.args.memory.now driver.marks driver.devices.items driver.levels (stand.size ∙ driver.sound.sizes.marked) (stand.directory c.in-Ok.ensures.may.started)).tree
+    (in_stands driver.frames c.args.memory.now driver.owners driver.devices.items driver.levels (stand.size ∙ driver.invariants.sizes.marked) (stand.directory c.in-Ok.ensures.may.started)).tree
 
 pub append_detach-requires-clause-frames : goal.append_detach-requires-clause-frames
-append_detach-requires-clause-frames g c = c.clear_context.ensures.size ∙ c.requires.ready.stand.size ∙ c.args.self.now.sound.sizes.marked
+append_detach-requires-clause-frames g c = c.clear_context.ensures.size ∙ c.requires.ready.stand.size ∙ c.args.self.now.invariants.sizes.marked
 
 pub append_detach-requires-clause-many : goal.append_detach-requires-clause-many
-append_detach-requires-clause-many g c = c.args.self.now.sound.sizes.size.0
+append_detach-requires-clause-many g c = c.args.self.now.invariants.sizes.size.0
 
 pub append_detach-requires-clause-ring : goal.append_detach-requires-clause-ring
 append_detach-requires-clause-ring g c =
-    subst (λ n. IsRing n (g.M.Mmio.registers c.args.io.now)) (c.requires.ready.stand.size ∙ c.args.self.now.sound.sizes.marked) (c.requires.ready.ring c.in-Ok.ensures.may.started)
+    subst (λ n. IsRing n (g.M.Mmio.registers c.args.io.now)) (c.requires.ready.stand.size ∙ c.args.self.now.invariants.sizes.marked) (c.requires.ready.ring c.in-Ok.ensures.may.started)
 
 pub append_detach-requires-clause-room : goal.append_detach-requires-clause-room
 append_detach-requires-clause-room g c = c.in-Ok.ensures.may.room
@@ -78,12 +78,12 @@ append_detach-requires-clause-room g c = c.in-Ok.ensures.may.room
 pub append_detach-requires-clause-id : goal.append_detach-requires-clause-id
 append_detach-requires-clause-id g c =
     let driver = c.args.self.now in
-    low_id driver.levels c.args.id (driver.sound.named c.args.id c.in-Ok.stage (attached_owns (attachment_by_id driver.devices.items c.args.id) c.in-Ok.stage c.in-Ok.ensures.may.attached))
+    low_id driver.levels c.args.id (driver.invariants.named c.args.id c.in-Ok.stage (attached_owns (attachment_by_id driver.devices.items c.args.id) c.in-Ok.stage c.in-Ok.ensures.may.attached))
 
 pub append_detach-requires-clause-number : goal.append_detach-requires-clause-number
 append_detach-requires-clause-number g c =
     let driver = c.args.self.now in
-    let small = driver.sound.numbers.small c.args.id c.in-Ok.stage (attached_owns (attachment_by_id driver.devices.items c.args.id) c.in-Ok.stage c.in-Ok.ensures.may.attached) in
+    let small = driver.invariants.numbers.small c.args.id c.in-Ok.stage (attached_owns (attachment_by_id driver.devices.items c.args.id) c.in-Ok.stage c.in-Ok.ensures.may.attached) in
     let le : c.in-Ok.stage.number ≤ 17 = small.1 in
     omega (arith, le)
 
@@ -94,7 +94,7 @@ append_detach-requires-clause-cut_off g c =
     let stage = c.in-Ok.stage in
     let stand = c.requires.ready.stand in
     let may = c.in-Ok.ensures.may in
-    let here = in_stands driver.frames memory driver.marks driver.devices.items driver.levels (stand.size ∙ driver.sound.sizes.marked) (stand.directory may.started) in
+    let here = in_stands driver.frames memory driver.owners driver.devices.items driver.levels (stand.size ∙ driver.invariants.sizes.marked) (stand.directory may.started) in
     let cleared = subst (λ r. IsCleared memory c.clear_context.new.memory driver.levels r c.args.id) c.directory_frame-directory.ensures record {
       tree = c.clear_context.ensures.directory;
       pages = λ f. (c.clear_context.ensures.pages f).0;
@@ -104,11 +104,11 @@ append_detach-requires-clause-cut_off g c =
       outside = c.clear_context.ensures.outside;
       size = c.clear_context.ensures.size;
     } in
-    let tables = tables_uncontexted driver.frames memory c.clear_context.new.memory driver.marks driver.ledger driver.devices.items driver.levels c.args.id here cleared stand.tables c.args.id stage
+    let tables = tables_uncontexted driver.frames memory c.clear_context.new.memory driver.owners driver.ledger driver.devices.items driver.levels c.args.id here cleared stand.tables c.args.id stage
     (attached_owns (attachment_by_id driver.devices.items c.args.id) stage may.attached) in
     record {
       context = cleared.here;
-      tables = maps_nothing c.clear_context.new.memory driver.marks driver.ledger c.args.id stage.mode stage.root tables may.none_held;
+      tables = maps_nothing c.clear_context.new.memory driver.owners driver.ledger c.args.id stage.mode stage.root tables may.none_held;
     }
 
 pub returns-clause-effect : goal.returns-clause-effect
@@ -118,8 +118,8 @@ returns-clause-effect g c =
     let stand = c.requires.ready.stand in
     let may = c.in-Ok.ensures.may in
     let io = c.args.io.now in
-    let many : length memory ≡ driver.frames = stand.size ∙ driver.sound.sizes.marked in
-    let here : DirectoryIn driver.frames memory driver.marks driver.devices.items driver.levels = in_stands driver.frames memory driver.marks driver.devices.items driver.levels many (stand.directory may.started) in
+    let many : length memory ≡ driver.frames = stand.size ∙ driver.invariants.sizes.marked in
+    let here : DirectoryIn driver.frames memory driver.owners driver.devices.items driver.levels = in_stands driver.frames memory driver.owners driver.devices.items driver.levels many (stand.directory may.started) in
     let at_root : (f : ℕ) → HasPage c.clear_context.new.memory (root_level driver.levels) (directory_frame driver.frames) f → HasPage memory (root_level driver.levels) (directory_frame driver.frames) f =
     λ f. subst (λ r. HasPage c.clear_context.new.memory (root_level driver.levels) r f → HasPage memory (root_level driver.levels) r f) c.directory_frame-directory.ensures (c.clear_context.ensures.pages f).0 in
     let outside : (f : ℕ) → (HasPage memory (root_level driver.levels) (directory_frame driver.frames) f → ⊥) → slice_get c.clear_context.new.memory f ≡ slice_get memory f =
@@ -129,7 +129,7 @@ returns-clause-effect g c =
     let appended = subst (λ n. AppendsAll g.M.Mmio c.clear_context.new.memory io (detach_commands c.args.id c.in-Ok.stage (completion_address driver.frames) (n + 1)) c.append_detach.new.memory c.append_detach.new.io)
     c.last_fence-number.ensures c.append_detach.ensures.appended in
     record {
-      told = c.in-Ok.ensures.admitted;
+      reply = c.in-Ok.ensures.admitted;
       effect = record {
         stage = c.in-Ok.stage;
         attached = may.attached;
@@ -156,9 +156,9 @@ returns-clause-ready g c =
     let stand = c.requires.ready.stand in
     let may = c.in-Ok.ensures.may in
     let devices = with_attachment driver.devices.items c.args.id (Leaving (driver.given + 1) c.in-Ok.stage) in
-    let many : length memory ≡ driver.frames = stand.size ∙ driver.sound.sizes.marked in
+    let many : length memory ≡ driver.frames = stand.size ∙ driver.invariants.sizes.marked in
     let size : length c.append_detach.new.memory ≡ length memory = c.append_detach.ensures.size ∙ c.clear_context.ensures.size in
-    let here : DirectoryIn driver.frames memory driver.marks driver.devices.items driver.levels = in_stands driver.frames memory driver.marks driver.devices.items driver.levels many (stand.directory may.started) in
+    let here : DirectoryIn driver.frames memory driver.owners driver.devices.items driver.levels = in_stands driver.frames memory driver.owners driver.devices.items driver.levels many (stand.directory may.started) in
     let cleared = subst (λ r. IsCleared memory c.clear_context.new.memory driver.levels r c.args.id) c.directory_frame-directory.ensures record {
       tree = c.clear_context.ensures.directory;
       pages = λ f. (c.clear_context.ensures.pages f).0;
@@ -171,25 +171,25 @@ returns-clause-ready g c =
     let none : stages_of devices c.args.id ≡ None = ap attached_stages (attachment_set driver.devices.items c.args.id (Leaving (driver.given + 1) c.in-Ok.stage) (attached_there driver.devices.items c.args.id c.in-Ok.stage may.attached)) in
     let same : (other : ℕ) → other ≢ c.args.id → stages_of devices other ≡ stages_of driver.devices.items other =
     λ other apart. ap attached_stages (attachment_other driver.devices.items c.args.id other (Leaving (driver.given + 1) c.in-Ok.stage) apart) in
-    let between = directory_cleared driver.frames memory c.clear_context.new.memory driver.marks driver.devices.items devices driver.levels c.args.id here cleared.tree cleared.pages cleared.here cleared.others cleared.paths none same
+    let between = directory_cleared driver.frames memory c.clear_context.new.memory driver.owners driver.devices.items devices driver.levels c.args.id here cleared.tree cleared.pages cleared.here cleared.others cleared.paths none same
     (owned_leaving driver.devices.items c.args.id (driver.given + 1) c.in-Ok.stage may.attached) in
-    let kept : (n id : ℕ) → slice_get driver.marks n ≡ Some (Some (OneDevice id)) → slice_get c.append_detach.new.memory n ≡ slice_get memory n =
-    λ n id own. c.append_detach.ensures.other_frames n (of_one driver.marks (driver.frames - 1) n id driver.sound.fixed.command own)
-    ∙ cleared.outside n (λ at. not_of_device driver.marks n id (here.own n (cleared.pages n at)).system own) in
+    let kept : (n id : ℕ) → slice_get driver.owners n ≡ Some (Some (OneDevice id)) → slice_get c.append_detach.new.memory n ≡ slice_get memory n =
+    λ n id own. c.append_detach.ensures.other_frames n (of_one driver.owners (driver.frames - 1) n id driver.invariants.fixed.command own)
+    ∙ cleared.outside n (λ at. not_of_device driver.owners n id (here.own n (cleared.pages n at)).system own) in
     rw c.set_attachment.ensures record {
       stand = record {
         size = size ∙ stand.size;
-        tables = owned_tables c.append_detach.new.memory driver.marks driver.ledger driver.devices.items devices (owned_leaving driver.devices.items c.args.id (driver.given + 1) c.in-Ok.stage may.attached)
-            (all_stay memory c.append_detach.new.memory driver.marks driver.ledger driver.ledger driver.devices.items stand.tables kept (λ id page. refl));
+        tables = owned_tables c.append_detach.new.memory driver.owners driver.ledger driver.devices.items devices (owned_leaving driver.devices.items c.args.id (driver.given + 1) c.in-Ok.stage may.attached)
+            (all_stay memory c.append_detach.new.memory driver.owners driver.ledger driver.ledger driver.devices.items stand.tables kept (λ id page. refl));
         directory = λ started.
-            stands_in driver.frames c.append_detach.new.memory driver.marks devices driver.levels (size ∙ many)
-            (directory_stay driver.frames c.clear_context.new.memory c.append_detach.new.memory driver.marks driver.marks devices devices driver.levels driver.sound.sizes.in_range c.append_detach.ensures.size
+            stands_in driver.frames c.append_detach.new.memory driver.owners devices driver.levels (size ∙ many)
+            (directory_stay driver.frames c.clear_context.new.memory c.append_detach.new.memory driver.owners driver.owners devices devices driver.levels driver.invariants.sizes.in_range c.append_detach.ensures.size
             (λ n own. (c.append_detach.ensures.other_frames n own.no_command, refl)) (λ id. refl) (λ id stage at. at) between);
       };
       faults = λ started.
           let fault = fault_frame (length memory) in
           fault_ring_stays memory c.append_detach.new.memory (g.M.Mmio.registers c.args.io.now) (g.M.Mmio.registers c.append_detach.new.io) size
-          (c.append_detach.ensures.other_frames fault (λ same. absurd (omega (arith, many, driver.sound.sizes.size.0, same)))
+          (c.append_detach.ensures.other_frames fault (λ same. absurd (omega (arith, many, driver.invariants.sizes.size.0, same)))
           ∙ cleared.outside fault (λ at. (here.own fault (cleared.pages fault at)).no_fault (ap fault_frame many)))
           c.append_detach.ensures.faults (c.requires.ready.faults started);
       ring = λ started. subst (λ n. IsRing n (g.M.Mmio.registers c.append_detach.new.io)) (sym (size ∙ many)) c.append_detach.ensures.ring;

@@ -16,18 +16,18 @@ use Rattle.iom_driver.specs.Layout.{directory_frame, fault_frame}
 use Rattle.iom_driver.specs.Orders.{MapsNothing}
 use Rattle.iom_driver.specs.Places.{IsAttachmentPlace}
 use Rattle.iom_driver.specs.Ready.{TablesStand}
-use Rattle.iom_driver.specs.Seen.{state_of}
+use Rattle.iom_driver.specs.StateOf.{state_of}
 use Rattle.iom_driver.proofs.AttachDirectory.{IsPut, MayTake, may_take, stands_between, roots_zero, fresh, counted, empty, others_keep, reports_keep, devices_keep, roots_new, stands_after}
 use Rattle.iom_driver.proofs.AttachRoots.{root_aligned}
 use Rattle.iom_driver.proofs.AttachTables.{zeroed_maps_nothing, tables_attached}
 use Rattle.iom_driver.proofs.Directories.{stands_in, room_for_ids}
 use Rattle.iom_driver.proofs.Keeps.{sound_attached}
 use Rattle.iom_driver.proofs.Lists.{read_is, get_within}
-use Rattle.iom_driver.proofs.Marks.{Among, all_among, length-cleared, length-marked_for, cleared_append}
+use Rattle.iom_driver.proofs.Owners.{Among, all_among, length-cleared, length-marked_for, cleared_append}
 use Rattle.iom_driver.proofs.Modes.{root_among, frames_are}
 use Rattle.iom_driver.proofs.Places.{not_attached, attachment_set, attachment_other}
-use Rattle.iom_driver.proofs.Stays.{ready_from}
-use Rattle.iom_driver.proofs.Taken.{taken_marks, length-taken}
+use Rattle.iom_driver.proofs.Unchanged.{ready_from}
+use Rattle.iom_driver.proofs.Taken.{taken_owners, length-taken}
 use Rattle.iom_driver.proofs.driver.Driver.enter.Goals as goal
 
 -- how many pages the directory lacks
@@ -38,15 +38,15 @@ found : (driver : Driver) (memory : List (List ℕ)) (id : ℕ) (stages : Stages
     → MayEnter (state_of driver) driver.frames memory id stages pages
     → MayTake (state_of driver) driver.frames memory (lacking driver memory id) pages (root_frames stages.mode stages.root)
 found driver memory id stages pages stand may =
-    may_take (state_of driver) driver.frames memory (lacking driver memory id) stages.mode stages.root pages driver.sound stand may.admitted.started may.chosen may.root
+    may_take (state_of driver) driver.frames memory (lacking driver memory id) stages.mode stages.root pages driver.invariants stand may.admitted.started may.chosen may.root
 
 -- the frames that are cleared, and marked: the pages, and then the root's
 both_cleared : (memory before after : List (List ℕ)) (pages roots : List ℕ) → before ≡ cleared pages memory → after ≡ cleared roots before → after ≡ cleared (pages ++ roots) memory
 both_cleared memory before after pages roots is zero_is = zero_is ∙ ap (λ m. cleared roots m) is ∙ sym (cleared_append pages roots memory)
 
-both_marked : (id : ℕ) (marks before after : List (Option Owner)) (pages roots : List ℕ) → before ≡ marked_for System pages marks → after ≡ marked_for (OneDevice id) roots before
-    → after ≡ taken_marks id pages roots marks
-both_marked id marks before after pages roots is mark_is = mark_is ∙ ap (λ (ms : List (Option Owner)). marked_for (OneDevice id) roots ms) is
+both_marked : (id : ℕ) (owners before after : List (Option Owner)) (pages roots : List ℕ) → before ≡ marked_for System pages owners → after ≡ marked_for (OneDevice id) roots before
+    → after ≡ taken_owners id pages roots owners
+both_marked id owners before after pages roots is mark_is = mark_is ∙ ap (λ (ms : List (Option Owner)). marked_for (OneDevice id) roots ms) is
 
 -- the devices, once the one at the place is attached
 set_at : (devices : List Device) (id k : ℕ) (device : Device) (stages : Stages) → IsAttachmentPlace devices id k → device ≡ get_or devices k device
@@ -61,7 +61,7 @@ reserve_all-requires c =
     let pages = c.args.pages.now in
     let may = found driver c.args.memory.now c.args.id c.args.stages pages c.requires.stand c.requires.may in
     record {
-      marked = λ k d lt. subst (λ n. get_or pages k d < n) (sym driver.sound.sizes.marked) (may.taken.chosen.inside k d lt);
+      marked = λ k d lt. subst (λ n. get_or pages k d < n) (sym driver.invariants.sizes.marked) (may.taken.chosen.inside k d lt);
       inside = λ k d lt. subst (λ n. get_or pages k d < n) (sym may.size) (may.taken.chosen.inside k d lt);
     }
 
@@ -73,12 +73,12 @@ reserve_root-requires c =
     let stages = c.args.stages in
     let roots = root_frames stages.mode stages.root in
     let may = found driver memory c.args.id stages pages c.requires.stand c.requires.may in
-    let marks_long = ap (λ (ms : List (Option Owner)). length ms) c.reserve_all.ensures.marks ∙ length-marked_for System pages driver.marks ∙ driver.sound.sizes.marked in
+    let marks_long = ap (λ (ms : List (Option Owner)). length ms) c.reserve_all.ensures.owners ∙ length-marked_for System pages driver.owners ∙ driver.invariants.sizes.marked in
     let memory_long = ap (λ (m : List (List ℕ)). length m) c.reserve_all.ensures.memory ∙ length-cleared pages memory ∙ may.size in
     let inside : stages.root < driver.frames = may.taken.inside stages.root (root_among stages.mode stages.root) in
-    let most : driver.frames ≤ 4096 = driver.sound.sizes.size.1 in
+    let most : driver.frames ≤ 4096 = driver.invariants.sizes.size.1 in
     record {
-      marked = all_among (λ f. f < length c.reserve_all.new.marks) roots (λ f here. subst (λ n. f < n) (sym marks_long) (may.taken.inside f here));
+      marked = all_among (λ f. f < length c.reserve_all.new.owners) roots (λ f here. subst (λ n. f < n) (sym marks_long) (may.taken.inside f here));
       inside = all_among (λ f. f < length c.reserve_all.new.memory) roots (λ f here. subst (λ n. f < n) (sym memory_long) (may.taken.inside f here));
       fits = omega (arith, inside, most);
     }
@@ -117,10 +117,10 @@ put_context-requires c =
     let roots = root_frames stages.mode stages.root in
     let count = lacking driver memory id in
     let may = found driver memory id stages pages c.requires.stand c.requires.may in
-    let low : id < ids_below (root_level driver.levels) = subst (λ n. id < n) (room_for_ids driver.levels driver.sound.sizes.in_range) c.requires.may.admitted.narrow in
+    let low : id < ids_below (root_level driver.levels) = subst (λ n. id < n) (room_for_ids driver.levels driver.invariants.sizes.in_range) c.requires.may.admitted.narrow in
     let cleared_is = both_cleared memory c.reserve_all.new.memory c.reserve_root.new.memory pages roots c.reserve_all.ensures.memory c.reserve_root.ensures.memory in
     rw (c.directory_frame-directory.ensures, cleared_is) record {
-      levels = driver.sound.sizes.in_range;
+      levels = driver.invariants.sizes.in_range;
       id = low;
       directory = (stands_between d driver.frames memory id count pages roots may).tree;
       empty = empty d driver.frames memory id count pages roots may low (not_attached (attachment_by_id d.devices id) c.requires.may.admitted.nothing);
@@ -145,12 +145,12 @@ invariant_of-self c =
     let roots = root_frames stages.mode stages.root in
     let admitted = c.requires.may.admitted in
     let may = found driver memory id stages pages c.requires.stand c.requires.may in
-    let marks_is = both_marked id driver.marks c.reserve_all.new.marks c.reserve_root.new.marks pages roots c.reserve_all.ensures.marks c.reserve_root.ensures.marks in
+    let marks_is = both_marked id driver.owners c.reserve_all.new.owners c.reserve_root.new.owners pages roots c.reserve_all.ensures.owners c.reserve_root.ensures.owners in
     let set = set_at d.devices id c.args.place c.index_mut.result.now stages c.requires.place c.index_mut.ensures.value in
     record {
-      sound =
+      invariants =
           rw (marks_is, set)
-          (sound_attached driver.ledger driver.marks d.devices driver.frames driver.levels driver.started driver.given driver.confirmed driver.restarts driver.restarted id (lacking driver memory id) stages pages roots driver.sound
+          (sound_attached driver.ledger driver.owners d.devices driver.frames driver.levels driver.started driver.given driver.confirmed driver.restarts driver.restarted id (lacking driver memory id) stages pages roots driver.invariants
           admitted.started admitted.plugged admitted.narrow may.taken c.requires.may.lowest c.requires.may.small);
     }
 
@@ -169,7 +169,7 @@ returns c =
     let may = found driver memory id stages pages c.requires.stand c.requires.may in
     let at_root = c.directory_frame-directory.ensures in
     let cleared_is = both_cleared memory c.reserve_all.new.memory c.reserve_root.new.memory pages roots c.reserve_all.ensures.memory c.reserve_root.ensures.memory in
-    let marks_is = both_marked id driver.marks c.reserve_all.new.marks c.reserve_root.new.marks pages roots c.reserve_all.ensures.marks c.reserve_root.ensures.marks in
+    let marks_is = both_marked id driver.owners c.reserve_all.new.owners c.reserve_root.new.owners pages roots c.reserve_all.ensures.owners c.reserve_root.ensures.owners in
     let set = set_at d.devices id c.args.place c.index_mut.result.now stages c.requires.place c.index_mut.ensures.value in
     let put : IsPut (cleared (pages ++ roots) memory) after driver.levels (directory_frame driver.frames) id stages pages =
     subst (λ r. IsPut (cleared (pages ++ roots) memory) after driver.levels r id stages pages) at_root
@@ -186,15 +186,15 @@ returns c =
     let none = not_attached (attachment_by_id d.devices id) admitted.nothing in
     let unreported = subst (λ n. slice_get after (fault_frame n) ≡ slice_get memory (fault_frame n)) (sym may.size) (reports_keep d driver.frames memory id count pages roots may after stages put) in
     rw (marks_is, set) (
-    let stand : TablesStand (record d { marks = taken_marks id pages roots driver.marks; devices = with_attachment d.devices id (Attached stages) }) after = record {
-      size = size ∙ c.requires.stand.size ∙ sym (length-taken id pages roots driver.marks);
-      tables = tables_attached memory after driver.marks (taken_marks id pages roots driver.marks) driver.ledger d.devices id stages c.requires.stand.tables admitted.plugged
+    let stand : TablesStand (record d { owners = taken_owners id pages roots driver.owners; devices = with_attachment d.devices id (Attached stages) }) after = record {
+      size = size ∙ c.requires.stand.size ∙ sym (length-taken id pages roots driver.owners);
+      tables = tables_attached memory after driver.owners (taken_owners id pages roots driver.owners) driver.ledger d.devices id stages c.requires.stand.tables admitted.plugged
           (root_aligned stages.mode d (limit_below driver.frames pages) stages.root c.requires.may.root)
           (roots_new d driver.frames memory id count pages roots may after stages put)
           (devices_keep d driver.frames memory id count pages roots may after stages put)
-          (λ page. driver.sound.holders id page none);
+          (λ page. driver.invariants.holders id page none);
       directory = λ runs.
-          stands_in driver.frames after (taken_marks id pages roots driver.marks) (with_attachment d.devices id (Attached stages)) driver.levels (size ∙ may.size)
+          stands_in driver.frames after (taken_owners id pages roots driver.owners) (with_attachment d.devices id (Attached stages)) driver.levels (size ∙ may.size)
           (stands_after d driver.frames memory id count pages roots may after stages put
           (with_attachment d.devices id (Attached stages)) (attachment_set d.devices id (Attached stages) admitted.plugged)
           (λ other apart. attachment_other d.devices id other (Attached stages) apart));
@@ -205,7 +205,7 @@ returns c =
         in_mode = refl;
         with_ats = refl;
         pages = pages;
-        chosen = subst (λ n. AreHighestFree d.marks d.ledger None n (missing_pages memory (root_level d.levels) (directory_frame n) id) pages) (sym may.size) c.requires.may.chosen;
+        chosen = subst (λ n. AreHighestFree d.owners d.ledger None n (missing_pages memory (root_level d.levels) (directory_frame n) id) pages) (sym may.size) c.requires.may.chosen;
         root = subst (λ n. IsRootBelow stages.mode d (limit_below n pages) stages.root) (sym may.size) c.requires.may.root;
         lowest = c.requires.may.lowest;
         driver = refl;

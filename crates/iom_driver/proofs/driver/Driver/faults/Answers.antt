@@ -2,7 +2,7 @@ use Rattle.std.proofs.Common.{◌≡◌, ◌∙◌, true, refl, ap}
 use Rattle.iom_registers.specs.declared.register.Register.TheVariants.{Fqh, Fqcsr}
 use Rattle.iom_registers.specs.Queues.{fault_entries, fault_head, next_index}
 use Rattle.iom_driver.specs.Reports.{cleared_marks}
-use Rattle.iom_driver.specs.Seen.{state_of}
+use Rattle.iom_driver.specs.StateOf.{state_of}
 use Rattle.iom_driver.proofs.Taking.{takes_report, ready_taken, none_waits, ready_cleared}
 use Rattle.iom_driver.proofs.driver.Driver.faults.Goals as goal
 

@@ -14,15 +14,15 @@ use Rattle.iom_ledger.specs.History.{History}
 use Rattle.iom_ledger.specs.Shown.{Agrees}
 use Rattle.iom_page_table.specs.declared.leaf.PageLeaf.{PageLeaf}
 use Rattle.iom_page_table.specs.FirstTables.{missing_for, mapped}
-use Rattle.iom_table_frames.specs.Marks.{HasFree}
+use Rattle.iom_table_frames.specs.Owners.{HasFree}
 use Rattle.iom_driver.specs.Calls.{granted_leaf, KeepsOtherFrames, HasFrames, IsSame, LacksTables}
 use Rattle.iom_driver.specs.Choices.{AreHighestFree, marked_for, cleared}
 use Rattle.iom_driver.specs.declared.device.Stages.{Stages}
 use Rattle.iom_driver.specs.Devices.{attachment_by_id, stages_of}
 use Rattle.iom_driver.specs.Layout.{fault_frame}
 use Rattle.iom_driver.specs.Reasons.{why_not_grant}
-use Rattle.iom_driver.specs.Seen.{state_of}
-use Rattle.iom_driver.specs.Sound.{IsSound}
+use Rattle.iom_driver.specs.StateOf.{state_of}
+use Rattle.iom_driver.specs.Invariant.{StateInvariant}
 use Rattle.iom_driver.specs.State.{DriverState}
 use Rattle.iom_driver.specs.Tables.{HaveTables}
 use Rattle.iom_driver.proofs.Chosen.{AreChosen, are_chosen, enough}
@@ -30,11 +30,11 @@ use Rattle.iom_driver.proofs.Directories.{directory_stay, in_stands, stands_in}
 use Rattle.iom_driver.proofs.GrantTables.{missing_few, may_be_mapped, IsMapped, mapped_is, others_kept, kept_others, tables_granted}
 use Rattle.iom_driver.proofs.Keeps.{sound_granted}
 use Rattle.iom_driver.proofs.Limits.{low_in_any}
-use Rattle.iom_driver.proofs.Marks.{length-cleared, length-marked_for, mark_stays}
+use Rattle.iom_driver.proofs.Owners.{length-cleared, length-marked_for, mark_stays}
 use Rattle.iom_driver.proofs.Places.{attached_owns}
-use Rattle.iom_driver.proofs.Stays.{all_stay, ready_from}
+use Rattle.iom_driver.proofs.Unchanged.{all_stay, ready_from}
 use Rattle.iom_driver.proofs.Taken.{unmarked, owned_not_chosen}
-use Rattle.iom_driver.proofs.Told.{first_told, none_told}
+use Rattle.iom_driver.proofs.FirstRefusals.{first_told, none_told}
 use Rattle.iom_driver.proofs.driver.Driver.grant.Goals as goal
 
 -- what is promised where there is no error, and where there is one
@@ -62,9 +62,9 @@ mapped_as size given memory before after root page leaf clears maps chosen size_
     (subst (λ fs. IsMapped given before after root page leaf fs) maps_is maps_so))
 
 -- the chosen frames, below the end of memory
-chosen_below : (marks : List (Option Owner)) (ledger : Ledger) (named limit count : ℕ) (chosen : List ℕ) (memory : List (List ℕ)) → limit ≡ length memory
-    → AreHighestFree marks ledger (Some named) limit count chosen → AreChosen marks ledger (Some named) (length memory) count chosen
-chosen_below marks ledger named limit count chosen memory many chose = are_chosen marks ledger (Some named) (length memory) count chosen (subst (λ n. AreHighestFree marks ledger (Some named) n count chosen) many chose)
+chosen_below : (owners : List (Option Owner)) (ledger : Ledger) (named limit count : ℕ) (chosen : List ℕ) (memory : List (List ℕ)) → limit ≡ length memory
+    → AreHighestFree owners ledger (Some named) limit count chosen → AreChosen owners ledger (Some named) (length memory) count chosen
+chosen_below owners ledger named limit count chosen memory many chose = are_chosen owners ledger (Some named) (length memory) count chosen (subst (λ n. AreHighestFree owners ledger (Some named) n count chosen) many chose)
 
 -- nothing changes
 same_state : (d : DriverState) → IsSame d d
@@ -90,20 +90,20 @@ returns-in-Err c =
 
 -- where too few are free for the tables that the page lacks
 no_frames : (d : DriverState) (memory : List (List ℕ)) (id page frame : ℕ) (stage : Stages) (frames lacking : ℕ) → stages_of d.devices id ≡ Some stage → frames ≡ length memory
-    → lacking ≡ missing_for (size_in stage.mode) memory stage.root page → ¬ HasFree d.marks d.ledger (Some frame) lacking frames → ¬ HasFrames d memory id page frame
+    → lacking ≡ missing_for (size_in stage.mode) memory stage.root page → ¬ HasFree d.owners d.ledger (Some frame) lacking frames → ¬ HasFrames d memory id page frame
 no_frames d memory id page frame stage frames lacking at many is none = λ has.
     let both : Some has.stage ≡ Some stage = sym has.attached ∙ at in
     let same : has.stage ≡ stage = cc in
-    none (subst (λ n. HasFree d.marks d.ledger (Some frame) lacking n) (sym many)
-    (subst (λ n. HasFree d.marks d.ledger (Some frame) n (length memory)) (sym is)
-    (subst (λ (s : Stages). HasFree d.marks d.ledger (Some frame) (missing_for (size_in s.mode) memory s.root page) (length memory)) same has.enough)))
+    none (subst (λ n. HasFree d.owners d.ledger (Some frame) lacking n) (sym many)
+    (subst (λ n. HasFree d.owners d.ledger (Some frame) n (length memory)) (sym is)
+    (subst (λ (s : Stages). HasFree d.owners d.ledger (Some frame) (missing_for (size_in s.mode) memory s.root page) (length memory)) same has.enough)))
 
 pub returns-in_default : goal.returns-in_default
 returns-in_default c =
     let driver = c.args.self.now in
     let d = state_of driver in
     let memory = c.args.memory.now in
-    let many : driver.frames ≡ length memory = sym (c.requires.stand.size ∙ driver.sound.sizes.marked) in
+    let many : driver.frames ≡ length memory = sym (c.requires.stand.size ∙ driver.invariants.sizes.marked) in
     let counted = c.missing-lacking.ensures ∙ ap (λ s. missing_for s memory c.in-Ok.stage.root c.args.mapping.page) c.size-size.ensures in
     let without = no_frames d memory c.args.id c.args.mapping.page c.args.mapping.frame c.in-Ok.stage driver.frames c.missing-lacking.result c.in-Ok.ensures.may.attached many counted c.in_default.ensures.none in
     record {
@@ -131,11 +131,11 @@ reserve_all-requires c =
     let driver = c.args.self.now in
     let memory = c.args.memory.now in
     let chosen = c.in-Some.tables.items in
-    let are : AreChosen driver.marks driver.ledger (Some c.args.mapping.frame) driver.frames c.missing-lacking.result chosen =
-    are_chosen driver.marks driver.ledger (Some c.args.mapping.frame) driver.frames c.missing-lacking.result chosen c.in-Some.ensures.chosen in
+    let are : AreChosen driver.owners driver.ledger (Some c.args.mapping.frame) driver.frames c.missing-lacking.result chosen =
+    are_chosen driver.owners driver.ledger (Some c.args.mapping.frame) driver.frames c.missing-lacking.result chosen c.in-Some.ensures.chosen in
     rw c.as_slice.ensures.value record {
-      marked = λ k d lt. subst (λ n. get_or chosen k d < n) (sym driver.sound.sizes.marked) (are.inside k d lt);
-      inside = λ k d lt. subst (λ n. get_or chosen k d < n) (sym (c.requires.stand.size ∙ driver.sound.sizes.marked)) (are.inside k d lt);
+      marked = λ k d lt. subst (λ n. get_or chosen k d < n) (sym driver.invariants.sizes.marked) (are.inside k d lt);
+      inside = λ k d lt. subst (λ n. get_or chosen k d < n) (sym (c.requires.stand.size ∙ driver.invariants.sizes.marked)) (are.inside k d lt);
     }
 
 pub map-requires-clause-page : goal.map-requires-clause-page
@@ -150,7 +150,7 @@ returns-then-is_err-clause-stand c =
     let same : IsUnchanged driver.ledger c.grant.new.self = err_then c.grant.result (sym c.is_err.ensures.value ∙ c.if-is_err.true) c.grant.ensures.refused in
     record {
       size = c.requires.stand.size;
-      tables = all_stay c.args.memory.now c.args.memory.now driver.marks driver.ledger c.grant.new.self driver.devices.items c.requires.stand.tables (λ n id own. refl) same.held;
+      tables = all_stay c.args.memory.now c.args.memory.now driver.owners driver.ledger c.grant.new.self driver.devices.items c.requires.stand.tables (λ n id own. refl) same.held;
       directory = c.requires.stand.directory;
     }
 
@@ -160,15 +160,15 @@ returns-then-is_err-clause-effect c =
     let memory = c.args.memory.now in
     let failed = sym c.is_err.ensures.value ∙ c.if-is_err.true in
     let unchanged : IsUnchanged driver.ledger c.grant.new.self = err_then c.grant.result failed c.grant.ensures.refused in
-    let many = sym (c.requires.stand.size ∙ driver.sound.sizes.marked) in
-    let chosen : AreHighestFree driver.marks driver.ledger (Some c.args.mapping.frame) (length memory) (missing_for (size_in c.in-Ok.stage.mode) memory c.in-Ok.stage.root c.args.mapping.page) c.in-Some.tables.items =
-    subst (λ n. AreHighestFree driver.marks driver.ledger (Some c.args.mapping.frame) (length memory) n c.in-Some.tables.items)
+    let many = sym (c.requires.stand.size ∙ driver.invariants.sizes.marked) in
+    let chosen : AreHighestFree driver.owners driver.ledger (Some c.args.mapping.frame) (length memory) (missing_for (size_in c.in-Ok.stage.mode) memory c.in-Ok.stage.root c.args.mapping.page) c.in-Some.tables.items =
+    subst (λ n. AreHighestFree driver.owners driver.ledger (Some c.args.mapping.frame) (length memory) n c.in-Some.tables.items)
     (c.missing-lacking.ensures ∙ ap (λ s. missing_for s memory c.in-Ok.stage.root c.args.mapping.page) c.size-size.ensures)
-    (subst (λ n. AreHighestFree driver.marks driver.ledger (Some c.args.mapping.frame) n c.missing-lacking.result c.in-Some.tables.items) many c.in-Some.ensures.chosen) in (
+    (subst (λ n. AreHighestFree driver.owners driver.ledger (Some c.args.mapping.frame) n c.missing-lacking.result c.in-Some.tables.items) many c.in-Some.ensures.chosen) in (
       rw c.in-Ok.ensures.admitted record {
         stage = c.in-Ok.stage;
         attached = c.in-Ok.ensures.may.attached;
-        enough = enough driver.marks driver.ledger (Some c.args.mapping.frame) (length memory) (missing_for (size_in c.in-Ok.stage.mode) memory c.in-Ok.stage.root c.args.mapping.page) c.in-Some.tables.items chosen;
+        enough = enough driver.owners driver.ledger (Some c.args.mapping.frame) (length memory) (missing_for (size_in c.in-Ok.stage.mode) memory c.in-Ok.stage.root c.args.mapping.page) c.in-Some.tables.items chosen;
       },
       record { ledger = unchanged; agrees = err_then c.grant.result failed c.grant.ensures.refused_agrees; rest = refl },
       refl,
@@ -180,54 +180,54 @@ invariant_of-self-2 c =
     let tables = c.in-Some.tables.items in
     let may = c.in-Ok.ensures.may in
     let granted = ok_then c.grant.result (sym c.is_err.ensures.value ∙ c.if-is_err.false) c.grant.ensures.granted in
-    let chose = are_chosen driver.marks driver.ledger (Some c.args.mapping.frame) (length driver.marks) c.missing-lacking.result tables
-    (subst (λ n. AreHighestFree driver.marks driver.ledger (Some c.args.mapping.frame) n c.missing-lacking.result tables) (sym driver.sound.sizes.marked) c.in-Some.ensures.chosen) in
+    let chose = are_chosen driver.owners driver.ledger (Some c.args.mapping.frame) (length driver.owners) c.missing-lacking.result tables
+    (subst (λ n. AreHighestFree driver.owners driver.ledger (Some c.args.mapping.frame) n c.missing-lacking.result tables) (sym driver.invariants.sizes.marked) c.in-Some.ensures.chosen) in
     record {
-      sound =
-          subst (λ (ms : List (Option Owner)). IsSound c.grant.new.self ms driver.devices.items driver.frames driver.levels driver.started driver.given driver.confirmed driver.restarts driver.restarted)
-          (sym (c.reserve_all.ensures.marks ∙ ap (λ fs. marked_for (OneDevice c.args.id) fs driver.marks) c.as_slice.ensures.value))
-          (sound_granted driver.ledger c.grant.new.self driver.marks driver.devices.items driver.frames driver.levels driver.started driver.given driver.confirmed driver.restarts driver.restarted c.args.id c.args.mapping.page c.args.mapping.frame c.rights-rights.result c.in-Ok.stage tables
-          driver.sound granted may.attached (low_in_any (size_in c.in-Ok.stage.mode) c.args.mapping.page may.page_low) (unmarked driver.marks c.args.mapping.frame may.inside may.unreserved) chose.inside chose.free);
+      invariants =
+          subst (λ (ms : List (Option Owner)). StateInvariant c.grant.new.self ms driver.devices.items driver.frames driver.levels driver.started driver.given driver.confirmed driver.restarts driver.restarted)
+          (sym (c.reserve_all.ensures.owners ∙ ap (λ fs. marked_for (OneDevice c.args.id) fs driver.owners) c.as_slice.ensures.value))
+          (sound_granted driver.ledger c.grant.new.self driver.owners driver.devices.items driver.frames driver.levels driver.started driver.given driver.confirmed driver.restarts driver.restarted c.args.id c.args.mapping.page c.args.mapping.frame c.rights-rights.result c.in-Ok.stage tables
+          driver.invariants granted may.attached (low_in_any (size_in c.in-Ok.stage.mode) c.args.mapping.page may.page_low) (unmarked driver.owners c.args.mapping.frame may.inside may.unreserved) chose.inside chose.free);
     }
 
 pub map-requires-clause-tree : goal.map-requires-clause-tree
 map-requires-clause-tree c =
     let driver = c.args.self.now in
-    let many = sym (c.requires.stand.size ∙ driver.sound.sizes.marked) in
-    let may = may_be_mapped c.args.memory.now driver.marks driver.ledger c.args.id c.in-Ok.stage.mode c.in-Ok.stage.root c.args.mapping.page c.args.mapping.frame c.missing-lacking.result c.in-Some.tables.items
+    let many = sym (c.requires.stand.size ∙ driver.invariants.sizes.marked) in
+    let may = may_be_mapped c.args.memory.now driver.owners driver.ledger c.args.id c.in-Ok.stage.mode c.in-Ok.stage.root c.args.mapping.page c.args.mapping.frame c.missing-lacking.result c.in-Some.tables.items
     (c.requires.stand.tables c.args.id c.in-Ok.stage (attached_owns (attachment_by_id driver.devices.items c.args.id) c.in-Ok.stage c.in-Ok.ensures.may.attached)) c.in-Ok.ensures.may.page_low c.in-Ok.ensures.may.not_held
     (c.missing-lacking.ensures ∙ ap (λ s. missing_for s c.args.memory.now c.in-Ok.stage.root c.args.mapping.page) c.size-size.ensures)
-    (chosen_below driver.marks driver.ledger c.args.mapping.frame driver.frames c.missing-lacking.result c.in-Some.tables.items c.args.memory.now many c.in-Some.ensures.chosen) in
+    (chosen_below driver.owners driver.ledger c.args.mapping.frame driver.frames c.missing-lacking.result c.in-Some.tables.items c.args.memory.now many c.in-Some.ensures.chosen) in
     rw (c.size-size.ensures, c.reserve_all.ensures.memory, c.as_slice.ensures.value) may.tree
 
 pub map-requires-clause-free : goal.map-requires-clause-free
 map-requires-clause-free c =
     let driver = c.args.self.now in
-    let many = sym (c.requires.stand.size ∙ driver.sound.sizes.marked) in
-    let may = may_be_mapped c.args.memory.now driver.marks driver.ledger c.args.id c.in-Ok.stage.mode c.in-Ok.stage.root c.args.mapping.page c.args.mapping.frame c.missing-lacking.result c.in-Some.tables.items
+    let many = sym (c.requires.stand.size ∙ driver.invariants.sizes.marked) in
+    let may = may_be_mapped c.args.memory.now driver.owners driver.ledger c.args.id c.in-Ok.stage.mode c.in-Ok.stage.root c.args.mapping.page c.args.mapping.frame c.missing-lacking.result c.in-Some.tables.items
     (c.requires.stand.tables c.args.id c.in-Ok.stage (attached_owns (attachment_by_id driver.devices.items c.args.id) c.in-Ok.stage c.in-Ok.ensures.may.attached)) c.in-Ok.ensures.may.page_low c.in-Ok.ensures.may.not_held
     (c.missing-lacking.ensures ∙ ap (λ s. missing_for s c.args.memory.now c.in-Ok.stage.root c.args.mapping.page) c.size-size.ensures)
-    (chosen_below driver.marks driver.ledger c.args.mapping.frame driver.frames c.missing-lacking.result c.in-Some.tables.items c.args.memory.now many c.in-Some.ensures.chosen) in
+    (chosen_below driver.owners driver.ledger c.args.mapping.frame driver.frames c.missing-lacking.result c.in-Some.tables.items c.args.memory.now many c.in-Some.ensures.chosen) in
     rw (c.size-size.ensures, c.reserve_all.ensures.memory, c.as_slice.ensures.value) may.free
 
 pub map-requires-clause-count : goal.map-requires-clause-count
 map-requires-clause-count c =
     let driver = c.args.self.now in
-    let many = sym (c.requires.stand.size ∙ driver.sound.sizes.marked) in
-    let may = may_be_mapped c.args.memory.now driver.marks driver.ledger c.args.id c.in-Ok.stage.mode c.in-Ok.stage.root c.args.mapping.page c.args.mapping.frame c.missing-lacking.result c.in-Some.tables.items
+    let many = sym (c.requires.stand.size ∙ driver.invariants.sizes.marked) in
+    let may = may_be_mapped c.args.memory.now driver.owners driver.ledger c.args.id c.in-Ok.stage.mode c.in-Ok.stage.root c.args.mapping.page c.args.mapping.frame c.missing-lacking.result c.in-Some.tables.items
     (c.requires.stand.tables c.args.id c.in-Ok.stage (attached_owns (attachment_by_id driver.devices.items c.args.id) c.in-Ok.stage c.in-Ok.ensures.may.attached)) c.in-Ok.ensures.may.page_low c.in-Ok.ensures.may.not_held
     (c.missing-lacking.ensures ∙ ap (λ s. missing_for s c.args.memory.now c.in-Ok.stage.root c.args.mapping.page) c.size-size.ensures)
-    (chosen_below driver.marks driver.ledger c.args.mapping.frame driver.frames c.missing-lacking.result c.in-Some.tables.items c.args.memory.now many c.in-Some.ensures.chosen) in
+    (chosen_below driver.owners driver.ledger c.args.mapping.frame driver.frames c.missing-lacking.result c.in-Some.tables.items c.args.memory.now many c.in-Some.ensures.chosen) in
     rw (c.size-size.ensures, c.as_slice-2.ensures.value, c.reserve_all.ensures.memory, c.as_slice.ensures.value) may.count
 
 pub map-requires-clause-fresh : goal.map-requires-clause-fresh
 map-requires-clause-fresh c =
     let driver = c.args.self.now in
-    let many = sym (c.requires.stand.size ∙ driver.sound.sizes.marked) in
-    let may = may_be_mapped c.args.memory.now driver.marks driver.ledger c.args.id c.in-Ok.stage.mode c.in-Ok.stage.root c.args.mapping.page c.args.mapping.frame c.missing-lacking.result c.in-Some.tables.items
+    let many = sym (c.requires.stand.size ∙ driver.invariants.sizes.marked) in
+    let may = may_be_mapped c.args.memory.now driver.owners driver.ledger c.args.id c.in-Ok.stage.mode c.in-Ok.stage.root c.args.mapping.page c.args.mapping.frame c.missing-lacking.result c.in-Some.tables.items
     (c.requires.stand.tables c.args.id c.in-Ok.stage (attached_owns (attachment_by_id driver.devices.items c.args.id) c.in-Ok.stage c.in-Ok.ensures.may.attached)) c.in-Ok.ensures.may.page_low c.in-Ok.ensures.may.not_held
     (c.missing-lacking.ensures ∙ ap (λ s. missing_for s c.args.memory.now c.in-Ok.stage.root c.args.mapping.page) c.size-size.ensures)
-    (chosen_below driver.marks driver.ledger c.args.mapping.frame driver.frames c.missing-lacking.result c.in-Some.tables.items c.args.memory.now many c.in-Some.ensures.chosen) in
+    (chosen_below driver.owners driver.ledger c.args.mapping.frame driver.frames c.missing-lacking.result c.in-Some.tables.items c.args.memory.now many c.in-Some.ensures.chosen) in
     rw (c.size-size.ensures, c.as_slice-2.ensures.value, c.reserve_all.ensures.memory, c.as_slice.ensures.value) may.fresh
 
 pub returns-clause-effect : goal.returns-clause-effect
@@ -240,17 +240,17 @@ returns-clause-effect c =
     let root = c.in-Ok.stage.root in
     let granted = ok_then c.grant.result (sym c.is_err.ensures.value ∙ c.if-is_err.false) c.grant.ensures.granted in
     let agrees = ok_then c.grant.result (sym c.is_err.ensures.value ∙ c.if-is_err.false) c.grant.ensures.agrees in
-    let many = sym (c.requires.stand.size ∙ driver.sound.sizes.marked) in (
+    let many = sym (c.requires.stand.size ∙ driver.invariants.sizes.marked) in (
       c.in-Ok.ensures.admitted,
       record {
         stage = c.in-Ok.stage;
         attached = c.in-Ok.ensures.may.attached;
         tables = tables;
-        chosen = subst (λ n. AreHighestFree driver.marks driver.ledger (Some c.args.mapping.frame) n (missing_for size memory root c.args.mapping.page) tables) many
-            (subst (λ n. AreHighestFree driver.marks driver.ledger (Some c.args.mapping.frame) driver.frames n tables) (c.missing-lacking.ensures ∙ ap (λ s. missing_for s memory root c.args.mapping.page) c.size-size.ensures) c.in-Some.ensures.chosen);
+        chosen = subst (λ n. AreHighestFree driver.owners driver.ledger (Some c.args.mapping.frame) n (missing_for size memory root c.args.mapping.page) tables) many
+            (subst (λ n. AreHighestFree driver.owners driver.ledger (Some c.args.mapping.frame) driver.frames n tables) (c.missing-lacking.ensures ∙ ap (λ s. missing_for s memory root c.args.mapping.page) c.size-size.ensures) c.in-Some.ensures.chosen);
         shown = subst (λ (r : Rights). ShowsGrant driver.ledger c.grant.new.self c.args.id c.args.mapping.page (c.args.mapping.frame, r)) right granted;
         agrees = subst (λ (r : Rights). (h : History) → Agrees driver.ledger h → Agrees c.grant.new.self (entry.Granted c.args.id c.args.mapping.page c.args.mapping.frame r ∷ h)) right agrees;
-        driver = rw (c.reserve_all.ensures.marks, c.as_slice.ensures.value) refl;
+        driver = rw (c.reserve_all.ensures.owners, c.as_slice.ensures.value) refl;
         bytes = mapped_is size memory c.reserve_all.new.memory c.map.new.memory root c.args.mapping.page (record { frame = c.args.mapping.frame; rights = c.rights-rights.result }) (granted_leaf c.args.mapping.frame c.args.mapping.rights)
             c.as_slice.result.now c.as_slice-2.result.now tables
             (c.map.ensures.whole ∙ ap (λ s. mapped s c.reserve_all.new.memory root c.args.mapping.page (record { frame = c.args.mapping.frame; rights = c.rights-rights.result }) c.as_slice-2.result.now) c.size-size.ensures)
@@ -267,10 +267,10 @@ returns-clause-effect c =
               long = c.map.ensures.size;
             } in
             subst (λ (ms : List (Option Owner)). KeepsOtherFrames ms c.args.id memory c.map.new.memory)
-            (sym (c.reserve_all.ensures.marks ∙ ap (λ fs. marked_for (OneDevice c.args.id) fs driver.marks) c.as_slice.ensures.value))
-            (others_kept memory c.map.new.memory driver.marks driver.ledger c.args.id c.in-Ok.stage.mode root c.args.mapping.page c.args.mapping.frame c.missing-lacking.result leaf tables (sym c.requires.stand.size)
+            (sym (c.reserve_all.ensures.owners ∙ ap (λ fs. marked_for (OneDevice c.args.id) fs driver.owners) c.as_slice.ensures.value))
+            (others_kept memory c.map.new.memory driver.owners driver.ledger c.args.id c.in-Ok.stage.mode root c.args.mapping.page c.args.mapping.frame c.missing-lacking.result leaf tables (sym c.requires.stand.size)
             (c.requires.stand.tables c.args.id c.in-Ok.stage (attached_owns (attachment_by_id driver.devices.items c.args.id) c.in-Ok.stage c.in-Ok.ensures.may.attached))
-            (chosen_below driver.marks driver.ledger c.args.mapping.frame driver.frames c.missing-lacking.result tables memory many c.in-Some.ensures.chosen) mapped_so);
+            (chosen_below driver.owners driver.ledger c.args.mapping.frame driver.frames c.missing-lacking.result tables memory many c.in-Some.ensures.chosen) mapped_so);
       },
     )
   where
@@ -293,26 +293,26 @@ returns-clause-stand c =
       long = c.map.ensures.size;
     } in
     let granted = ok_then c.grant.result (sym c.is_err.ensures.value ∙ c.if-is_err.false) c.grant.ensures.granted in
-    let many = sym (c.requires.stand.size ∙ driver.sound.sizes.marked) in
-    let chose = chosen_below driver.marks driver.ledger c.args.mapping.frame driver.frames c.missing-lacking.result tables memory many c.in-Some.ensures.chosen in
-    let marks = c.reserve_all.ensures.marks ∙ ap (λ fs. marked_for (OneDevice c.args.id) fs driver.marks) c.as_slice.ensures.value in
+    let many = sym (c.requires.stand.size ∙ driver.invariants.sizes.marked) in
+    let chose = chosen_below driver.owners driver.ledger c.args.mapping.frame driver.frames c.missing-lacking.result tables memory many c.in-Some.ensures.chosen in
+    let owners = c.reserve_all.ensures.owners ∙ ap (λ fs. marked_for (OneDevice c.args.id) fs driver.owners) c.as_slice.ensures.value in
     record {
-      size = mapped_so.long ∙ length-cleared tables memory ∙ c.requires.stand.size ∙ sym (length-marked_for (OneDevice c.args.id) tables driver.marks) ∙ sym (ap (λ (ms : List (Option Owner)). length ms) marks);
+      size = mapped_so.long ∙ length-cleared tables memory ∙ c.requires.stand.size ∙ sym (length-marked_for (OneDevice c.args.id) tables driver.owners) ∙ sym (ap (λ (ms : List (Option Owner)). length ms) owners);
       tables =
-          subst (λ (ms : List (Option Owner)). HaveTables c.map.new.memory ms c.grant.new.self driver.devices.items) (sym marks)
-          (tables_granted memory c.map.new.memory driver.marks driver.ledger c.grant.new.self driver.devices.items c.args.id c.args.mapping.page c.args.mapping.frame c.missing-lacking.result c.rights-rights.result c.in-Ok.stage tables
+          subst (λ (ms : List (Option Owner)). HaveTables c.map.new.memory ms c.grant.new.self driver.devices.items) (sym owners)
+          (tables_granted memory c.map.new.memory driver.owners driver.ledger c.grant.new.self driver.devices.items c.args.id c.args.mapping.page c.args.mapping.frame c.missing-lacking.result c.rights-rights.result c.in-Ok.stage tables
           (sym c.requires.stand.size) c.requires.stand.tables (attached_owns (attachment_by_id driver.devices.items c.args.id) c.in-Ok.stage c.in-Ok.ensures.may.attached) may.page_low granted chose mapped_so);
       directory = λ started.
           let before = c.requires.stand.tables c.args.id c.in-Ok.stage (attached_owns (attachment_by_id driver.devices.items c.args.id) c.in-Ok.stage c.in-Ok.ensures.may.attached) in
           let size : length c.map.new.memory ≡ length memory = mapped_so.long ∙ length-cleared tables memory in
           stands_in driver.frames c.map.new.memory _ driver.devices.items driver.levels (size ∙ sym many)
-          (directory_stay driver.frames memory c.map.new.memory driver.marks _ driver.devices.items driver.devices.items driver.levels driver.sound.sizes.in_range size
+          (directory_stay driver.frames memory c.map.new.memory driver.owners _ driver.devices.items driver.devices.items driver.levels driver.invariants.sizes.in_range size
           (λ n own. (
-            kept_others memory c.map.new.memory driver.marks driver.ledger c.args.id c.in-Ok.stage.mode c.in-Ok.stage.root c.args.mapping.page c.args.mapping.frame c.missing-lacking.result n leaf tables System
+            kept_others memory c.map.new.memory driver.owners driver.ledger c.args.id c.in-Ok.stage.mode c.in-Ok.stage.root c.args.mapping.page c.args.mapping.frame c.missing-lacking.result n leaf tables System
                 (sym c.requires.stand.size) before chose mapped_so own.system (λ same. not_system c.args.id same),
-            ap (λ (ms : List (Option Owner)). slice_get ms n) marks ∙ mark_stays (OneDevice c.args.id) n tables driver.marks
-                (owned_not_chosen driver.marks driver.ledger (Some c.args.mapping.frame) (length memory) c.missing-lacking.result n tables System (sym c.requires.stand.size) chose own.system),
-          )) (λ id. refl) (λ id stage at. at) (in_stands driver.frames memory driver.marks driver.devices.items driver.levels (sym many) (c.requires.stand.directory started)));
+            ap (λ (ms : List (Option Owner)). slice_get ms n) owners ∙ mark_stays (OneDevice c.args.id) n tables driver.owners
+                (owned_not_chosen driver.owners driver.ledger (Some c.args.mapping.frame) (length memory) c.missing-lacking.result n tables System (sym c.requires.stand.size) chose own.system),
+          )) (λ id. refl) (λ id stage at. at) (in_stands driver.frames memory driver.owners driver.devices.items driver.levels (sym many) (c.requires.stand.directory started)));
     }
 
 pub returns-then-is_err-clause-ready : goal.returns-then-is_err-clause-ready
@@ -325,11 +325,11 @@ returns-clause-ready c = λ r ready.
     let memory = c.args.memory.now in
     let tables = c.in-Some.tables.items in
     let size = c.map.ensures.size ∙ ap (λ (m : List (List ℕ)). length m) c.reserve_all.ensures.memory ∙ length-cleared c.as_slice.result.now memory in
-    let many : length memory ≡ driver.frames = c.requires.stand.size ∙ driver.sound.sizes.marked in
-    let system : slice_get driver.marks (fault_frame (length memory)) ≡ Some (Some System) = ap (λ n. slice_get driver.marks (fault_frame n)) many ∙ driver.sound.fixed.fault in
-    let chose = chosen_below driver.marks driver.ledger c.args.mapping.frame driver.frames c.missing-lacking.result tables memory (sym many) c.in-Some.ensures.chosen in
-    let marks = c.reserve_all.ensures.marks ∙ ap (λ fs. marked_for (OneDevice c.args.id) fs driver.marks) c.as_slice.ensures.value in
-    let still = ap (λ (ms : List (Option Owner)). slice_get ms (fault_frame (length memory))) marks ∙ mark_stays (OneDevice c.args.id) (fault_frame (length memory)) tables driver.marks
-    (owned_not_chosen driver.marks driver.ledger (Some c.args.mapping.frame) (length memory) c.missing-lacking.result (fault_frame (length memory)) tables System (sym c.requires.stand.size) chose system) ∙ system in
+    let many : length memory ≡ driver.frames = c.requires.stand.size ∙ driver.invariants.sizes.marked in
+    let system : slice_get driver.owners (fault_frame (length memory)) ≡ Some (Some System) = ap (λ n. slice_get driver.owners (fault_frame n)) many ∙ driver.invariants.fixed.fault in
+    let chose = chosen_below driver.owners driver.ledger c.args.mapping.frame driver.frames c.missing-lacking.result tables memory (sym many) c.in-Some.ensures.chosen in
+    let owners = c.reserve_all.ensures.owners ∙ ap (λ fs. marked_for (OneDevice c.args.id) fs driver.owners) c.as_slice.ensures.value in
+    let still = ap (λ (ms : List (Option Owner)). slice_get ms (fault_frame (length memory))) owners ∙ mark_stays (OneDevice c.args.id) (fault_frame (length memory)) tables driver.owners
+    (owned_not_chosen driver.owners driver.ledger (Some c.args.mapping.frame) (length memory) c.missing-lacking.result (fault_frame (length memory)) tables System (sym c.requires.stand.size) chose system) ∙ system in
     let unreported = (returns-clause-effect c).1.others (fault_frame (length memory)) (λ own. system_device c.args.id (sym still ∙ own)) in
     ready_from (state_of driver) _ memory c.map.new.memory r (returns-clause-stand c) size unreported refl refl ready

@@ -2,10 +2,10 @@ use Rattle.std.proofs.Common.{◌≡◌, ◌∙◌, Bool, true, false, List, Opt
 use Rattle.std.proofs.lemmas.Bool.{false≢true}
 use Rattle.iom_driver.specs.declared.device.Device.{Device}
 use Rattle.iom_driver.specs.Ready.{IsReady}
-use Rattle.iom_driver.specs.Seen.{state_of}
-use Rattle.iom_driver.specs.Sound.{IsSound}
+use Rattle.iom_driver.specs.StateOf.{state_of}
+use Rattle.iom_driver.specs.Invariant.{StateInvariant}
 use Rattle.iom_driver.proofs.Keeps.{sound_plugged}
-use Rattle.iom_driver.proofs.Stays.{ready_plugged}
+use Rattle.iom_driver.proofs.Unchanged.{ready_plugged}
 use Rattle.iom_driver.proofs.driver.Driver.plug.Goals as goal
 
 -- what holds of both values that a test chooses between
@@ -21,9 +21,9 @@ pub invariant_of-self : goal.invariant_of-self
 invariant_of-self c =
     let driver = c.args.self.now in
     record {
-      sound = by_test (λ (devices : List Device). IsSound driver.ledger driver.marks devices driver.frames driver.levels driver.started driver.given driver.confirmed driver.restarts driver.restarted) _ _ _ _ c.push.ensures.items
-          (sound_plugged driver.ledger driver.marks driver.devices.items driver.frames driver.levels driver.started driver.given driver.confirmed driver.restarts driver.restarted c.args.id c.args.trusted driver.sound (sym c.device_of.ensures ∙ absent_device c.device_of.result (sym c.is_some.ensures ∙ c.if-is_some.false)) (omega arith))
-          driver.sound;
+      invariants = by_test (λ (devices : List Device). StateInvariant driver.ledger driver.owners devices driver.frames driver.levels driver.started driver.given driver.confirmed driver.restarts driver.restarted) _ _ _ _ c.push.ensures.items
+          (sound_plugged driver.ledger driver.owners driver.devices.items driver.frames driver.levels driver.started driver.given driver.confirmed driver.restarts driver.restarted c.args.id c.args.trusted driver.invariants (sym c.device_of.ensures ∙ absent_device c.device_of.result (sym c.is_some.ensures ∙ c.if-is_some.false)) (omega arith))
+          driver.invariants;
     }
 
 pub returns-in-Ok-clause-ready : goal.returns-in-Ok-clause-ready

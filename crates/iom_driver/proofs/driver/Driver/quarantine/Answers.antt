@@ -16,8 +16,8 @@ use Rattle.iom_driver.specs.Directory.{NamesDirectory}
 use Rattle.iom_driver.specs.Layout.{command_frame, fault_frame, completion_address, directory_frame}
 use Rattle.iom_driver.specs.Quarantines.{all_unmapped, held_pages}
 use Rattle.iom_driver.specs.Ready.{IsRing}
-use Rattle.iom_driver.specs.Sound.{IsSound}
-use Rattle.iom_driver.proofs.CuttingOff.{IsCleared, not_of_device, tables_uncontexted, owned_cut_off, sound_quarantined}
+use Rattle.iom_driver.specs.Invariant.{StateInvariant}
+use Rattle.iom_driver.proofs.QuarantineLemmas.{IsCleared, not_of_device, tables_uncontexted, owned_cut_off, sound_quarantined}
 use Rattle.iom_driver.proofs.Directories.{DirectoryIn, low_id, room_for_ids, in_stands, stands_in, directory_cleared, directory_stay}
 use Rattle.iom_driver.proofs.FaultRings.{fault_ring_stays}
 use Rattle.iom_driver.proofs.Limits.{held_low}
@@ -25,7 +25,7 @@ use Rattle.iom_driver.proofs.Modes.{rooted, table_in}
 use Rattle.iom_driver.proofs.Orders.{maps_nothing, none_left, still_cleared}
 use Rattle.iom_driver.proofs.Places.{attached_owns, attached_there, attachment_set, attachment_other}
 use Rattle.iom_driver.proofs.Ring.{same_commands, all_last, stays_named}
-use Rattle.iom_driver.proofs.Stays.{all_stay, of_one}
+use Rattle.iom_driver.proofs.Unchanged.{all_stay, of_one}
 use Rattle.iom_driver.proofs.Tickets.{few_rise}
 use Rattle.iom_driver.proofs.Unmaps.{AreUnmapped, contained_held, frame_stays, tables_unmapped}
 use Rattle.iom_driver.proofs.driver.Driver.quarantine.Goals as goal
@@ -37,20 +37,20 @@ returns-in-Err g c = record {
 }
 
 pub clear_context-requires-clause-levels : goal.clear_context-requires-clause-levels
-clear_context-requires-clause-levels g c = c.args.self.now.sound.sizes.in_range
+clear_context-requires-clause-levels g c = c.args.self.now.invariants.sizes.in_range
 
 pub clear_context-requires-clause-id : goal.clear_context-requires-clause-id
 clear_context-requires-clause-id g c =
     let driver = c.args.self.now in
-    subst (λ n. c.args.id < n) (room_for_ids driver.levels driver.sound.sizes.in_range)
-    (driver.sound.named c.args.id c.in-Ok.stage (attached_owns (attachment_by_id driver.devices.items c.args.id) c.in-Ok.stage c.in-Ok.ensures.may.attached))
+    subst (λ n. c.args.id < n) (room_for_ids driver.levels driver.invariants.sizes.in_range)
+    (driver.invariants.named c.args.id c.in-Ok.stage (attached_owns (attachment_by_id driver.devices.items c.args.id) c.in-Ok.stage c.in-Ok.ensures.may.attached))
 
 pub clear_context-requires-clause-directory : goal.clear_context-requires-clause-directory
 clear_context-requires-clause-directory g c =
     let driver = c.args.self.now in
     let stand = c.requires.ready.stand in
     rw c.directory_frame-directory.ensures
-    (in_stands driver.frames c.args.memory.now driver.marks driver.devices.items driver.levels (stand.size ∙ driver.sound.sizes.marked) (stand.directory c.in-Ok.ensures.may.started)).tree
+    (in_stands driver.frames c.args.memory.now driver.owners driver.devices.items driver.levels (stand.size ∙ driver.invariants.sizes.marked) (stand.directory c.in-Ok.ensures.may.started)).tree
 
 pub clear_leaves-requires-clause-tree : goal.clear_leaves-requires-clause-tree
 clear_leaves-requires-clause-tree g c =
@@ -58,8 +58,8 @@ clear_leaves-requires-clause-tree g c =
     let memory = c.args.memory.now in
     let stand = c.requires.ready.stand in
     let may = c.in-Ok.ensures.may in
-    let here : DirectoryIn driver.frames memory driver.marks driver.devices.items driver.levels =
-    in_stands driver.frames memory driver.marks driver.devices.items driver.levels (stand.size ∙ driver.sound.sizes.marked) (stand.directory may.started) in
+    let here : DirectoryIn driver.frames memory driver.owners driver.devices.items driver.levels =
+    in_stands driver.frames memory driver.owners driver.devices.items driver.levels (stand.size ∙ driver.invariants.sizes.marked) (stand.directory may.started) in
     let cleared = subst (λ r. IsCleared memory c.clear_context.new.memory driver.levels r c.args.id) c.directory_frame-directory.ensures record {
       tree = c.clear_context.ensures.directory;
       pages = λ f. (c.clear_context.ensures.pages f).0;
@@ -69,7 +69,7 @@ clear_leaves-requires-clause-tree g c =
       outside = c.clear_context.ensures.outside;
       size = c.clear_context.ensures.size;
     } in
-    let tables = tables_uncontexted driver.frames memory c.clear_context.new.memory driver.marks driver.ledger driver.devices.items driver.levels c.args.id here cleared stand.tables c.args.id c.in-Ok.stage
+    let tables = tables_uncontexted driver.frames memory c.clear_context.new.memory driver.owners driver.ledger driver.devices.items driver.levels c.args.id here cleared stand.tables c.args.id c.in-Ok.stage
     (attached_owns (attachment_by_id driver.devices.items c.args.id) c.in-Ok.stage may.attached) in
     rw c.size.ensures (rooted c.in-Ok.stage.mode c.clear_context.new.memory c.in-Ok.stage.root tables.tree).tree
 
@@ -77,13 +77,13 @@ pub clear_leaves-requires-clause-pages : goal.clear_leaves-requires-clause-pages
 clear_leaves-requires-clause-pages g c = λ page present.
     let driver = c.args.self.now in
     let tables = c.requires.ready.stand.tables c.args.id c.in-Ok.stage (attached_owns (attachment_by_id driver.devices.items c.args.id) c.in-Ok.stage c.in-Ok.ensures.may.attached) in
-    rw c.size.ensures (held_low c.args.memory.now driver.marks driver.ledger c.args.id c.in-Ok.stage.mode c.in-Ok.stage.root page tables present)
+    rw c.size.ensures (held_low c.args.memory.now driver.owners driver.ledger c.args.id c.in-Ok.stage.mode c.in-Ok.stage.root page tables present)
 
 pub release_all-requires : goal.release_all-requires
 release_all-requires g c =
     let driver = c.args.self.now in
     let few : driver.given - driver.confirmed < pending_limit = c.in-Ok.ensures.may.few in
-    let many = few_rise driver.confirmed driver.given (pending_in driver.ledger) driver.sound.tickets.pending driver.sound.tickets.ordered in
+    let many = few_rise driver.confirmed driver.given (pending_in driver.ledger) driver.invariants.tickets.pending driver.invariants.tickets.ordered in
     let room : pending_limit ≤ pending_room driver.ledger = has_room driver.ledger in
     omega (arith, many, few, room)
 
@@ -92,21 +92,21 @@ invariant_of-self g c =
     let driver = c.args.self.now in
     let may = c.in-Ok.ensures.may in
     record {
-      sound =
-          subst (λ (ds : List Device). IsSound c.release_all.new.self driver.marks ds driver.frames driver.levels driver.started (driver.given + 1) driver.confirmed driver.restarts driver.restarted) (sym {A = List Device} c.set_attachment.ensures)
-          (sound_quarantined driver.ledger c.release_all.new.self driver.marks driver.devices.items driver.frames driver.levels driver.started driver.given driver.confirmed driver.restarts driver.restarted c.args.id c.in-Ok.stage
-          driver.sound c.release_all.ensures.released may.started may.attached may.number);
+      invariants =
+          subst (λ (ds : List Device). StateInvariant c.release_all.new.self driver.owners ds driver.frames driver.levels driver.started (driver.given + 1) driver.confirmed driver.restarts driver.restarted) (sym {A = List Device} c.set_attachment.ensures)
+          (sound_quarantined driver.ledger c.release_all.new.self driver.owners driver.devices.items driver.frames driver.levels driver.started driver.given driver.confirmed driver.restarts driver.restarted c.args.id c.in-Ok.stage
+          driver.invariants c.release_all.ensures.released may.started may.attached may.number);
     }
 
 pub append_detach-requires-clause-frames : goal.append_detach-requires-clause-frames
-append_detach-requires-clause-frames g c = c.clear_leaves.ensures.size ∙ c.clear_context.ensures.size ∙ c.requires.ready.stand.size ∙ c.args.self.now.sound.sizes.marked
+append_detach-requires-clause-frames g c = c.clear_leaves.ensures.size ∙ c.clear_context.ensures.size ∙ c.requires.ready.stand.size ∙ c.args.self.now.invariants.sizes.marked
 
 pub append_detach-requires-clause-many : goal.append_detach-requires-clause-many
-append_detach-requires-clause-many g c = c.args.self.now.sound.sizes.size.0
+append_detach-requires-clause-many g c = c.args.self.now.invariants.sizes.size.0
 
 pub append_detach-requires-clause-ring : goal.append_detach-requires-clause-ring
 append_detach-requires-clause-ring g c =
-    subst (λ n. IsRing n (g.M.Mmio.registers c.args.io.now)) (c.requires.ready.stand.size ∙ c.args.self.now.sound.sizes.marked) (c.requires.ready.ring c.in-Ok.ensures.may.started)
+    subst (λ n. IsRing n (g.M.Mmio.registers c.args.io.now)) (c.requires.ready.stand.size ∙ c.args.self.now.invariants.sizes.marked) (c.requires.ready.ring c.in-Ok.ensures.may.started)
 
 pub append_detach-requires-clause-room : goal.append_detach-requires-clause-room
 append_detach-requires-clause-room g c = c.in-Ok.ensures.may.room
@@ -114,12 +114,12 @@ append_detach-requires-clause-room g c = c.in-Ok.ensures.may.room
 pub append_detach-requires-clause-id : goal.append_detach-requires-clause-id
 append_detach-requires-clause-id g c =
     let driver = c.args.self.now in
-    low_id driver.levels c.args.id (driver.sound.named c.args.id c.in-Ok.stage (attached_owns (attachment_by_id driver.devices.items c.args.id) c.in-Ok.stage c.in-Ok.ensures.may.attached))
+    low_id driver.levels c.args.id (driver.invariants.named c.args.id c.in-Ok.stage (attached_owns (attachment_by_id driver.devices.items c.args.id) c.in-Ok.stage c.in-Ok.ensures.may.attached))
 
 pub append_detach-requires-clause-number : goal.append_detach-requires-clause-number
 append_detach-requires-clause-number g c =
     let driver = c.args.self.now in
-    let small = driver.sound.numbers.small c.args.id c.in-Ok.stage (attached_owns (attachment_by_id driver.devices.items c.args.id) c.in-Ok.stage c.in-Ok.ensures.may.attached) in
+    let small = driver.invariants.numbers.small c.args.id c.in-Ok.stage (attached_owns (attachment_by_id driver.devices.items c.args.id) c.in-Ok.stage c.in-Ok.ensures.may.attached) in
     let le : c.in-Ok.stage.number ≤ 17 = small.1 in
     omega (arith, le)
 
@@ -135,7 +135,7 @@ append_detach-requires-clause-cut_off g c =
     let bare = c.clear_leaves.new.memory in
     let ledger = c.release_all.new.self in
     let owns = attached_owns (attachment_by_id driver.devices.items id) stage may.attached in
-    let here = in_stands driver.frames memory driver.marks driver.devices.items driver.levels (stand.size ∙ driver.sound.sizes.marked) (stand.directory may.started) in
+    let here = in_stands driver.frames memory driver.owners driver.devices.items driver.levels (stand.size ∙ driver.invariants.sizes.marked) (stand.directory may.started) in
     let cleared = subst (λ r. IsCleared memory between driver.levels r id) c.directory_frame-directory.ensures record {
       tree = c.clear_context.ensures.directory;
       pages = λ f. (c.clear_context.ensures.pages f).0;
@@ -145,7 +145,7 @@ append_detach-requires-clause-cut_off g c =
       outside = c.clear_context.ensures.outside;
       size = c.clear_context.ensures.size;
     } in
-    let tables = tables_uncontexted driver.frames memory between driver.marks driver.ledger driver.devices.items driver.levels id here cleared stand.tables in
+    let tables = tables_uncontexted driver.frames memory between driver.owners driver.ledger driver.devices.items driver.levels id here cleared stand.tables in
     let unmapped = subst (λ size. AreUnmapped size driver.ledger id stage.root between bare) c.size.ensures record {
       tree = c.clear_leaves.ensures.tree;
       tables = c.clear_leaves.ensures.tables;
@@ -153,12 +153,12 @@ append_detach-requires-clause-cut_off g c =
       outside = c.clear_leaves.ensures.outside;
       long = c.clear_leaves.ensures.size;
     } in
-    let mapped = tables_unmapped between bare driver.marks driver.ledger ledger driver.devices.items id (driver.given + 1) stage tables owns unmapped c.release_all.ensures.released in
-    let low = subst (λ n. id < n) (room_for_ids driver.levels driver.sound.sizes.in_range) (driver.sound.named id stage owns) in
+    let mapped = tables_unmapped between bare driver.owners driver.ledger ledger driver.devices.items id (driver.given + 1) stage tables owns unmapped c.release_all.ensures.released in
+    let low = subst (λ n. id < n) (room_for_ids driver.levels driver.invariants.sizes.in_range) (driver.invariants.named id stage owns) in
     record {
-      context = still_cleared driver.frames memory between bare driver.marks driver.ledger driver.devices.items driver.levels id (size_in stage.mode) stage.root driver.sound.sizes.in_range here cleared low
+      context = still_cleared driver.frames memory between bare driver.owners driver.ledger driver.devices.items driver.levels id (size_in stage.mode) stage.root driver.invariants.sizes.in_range here cleared low
           (λ f at. (tables id stage owns).own f (table_in stage.mode between stage.root f (inl at))) unmapped;
-      tables = maps_nothing bare driver.marks ledger id stage.mode stage.root (mapped id stage owns) (none_left driver.ledger ledger id (driver.given + 1) c.release_all.ensures.released);
+      tables = maps_nothing bare driver.owners ledger id stage.mode stage.root (mapped id stage owns) (none_left driver.ledger ledger id (driver.given + 1) c.release_all.ensures.released);
     }
 
 pub returns-clause-effect : goal.returns-clause-effect
@@ -174,8 +174,8 @@ returns-clause-effect g c =
     let bare = c.clear_leaves.new.memory in
     let new = c.append_detach.new.memory in
     let owns = attached_owns (attachment_by_id driver.devices.items id) stage may.attached in
-    let many : length memory ≡ driver.frames = stand.size ∙ driver.sound.sizes.marked in
-    let here : DirectoryIn driver.frames memory driver.marks driver.devices.items driver.levels = in_stands driver.frames memory driver.marks driver.devices.items driver.levels many (stand.directory may.started) in
+    let many : length memory ≡ driver.frames = stand.size ∙ driver.invariants.sizes.marked in
+    let here : DirectoryIn driver.frames memory driver.owners driver.devices.items driver.levels = in_stands driver.frames memory driver.owners driver.devices.items driver.levels many (stand.directory may.started) in
     let cleared = subst (λ r. IsCleared memory between driver.levels r id) c.directory_frame-directory.ensures record {
       tree = c.clear_context.ensures.directory;
       pages = λ f. (c.clear_context.ensures.pages f).0;
@@ -185,7 +185,7 @@ returns-clause-effect g c =
       outside = c.clear_context.ensures.outside;
       size = c.clear_context.ensures.size;
     } in
-    let own = tables_uncontexted driver.frames memory between driver.marks driver.ledger driver.devices.items driver.levels id here cleared stand.tables id stage owns in
+    let own = tables_uncontexted driver.frames memory between driver.owners driver.ledger driver.devices.items driver.levels id here cleared stand.tables id stage owns in
     let unmapped = subst (λ size. AreUnmapped size driver.ledger id stage.root between bare) c.size.ensures record {
       tree = c.clear_leaves.ensures.tree;
       tables = c.clear_leaves.ensures.tables;
@@ -193,7 +193,7 @@ returns-clause-effect g c =
       outside = c.clear_leaves.ensures.outside;
       long = c.clear_leaves.ensures.size;
     } in
-    let kept : (f : ℕ) → slice_get driver.marks f ≢ Some (Some (OneDevice id)) → (HasPage memory (root_level driver.levels) (directory_frame driver.frames) f → ⊥) → slice_get bare f ≡ slice_get memory f =
+    let kept : (f : ℕ) → slice_get driver.owners f ≢ Some (Some (OneDevice id)) → (HasPage memory (root_level driver.levels) (directory_frame driver.frames) f → ⊥) → slice_get bare f ≡ slice_get memory f =
     λ f apart outside.
     frame_stays (size_in stage.mode) driver.ledger id stage.root between bare f unmapped (λ at. apart (own.own f (table_in stage.mode between stage.root f (inl at))))
     ∙ cleared.outside f (λ at. outside (cleared.pages f at)) in
@@ -218,7 +218,7 @@ returns-clause-effect g c =
         queued = rw (sym whole, many) appended;
         list =
             let r = g.M.Mmio.registers io in
-            let ring = kept (command_frame (length memory)) (λ at. not_of_device driver.marks (command_frame (length memory)) id (rw many driver.sound.fixed.command) at)
+            let ring = kept (command_frame (length memory)) (λ at. not_of_device driver.owners (command_frame (length memory)) id (rw many driver.invariants.fixed.command) at)
             (λ at. (here.own (command_frame (length memory)) at).no_command (ap command_frame many)) in
             rw many
             (all_last g.M.Mmio bare new io c.append_detach.new.io commands appended
@@ -244,8 +244,8 @@ returns-clause-ready g c =
     let ticket = driver.given + 1 in
     let devices = with_attachment driver.devices.items id (Quarantined ticket stage) in
     let owns = attached_owns (attachment_by_id driver.devices.items id) stage may.attached in
-    let many : length memory ≡ driver.frames = stand.size ∙ driver.sound.sizes.marked in
-    let here : DirectoryIn driver.frames memory driver.marks driver.devices.items driver.levels = in_stands driver.frames memory driver.marks driver.devices.items driver.levels many (stand.directory may.started) in
+    let many : length memory ≡ driver.frames = stand.size ∙ driver.invariants.sizes.marked in
+    let here : DirectoryIn driver.frames memory driver.owners driver.devices.items driver.levels = in_stands driver.frames memory driver.owners driver.devices.items driver.levels many (stand.directory may.started) in
     let cleared = subst (λ r. IsCleared memory between driver.levels r id) c.directory_frame-directory.ensures record {
       tree = c.clear_context.ensures.directory;
       pages = λ f. (c.clear_context.ensures.pages f).0;
@@ -255,7 +255,7 @@ returns-clause-ready g c =
       outside = c.clear_context.ensures.outside;
       size = c.clear_context.ensures.size;
     } in
-    let tables = tables_uncontexted driver.frames memory between driver.marks driver.ledger driver.devices.items driver.levels id here cleared stand.tables in
+    let tables = tables_uncontexted driver.frames memory between driver.owners driver.ledger driver.devices.items driver.levels id here cleared stand.tables in
     let own = tables id stage owns in
     let unmapped = subst (λ size. AreUnmapped size driver.ledger id stage.root between bare) c.size.ensures record {
       tree = c.clear_leaves.ensures.tree;
@@ -266,30 +266,30 @@ returns-clause-ready g c =
     } in
     let rest : length new ≡ length between = c.append_detach.ensures.size ∙ c.clear_leaves.ensures.size in
     let size : length new ≡ length memory = rest ∙ c.clear_context.ensures.size in
-    let system : (f : ℕ) → slice_get driver.marks f ≡ Some (Some System) → slice_get bare f ≡ slice_get between f =
-    λ f mark. frame_stays (size_in stage.mode) driver.ledger id stage.root between bare f unmapped (λ at. not_of_device driver.marks f id mark (own.own f (table_in stage.mode between stage.root f (inl at)))) in
+    let system : (f : ℕ) → slice_get driver.owners f ≡ Some (Some System) → slice_get bare f ≡ slice_get between f =
+    λ f mark. frame_stays (size_in stage.mode) driver.ledger id stage.root between bare f unmapped (λ at. not_of_device driver.owners f id mark (own.own f (table_in stage.mode between stage.root f (inl at)))) in
     let none : stages_of devices id ≡ None = ap attached_stages (attachment_set driver.devices.items id (Quarantined ticket stage) (attached_there driver.devices.items id stage may.attached)) in
     let same : (other : ℕ) → other ≢ id → stages_of devices other ≡ stages_of driver.devices.items other =
     λ other apart. ap attached_stages (attachment_other driver.devices.items id other (Quarantined ticket stage) apart) in
     let owned = owned_cut_off driver.devices.items id ticket stage may.attached in
-    let after = directory_cleared driver.frames memory between driver.marks driver.devices.items devices driver.levels id here cleared.tree cleared.pages cleared.here cleared.others cleared.paths none same owned in
-    let mapped = tables_unmapped between bare driver.marks driver.ledger ledger driver.devices.items id ticket stage tables owns unmapped c.release_all.ensures.released in
-    let all = all_stay bare new driver.marks ledger ledger driver.devices.items mapped
-    (λ n other mark. c.append_detach.ensures.other_frames n (of_one driver.marks (driver.frames - 1) n other driver.sound.fixed.command mark)) (λ other page. refl) in
+    let after = directory_cleared driver.frames memory between driver.owners driver.devices.items devices driver.levels id here cleared.tree cleared.pages cleared.here cleared.others cleared.paths none same owned in
+    let mapped = tables_unmapped between bare driver.owners driver.ledger ledger driver.devices.items id ticket stage tables owns unmapped c.release_all.ensures.released in
+    let all = all_stay bare new driver.owners ledger ledger driver.devices.items mapped
+    (λ n other mark. c.append_detach.ensures.other_frames n (of_one driver.owners (driver.frames - 1) n other driver.invariants.fixed.command mark)) (λ other page. refl) in
     rw c.set_attachment.ensures record {
       stand = record {
         size = size ∙ stand.size;
         tables = λ other s at. all other s (sym (owned other) ∙ at);
         directory = λ started.
-            stands_in driver.frames new driver.marks devices driver.levels (size ∙ many)
-            (directory_stay driver.frames between new driver.marks driver.marks devices devices driver.levels driver.sound.sizes.in_range rest
+            stands_in driver.frames new driver.owners devices driver.levels (size ∙ many)
+            (directory_stay driver.frames between new driver.owners driver.owners devices devices driver.levels driver.invariants.sizes.in_range rest
             (λ n mark. (c.append_detach.ensures.other_frames n mark.no_command ∙ system n mark.system, refl)) (λ other. refl) (λ other s at. at) after);
       };
       faults = λ started.
           let fault = fault_frame (length memory) in
           fault_ring_stays memory new (g.M.Mmio.registers c.args.io.now) (g.M.Mmio.registers c.append_detach.new.io) size
-          (c.append_detach.ensures.other_frames fault (λ same. absurd (omega (arith, many, driver.sound.sizes.size.0, same)))
-          ∙ system fault (ap (λ n. slice_get driver.marks (fault_frame n)) many ∙ driver.sound.fixed.fault)
+          (c.append_detach.ensures.other_frames fault (λ same. absurd (omega (arith, many, driver.invariants.sizes.size.0, same)))
+          ∙ system fault (ap (λ n. slice_get driver.owners (fault_frame n)) many ∙ driver.invariants.fixed.fault)
           ∙ cleared.outside fault (λ at. (here.own fault (cleared.pages fault at)).no_fault (ap fault_frame many)))
           c.append_detach.ensures.faults (c.requires.ready.faults started);
       ring = λ started. subst (λ n. IsRing n (g.M.Mmio.registers c.append_detach.new.io)) (sym (size ∙ many)) c.append_detach.ensures.ring;

@@ -25,7 +25,7 @@ use Rattle.iom_driver.proofs.Modes.{rooted, table_in}
 use Rattle.iom_driver.proofs.Places.{attached_owns}
 use Rattle.iom_driver.proofs.ReleaseTables.{IsUnmapped, other_frame, tables_released}
 use Rattle.iom_driver.proofs.Ring.{same_commands, all_last, stays_named}
-use Rattle.iom_driver.proofs.Stays.{all_stay, of_one}
+use Rattle.iom_driver.proofs.Unchanged.{all_stay, of_one}
 use Rattle.iom_driver.proofs.Tickets.{few_rise}
 use Rattle.iom_driver.proofs.driver.Driver.release.Goals as goal
 
@@ -35,8 +35,8 @@ there None present = cc
 there (Some x) present = (x, refl)
 
 -- a frame of the system's isn't a device's
-not_of_device : (marks : List (Option Owner)) (n id : ℕ) → slice_get marks n ≡ Some (Some System) → slice_get marks n ≡ Some (Some (OneDevice id)) → ⊥
-not_of_device marks n id system own = let both : ◌≡◌ {A = Option (Option Owner)} (Some (Some System)) (Some (Some (OneDevice id))) = sym system ∙ own in cc
+not_of_device : (owners : List (Option Owner)) (n id : ℕ) → slice_get owners n ≡ Some (Some System) → slice_get owners n ≡ Some (Some (OneDevice id)) → ⊥
+not_of_device owners n id system own = let both : ◌≡◌ {A = Option (Option Owner)} (Some (Some System)) (Some (Some (OneDevice id))) = sym system ∙ own in cc
 
 pub returns-in-Err : goal.returns-in-Err
 returns-in-Err g c = record {
@@ -51,7 +51,7 @@ pub release-requires-clause-room : goal.release-requires-clause-room
 release-requires-clause-room g c =
     let driver = c.args.self.now in
     let few : driver.given - driver.confirmed < pending_limit = c.in-Ok.ensures.may.few in
-    let many = few_rise driver.confirmed driver.given (pending_in driver.ledger) driver.sound.tickets.pending driver.sound.tickets.ordered in
+    let many = few_rise driver.confirmed driver.given (pending_in driver.ledger) driver.invariants.tickets.pending driver.invariants.tickets.ordered in
     let room : pending_limit ≤ pending_room driver.ledger = has_room driver.ledger in
     omega (arith, many, few, room)
 
@@ -59,8 +59,8 @@ pub invariant_of-self : goal.invariant_of-self
 invariant_of-self g c =
     let driver = c.args.self.now in
     record {
-      sound = sound_released driver.ledger c.release.new.self driver.marks driver.devices.items driver.frames driver.levels driver.started driver.given driver.confirmed driver.restarts driver.restarted c.args.id c.args.page
-          driver.sound c.release.ensures.released c.in-Ok.ensures.may.number;
+      invariants = sound_released driver.ledger c.release.new.self driver.owners driver.devices.items driver.frames driver.levels driver.started driver.given driver.confirmed driver.restarts driver.restarted c.args.id c.args.page
+          driver.invariants c.release.ensures.released c.in-Ok.ensures.may.number;
     }
 
 pub unmap-requires-clause-tree : goal.unmap-requires-clause-tree
@@ -72,17 +72,17 @@ pub unmap-requires-clause-page : goal.unmap-requires-clause-page
 unmap-requires-clause-page g c =
     let driver = c.args.self.now in
     let tables = c.requires.ready.stand.tables c.args.id c.in-Ok.stage (attached_owns (attachment_by_id driver.devices.items c.args.id) c.in-Ok.stage c.in-Ok.ensures.may.attached) in
-    rw c.size.ensures (held_low c.args.memory.now driver.marks driver.ledger c.args.id c.in-Ok.stage.mode c.in-Ok.stage.root c.args.page tables c.in-Ok.ensures.may.held)
+    rw c.size.ensures (held_low c.args.memory.now driver.owners driver.ledger c.args.id c.in-Ok.stage.mode c.in-Ok.stage.root c.args.page tables c.in-Ok.ensures.may.held)
 
 pub append_release-requires-clause-frames : goal.append_release-requires-clause-frames
-append_release-requires-clause-frames g c = c.unmap.ensures.size ∙ c.requires.ready.stand.size ∙ c.args.self.now.sound.sizes.marked
+append_release-requires-clause-frames g c = c.unmap.ensures.size ∙ c.requires.ready.stand.size ∙ c.args.self.now.invariants.sizes.marked
 
 pub append_release-requires-clause-many : goal.append_release-requires-clause-many
-append_release-requires-clause-many g c = c.args.self.now.sound.sizes.size.0
+append_release-requires-clause-many g c = c.args.self.now.invariants.sizes.size.0
 
 pub append_release-requires-clause-ring : goal.append_release-requires-clause-ring
 append_release-requires-clause-ring g c =
-    subst (λ n. IsRing n (g.M.Mmio.registers c.args.io.now)) (c.requires.ready.stand.size ∙ c.args.self.now.sound.sizes.marked) (c.requires.ready.ring c.in-Ok.ensures.may.started)
+    subst (λ n. IsRing n (g.M.Mmio.registers c.args.io.now)) (c.requires.ready.stand.size ∙ c.args.self.now.invariants.sizes.marked) (c.requires.ready.ring c.in-Ok.ensures.may.started)
 
 pub append_release-requires-clause-room : goal.append_release-requires-clause-room
 append_release-requires-clause-room g c = c.in-Ok.ensures.may.room
@@ -90,24 +90,24 @@ append_release-requires-clause-room g c = c.in-Ok.ensures.may.room
 pub append_release-requires-clause-id : goal.append_release-requires-clause-id
 append_release-requires-clause-id g c =
     let driver = c.args.self.now in
-    low_id driver.levels c.args.id (driver.sound.named c.args.id c.in-Ok.stage (attached_owns (attachment_by_id driver.devices.items c.args.id) c.in-Ok.stage c.in-Ok.ensures.may.attached))
+    low_id driver.levels c.args.id (driver.invariants.named c.args.id c.in-Ok.stage (attached_owns (attachment_by_id driver.devices.items c.args.id) c.in-Ok.stage c.in-Ok.ensures.may.attached))
 
 pub append_release-requires-clause-number : goal.append_release-requires-clause-number
 append_release-requires-clause-number g c =
-    let small = c.args.self.now.sound.numbers.small c.args.id c.in-Ok.stage (attached_owns (attachment_by_id c.args.self.now.devices.items c.args.id) c.in-Ok.stage c.in-Ok.ensures.may.attached) in
+    let small = c.args.self.now.invariants.numbers.small c.args.id c.in-Ok.stage (attached_owns (attachment_by_id c.args.self.now.devices.items c.args.id) c.in-Ok.stage c.in-Ok.ensures.may.attached) in
     let le : c.in-Ok.stage.number ≤ 17 = small.1 in
     omega arith
 
 pub append_release-requires-clause-page : goal.append_release-requires-clause-page
 append_release-requires-clause-page g c =
     let held = there _ c.in-Ok.ensures.may.held in
-    let low : c.args.page < page_limit_of Sv48 = (c.args.self.now.sound.grants.held c.args.id c.args.page held.0.0 held.0.1 held.1).page_low in
+    let low : c.args.page < page_limit_of Sv48 = (c.args.self.now.invariants.grants.held c.args.id c.args.page held.0.0 held.0.1 held.1).page_low in
     omega arith
 
 pub append_release-requires-clause-unmapped : goal.append_release-requires-clause-unmapped
 append_release-requires-clause-unmapped g c =
     let held = there _ c.in-Ok.ensures.may.held in
-    let low : c.args.page < page_limit_of Sv48 = (c.args.self.now.sound.grants.held c.args.id c.args.page held.0.0 held.0.1 held.1).page_low in
+    let low : c.args.page < page_limit_of Sv48 = (c.args.self.now.invariants.grants.held c.args.id c.args.page held.0.0 held.0.1 held.1).page_low in
     subst (λ size. leaf_of (levels_of size) c.unmap.new.memory c.in-Ok.stage.root c.args.page ≡ None) c.size.ensures
     (c.unmap.ensures.leaf c.args.page (omega arith) ∙ rw (eq-eqb c.args.page c.args.page refl) refl)
 
@@ -124,7 +124,7 @@ returns-clause-effect g c =
       outside = c.unmap.ensures.outside;
       long = c.unmap.ensures.size;
     } in
-    let many : length memory ≡ driver.frames = stand.size ∙ driver.sound.sizes.marked in
+    let many : length memory ≡ driver.frames = stand.size ∙ driver.invariants.sizes.marked in
     let commands = release_commands c.args.id c.in-Ok.stage c.args.page (completion_address driver.frames) (driver.given + driver.restarts + 1) in
     let appended = subst (λ n. AppendsAll g.M.Mmio c.unmap.new.memory c.args.io.now (release_commands c.args.id c.in-Ok.stage c.args.page (completion_address driver.frames) (n + 1)) c.append_release.new.memory c.append_release.new.io)
     c.last_fence-number.ensures c.append_release.ensures.appended in
@@ -142,7 +142,7 @@ returns-clause-effect g c =
             let io = c.args.io.now in
             let r = g.M.Mmio.registers io in
             let kept = other_frame size memory c.unmap.new.memory c.in-Ok.stage.root c.args.page (command_frame (length memory)) unmapped_so
-            (λ at. not_of_device driver.marks (command_frame (length memory)) c.args.id (rw many driver.sound.fixed.command)
+            (λ at. not_of_device driver.owners (command_frame (length memory)) c.args.id (rw many driver.invariants.fixed.command)
             (tables.own (command_frame (length memory)) (table_in c.in-Ok.stage.mode memory c.in-Ok.stage.root (command_frame (length memory)) (inl at)))) in
             rw many
             (all_last g.M.Mmio c.unmap.new.memory c.append_release.new.memory io c.append_release.new.io commands appended
@@ -164,35 +164,35 @@ returns-clause-ready g c =
       outside = c.unmap.ensures.outside;
       long = c.unmap.ensures.size;
     } in
-    let tables = tables_released c.args.memory.now c.unmap.new.memory driver.marks driver.ledger c.release.new.self driver.devices.items c.args.id c.args.page (driver.given + 1) c.in-Ok.stage
+    let tables = tables_released c.args.memory.now c.unmap.new.memory driver.owners driver.ledger c.release.new.self driver.devices.items c.args.id c.args.page (driver.given + 1) c.in-Ok.stage
     stand.tables (attached_owns (attachment_by_id driver.devices.items c.args.id) c.in-Ok.stage c.in-Ok.ensures.may.attached) unmapped_so c.release.ensures.released in
     let before = stand.tables c.args.id c.in-Ok.stage (attached_owns (attachment_by_id driver.devices.items c.args.id) c.in-Ok.stage c.in-Ok.ensures.may.attached) in
-    let many : length c.args.memory.now ≡ driver.frames = stand.size ∙ driver.sound.sizes.marked in
+    let many : length c.args.memory.now ≡ driver.frames = stand.size ∙ driver.invariants.sizes.marked in
     let size : length c.append_release.new.memory ≡ length c.args.memory.now = c.append_release.ensures.size ∙ c.unmap.ensures.size in
     record {
       stand = record {
         size = size ∙ stand.size;
-        tables = all_stay c.unmap.new.memory c.append_release.new.memory driver.marks c.release.new.self c.release.new.self driver.devices.items tables
-            (λ n id own. c.append_release.ensures.other_frames n (of_one driver.marks (driver.frames - 1) n id driver.sound.fixed.command own)) (λ id page. refl);
+        tables = all_stay c.unmap.new.memory c.append_release.new.memory driver.owners c.release.new.self c.release.new.self driver.devices.items tables
+            (λ n id own. c.append_release.ensures.other_frames n (of_one driver.owners (driver.frames - 1) n id driver.invariants.fixed.command own)) (λ id page. refl);
         directory = λ started.
-            stands_in driver.frames c.append_release.new.memory driver.marks driver.devices.items driver.levels (size ∙ many)
-            (directory_stay driver.frames c.args.memory.now c.append_release.new.memory driver.marks driver.marks driver.devices.items driver.devices.items driver.levels driver.sound.sizes.in_range size
+            stands_in driver.frames c.append_release.new.memory driver.owners driver.devices.items driver.levels (size ∙ many)
+            (directory_stay driver.frames c.args.memory.now c.append_release.new.memory driver.owners driver.owners driver.devices.items driver.devices.items driver.levels driver.invariants.sizes.in_range size
             (λ n own. (
               c.append_release.ensures.other_frames n own.no_command
                   ∙ other_frame (size_in c.in-Ok.stage.mode) c.args.memory.now c.unmap.new.memory c.in-Ok.stage.root c.args.page n unmapped_so
-                  (λ at. not_of_device driver.marks n c.args.id own.system (before.own n (table_in c.in-Ok.stage.mode c.args.memory.now c.in-Ok.stage.root n (inl at)))),
+                  (λ at. not_of_device driver.owners n c.args.id own.system (before.own n (table_in c.in-Ok.stage.mode c.args.memory.now c.in-Ok.stage.root n (inl at)))),
               refl,
-            )) (λ id. refl) (λ id stage at. at) (in_stands driver.frames c.args.memory.now driver.marks driver.devices.items driver.levels many (stand.directory started)));
+            )) (λ id. refl) (λ id stage at. at) (in_stands driver.frames c.args.memory.now driver.owners driver.devices.items driver.levels many (stand.directory started)));
       };
       directory = λ started. subst (λ n. NamesDirectory n driver.levels (g.M.Mmio.registers c.append_release.new.io)) (sym size)
           (stays_named (length c.args.memory.now) driver.levels (g.M.Mmio.registers c.args.io.now) (g.M.Mmio.registers c.append_release.new.io) c.append_release.ensures.named (c.requires.ready.directory started));
       faults = λ started.
           let fault = fault_frame (length c.args.memory.now) in
-          let system : slice_get driver.marks fault ≡ Some (Some System) = ap (λ n. slice_get driver.marks (fault_frame n)) many ∙ driver.sound.fixed.fault in
+          let system : slice_get driver.owners fault ≡ Some (Some System) = ap (λ n. slice_get driver.owners (fault_frame n)) many ∙ driver.invariants.fixed.fault in
           fault_ring_stays c.args.memory.now c.append_release.new.memory (g.M.Mmio.registers c.args.io.now) (g.M.Mmio.registers c.append_release.new.io) size
-          (c.append_release.ensures.other_frames fault (λ same. absurd (omega (arith, many, driver.sound.sizes.size.0, same)))
+          (c.append_release.ensures.other_frames fault (λ same. absurd (omega (arith, many, driver.invariants.sizes.size.0, same)))
           ∙ other_frame (size_in c.in-Ok.stage.mode) c.args.memory.now c.unmap.new.memory c.in-Ok.stage.root c.args.page fault unmapped_so
-          (λ at. not_of_device driver.marks fault c.args.id system (before.own fault (table_in c.in-Ok.stage.mode c.args.memory.now c.in-Ok.stage.root fault (inl at)))))
+          (λ at. not_of_device driver.owners fault c.args.id system (before.own fault (table_in c.in-Ok.stage.mode c.args.memory.now c.in-Ok.stage.root fault (inl at)))))
           c.append_release.ensures.faults (c.requires.ready.faults started);
-      ring = λ started. subst (λ n. IsRing n (g.M.Mmio.registers c.append_release.new.io)) (sym (size ∙ stand.size ∙ driver.sound.sizes.marked)) c.append_release.ensures.ring;
+      ring = λ started. subst (λ n. IsRing n (g.M.Mmio.registers c.append_release.new.io)) (sym (size ∙ stand.size ∙ driver.invariants.sizes.marked)) c.append_release.ensures.ring;
     }

@@ -11,15 +11,15 @@ use Rattle.iom_driver.specs.Fences.{last_fence}
 use Rattle.iom_driver.specs.Layout.{command_frame, fault_frame, completion_address}
 use Rattle.iom_driver.specs.Ready.{IsRing}
 use Rattle.iom_driver.specs.Restarts.{all_requeued, restart_commands, IsNamable}
-use Rattle.iom_driver.specs.Seen.{state_of}
+use Rattle.iom_driver.specs.StateOf.{state_of}
 use Rattle.iom_driver.proofs.Again.{faults_through, named_through}
 use Rattle.iom_driver.proofs.AppendLists.{appends_both}
-use Rattle.iom_driver.proofs.CuttingOff.{may_restart, sound_restarted, all_namable}
+use Rattle.iom_driver.proofs.QuarantineLemmas.{may_restart, sound_restarted, all_namable}
 use Rattle.iom_driver.proofs.Directories.{directory_stay, in_stands, stands_in}
 use Rattle.iom_driver.proofs.FaultRings.{fault_ring_stays}
 use Rattle.iom_driver.proofs.Ring.{all_last, stays_named}
-use Rattle.iom_driver.proofs.Stays.{all_stay, of_one}
-use Rattle.iom_driver.proofs.Told.{applies, passes, more_numbers, no_more_numbers}
+use Rattle.iom_driver.proofs.Unchanged.{all_stay, of_one}
+use Rattle.iom_driver.proofs.FirstRefusals.{applies, passes, more_numbers, no_more_numbers}
 use Rattle.iom_driver.proofs.driver.Driver.restart.Goals as goal
 
 pub returns-then-not-self : goal.returns-then-not-self
@@ -48,26 +48,26 @@ returns-then-last_fence-eq4294967295 g c =
 pub append_devices-requires : goal.append_devices-requires
 append_devices-requires g c =
     let driver = c.args.self.now in
-    let many : length c.args.memory.now ≡ driver.frames = c.requires.ready.stand.size ∙ driver.sound.sizes.marked in
-    let least : 64 ≤ driver.frames = driver.sound.sizes.size.0 in
+    let many : length c.args.memory.now ≡ driver.frames = c.requires.ready.stand.size ∙ driver.invariants.sizes.marked in
+    let least : 64 ≤ driver.frames = driver.invariants.sizes.size.0 in
     record {
       many = omega (arith, many, least);
       ring = c.turn_off_and_on.ensures.ring;
       empty = c.turn_off_and_on.ensures.count;
-      few = subst (λ (ds : List Device). length ds ≤ 16) (sym c.deref.ensures.value) driver.sound.few;
+      few = subst (λ (ds : List Device). length ds ≤ 16) (sym c.deref.ensures.value) driver.invariants.few;
       namable =
           subst (λ (ds : List Device). All IsNamable ds) (sym c.deref.ensures.value)
-          (all_namable driver.devices.items driver.levels driver.sound.ids driver.sound.numbers driver.sound.named);
+          (all_namable driver.devices.items driver.levels driver.invariants.ids driver.invariants.numbers driver.invariants.named);
     }
 
 pub append_fence-requires : goal.append_fence-requires
 append_fence-requires g c =
     let driver = c.args.self.now in
-    let many : length c.args.memory.now ≡ driver.frames = c.requires.ready.stand.size ∙ driver.sound.sizes.marked in
+    let many : length c.args.memory.now ≡ driver.frames = c.requires.ready.stand.size ∙ driver.invariants.sizes.marked in
     let count : how_many (g.M.Mmio.registers c.append_devices.new.io) ≤ 48 = c.append_devices.ensures.count in
     record {
       frames = c.append_devices.ensures.size ∙ many;
-      many = driver.sound.sizes.size.0;
+      many = driver.invariants.sizes.size.0;
       ring = subst (λ n. IsRing n (g.M.Mmio.registers c.append_devices.new.io)) many c.append_devices.ensures.ring;
       room = omega (arith, count);
     }
@@ -76,9 +76,9 @@ pub invariant_of-self : goal.invariant_of-self
 invariant_of-self g c =
     let driver = c.args.self.now in
     let d = state_of driver in
-    let more = more_numbers (last_fence d) c.last_fence.result driver.sound.fences.numbered c.last_fence.ensures c.if-last_fence-eq4294967295.false in
+    let more = more_numbers (last_fence d) c.last_fence.result driver.invariants.fences.numbered c.last_fence.ensures c.if-last_fence-eq4294967295.false in
     record {
-      sound = sound_restarted driver.ledger driver.marks driver.devices.items driver.frames driver.levels driver.started driver.given driver.confirmed driver.restarts driver.restarted driver.sound more;
+      invariants = sound_restarted driver.ledger driver.owners driver.devices.items driver.frames driver.levels driver.started driver.given driver.confirmed driver.restarts driver.restarted driver.invariants more;
     }
 
 pub returns-clause-effect : goal.returns-clause-effect
@@ -86,9 +86,9 @@ returns-clause-effect g c =
     let driver = c.args.self.now in
     let d = state_of driver in
     let memory = c.args.memory.now in
-    let many : length memory ≡ driver.frames = c.requires.ready.stand.size ∙ driver.sound.sizes.marked in
+    let many : length memory ≡ driver.frames = c.requires.ready.stand.size ∙ driver.invariants.sizes.marked in
     let last = last_fence d in
-    let high : last ≤ 4294967295 = driver.sound.fences.numbered in
+    let high : last ≤ 4294967295 = driver.invariants.fences.numbered in
     let more : last < 4294967295 = omega (arith, high, c.last_fence.ensures, c.if-last_fence-eq4294967295.false) in
     let on = c.turn_off_and_on.new.io in
     let between = c.append_devices.new.memory in
@@ -120,25 +120,25 @@ returns-clause-ready g c =
     let new = c.append_fence.new.memory in
     let stand = c.requires.ready.stand in
     let r = g.M.Mmio.registers in
-    let many : length memory ≡ driver.frames = stand.size ∙ driver.sound.sizes.marked in
+    let many : length memory ≡ driver.frames = stand.size ∙ driver.invariants.sizes.marked in
     let size : length new ≡ length memory = c.append_fence.ensures.size ∙ c.append_devices.ensures.size in
     let kept : (f : ℕ) → f ≢ command_frame driver.frames → slice_get new f ≡ slice_get memory f =
     λ f apart. c.append_fence.ensures.other_frames f apart ∙ c.append_devices.ensures.other_frames f (λ same. apart (same ∙ ap command_frame many)) in
     record {
       stand = record {
         size = size ∙ stand.size;
-        tables = all_stay memory new driver.marks driver.ledger driver.ledger driver.devices.items stand.tables
-            (λ n id own. kept n (of_one driver.marks (command_frame driver.frames) n id driver.sound.fixed.command own)) (λ id page. refl);
+        tables = all_stay memory new driver.owners driver.ledger driver.ledger driver.devices.items stand.tables
+            (λ n id own. kept n (of_one driver.owners (command_frame driver.frames) n id driver.invariants.fixed.command own)) (λ id page. refl);
         directory = λ started.
-            stands_in driver.frames new driver.marks driver.devices.items driver.levels (size ∙ many)
-            (directory_stay driver.frames memory new driver.marks driver.marks driver.devices.items driver.devices.items driver.levels driver.sound.sizes.in_range size
+            stands_in driver.frames new driver.owners driver.devices.items driver.levels (size ∙ many)
+            (directory_stay driver.frames memory new driver.owners driver.owners driver.devices.items driver.devices.items driver.levels driver.invariants.sizes.in_range size
             (λ n own. (kept n own.no_command, refl)) (λ id. refl) (λ id stage at. at)
-            (in_stands driver.frames memory driver.marks driver.devices.items driver.levels many (stand.directory started)));
+            (in_stands driver.frames memory driver.owners driver.devices.items driver.levels many (stand.directory started)));
       };
       ring = λ started. subst (λ n. IsRing n (r c.append_fence.new.io)) (sym (size ∙ many)) c.append_fence.ensures.ring;
       faults = λ started.
           fault_ring_stays memory new (r c.args.io.now) (r c.append_fence.new.io) size
-          (kept (fault_frame (length memory)) (λ same. absurd (omega (arith, many, driver.sound.sizes.size.0, same))))
+          (kept (fault_frame (length memory)) (λ same. absurd (omega (arith, many, driver.invariants.sizes.size.0, same))))
           (faults_through (r c.args.io.now) (r c.append_devices.new.io) (r c.append_fence.new.io)
           (faults_through (r c.args.io.now) (r c.turn_off_and_on.new.io) (r c.append_devices.new.io) c.turn_off_and_on.ensures.faults c.append_devices.ensures.faults)
           c.append_fence.ensures.faults)

@@ -7,14 +7,14 @@ use Rattle.iom_driver.specs.declared.device.Device.{Device}
 use Rattle.iom_driver.specs.Devices.{attached_stages, owned_stages, with_attachment}
 use Rattle.iom_driver.specs.Directory.{located_for}
 use Rattle.iom_driver.specs.Layout.{directory_frame, fault_frame}
-use Rattle.iom_driver.specs.Seen.{state_of}
-use Rattle.iom_driver.specs.Sound.{IsSound}
-use Rattle.iom_driver.proofs.CuttingOff.{IsPutAgain, cut_off_there, owned_revived, sound_revived, tables_put_again}
+use Rattle.iom_driver.specs.StateOf.{state_of}
+use Rattle.iom_driver.specs.Invariant.{StateInvariant}
+use Rattle.iom_driver.proofs.QuarantineLemmas.{IsPutAgain, cut_off_there, owned_revived, sound_revived, tables_put_again}
 use Rattle.iom_driver.proofs.Directories.{DirectoryIn, room_for_ids, in_stands, stands_in, directory_put}
 use Rattle.iom_driver.proofs.Modes.{rooted}
 use Rattle.iom_driver.proofs.Orders.{maps_nothing}
 use Rattle.iom_driver.proofs.Places.{attachment_set, attachment_other}
-use Rattle.iom_driver.proofs.Stays.{ready_from}
+use Rattle.iom_driver.proofs.Unchanged.{ready_from}
 use Rattle.iom_driver.proofs.driver.Driver.revive.Goals as goal
 
 -- nothing is in an empty list
@@ -39,32 +39,32 @@ context_for-context-requires-clause-nothing c =
     let driver = c.args.self.now in
     let may = c.in-Ok.ensures.may in
     let stage = c.in-Ok.stage in
-    maps_nothing c.args.memory.now driver.marks driver.ledger c.args.id stage.mode stage.root (c.requires.stand.tables c.args.id stage (ap owned_stages may.cut_off))
-    (λ page. driver.sound.holders c.args.id page (ap attached_stages may.cut_off))
+    maps_nothing c.args.memory.now driver.owners driver.ledger c.args.id stage.mode stage.root (c.requires.stand.tables c.args.id stage (ap owned_stages may.cut_off))
+    (λ page. driver.invariants.holders c.args.id page (ap attached_stages may.cut_off))
 
 pub put_context-requires-clause-levels : goal.put_context-requires-clause-levels
-put_context-requires-clause-levels c = c.args.self.now.sound.sizes.in_range
+put_context-requires-clause-levels c = c.args.self.now.invariants.sizes.in_range
 
 pub put_context-requires-clause-directory : goal.put_context-requires-clause-directory
 put_context-requires-clause-directory c =
     let driver = c.args.self.now in
     let stand = c.requires.stand in
     rw c.directory_frame-directory.ensures
-    (in_stands driver.frames c.args.memory.now driver.marks driver.devices.items driver.levels (stand.size ∙ driver.sound.sizes.marked) (stand.directory c.in-Ok.ensures.may.started)).tree
+    (in_stands driver.frames c.args.memory.now driver.owners driver.devices.items driver.levels (stand.size ∙ driver.invariants.sizes.marked) (stand.directory c.in-Ok.ensures.may.started)).tree
 
 pub put_context-requires-clause-id : goal.put_context-requires-clause-id
 put_context-requires-clause-id c =
     let driver = c.args.self.now in
-    subst (λ n. c.args.id < n) (room_for_ids driver.levels driver.sound.sizes.in_range)
-    (driver.sound.named c.args.id c.in-Ok.stage (ap owned_stages c.in-Ok.ensures.may.cut_off))
+    subst (λ n. c.args.id < n) (room_for_ids driver.levels driver.invariants.sizes.in_range)
+    (driver.invariants.named c.args.id c.in-Ok.stage (ap owned_stages c.in-Ok.ensures.may.cut_off))
 
 pub put_context-requires-clause-empty : goal.put_context-requires-clause-empty
 put_context-requires-clause-empty c =
     let driver = c.args.self.now in
     let may = c.in-Ok.ensures.may in
     let stand = c.requires.stand in
-    let here = in_stands driver.frames c.args.memory.now driver.marks driver.devices.items driver.levels (stand.size ∙ driver.sound.sizes.marked) (stand.directory may.started) in
-    let low = subst (λ n. c.args.id < n) (room_for_ids driver.levels driver.sound.sizes.in_range) (driver.sound.named c.args.id c.in-Ok.stage (ap owned_stages may.cut_off)) in
+    let here = in_stands driver.frames c.args.memory.now driver.owners driver.devices.items driver.levels (stand.size ∙ driver.invariants.sizes.marked) (stand.directory may.started) in
+    let low = subst (λ n. c.args.id < n) (room_for_ids driver.levels driver.invariants.sizes.in_range) (driver.invariants.named c.args.id c.in-Ok.stage (ap owned_stages may.cut_off)) in
     rw c.directory_frame-directory.ensures (here.contexts c.args.id low ∙ ap located_for (ap attached_stages may.cut_off))
 
 pub put_context-requires-clause-count : goal.put_context-requires-clause-count
@@ -72,8 +72,8 @@ put_context-requires-clause-count c =
     let driver = c.args.self.now in
     let may = c.in-Ok.ensures.may in
     let stand = c.requires.stand in
-    let here = in_stands driver.frames c.args.memory.now driver.marks driver.devices.items driver.levels (stand.size ∙ driver.sound.sizes.marked) (stand.directory may.started) in
-    let low = subst (λ n. c.args.id < n) (room_for_ids driver.levels driver.sound.sizes.in_range) (driver.sound.named c.args.id c.in-Ok.stage (ap owned_stages may.cut_off)) in
+    let here = in_stands driver.frames c.args.memory.now driver.owners driver.devices.items driver.levels (stand.size ∙ driver.invariants.sizes.marked) (stand.directory may.started) in
+    let low = subst (λ n. c.args.id < n) (room_for_ids driver.levels driver.invariants.sizes.in_range) (driver.invariants.named c.args.id c.in-Ok.stage (ap owned_stages may.cut_off)) in
     let path = here.places c.args.id c.in-Ok.stage (ap owned_stages may.cut_off) low in
     rw c.directory_frame-directory.ensures (sym (whole_path_there c.args.memory.now (root_level driver.levels) (directory_frame driver.frames) c.args.id path))
 
@@ -82,10 +82,10 @@ invariant_of-self c =
     let driver = c.args.self.now in
     let may = c.in-Ok.ensures.may in
     record {
-      sound =
-          subst (λ (ds : List Device). IsSound driver.ledger driver.marks ds driver.frames driver.levels driver.started driver.given driver.confirmed driver.restarts driver.restarted) (sym {A = List Device} c.set_attachment.ensures)
-          (sound_revived driver.ledger driver.marks driver.devices.items driver.frames driver.levels driver.started driver.given driver.confirmed driver.restarts driver.restarted c.args.id may.ticket c.in-Ok.stage
-          driver.sound may.started may.cut_off);
+      invariants =
+          subst (λ (ds : List Device). StateInvariant driver.ledger driver.owners ds driver.frames driver.levels driver.started driver.given driver.confirmed driver.restarts driver.restarted) (sym {A = List Device} c.set_attachment.ensures)
+          (sound_revived driver.ledger driver.owners driver.devices.items driver.frames driver.levels driver.started driver.given driver.confirmed driver.restarts driver.restarted c.args.id may.ticket c.in-Ok.stage
+          driver.invariants may.started may.cut_off);
     }
 
 pub returns-clause-effect : goal.returns-clause-effect
@@ -94,8 +94,8 @@ returns-clause-effect c =
     let memory = c.args.memory.now in
     let may = c.in-Ok.ensures.may in
     let stand = c.requires.stand in
-    let many : length memory ≡ driver.frames = stand.size ∙ driver.sound.sizes.marked in
-    let here : DirectoryIn driver.frames memory driver.marks driver.devices.items driver.levels = in_stands driver.frames memory driver.marks driver.devices.items driver.levels many (stand.directory may.started) in
+    let many : length memory ≡ driver.frames = stand.size ∙ driver.invariants.sizes.marked in
+    let here : DirectoryIn driver.frames memory driver.owners driver.devices.items driver.levels = in_stands driver.frames memory driver.owners driver.devices.items driver.levels many (stand.directory may.started) in
     let at_root : c.directory_frame-directory.result ≡ directory_frame (length memory) = c.directory_frame-directory.ensures ∙ ap directory_frame (sym many) in
     let put = subst (λ r. IsPutAgain memory c.put_context.new.memory driver.levels r c.args.id c.in-Ok.stage) c.directory_frame-directory.ensures record {
       tree = c.put_context.ensures.directory;
@@ -130,8 +130,8 @@ returns-clause-stand c =
     let may = c.in-Ok.ensures.may in
     let stand = c.requires.stand in
     let devices = with_attachment driver.devices.items id (Attached stage) in
-    let many : length memory ≡ driver.frames = stand.size ∙ driver.sound.sizes.marked in
-    let here : DirectoryIn driver.frames memory driver.marks driver.devices.items driver.levels = in_stands driver.frames memory driver.marks driver.devices.items driver.levels many (stand.directory may.started) in
+    let many : length memory ≡ driver.frames = stand.size ∙ driver.invariants.sizes.marked in
+    let here : DirectoryIn driver.frames memory driver.owners driver.devices.items driver.levels = in_stands driver.frames memory driver.owners driver.devices.items driver.levels many (stand.directory may.started) in
     let put = subst (λ r. IsPutAgain memory c.put_context.new.memory driver.levels r id stage) c.directory_frame-directory.ensures record {
       tree = c.put_context.ensures.directory;
       pages = λ f at. elim ((c.put_context.ensures.pages f).0 at) [ inl was ↦ was | inr new ↦ absurd (none_contained f new) ];
@@ -144,13 +144,13 @@ returns-clause-stand c =
     } in
     let plugged = cut_off_there driver.devices.items id may.ticket stage may.cut_off in
     let owned = owned_revived driver.devices.items id may.ticket stage may.cut_off in
-    let tables = tables_put_again driver.frames memory c.put_context.new.memory driver.marks driver.ledger driver.devices.items driver.levels id stage here put stand.tables in
+    let tables = tables_put_again driver.frames memory c.put_context.new.memory driver.owners driver.ledger driver.devices.items driver.levels id stage here put stand.tables in
     rw c.set_attachment.ensures record {
       size = put.size ∙ stand.size;
       tables = λ other s at. tables other s (sym (owned other) ∙ at);
       directory = λ started.
-          stands_in driver.frames c.put_context.new.memory driver.marks devices driver.levels (put.size ∙ many)
-          (directory_put driver.frames memory c.put_context.new.memory driver.marks driver.devices.items devices driver.levels id stage [] here put.tree (λ f at. inl (put.pages f at)) (λ f at. absurd (none_contained f at))
+          stands_in driver.frames c.put_context.new.memory driver.owners devices driver.levels (put.size ∙ many)
+          (directory_put driver.frames memory c.put_context.new.memory driver.owners driver.devices.items devices driver.levels id stage [] here put.tree (λ f at. inl (put.pages f at)) (λ f at. absurd (none_contained f at))
           put.here put.others put.path put.paths (attachment_set driver.devices.items id (Attached stage) plugged) (λ other apart. attachment_other driver.devices.items id other (Attached stage) apart));
     }
 
@@ -160,8 +160,8 @@ returns-clause-ready c = λ r ready.
     let memory = c.args.memory.now in
     let may = c.in-Ok.ensures.may in
     let stand = c.requires.stand in
-    let many : length memory ≡ driver.frames = stand.size ∙ driver.sound.sizes.marked in
-    let here : DirectoryIn driver.frames memory driver.marks driver.devices.items driver.levels = in_stands driver.frames memory driver.marks driver.devices.items driver.levels many (stand.directory may.started) in
+    let many : length memory ≡ driver.frames = stand.size ∙ driver.invariants.sizes.marked in
+    let here : DirectoryIn driver.frames memory driver.owners driver.devices.items driver.levels = in_stands driver.frames memory driver.owners driver.devices.items driver.levels many (stand.directory may.started) in
     let put = subst (λ root. IsPutAgain memory c.put_context.new.memory driver.levels root c.args.id c.in-Ok.stage) c.directory_frame-directory.ensures record {
       tree = c.put_context.ensures.directory;
       pages = λ f at. elim ((c.put_context.ensures.pages f).0 at) [ inl was ↦ was | inr new ↦ absurd (none_contained f new) ];

@@ -42,8 +42,8 @@ root_zero frames memory before after cleared size many le is at =
 pub name_directory-requires-clause-zero : goal.name_directory-requires-clause-zero
 name_directory-requires-clause-zero g c =
     let driver = c.args.self.now in
-    root_zero driver.frames c.args.memory.now c.store_u32.new.self c.clear.new.memory c.directory_frame.result c.store_u32.ensures.frames (c.requires.size ∙ driver.sound.sizes.marked)
-    driver.sound.sizes.size.0 c.clear.ensures c.directory_frame.ensures
+    root_zero driver.frames c.args.memory.now c.store_u32.new.self c.clear.new.memory c.directory_frame.result c.store_u32.ensures.frames (c.requires.size ∙ driver.invariants.sizes.marked)
+    driver.invariants.sizes.size.0 c.clear.ensures c.directory_frame.ensures
 
 pub returns-clause-effect : goal.returns-clause-effect
 returns-clause-effect g c =
@@ -51,9 +51,9 @@ returns-clause-effect g c =
     let memory = c.args.memory.now in
     let after = g.M.Mmio.after in
     let law = g.met.M.Mmio.writes_registers in
-    let many : length memory ≡ driver.frames = c.requires.size ∙ driver.sound.sizes.marked in
+    let many : length memory ≡ driver.frames = c.requires.size ∙ driver.invariants.sizes.marked in
     let whole = on_some c.store_u32.result
-    (c.store_u32.ensures.done.1 (place driver.frames memory c.completion_address.result many driver.sound.sizes.size.0 c.completion_address.ensures.value)) c.store_u32.ensures.whole in
+    (c.store_u32.ensures.done.1 (place driver.frames memory c.completion_address.result many driver.invariants.sizes.size.0 c.completion_address.ensures.value)) c.store_u32.ensures.whole in
     let r = g.M.Mmio.registers in
     let ran : r c.write-4.new.io ≡ started (r c.args.io.now) (ddtp_of driver.frames driver.levels) (cqb_of driver.frames) (fqb_of driver.frames) =
     ap r c.write-4.ensures ∙ law c.write-3.new.io Fqcsr 1
@@ -86,7 +86,7 @@ returns-clause-ready g c =
     let driver = c.args.self.now in
     let memory = c.args.memory.now in
     let law = g.met.M.Mmio.writes_registers in
-    let many : length memory ≡ driver.frames = c.requires.size ∙ driver.sound.sizes.marked in
+    let many : length memory ≡ driver.frames = c.requires.size ∙ driver.invariants.sizes.marked in
     let r = g.M.Mmio.registers in
     let ran : r c.write-4.new.io ≡ started (r c.args.io.now) (ddtp_of driver.frames driver.levels) (cqb_of driver.frames) (fqb_of driver.frames) =
     ap r c.write-4.ensures ∙ law c.write-3.new.io Fqcsr 1
@@ -100,23 +100,23 @@ returns-clause-ready g c =
     record {
       stand = record {
         size = size ∙ c.requires.size;
-        tables = λ id stage at. absurd (none_some driver.devices.items id stage (ap owned_stages (driver.sound.idle c.requires.idle id)) at);
+        tables = λ id stage at. absurd (none_some driver.devices.items id stage (ap owned_stages (driver.invariants.idle c.requires.idle id)) at);
         directory = λ running.
             let zero = root_zero driver.frames memory c.store_u32.new.self c.clear.new.memory c.directory_frame.result c.store_u32.ensures.frames many
-            driver.sound.sizes.size.0 c.clear.ensures c.directory_frame.ensures in
-            stands_in driver.frames c.clear.new.memory driver.marks driver.devices.items driver.levels (size ∙ many)
-            (directory_starts driver.frames c.clear.new.memory driver.marks driver.devices.items driver.levels driver.sound.sizes.in_range driver.sound.sizes.size.0 driver.sound.fixed zero
-            (λ id. driver.sound.idle c.requires.idle id));
+            driver.invariants.sizes.size.0 c.clear.ensures c.directory_frame.ensures in
+            stands_in driver.frames c.clear.new.memory driver.owners driver.devices.items driver.levels (size ∙ many)
+            (directory_starts driver.frames c.clear.new.memory driver.owners driver.devices.items driver.levels driver.invariants.sizes.in_range driver.invariants.sizes.size.0 driver.invariants.fixed zero
+            (λ id. driver.invariants.idle c.requires.idle id));
       };
       ring = λ running.
           subst (λ n. IsRing n (r c.write-4.new.io)) (sym (size ∙ many))
-          (subst (λ (x : Registers). IsRing driver.frames x) (sym ran) (started_ring (r c.args.io.now) (ddtp_of driver.frames driver.levels) driver.frames (fqb_of driver.frames) c.requires.off driver.sound.sizes.size.1));
+          (subst (λ (x : Registers). IsRing driver.frames x) (sym ran) (started_ring (r c.args.io.now) (ddtp_of driver.frames driver.levels) driver.frames (fqb_of driver.frames) c.requires.off driver.invariants.sizes.size.1));
       faults = λ running.
           subst (λ (x : Registers). IsFaultRing c.clear.new.memory x) (sym ran)
-          (started_fault_ring c.clear.new.memory (r c.args.io.now) (ddtp_of driver.frames driver.levels) (cqb_of driver.frames) driver.frames c.requires.off (size ∙ many) driver.sound.sizes.size.1);
+          (started_fault_ring c.clear.new.memory (r c.args.io.now) (ddtp_of driver.frames driver.levels) (cqb_of driver.frames) driver.frames c.requires.off (size ∙ many) driver.invariants.sizes.size.1);
       directory = λ running.
           subst (λ n. NamesDirectory n driver.levels (r c.write-4.new.io)) (sym (size ∙ many))
           (subst (λ (x : Registers). NamesDirectory driver.frames driver.levels x)
           (sym ran)
-          (started_names (r c.args.io.now) driver.frames driver.levels c.requires.off driver.sound.sizes.size.1 driver.sound.sizes.in_range (cqb_of driver.frames) (fqb_of driver.frames)));
+          (started_names (r c.args.io.now) driver.frames driver.levels c.requires.off driver.invariants.sizes.size.1 driver.invariants.sizes.in_range (cqb_of driver.frames) (fqb_of driver.frames)));
     }

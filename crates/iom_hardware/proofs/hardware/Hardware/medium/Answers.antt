@@ -13,19 +13,19 @@ pub put_in-requires-clause-empty : goal.put_in-requires-clause-empty
 put_in-requires-clause-empty g c =
     let old = c.args.self.now in
     let takes = disk_taken old.board.disks.items c.medium.new.self.disks.items (board_parts old.board) (board_parts c.medium.new.self) c.args.id c.args.disk c.medium.result c.medium.ensures.effect c.in_ok-medium.was in
-    subst (λ (entries : List DiskEntry). has_in entries c.args.id ≡ Some false) (sym c.requires.sound.agrees.known)
+    subst (λ (entries : List DiskEntry). has_in entries c.args.id ≡ Some false) (sym c.requires.invariants.agrees.known)
     (has_none old.board.devices.items c.args.id takes.able takes.can.0)
 
-pub returns-clause-sound : goal.returns-clause-sound
-returns-clause-sound g c =
+pub returns-clause-invariants : goal.returns-clause-invariants
+returns-clause-invariants g c =
     let old = c.args.self.now in
     let takes = disk_taken old.board.disks.items c.medium.new.self.disks.items (board_parts old.board) (board_parts c.medium.new.self) c.args.id c.args.disk c.medium.result c.medium.ensures.effect c.in_ok-medium.was in
     record {
-      board = c.medium.ensures.sound;
+      board = c.medium.ensures.invariants;
       agrees = record {
-        known = c.put_in.ensures.entries ∙ ap (λ (l : List DiskEntry). with_has l c.args.id true) c.requires.sound.agrees.known
-            ∙ sym (ap (λ (parts : BoardParts). known_blocks parts.devices) takes.put ∙ known_has old.board.devices.items c.args.id true c.requires.sound.board.own_ids);
-        numbers = c.put_in.ensures.numbers ∙ ap (without_disk (Some c.args.disk)) c.requires.sound.agrees.numbers ∙ sym takes.taken;
+        known = c.put_in.ensures.entries ∙ ap (λ (l : List DiskEntry). with_has l c.args.id true) c.requires.invariants.agrees.known
+            ∙ sym (ap (λ (parts : BoardParts). known_blocks parts.devices) takes.put ∙ known_has old.board.devices.items c.args.id true c.requires.invariants.board.own_ids);
+        numbers = c.put_in.ensures.numbers ∙ ap (without_disk (Some c.args.disk)) c.requires.invariants.agrees.numbers ∙ sym takes.taken;
       };
-      room = subst (λ (n : ℕ). device_limit ≤ n) (sym c.put_in.ensures.room) c.requires.sound.room;
+      room = subst (λ (n : ℕ). device_limit ≤ n) (sym c.put_in.ensures.room) c.requires.invariants.room;
     }

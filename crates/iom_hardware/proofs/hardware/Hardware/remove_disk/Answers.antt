@@ -7,16 +7,16 @@ use Rattle.iom_hardware.specs.Agreement.{known_blocks}
 use Rattle.iom_hardware.proofs.PlugLemmas.{disk_gone, known_left}
 use Rattle.iom_hardware.proofs.hardware.Hardware.remove_disk.Goals as goal
 
-pub returns-clause-sound : goal.returns-clause-sound
-returns-clause-sound g c =
+pub returns-clause-invariants : goal.returns-clause-invariants
+returns-clause-invariants g c =
     let old = c.args.self.now in
     let goes = disk_gone (board_parts old.board) (board_parts c.remove_disk.new.self) c.args.id c.remove_disk.result c.remove_disk.ensures.effect c.in_ok-remove_disk.was in
     record {
-      board = c.remove_disk.ensures.sound;
+      board = c.remove_disk.ensures.invariants;
       agrees = record {
-        known = c.leave.ensures.entries ∙ ap (λ (l : List DiskEntry). with_has l c.args.id false) c.requires.sound.agrees.known
-            ∙ sym (ap (λ (parts : BoardParts). known_blocks parts.devices) goes.gone ∙ known_left old.board.devices.items c.args.id c.requires.sound.board.own_ids);
-        numbers = c.requires.sound.agrees.numbers ∙ sym c.remove_disk.ensures.counted.disks;
+        known = c.leave.ensures.entries ∙ ap (λ (l : List DiskEntry). with_has l c.args.id false) c.requires.invariants.agrees.known
+            ∙ sym (ap (λ (parts : BoardParts). known_blocks parts.devices) goes.gone ∙ known_left old.board.devices.items c.args.id c.requires.invariants.board.own_ids);
+        numbers = c.requires.invariants.agrees.numbers ∙ sym c.remove_disk.ensures.counted.disks;
       };
-      room = subst (λ (n : ℕ). device_limit ≤ n) (sym c.leave.ensures.room) c.requires.sound.room;
+      room = subst (λ (n : ℕ). device_limit ≤ n) (sym c.leave.ensures.room) c.requires.invariants.room;
     }

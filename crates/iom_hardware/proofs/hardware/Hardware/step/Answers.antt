@@ -2,7 +2,7 @@ use Rattle.std.proofs.Common.{◌≡◌, Err, Option, None, sym, subst, refl, ar
 use Rattle.iom_block_devices.specs.declared.block.Block.{Block}
 use Rattle.iom_block_devices.specs.Places.{IsBlockPlace}
 use Rattle.iom_block_devices.specs.Changes.{block_with}
-use Rattle.iom_block_devices.specs.Seen.{BlockSeen, blocks_seen}
+use Rattle.iom_block_devices.specs.Shown.{ShownBlock, shown_blocks}
 use Rattle.iom_block_devices.proofs.Lists.{get_lt}
 use Rattle.iom_block_devices.proofs.PlaceLemmas.{at_place, changed_from, changed_none, entries_from}
 use Rattle.iom_board.specs.BoardParts.{board_parts}
@@ -23,47 +23,47 @@ index_mut-requires g c =
 pub returns-in-Some-clause-refused : goal.returns-in-Some-clause-refused
 returns-in-Some-clause-refused g c =
     let self = c.args.self.now in
-    let here = subst (λ blocks. IsBlockPlace g.D.Disk.seen blocks c.args.id c.in-Some.place) c.deref.ensures.value c.in-Some.ensures in
-    let able = able_there g.D.Disk.seen self c.requires.sound c.args.id _ here.found in
-    subst (λ (found : Option BlockSeen). IsRefusedIfNone found (board_parts self.board) c.args.id c.step_once.result (board_parts c.step_once.new.board)) (sym here.found) able
+    let here = subst (λ blocks. IsBlockPlace g.D.Disk.shown blocks c.args.id c.in-Some.place) c.deref.ensures.value c.in-Some.ensures in
+    let able = able_there g.D.Disk.shown self c.requires.invariants c.args.id _ here.found in
+    subst (λ (found : Option ShownBlock). IsRefusedIfNone found (board_parts self.board) c.args.id c.step_once.result (board_parts c.step_once.new.board)) (sym here.found) able
 
 pub returns-in-Some-clause-steps : goal.returns-in-Some-clause-steps
 returns-in-Some-clause-steps g c =
     let self = c.args.self.now in
-    let here = subst (λ blocks. IsBlockPlace g.D.Disk.seen blocks c.args.id c.in-Some.place) c.deref.ensures.value c.in-Some.ensures in
-    let is = at_place g.D.Disk.seen self.blocks.items c.args.id c.in-Some.place c.index_mut.result.now here c.index_mut.ensures.value in (
-      changed_from g.D.Disk.seen (TakesOneStep (board_parts self.board) c.args.id c.step_once.result (board_parts c.step_once.new.board)) self.blocks.items c.args.id c.in-Some.place c.index_mut.result.now
+    let here = subst (λ blocks. IsBlockPlace g.D.Disk.shown blocks c.args.id c.in-Some.place) c.deref.ensures.value c.in-Some.ensures in
+    let is = at_place g.D.Disk.shown self.blocks.items c.args.id c.in-Some.place c.index_mut.result.now here c.index_mut.ensures.value in (
+      changed_from g.D.Disk.shown (TakesOneStep (board_parts self.board) c.args.id c.step_once.result (board_parts c.step_once.new.board)) self.blocks.items c.args.id c.in-Some.place c.index_mut.result.now
           (record { id = c.index_mut.result.now.id; blk = c.step_once.new.blk }) here is refl c.step_once.ensures.steps,
       refl,
     )
 
-pub returns-in-Some-clause-sound : goal.returns-in-Some-clause-sound
-returns-in-Some-clause-sound g c =
+pub returns-in-Some-clause-invariants : goal.returns-in-Some-clause-invariants
+returns-in-Some-clause-invariants g c =
     let self = c.args.self.now in
-    let here = subst (λ blocks. IsBlockPlace g.D.Disk.seen blocks c.args.id c.in-Some.place) c.deref.ensures.value c.in-Some.ensures in
-    let is = at_place g.D.Disk.seen self.blocks.items c.args.id c.in-Some.place c.index_mut.result.now here c.index_mut.ensures.value in
+    let here = subst (λ blocks. IsBlockPlace g.D.Disk.shown blocks c.args.id c.in-Some.place) c.deref.ensures.value c.in-Some.ensures in
+    let is = at_place g.D.Disk.shown self.blocks.items c.args.id c.in-Some.place c.index_mut.result.now here c.index_mut.ensures.value in
     let other : Block _ _ = record { id = c.index_mut.result.now.id; blk = c.step_once.new.blk } in
-    let stays = disk_stays (board_parts self.board) (board_parts c.step_once.new.board) c.args.id c.step_once.result _ _ c.step_once.ensures.steps in
-    sound_after self (record { board = c.step_once.new.board; blocks = _; at_hand = self.at_hand }) c.requires.sound c.step_once.ensures.sound
+    let unchanged = disk_stays (board_parts self.board) (board_parts c.step_once.new.board) c.args.id c.step_once.result _ _ c.step_once.ensures.steps in
+    sound_after self (record { board = c.step_once.new.board; blocks = _; at_hand = self.at_hand }) c.requires.invariants c.step_once.ensures.invariants
     (stepped_known (board_parts self.board) (board_parts c.step_once.new.board) c.args.id c.step_once.result _ _ c.step_once.ensures.steps) c.step_once.ensures.counted.disks
-    (entries_from g.D.Disk.seen self.blocks.items c.args.id c.in-Some.place c.index_mut.result.now other here is refl stays) refl refl
+    (entries_from g.D.Disk.shown self.blocks.items c.args.id c.in-Some.place c.index_mut.result.now other here is refl unchanged) refl refl
 
 pub unwrap-requires : goal.unwrap-requires
 unwrap-requires g c =
     let self = c.args.self.now in
-    let none = subst (λ blocks. block_with (blocks_seen g.D.Disk.seen blocks) c.args.id ≡ None) c.deref.ensures.value c.in-None.ensures in
-    is_refused g.D.Disk.seen self c.requires.sound c.args.id none c.why_no_block.result c.why_no_block.ensures
+    let none = subst (λ blocks. block_with (shown_blocks g.D.Disk.shown blocks) c.args.id ≡ None) c.deref.ensures.value c.in-None.ensures in
+    is_refused g.D.Disk.shown self c.requires.invariants c.args.id none c.why_no_block.result c.why_no_block.ensures
 
 pub returns-in-None-clause-refused : goal.returns-in-None-clause-refused
 returns-in-None-clause-refused g c =
     let self = c.args.self.now in
-    let none = subst (λ blocks. block_with (blocks_seen g.D.Disk.seen blocks) c.args.id ≡ None) c.deref.ensures.value c.in-None.ensures in
+    let none = subst (λ blocks. block_with (shown_blocks g.D.Disk.shown blocks) c.args.id ≡ None) c.deref.ensures.value c.in-None.ensures in
     let refuses = subst (IsBlockOrRefused (kind_in self.board.devices.items c.args.id)) c.unwrap.ensures c.why_no_block.ensures in
-    subst (λ (found : Option BlockSeen). IsRefusedIfNone found (board_parts self.board) c.args.id (Err c.unwrap.result) (board_parts self.board)) (sym none)
+    subst (λ (found : Option ShownBlock). IsRefusedIfNone found (board_parts self.board) c.args.id (Err c.unwrap.result) (board_parts self.board)) (sym none)
     (no_block self.board.devices.items (board_parts self.board) c.args.id c.unwrap.result refl refuses)
 
 pub returns-in-None-clause-steps : goal.returns-in-None-clause-steps
 returns-in-None-clause-steps g c =
     let self = c.args.self.now in
-    let none = subst (λ blocks. block_with (blocks_seen g.D.Disk.seen blocks) c.args.id ≡ None) c.deref.ensures.value c.in-None.ensures in
-    (changed_none (TakesOneStep (board_parts self.board) c.args.id (Err c.unwrap.result) (board_parts self.board)) (blocks_seen g.D.Disk.seen self.blocks.items) c.args.id none, refl)
+    let none = subst (λ blocks. block_with (shown_blocks g.D.Disk.shown blocks) c.args.id ≡ None) c.deref.ensures.value c.in-None.ensures in
+    (changed_none (TakesOneStep (board_parts self.board) c.args.id (Err c.unwrap.result) (board_parts self.board)) (shown_blocks g.D.Disk.shown self.blocks.items) c.args.id none, refl)

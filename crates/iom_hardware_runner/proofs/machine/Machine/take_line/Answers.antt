@@ -9,5 +9,5 @@ returns c = λ is. (
   c.in-Some.said,
   (c.in_ok-said.ensures c.in-Some.said).0 c.in-Some.is,
   takes_then c.args.self.now c.act_before.new.self c.tell.new.self c.in-Some.said c.in_ok-act_before.ensures
-      (takes_line c.act_before.new.self c.tell.new.self c.in-Some.said c.in_ok-words.ensures.told (ap (λ (h : Helper). is_off h) c.in_ok-words.ensures.helper)),
+      (takes_line c.act_before.new.self c.tell.new.self c.in-Some.said c.in_ok-words.ensures.reply (ap (λ (h : Helper). is_off h) c.in_ok-words.ensures.helper)),
 )

@@ -3,4 +3,4 @@ use Rattle.iom_hardware_runner.proofs.RunLemmas.{acts_by_itself}
 use Rattle.iom_hardware_runner.proofs.machine.Machine.tell_step.Goals as goal
 
 pub returns : goal.returns
-returns c = acts_by_itself c.args.self.now c.tell.new.self c.in-Some.said c.in_ok-words.ensures.told (sym c.is_own.ensures ∙ c.if-not-is_own.false)
+returns c = acts_by_itself c.args.self.now c.tell.new.self c.in-Some.said c.in_ok-words.ensures.reply (sym c.is_own.ensures ∙ c.if-not-is_own.false)

@@ -9,7 +9,7 @@ returns c = λ frames ran has.
     subst (λ (b : Bool). HasRun frames (ran ++ c.args.line.now ∷ []) c.line-stepped.new.self (c.args.self.now.is_wrong || b)) (sym c.is_wrong.ensures)
     (has_run_more frames ran c.args.self.now.session c.line-stepped.new.self c.args.self.now.is_wrong c.args.line.now c.line-stepped.result
     (λ claimed shows. record {
-      does = said.does;
+      effect = said.effect;
       claimed = said.claimed claimed shows;
       trusted = said.trusted;
       admitted = said.admitted claimed shows;

@@ -1,29 +1,29 @@
-use Rattle.iom_hardware_session.proofs.SoundLemmas.{sound_hardware}
+use Rattle.iom_hardware_session.proofs.InvariantLemmas.{hardware_invariant}
 use Rattle.iom_hardware_session.proofs.state.Session.of_block.Goals as goal
 
-pub medium-requires-clause-sound : goal.medium-requires-clause-sound
-medium-requires-clause-sound c = sound_hardware c.args.self.now
+pub medium-requires-clause-invariants : goal.medium-requires-clause-invariants
+medium-requires-clause-invariants c = hardware_invariant c.args.self.now
 
 pub invariant_of-self : goal.invariant_of-self
 invariant_of-self c =
-    let sound = c.medium.ensures.sound in
-    record { sound = sound.board; agrees = sound.agrees; room = sound.room }
+    let invariants = c.medium.ensures.invariants in
+    record { invariants = invariants.board; agrees = invariants.agrees; room = invariants.room }
 
-pub queue-requires-clause-sound : goal.queue-requires-clause-sound
-queue-requires-clause-sound c = sound_hardware c.args.self.now
+pub queue-requires-clause-invariants : goal.queue-requires-clause-invariants
+queue-requires-clause-invariants c = hardware_invariant c.args.self.now
 
 pub invariant_of-self-in-Queue : goal.invariant_of-self-in-Queue
 invariant_of-self-in-Queue c =
-    let sound = c.queue.ensures.sound in
-    record { sound = sound.board; agrees = sound.agrees; room = sound.room }
+    let invariants = c.queue.ensures.invariants in
+    record { invariants = invariants.board; agrees = invariants.agrees; room = invariants.room }
 
-pub step-requires-clause-sound : goal.step-requires-clause-sound
-step-requires-clause-sound c = sound_hardware c.args.self.now
+pub step-requires-clause-invariants : goal.step-requires-clause-invariants
+step-requires-clause-invariants c = hardware_invariant c.args.self.now
 
 pub invariant_of-self-in-Step : goal.invariant_of-self-in-Step
 invariant_of-self-in-Step c =
-    let sound = c.step.ensures.sound in
-    record { sound = sound.board; agrees = sound.agrees; room = sound.room }
+    let invariants = c.step.ensures.invariants in
+    record { invariants = invariants.board; agrees = invariants.agrees; room = invariants.room }
 
 pub status-requires : goal.status-requires
-status-requires c = record { sound = sound_hardware c.args.self.now }
+status-requires c = record { invariants = hardware_invariant c.args.self.now }

@@ -7,8 +7,8 @@ pub invariant_of-self : goal.invariant_of-self
 invariant_of-self c =
     let session = c.args.self.now in
     record {
-      sound = c.software_keeps_sound.ensures.keeps (board_parts session.hardware.board) _ session.hardware.board.events session.sound
-          (after_writes c.software_keeps_sound.ensures.writes (board_parts session.hardware.board) c.args.value (register_at c.args.offset c.width_of.result) c.write.new.self c.write.ensures.left);
+      invariants = c.software_keeps_invariant.ensures.keeps (board_parts session.hardware.board) _ session.hardware.board.events session.invariants
+          (after_writes c.software_keeps_invariant.ensures.writes (board_parts session.hardware.board) c.args.value (register_at c.args.offset c.width_of.result) c.write.new.self c.write.ensures.left);
       agrees = session.agrees;
       room = session.room;
     }

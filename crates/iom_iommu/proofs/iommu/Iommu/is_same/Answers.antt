@@ -9,8 +9,8 @@ returns-then-self-other g c =
     let fence = c.has_same_fence.ensures.0 (search rules) in
     let requests = c.has_same_requests.ensures.0 (search rules) in
     let caches = c.has_same_caches.ensures.0 (search rules) in (
-      λ told. one_iommu c.args.self.now c.args.other.now (record {
-        registers = c.is_same.ensures.0 told;
+      λ reply. one_iommu c.args.self.now c.args.other.now (record {
+        registers = c.is_same.ensures.0 reply;
         contexts = caches.0;
         translations = caches.1;
         flights = requests.0;

@@ -1,5 +1,5 @@
 use Rattle.std.proofs.Common.{◌↔◌, ◌-◌, ◌≤◌, length}
-use Rattle.iom_table_frames.specs.Marks.{HasFree}
+use Rattle.iom_table_frames.specs.Owners.{HasFree}
 use Rattle.iom_table_frames.proofs.table_frames.TableFrames.has_free.Given as goal
 
 -- so many are still to be found below the limit

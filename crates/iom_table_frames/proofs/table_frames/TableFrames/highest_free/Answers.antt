@@ -5,5 +5,5 @@ use Rattle.iom_table_frames.proofs.table_frames.TableFrames.highest_free.Goals a
 
 pub returns : goal.returns
 returns c =
-    highest_free_frame c.args.self.now c.args.ledger.now c.self.inside.unreserved c.free_frames.result.now c.args.named (subst (λ marks. IsUnreservedSet marks c.self.inside.unreserved) c.self.view_is c.self.invariant) c.free_frames.ensures
+    highest_free_frame c.args.self.now c.args.ledger.now c.self.inside.unreserved c.free_frames.result.now c.args.named (subst (λ owners. IsUnreservedSet owners c.self.inside.unreserved) c.self.view_is c.self.invariant) c.free_frames.ensures
     c.args.limit c.highest_in_both.result c.requires c.highest_in_both.ensures

@@ -1,7 +1,7 @@
 -- Behind a fault nothing is told; else the event is.
 use Rattle.std.proofs.Common.{[], ◌∷◌, ◌++◌, Option, refl, sym, subst}
 use Rattle.iom_tell.specs.Told.{told_line}
-use Rattle.iom_world.specs.Seen.{seen_of}
+use Rattle.iom_world.specs.Shown.{shown_of}
 use Rattle.iom_telling.specs.declared.fault.TellingFault.{TellingFault}
 use Rattle.iom_telling.specs.Tellers.{GoesOnTelling}
 use Rattle.iom_telling.proofs.TellingLemmas.{line_alone}
@@ -9,7 +9,7 @@ use Rattle.iom_telling.proofs.teller.Teller.tell.Goals as goal
 
 pub returns-in-Some : goal.returns-in-Some
 returns-in-Some g c =
-    let line = told_line (seen_of g.D.Disk.seen c.args.self.now.world) c.args.event.now c.step.result (seen_of g.D.Disk.seen c.step.new.self) in
+    let line = told_line (shown_of g.D.Disk.shown c.args.self.now.world) c.args.event.now c.step.result (shown_of g.D.Disk.shown c.step.new.self) in
     record {
       happens = c.step.ensures.happens;
       line = line ++ 10 ∷ [];

@@ -10,5 +10,5 @@ pub returns : goal.returns
 returns c = record {
   layout = subst (λ (q : QueueState). IsLayout q.layout) c.self.view_is c.self.invariant.0;
   within = subst (λ (q : QueueState). wanted q ≢ nothing → LiesInPage (wanted q)) c.self.view_is (wanted-within (the_view c.self.inside) c.self.invariant.0 c.self.invariant.1);
-  sound = subst (λ (q : QueueState). IsChainSoFar q) c.self.view_is c.self.invariant.1;
+  invariants = subst (λ (q : QueueState). IsChainSoFar q) c.self.view_is c.self.invariant.1;
 }

@@ -20,7 +20,7 @@ returns-clause-missed c =
     let words = subst (λ (r : Registers). GrowsBy c.clear-3.new.self c.survey_queue.new.stored (IsWordAmong hardware.memory (waiting_places r))) here c.survey_queue.ensures.words in
     let faults = subst (λ (r : Registers). GrowsBy c.survey_queue.new.stored c.survey_faults.new.stored (IsOfFaults r)) here c.survey_faults.ensures in
     record {
-      reached = ways_reached parts trusted rows hardware.events c.requires.sound c.facts.ensures.flights c.survey_devices.ensures.rows;
+      reached = ways_reached parts trusted rows hardware.events c.requires.invariants c.facts.ensures.flights c.survey_devices.ensures.rows;
       read = all_read (is_id_among trusted) parts c.clear-2.new.self c.survey_devices.new.read c.survey_directory.new.read c.survey_queue.new.read
           c.survey_devices.ensures.tables c.survey_directory.ensures frames;
       stored = all_stored (is_id_among trusted) parts c.clear-3.new.self c.survey_queue.new.stored c.survey_faults.new.stored words faults;
@@ -38,7 +38,7 @@ returns-clause-invented c =
     let words = subst (λ (r : Registers). GrowsBy c.clear-3.new.self c.survey_queue.new.stored (IsWordAmong hardware.memory (waiting_places r))) here c.survey_queue.ensures.words in
     let faults = subst (λ (r : Registers). GrowsBy c.survey_queue.new.stored c.survey_faults.new.stored (IsOfFaults r)) here c.survey_faults.ensures in
     record {
-      reached = rows_back parts trusted rows c.requires.sound.own_ids c.survey_devices.ensures.rows;
+      reached = rows_back parts trusted rows c.requires.invariants.own_ids c.survey_devices.ensures.rows;
       read = read_back (is_id_among trusted) parts c.clear-2.new.self c.survey_devices.new.read c.survey_directory.new.read c.survey_queue.new.read
           c.clear-2.ensures c.survey_devices.ensures.tables c.survey_directory.ensures frames;
       stored = stored_back (is_id_among trusted) parts c.clear-3.new.self c.survey_queue.new.stored c.survey_faults.new.stored c.clear-3.ensures words faults;

@@ -1,10 +1,10 @@
-use Rattle.iom_world.specs.Seen.{parts_of}
+use Rattle.iom_world.specs.Shown.{parts_of}
 use Rattle.iom_world_effects.specs.Parts.{Parts}
-use Rattle.iom_driver.specs.Seen.{state_of}
+use Rattle.iom_driver.specs.StateOf.{state_of}
 use Rattle.std.proofs.Common.{◌+◌, refl}
-use Rattle.iom_world_effects.specs.Answers.{told_of}
+use Rattle.iom_world_effects.specs.Answers.{outcome_of_done}
 use Rattle.iom_world_invariant.proofs.DriverKeeps.{keeps_attached}
-use Rattle.iom_world_effects.proofs.DriverLemmas.{sound_driver}
+use Rattle.iom_world_effects.proofs.DriverLemmas.{driver_invariant}
 use Rattle.iom_world.proofs.OfHardware.{counted}
 use Rattle.iom_world.proofs.world.World.attach.Goals as goal
 
@@ -13,8 +13,8 @@ invariant_of-self g c =
     let world = c.args.self.now in
     let new : Parts = record { memory = c.attach.new.memory; iommu = world.hardware.board.iommu; driver = state_of c.attach.new.self; devices = world.hardware.board.devices.items; fabric = world.hardware.board.fabric } in
     record {
-      sound = keeps_attached (parts_of world) new (world.hardware.board.events + 1) c.args.id c.args.mode c.args.ats (told_of c.attach.result) (counted world) (sound_driver world.driver) (c.attach.ensures.ready _ (counted world).ready)
-          record { answer = c.attach.result; told_so = refl; call = c.attach.ensures.effect; iommu = refl; devices = refl; fabric = refl };
+      invariants = keeps_attached (parts_of world) new (world.hardware.board.events + 1) c.args.id c.args.mode c.args.ats (outcome_of_done c.attach.result) (counted world) (driver_invariant world.driver) (c.attach.ensures.ready _ (counted world).ready)
+          record { answer = c.attach.result; reply_is = refl; call = c.attach.ensures.effect; iommu = refl; devices = refl; fabric = refl };
       agrees = world.agrees;
       room = world.room;
     }

@@ -1,7 +1,7 @@
 use Rattle.std.proofs.Common.{ℕ, sym, subst}
 use Rattle.iom_world_effects.specs.Parts.{Parts}
-use Rattle.iom_world_effects.specs.Sound.{AreSound}
-use Rattle.iom_driver.specs.Seen.{state_of}
+use Rattle.iom_world_effects.specs.Invariant.{PartsInvariant}
+use Rattle.iom_driver.specs.StateOf.{state_of}
 use Rattle.iom_world_refinement.proofs.StartLemmas.{IsStarted, sound_started, shows_started, memory_is, iommu_started, driver_started}
 use Rattle.iom_world.proofs.world.World.new_from.Goals as goal
 
@@ -20,7 +20,7 @@ invariant_of-result g c =
       quiet = begins.fabric;
     } in
     let parts : Parts = record { memory = c.start_from.new.memory; iommu = c.start_from.new.io; driver = state_of c.start_from.new.self; devices = hardware.board.devices.items; fabric = hardware.board.fabric } in
-    record { sound = subst (λ (events : ℕ). AreSound parts events) (sym begins.events) (sound_started _ _ _ _ _ _ _ _ _ _ _ started); agrees = c.in_ok-hardware.ensures.sound.agrees; room = c.in_ok-hardware.ensures.sound.room }
+    record { invariants = subst (λ (events : ℕ). PartsInvariant parts events) (sym begins.events) (sound_started _ _ _ _ _ _ _ _ _ _ _ started); agrees = c.in_ok-hardware.ensures.invariants.agrees; room = c.in_ok-hardware.ensures.invariants.room }
 
 pub returns-clause-begins : goal.returns-clause-begins
 returns-clause-begins g c =

@@ -1,13 +1,13 @@
 use Rattle.std.proofs.Common.{◌+◌, ◌≤◌, ℕ, refl, sym, subst}
 use Rattle.iom_base.specs.Sizes.{device_limit}
-use Rattle.iom_driver.specs.Seen.{state_of}
+use Rattle.iom_driver.specs.StateOf.{state_of}
 use Rattle.iom_hardware.proofs.AgreementLemmas.{agrees_still}
 use Rattle.iom_world.proofs.OfHardware.{counted, known_revived}
-use Rattle.iom_world_effects.specs.Answers.{told_of}
+use Rattle.iom_world_effects.specs.Answers.{outcome_of_done}
 use Rattle.iom_world_effects.specs.Parts.{Parts}
-use Rattle.iom_world.specs.Seen.{parts_of}
+use Rattle.iom_world.specs.Shown.{parts_of}
 use Rattle.iom_world_invariant.proofs.RevivalKeeps.{keeps_revived}
-use Rattle.iom_world_effects.proofs.DriverLemmas.{sound_driver}
+use Rattle.iom_world_effects.proofs.DriverLemmas.{driver_invariant}
 use Rattle.iom_world_refinement.proofs.EventLemmas.{epochs_counted}
 use Rattle.iom_world.proofs.world.World.revive.Goals as goal
 
@@ -17,10 +17,10 @@ invariant_of-self g c =
     let driver = state_of c.revive-answer.new.driver in
     let new : Parts = record { memory = c.revive-answer.new.memory; iommu = world.hardware.board.iommu; driver = driver; devices = c.revive-answer.new.devices.items; fabric = world.hardware.board.fabric } in
     record {
-      sound = keeps_revived (parts_of world) new (world.hardware.board.events + 1) c.args.id (told_of c.revive-answer.result) (counted world) (sound_driver world.driver) (c.revive-answer.ensures.ready _ (counted world).ready) (epochs_counted (parts_of world) world.hardware.board.events world.sound c.args.id)
+      invariants = keeps_revived (parts_of world) new (world.hardware.board.events + 1) c.args.id (outcome_of_done c.revive-answer.result) (counted world) (driver_invariant world.driver) (c.revive-answer.ensures.ready _ (counted world).ready) (epochs_counted (parts_of world) world.hardware.board.events world.invariants c.args.id)
           record {
             answer = c.revive-answer.result;
-            told_so = refl;
+            reply_is = refl;
             call = c.revive-answer.ensures.effect;
             devices = c.revive-answer.ensures.devices;
             iommu = refl;
@@ -37,10 +37,10 @@ invariant_of-self-2 g c =
     let driver = state_of c.revive-answer.new.driver in
     let new : Parts = record { memory = c.revive-answer.new.memory; iommu = world.hardware.board.iommu; driver = driver; devices = c.revive-answer.new.devices.items; fabric = world.hardware.board.fabric } in
     record {
-      sound = keeps_revived (parts_of world) new (world.hardware.board.events + 1) c.args.id (told_of c.revive-answer.result) (counted world) (sound_driver world.driver) (c.revive-answer.ensures.ready _ (counted world).ready) (epochs_counted (parts_of world) world.hardware.board.events world.sound c.args.id)
+      invariants = keeps_revived (parts_of world) new (world.hardware.board.events + 1) c.args.id (outcome_of_done c.revive-answer.result) (counted world) (driver_invariant world.driver) (c.revive-answer.ensures.ready _ (counted world).ready) (epochs_counted (parts_of world) world.hardware.board.events world.invariants c.args.id)
           record {
             answer = c.revive-answer.result;
-            told_so = refl;
+            reply_is = refl;
             call = c.revive-answer.ensures.effect;
             devices = c.revive-answer.ensures.devices;
             iommu = refl;

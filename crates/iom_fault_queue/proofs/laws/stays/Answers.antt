@@ -1,7 +1,0 @@
-use Rattle.iom_fault_queue.proofs.Lists.{stays}
-use Rattle.iom_fault_queue.proofs.laws.stays.Goals as goal
-
-pub returns : goal.returns
-returns c =
-    let leaves = c.requires in
-    stays c.args.memory.now c.args.new.now c.args.registers.now c.args.later.now leaves.base leaves.head leaves.tail leaves.frames

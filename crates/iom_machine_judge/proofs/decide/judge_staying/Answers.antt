@@ -1,4 +1,0 @@
-use Rattle.iom_machine_judge.proofs.decide.judge_staying.Goals as goal
-
-pub returns-in-Deliver : goal.returns-in-Deliver
-returns-in-Deliver c = rw c.in-Deliver.is c.judge_deliver.ensures
