@@ -36,6 +36,11 @@ pub record StandsBehindOthers (disks : List ℕ) (old : BoardParts) (id : ℕ) (
 abbrev pub IsForWantOfMemory : Refusal → Type 0
 IsForWantOfMemory why = why ≡ Memory
 
+-- whether one may be plugged in: no reason is against it; else the first that applies, or want of memory
+abbrev pub MayBePlugged : List ℕ → BoardParts → ℕ → NewDevice → Result (Unit {0}) Refusal → Type 0
+MayBePlugged disks old id what (Ok done) = NoneApplies (why_not_plugged disks old id what)
+MayBePlugged disks old id what (Err why) = IsRefusedBy (why_not_plugged disks old id what) IsForWantOfMemory why
+
 -- A DEVICE IS PLUGGED IN, where these disks were never in a device, and leaves these; it is refused by the first reason that applies, and then nothing changes
 abbrev pub PlugsNewDevice : List ℕ → BoardParts → ℕ → NewDevice → Result (Unit {0}) Refusal → BoardParts → List ℕ → Type 0
 PlugsNewDevice disks old id what (Ok done) new left = StandsBehindOthers disks old id what new left

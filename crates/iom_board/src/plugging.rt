@@ -1,5 +1,5 @@
 // How a device is plugged in, and a disk put into one.
-ghost use Rattle.std.specs.Prelude.{◌≡◌, ◌≢◌, ◌↔◌, ◌+◌, ◌<◌, ◌^◌, IsTrue, false, length, vec_capacity, Some, Err};
+ghost use Rattle.std.specs.Prelude.{◌≡◌, ◌≢◌, ◌↔◌, ◌+◌, ◌<◌, ◌^◌, IfOk, IsTrue, false, length, vec_capacity, Some, Err};
 ghost use Rattle.std.specs.Option.{option_map_or};
 ghost use Rattle.iom_base.specs.DeviceKinds.{is_block_device};
 ghost use Rattle.iom_base.specs.Refusals.{first_that_applies};
@@ -7,7 +7,7 @@ ghost use Rattle.iom_base.specs.declared.refusal.Refusal.TheVariants.{Memory};
 ghost use Rattle.iom_device.specs.Caches.{epoch_in, kind_in, with_has_disk};
 ghost use Rattle.iom_board.specs.Counted.{IsCounted};
 ghost use Rattle.iom_board.specs.BoardParts.{board_parts, disks_at_hand};
-ghost use Rattle.iom_board.specs.Plugging.{why_not_plugged, has_disk_in, PlugsNewDevice, PutsDiskIntoDevice, LosesDisk, CanTake};
+ghost use Rattle.iom_board.specs.Plugging.{why_not_plugged, has_disk_in, MayBePlugged, PlugsNewDevice, PutsDiskIntoDevice, LosesDisk, CanTake};
 ghost use Rattle.iom_device.specs.Calls.{with_block_reset};
 ghost use Rattle.iom_board.specs.Invariant.{BoardInvariant};
 
@@ -65,6 +65,26 @@ impl Board {
         None
     }
 
+    /// Whether such a device may be plugged in with this id. Where the answer is `Ok`, the list of devices has room for one more from
+    /// then on, and so [`Board::plug`] isn't refused: what else has to be done for a device can be done between the two. Refused
+    /// as `plug` is. Nothing changes but that room, and no event is counted.
+    pub fn prepare_plug(&mut self, id: DeviceId, what: NewDevice) -> Result<(), Refusal>
+        ensures answer { MayBePlugged (disks_at_hand self.old) (board_parts self.old) id what result }
+        ensures has_room { IfOk result (λ done. length (board_parts self.new).devices < vec_capacity self.new.devices) }
+        ensures had_room { length (board_parts self.old).devices < vec_capacity self.old.devices → result ≢ Err Memory }
+        ensures parts { board_parts self.new ≡ board_parts self.old }
+        ensures disks { disks_at_hand self.new ≡ disks_at_hand self.old }
+        ensures events { self.new.events ≡ self.old.events }
+    {
+        if let Some(why) = self.why_not(id, what) {
+            return Err(why);
+        }
+        if self.devices.reserve(1).is_err() {
+            return Err(Refusal::Memory);
+        }
+        Ok(())
+    }
+
     /// A device is plugged in, with nothing in flight and an empty cache, if it has one; a block device with the disk that it
     /// names, which isn't at hand any more. The first that applies of `AlreadyPlugged`, `TooManyDevices`, where 16 are, and
     /// `BadMedium`, where the disk isn't at hand; else `Memory`, where an allocation is refused, and never where the list of devices
@@ -79,12 +99,7 @@ impl Board {
         ensures events { self.new.events ≡ self.old.events + 1 }
     {
         self.events += 1;
-        if let Some(why) = self.why_not(id, what) {
-            return Err(why);
-        }
-        if self.devices.reserve(1).is_err() {
-            return Err(Refusal::Memory);
-        }
+        self.prepare_plug(id, what)?;
         self.iommu.add(id);
         take_out(&mut self.disks, what.disk());
         self.devices

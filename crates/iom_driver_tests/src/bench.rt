@@ -4,13 +4,12 @@ ghost use Rattle.iom_device.specs.Caches.{epoch_in};
 
 use crate::recording::Recording;
 use iom_base::{DeviceId, GrantRights, Mode, Refusal, Size};
-use iom_device::Device;
+use iom_device::{Device, reset};
 use iom_driver::laws::stays_ready;
 use iom_driver::{Driver, Mapping, Polled, Ticket};
 use iom_fault_queue::Record;
 use iom_phys_mem::{Bytes, MemError, Memory};
 use iom_registers::Register;
-use iom_revival::revive;
 use std::alloc::Global;
 use std::marker::Model;
 use std::process::Abort;
@@ -169,7 +168,7 @@ impl Bench {
         self.driver.revive(&mut self.memory, id)
     }
 
-    /// The device is reset first, which is among these.
+    /// The device is reset between the two, which is among these: as whoever revives it has to.
     pub(crate) fn revive_reset(
         &mut self,
         devices: &mut Vec<Device>,
@@ -177,7 +176,9 @@ impl Bench {
     ) -> Result<(), Refusal>
         requires epoch { epoch_in devices.old.items id + 1 < 2 ^ 64 }
     {
-        revive(&mut self.driver, &mut self.memory, devices, id)
+        self.may_revive(id)?;
+        reset(devices, id);
+        self.revive(id)
     }
 
     fn restart(&mut self) -> Result<(), Refusal> {

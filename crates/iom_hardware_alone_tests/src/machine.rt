@@ -37,6 +37,8 @@ pub(crate) enum Act<'a> {
     Timeout(bool),
     /// A device is plugged in with this id, and is of a kind.
     Plug(u32, NewDevice, Result<(), Refusal>),
+    /// Whether it may be, before it is.
+    Prepare(u32, NewDevice, Result<(), Refusal>),
     Kind(u32, Option<DeviceKind>),
     /// A disk is put into a device, or goes; the device is reset.
     Medium(u32, u64, Result<(), Refusal>),
@@ -136,6 +138,17 @@ impl Machine {
         self.expect_room(rt);
         let plugged = self.hardware.plug(id, what);
         expect(rt, plugged == expected);
+    }
+
+    fn prepares(
+        &mut self,
+        rt: &impl Abort,
+        id: u32,
+        what: NewDevice,
+        expected: Result<(), Refusal>,
+    ) {
+        let prepared = self.hardware.prepare_plug(id, what);
+        expect(rt, prepared == expected);
     }
 
     fn takes_disk(&mut self, rt: &impl Abort, id: u32, disk: u64, expected: Result<(), Refusal>) {
@@ -276,6 +289,7 @@ impl Machine {
     fn takes_of_device(&mut self, rt: &impl Abort, act: Act) {
         match act {
             Act::Plug(id, what, expected) => self.plugs(rt, id, what, expected),
+            Act::Prepare(id, what, expected) => self.prepares(rt, id, what, expected),
             Act::Kind(id, expected) => expect(rt, self.hardware.kind_of(id) == expected),
             Act::Medium(id, disk, expected) => self.takes_disk(rt, id, disk, expected),
             Act::RemoveDisk(id, expected) => self.loses_disk(rt, id, expected),

@@ -143,10 +143,13 @@ static FORGED: [Act; 21] = [
 ];
 
 /// A block device has its disk, and another once that is gone; its steps ask for accesses.
-static DISKS: [Act; 15] = [
+static DISKS: [Act; 18] = [
     Act::Write(DDTP, 1),
+    Act::Prepare(1, NewDevice::Block { disk: 3 }, Ok(())),
     Act::Plug(1, NewDevice::Block { disk: 3 }, Ok(())),
+    Act::Prepare(1, NewDevice::Raw, Err(Refusal::AlreadyPlugged)),
     Act::Plug(1, NewDevice::Raw, Err(Refusal::AlreadyPlugged)),
+    Act::Prepare(2, NewDevice::Block { disk: 3 }, Err(Refusal::BadMedium)),
     Act::Plug(2, NewDevice::Block { disk: 3 }, Err(Refusal::BadMedium)),
     Act::Medium(1, 4, Err(Refusal::BadMedium)),
     Act::RemoveDisk(1, Ok(())),

@@ -11,3 +11,4 @@ pub mod StepInParts
 pub mod InsideTold
 pub mod StepKeeps
 pub mod FetchLemmas
+pub mod TogetherLemmas

@@ -40,6 +40,11 @@ abbrev pub outcome_of_no_place : NoPlace → Outcome
 outcome_of_no_place BadSpan = outcome.BadSpan
 outcome_of_no_place OutsideMemory = outcome.Refused FrameOutOfRange
 
+-- what a store is told as
+abbrev pub outcome_of_store : Result (Unit {0}) NoPlace → Outcome
+outcome_of_store (Ok done) = outcome.Done
+outcome_of_store (Err why) = outcome_of_no_place why
+
 abbrev pub outcome_of_delivery : Delivered → Outcome
 outcome_of_delivery delivered.NoMessage = outcome.NoMessage
 outcome_of_delivery (delivered.Answered answer) = outcome.Answered answer

@@ -7,7 +7,7 @@ ghost use Rattle.iom_world_effects.specs.Deliveries.{outcome_of_taking};
 ghost use Rattle.iom_world_effects.specs.Effect.{outcome_of_poll, outcome_of_report};
 ghost use Rattle.iom_world_effects.specs.Messages.{outcome_of_repeat};
 ghost use Rattle.iom_world_effects.specs.Requests.{outcome_of_reply};
-ghost use Rattle.iom_world.specs.OnHardware.{outcome_unless, outcome_of_status, outcome_of_sending, outcome_of_delivery, outcome_of_cache_reply, outcome_of_no_place, outcome_of_step};
+ghost use Rattle.iom_world.specs.OnHardware.{outcome_unless, outcome_of_status, outcome_of_sending, outcome_of_delivery, outcome_of_cache_reply, outcome_of_no_place, outcome_of_store, outcome_of_step};
 
 use iom_answers::Answer;
 use iom_ats_cache::Taken;
@@ -154,6 +154,16 @@ pub(crate) fn no_place_answer(why: NoPlace) -> Answer<'static>
     match why {
         NoPlace::BadSpan => Answer::BadSpan,
         NoPlace::OutsideMemory => Answer::Refused(Refusal::FrameOutOfRange),
+    }
+}
+
+/// What a store of the processor is told as.
+pub(crate) fn store_answer(answer: Result<(), NoPlace>) -> Answer<'static>
+    ensures { outcome_of result ≡ outcome_of_store answer }
+{
+    match answer {
+        Ok(()) => Answer::Done,
+        Err(why) => no_place_answer(why),
     }
 }
 

@@ -1,9 +1,5 @@
-// The events of block devices (virtio 1.2), and what becomes of one that leaves.
-ghost use Rattle.std.specs.Prelude.{◌≡◌, ◌+◌, ◌<◌, ◌^◌, ℕ, false};
-ghost use Rattle.std.specs.Option.{option_map_or};
-ghost use Rattle.iom_base.specs.DeviceKinds.{is_block_device};
-ghost use Rattle.iom_device.specs.Caches.{epoch_in, kind_in, with_has_disk};
-ghost use Rattle.iom_device.specs.Calls.{with_block_reset};
+// The events of block devices (virtio 1.2).
+ghost use Rattle.std.specs.Prelude.{◌≡◌, ◌+◌, ◌<◌, ◌^◌, ℕ};
 ghost use Rattle.iom_machine.specs.declared.event.Event.TheVariants as events;
 ghost use Rattle.iom_virtqueue.specs.Layouts.{layout_of};
 ghost use Rattle.iom_world_effects.specs.BlockDevices.{InsertsMedium, SetsBlockQueue, TakesBlockStep, TellsBlockStatus};
@@ -16,58 +12,9 @@ ghost use Rattle.iom_answers.specs.Answers.{outcome_of};
 use crate::answering::{done_answer, status_answer, step_answer};
 use crate::world::World;
 use iom_answers::Answer;
-use iom_base::{DeviceId, DeviceKind, Refusal};
-use iom_device::{Device, place_of, reset};
+use iom_base::DeviceId;
 use iom_virtio_blk::Disk;
 use iom_world_effects::laws_below;
-
-/// The device with this id has a disk from now on, or has none.
-fn set_has_disk(devices: &mut Vec<Device>, id: DeviceId, has: bool)
-    ensures { devices.new.items ≡ with_has_disk devices.old.items id has }
-{
-    if let Some(place) = place_of(devices, id) {
-        devices[place].has_disk = has;
-    }
-}
-
-/// What the device with this id is; nothing where it is not plugged in.
-fn kind_at(devices: &[Device], id: DeviceId) -> Option<DeviceKind>
-    ensures { result ≡ kind_in devices.now id }
-{
-    devices
-        .iter()
-        .find(|device| device.id == id)
-        .map(|device| device.kind)
-}
-
-/// Whether the device with this id is there, and a block device.
-fn is_block(devices: &[Device], id: DeviceId) -> bool
-    ensures { result ≡ option_map_or is_block_device (kind_in devices.now id) false }
-{
-    match kind_at(devices, id) {
-        Some(kind) => kind.is_block_device(),
-        None => false,
-    }
-}
-
-/// The device with this id is reset, where it is a block device.
-fn reset_block(devices: &mut Vec<Device>, id: DeviceId)
-    requires { epoch_in devices.old.items id + 1 < 2 ^ 64 }
-    ensures { devices.new.items ≡ with_block_reset devices.old.items id }
-{
-    if is_block(devices, id) {
-        reset(devices, id);
-    }
-}
-
-/// A device that leaves has no disk any more, and a block device is reset.
-pub(crate) fn let_go(devices: &mut Vec<Device>, id: DeviceId)
-    requires { epoch_in devices.old.items id + 1 < 2 ^ 64 }
-    ensures { devices.new.items ≡ with_block_reset (with_has_disk devices.old.items id false) id }
-{
-    set_has_disk(devices, id, false);
-    reset_block(devices, id);
-}
 
 impl<D: Disk> World<D> {
     /// The disk is put into the block device: `BadMedium` where that has one, or the disk was in a device before,

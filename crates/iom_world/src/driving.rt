@@ -5,18 +5,15 @@ ghost use mathlib.Core.Option.{none};
 ghost use Rattle.iom_world.specs.contracts.world.World.{the_row};
 ghost use Rattle.std.specs.Prelude.{⊤, ◌≡◌, ◌+◌, ◌<◌, ◌≤◌, ◌^◌, ℕ};
 ghost use Rattle.iom_world_effects.specs.Answers.{outcome_of_done, outcome_of_ticket};
-ghost use Rattle.iom_device.specs.Caches.{epoch_in};
 ghost use Rattle.iom_world_effects.specs.Effect.{outcome_of_poll, outcome_of_report, AttachesDevice, GrantsPage, ReleasesPage, DetachesDevice, PollsTickets, TakesReport};
 ghost use Rattle.iom_world.specs.Shown.{parts_of, disks_of, inside_of};
 ghost use Rattle.iom_world.specs.Blocks.{LeavesBlock};
 ghost use Rattle.iom_answers.specs.Answers.{outcome_of};
 
 use crate::answering::{done_answer, poll_answer, ticket_answer};
-use crate::block_devices::let_go;
 use crate::world::World;
 use iom_answers::Answer;
 use iom_base::{DeviceId, Mode, Refusal};
-use iom_block_devices::leave;
 use iom_driver::{Mapping, Polled, Ticket};
 use iom_fault_queue::Record;
 use iom_machine::FaultRecord;
@@ -87,7 +84,6 @@ impl<D: Disk> World<D> {
         ensures events { self.new.hardware.board.events ≡ self.old.hardware.board.events + 1 }
         ensures made { self.new.made ≡ self.old.made }
     {
-        self.hardware.board.events += 1;
         let answer = self.driver.detach(
             &mut self.hardware.board.memory,
             &mut self.hardware.board.iommu,
@@ -95,10 +91,13 @@ impl<D: Disk> World<D> {
         );
         let ticket = match answer {
             Ok(ticket) => ticket,
-            Err(why) => return Answer::Refused(why),
+            Err(why) => {
+                self.hardware.board.events += 1;
+                return Answer::Refused(why);
+            }
         };
-        let_go(&mut self.hardware.board.devices, id);
-        leave(&mut self.hardware.blocks, id);
+        // It is there, since the driver and the hardware have the same devices.
+        self.hardware.remove_disk(id).unwrap();
         Answer::Ticket(ticket.0)
     }
 

@@ -16,7 +16,6 @@ mod block_devices;
 mod commits;
 mod comparing;
 mod counts;
-mod disks;
 mod driving;
 mod fetching;
 mod looks;

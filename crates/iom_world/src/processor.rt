@@ -3,14 +3,17 @@ ghost use denote.Follow.{follows_so};
 ghost use Rattle.std.specs.Borrow.{sem};
 ghost use mathlib.Core.Option.{none};
 ghost use Rattle.iom_world.specs.contracts.world.World.{the_row};
-ghost use Rattle.std.specs.Prelude.{⊤, ◌≡◌, ◌+◌, ◌<◌, ◌≤◌, ◌^◌, length};
-ghost use Rattle.iom_base.specs.Bytes.{with_bytes};
+ghost use Rattle.std.specs.Prelude.{⊤, ◌≡◌, ◌+◌, ◌/◌, ◌<◌, ◌^◌, false, true, length};
+ghost use Rattle.iom_base.specs.Sizes.{page_size};
+ghost use Rattle.iom_base.specs.Spans.{FitsInPage};
+ghost use Rattle.iom_driver.specs.StateOf.{state_of};
+ghost use Rattle.iom_table_frames.specs.Owners.{is_marked};
 ghost use Rattle.iom_world.specs.Shown.{parts_of, disks_of, inside_of};
 ghost use Rattle.iom_world_effects.specs.Processor.{PokesBytes, PeeksBytes, AsksFree};
 ghost use Rattle.iom_world.specs.OnHardware.{outcome_of_no_place};
 ghost use Rattle.iom_answers.specs.Answers.{outcome_of};
 
-use crate::answering::no_place_answer;
+use crate::answering::{no_place_answer, store_answer};
 use crate::world::World;
 use iom_answers::{Answer, Lent};
 use iom_base::{PAGE_SIZE, Refusal, Span};
@@ -19,15 +22,25 @@ use iom_phys_mem::Bytes;
 use iom_virtio_blk::Disk;
 use iom_world_effects::laws_below;
 
-/// Stores the bytes in the frame, from the offset on.
-fn store(frame: &mut [u8], offset: usize, bytes: &[u8])
-    requires { offset + length bytes.now ≤ length frame.old }
-    ensures { frame.new ≡ with_bytes frame.old offset bytes.now }
-{
-    frame[offset..offset + bytes.len()].copy_from_slice(bytes);
-}
-
 impl<D: Disk> World<D> {
+    /// Whether so many bytes at the physical address have a place within one frame, and that is reserved.
+    // Of the span this looks where the frame is reserved alone: else the store looks at it.
+    fn is_reserved_place(&self, address: u64, len: u64) -> bool
+        ensures reserved { result ≡ true → FitsInPage address len × (address / page_size < length self.now.hardware.board.memory)
+            × (is_marked (state_of self.now.driver).owners (address / page_size) ≡ true) }
+        ensures unreserved { result ≡ false → FitsInPage address len → address / page_size < length self.now.hardware.board.memory
+            → is_marked (state_of self.now.driver).owners (address / page_size) ≡ false }
+    {
+        let number = address / PAGE_SIZE;
+        if number >= u64::from(self.hardware.board.memory.frames()) {
+            return false;
+        }
+        if !self.driver.is_reserved(number as u32) {
+            return false;
+        }
+        Span::new(address, len).is_some()
+    }
+
     /// The processor writes the bytes at the physical address, within one frame that isn't reserved. Nothing
     /// changes where it is told `BadSpan`, since they are none or too many or leave their frame,
     /// `FrameOutOfRange` or `FrameReserved`.
@@ -40,21 +53,12 @@ impl<D: Disk> World<D> {
         ensures events { self.new.hardware.board.events ≡ self.old.hardware.board.events + 1 }
         ensures made { self.new.made ≡ self.old.made }
     {
-        self.hardware.board.events += 1;
         laws_below();
-        if Span::new(address, bytes.len() as u64).is_none() {
-            return Answer::BadSpan;
-        }
-        let number = address / PAGE_SIZE;
-        if number >= u64::from(self.hardware.board.memory.frames()) {
-            return Answer::Refused(Refusal::FrameOutOfRange);
-        }
-        if self.driver.is_reserved(number as u32) {
+        if self.is_reserved_place(address, bytes.len() as u64) {
+            self.hardware.board.events += 1;
             return Answer::Refused(Refusal::FrameReserved);
         }
-        let frame = self.hardware.board.memory.frame_mut(number as u32).unwrap();
-        store(frame, (address % PAGE_SIZE) as usize, bytes);
-        Answer::Done
+        store_answer(self.hardware.board.store(address, bytes))
     }
 
     /// The processor reads so many bytes at the physical address, within one frame: they are lent; or `BadSpan`, or

@@ -10,8 +10,6 @@ use crate::answering::{done_answer, ticket_answer, timeout_answer};
 use crate::world::World;
 use iom_answers::Answer;
 use iom_base::DeviceId;
-use iom_block_devices::reset;
-use iom_revival::revive;
 use iom_virtio_blk::Disk;
 
 impl<D: Disk> World<D> {
@@ -45,18 +43,13 @@ impl<D: Disk> World<D> {
         ensures events { self.new.hardware.board.events ≡ self.old.hardware.board.events + 1 }
         ensures made { self.new.made ≡ self.old.made }
     {
-        self.hardware.board.events += 1;
-        let answer = revive(
-            &mut self.driver,
-            &mut self.hardware.board.memory,
-            &mut self.hardware.board.devices,
-            id,
-        );
-        if let Err(why) = answer {
+        if let Err(why) = self.driver.may_revive(id) {
+            self.hardware.board.events += 1;
             return Answer::Refused(why);
         }
-        reset(&mut self.hardware.blocks, id);
-        Answer::Done
+        // It is there, since the driver and the hardware have the same devices.
+        self.hardware.reset(id).unwrap();
+        done_answer(self.driver.revive(&mut self.hardware.board.memory, id))
     }
 
     /// The command queue is emptied, and filled with what is still needed.
