@@ -461,19 +461,20 @@ pub fn event_of(alloc: Global, line: &[u8]) -> Result<Option<Event>, AllocError>
     let Some(first) = line.first() else {
         return Ok(None);
     };
-    match *first {
-        b'r' => Ok(under_r(line)),
-        b'c' => Ok(commit(line)),
-        b'g' => Ok(grant(line)),
-        b'd' => Ok(under_d(line)),
-        b'a' => under_a(alloc, line),
-        b'w' => write(alloc, line),
-        b'p' => under_p(alloc, line),
-        b't' => under_t(alloc, line),
-        b'f' => Ok(under_f(line)),
-        b'q' => Ok(under_q(line)),
-        b's' => Ok(under_s(line)),
-        b'm' => Ok(medium(line)),
-        _ => Ok(None),
-    }
+    let event = match *first {
+        b'r' => under_r(line),
+        b'c' => commit(line),
+        b'g' => grant(line),
+        b'd' => under_d(line),
+        b'f' => under_f(line),
+        b'q' => under_q(line),
+        b's' => under_s(line),
+        b'm' => medium(line),
+        b'a' => return under_a(alloc, line),
+        b'w' => return write(alloc, line),
+        b'p' => return under_p(alloc, line),
+        b't' => return under_t(alloc, line),
+        _ => return Ok(None),
+    };
+    Ok(event)
 }

@@ -37,7 +37,7 @@ fn joined(values: u8x16) -> [u8; 8]
 }
 
 /// The eight bytes that sixteen hexadecimal digits say.
-pub(crate) fn eight_bytes(digits: &[u8]) -> Option<[u8; 8]>
+pub fn eight_bytes(digits: &[u8]) -> Option<[u8; 8]>
     requires { length digits.now ≡ 16 }
     ensures { Reads result (IsHexOf digits.now) }
 {

@@ -6,7 +6,7 @@ ghost use Rattle.iom_script.specs.Words.{IsDevice, IsNumber, IsPage, IsAddress, 
 ghost use Rattle.iom_script.specs.Reading.{Reads};
 ghost use Rattle.iom_script.specs.Cuts.{shown, shown_rest, with_rest, IsCut, BeginsWithWord, LeadsWithHex, LeadsWithDecimal, LeadsWithNumber, SaysFirst};
 
-use crate::lanes::eight_bytes;
+pub use crate::lanes::eight_bytes;
 use iom_base::{DeviceId, GrantRights, Mode, NewDevice, Sequence, Size};
 use iom_fabric::PageNumber;
 use memchr::{memchr, memchr_iter};
@@ -156,7 +156,7 @@ fn leading_decimal(text: &[u8]) -> Option<(u64, usize)>
 }
 
 /// The same, where the digits are those of a number: there are some, and no zero stands before others.
-fn leading_number(text: &[u8]) -> Option<(u64, usize)>
+pub fn leading_number(text: &[u8]) -> Option<(u64, usize)>
     ensures { Reads result (λ read. LeadsWithNumber text.now read.0 read.1) }
 {
     let (number, count) = leading_decimal(text)?;

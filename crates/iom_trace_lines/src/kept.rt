@@ -1,17 +1,18 @@
 // Outcomes that lines tell.
-ghost use Rattle.std.specs.Prelude.{◌≡◌, ◌++◌, ◌∷◌, [], codes, IfSome, IsTrue};
+ghost use Rattle.std.specs.Prelude.{◌≡◌, ◌*◌, ◌/◌, ◌++◌, ◌∷◌, [], codes, length, IfSome, IsTrue};
 ghost use Rattle.std.specs.Fmt.{decimal};
 ghost use Rattle.iom_base.specs.Causes.{code_of};
 ghost use Rattle.iom_script.specs.Digits.{hex_of};
-ghost use Rattle.iom_script.specs.Lines.{fetched_text, line_of};
+ghost use Rattle.iom_script.specs.Cuts.{SaysFirst};
+ghost use Rattle.iom_script.specs.Lines.{fetched_text, line_of, timeout_text};
 
-use crate::words::{behind, long_number_of, short_number_of};
+use crate::words::{behind, long_number_of, short_number_before, short_number_of};
 use arrayvec::ArrayVec;
 use iom_base::{Cause, Refusal};
 use iom_fabric::Translation;
 use iom_machine::{BlockStep, CommandName, Event, FaultRecord, Fetched, Outcome};
 use iom_script::LineBuffer;
-use iom_script::words::{address_of, after, byte_of, cut, is_word, number_of, right_of};
+use iom_script::words::{after, byte_of, cut, eight_bytes, is_word, number_of, right_of};
 use iom_virtqueue::ChainFault;
 
 static REFUSALS: [Refusal; 23] = [
@@ -119,6 +120,18 @@ macro_rules! tell_bytes {
     }};
 }
 
+/// The place, which is one of this kind, where the text is that word.
+macro_rules! tell_word {
+    ($text:expr, $word:literal, $place:expr, $kind:pat) => {
+        if is_word($text, $word) {
+            return match &$place {
+                $kind => Some(&$place),
+                _ => None,
+            };
+        }
+    };
+}
+
 /// What is told beside the first of these starts that the text has, of what stands behind it.
 macro_rules! tell_behind {
     ($text:expr, $rest:ident, $($start:literal => $reply:expr,)+) => {
@@ -165,17 +178,23 @@ fn cause_of(text: &[u8]) -> Option<Cause>
     None
 }
 
-/// The record of which these are the four words.
+/// The word of a record that `0x` and sixteen digits say.
+fn record_word_of(text: &[u8]) -> Option<u64> {
+    let digits = after(text, b"0x")?;
+    if digits.len() != 16 {
+        return None;
+    }
+    Some(u64::from_be_bytes(eight_bytes(digits)?))
+}
+
+/// The record whose four words stand in these places.
 fn record_of(text: &[u8]) -> Option<FaultRecord> {
-    let (first, rest) = cut(text, b' ')?;
-    let (second, rest) = cut(rest, b' ')?;
-    let (third, fourth) = cut(rest, b' ')?;
     Some(FaultRecord {
         words: [
-            address_of(first)?,
-            address_of(second)?,
-            address_of(third)?,
-            address_of(fourth)?,
+            record_word_of(text.get(..18)?)?,
+            record_word_of(text.get(19..37)?)?,
+            record_word_of(text.get(38..56)?)?,
+            record_word_of(text.get(57..)?)?,
         ],
     })
 }
@@ -196,6 +215,21 @@ fn fetched_of(text: &[u8]) -> Option<Fetched>
     }
 }
 
+/// Puts the bytes into the list that whole groups of sixteen digits say. None where they don't.
+fn put_groups(list: &mut ArrayVec<u8, 4096>, text: &[u8]) -> Option<()>
+    requires { list.old.items ≡ [] }
+    ensures { IfSome result (λ done. SaysFirst text.now (8 * (length text.now / 16)) list.new.items) }
+{
+    for group in 0..text.len() / 16 {
+        let eight = eight_bytes(&text[16 * group..16 * group + 16])?;
+        match list.try_extend_from_slice(&eight) {
+            Ok(()) => {}
+            Err(_) => return None,
+        }
+    }
+    Some(())
+}
+
 /// Puts the bytes into the list that two hexadecimal digits each say. None where they don't.
 fn put_bytes(list: &mut ArrayVec<u8, 4096>, text: &[u8]) -> Option<()>
     ensures { IfSome result (λ done. text.now ≡ hex_of list.new.items) }
@@ -204,7 +238,8 @@ fn put_bytes(list: &mut ArrayVec<u8, 4096>, text: &[u8]) -> Option<()>
     if text.len() % 2 != 0 {
         return None;
     }
-    for index in 0..text.len() / 2 {
+    put_groups(list, text)?;
+    for index in 8 * (text.len() / 16)..text.len() / 2 {
         let byte = byte_of(text[2 * index], text[2 * index + 1])?;
         match list.try_push(byte) {
             Ok(()) => {}
@@ -212,6 +247,28 @@ fn put_bytes(list: &mut ArrayVec<u8, 4096>, text: &[u8]) -> Option<()>
         }
     }
     Some(())
+}
+
+/// Whether ` timeout` stands behind what a poll found.
+fn is_given_up(text: &[u8]) -> Option<bool>
+    ensures { IfSome result (λ timed_out. text.now ≡ timeout_text timed_out) }
+{
+    match text {
+        [] => Some(false),
+        b" timeout" => Some(true),
+        _ => None,
+    }
+}
+
+/// The tickets that `A-B` says, and whether ` timeout` is behind them.
+fn tickets_of(text: &[u8]) -> Option<(u32, u32, bool)>
+    ensures { IfSome result (λ read. text.now ≡ decimal read.0 ++ codes "-" ++ decimal read.1 ++ timeout_text read.2) }
+{
+    let (first, more) = short_number_before(text)?;
+    let others = behind(more, b"-")?;
+    let (last, rest) = short_number_before(others)?;
+    let timed_out = is_given_up(rest)?;
+    Some((first, last, timed_out))
 }
 
 /// The answer to a question that `FRAME RIGHT` or `fault C` says.
@@ -282,19 +339,49 @@ impl KeptOutcomes {
         }
     }
 
-    /// The tickets that `A-B` says are confirmed, with ` timeout` behind it or not.
-    fn confirmed(&mut self, text: &[u8]) -> Option<&Outcome> {
-        let tickets = text.strip_suffix(b" timeout");
-        let (lowest, highest) = cut(tickets.unwrap_or(text), b'-')?;
+    /// The place of an access that is accepted, with its number told.
+    pub(crate) fn accepted(&mut self, number: u64) -> Option<&Outcome>
+        ensures { IfSome result (λ outcome. line_of outcome.now ≡ (codes "accepted " ++ decimal number) ++ 10 ∷ []) }
+    {
+        tell!(self.accepted, Outcome::Accepted, number)
+    }
+
+    /// The place of what is done.
+    pub(crate) fn done(&self) -> Option<&Outcome>
+        ensures { IfSome result (λ outcome. line_of outcome.now ≡ codes "ok" ++ 10 ∷ []) }
+    {
+        match &self.done {
+            Outcome::Done => Some(&self.done),
+            _ => None,
+        }
+    }
+
+    /// The tickets that `A-B` says are confirmed, or none where it says `-`, with ` timeout` behind it or not.
+    fn confirmed(&mut self, text: &[u8]) -> Option<&Outcome>
+        ensures { IfSome result (λ outcome. line_of outcome.now ≡ (codes "confirmed " ++ text.now) ++ 10 ∷ []) }
+    {
+        tell_word!(
+            text,
+            b"-",
+            self.none_confirmed,
+            Outcome::NoneConfirmed { timed_out: false }
+        );
+        tell_word!(
+            text,
+            b"- timeout",
+            self.given_up,
+            Outcome::NoneConfirmed { timed_out: true }
+        );
+        let (lowest, highest, gives_up) = tickets_of(text)?;
         match &mut self.confirmed {
             Outcome::Confirmed {
                 first,
                 last,
                 timed_out,
             } => {
-                *first = short_number_of(lowest)?;
-                *last = short_number_of(highest)?;
-                *timed_out = tickets.is_some();
+                *first = lowest;
+                *last = highest;
+                *timed_out = gives_up;
             }
             _ => return None,
         }
@@ -305,17 +392,10 @@ impl KeptOutcomes {
     /// shows when that is printed anew. `none` says of some events that there is no such message.
     fn told_seldom(&mut self, event: &Event, text: &[u8]) -> Option<&Outcome> {
         tell_behind!(text, rest,
-            b"confirmed - timeout" => Some(&self.given_up),
-            b"confirmed -" => Some(&self.none_confirmed),
-            b"confirmed " => self.confirmed(rest),
-            b"no record" => Some(&self.no_record),
-            b"sent" => Some(&self.sent),
-            b"kept" => Some(&self.kept),
             b"miss" => Some(&self.miss),
             b"answer " => tell!(self.answered, Outcome::Answered, translation_of(rest)?),
             b"invalidated " => tell!(self.invalidated, Outcome::Invalidated, number_of(rest)?),
             b"closed " => tell!(self.closed, Outcome::Closed, number_of(rest)?),
-            b"bytes " => tell_bytes!(self.bytes, Outcome::Bytes, rest),
             b"refused " => tell!(self.refused, Outcome::Refused, refusal_of(rest)?),
             b"record " => tell!(self.record, Outcome::Record, record_of(rest)?),
             b"busy" => Some(&self.busy),
@@ -380,13 +460,13 @@ pub fn read_outcome<'a>(
         b"wrote " => tell!(kept.wrote, Outcome::Wrote, long_number_of(rest)?),
         b"ticket " => tell!(kept.ticket, Outcome::Ticket, short_number_of(rest)?),
         b"fault " => tell!(kept.fault, Outcome::Fault, cause_of(rest)?),
+        b"confirmed " => kept.confirmed(rest),
+        b"bytes " => tell_bytes!(kept.bytes, Outcome::Bytes, rest),
     );
-    if is_word(text, b"ok") {
-        return match &kept.done {
-            Outcome::Done => Some(&kept.done),
-            _ => None,
-        };
-    }
+    tell_word!(text, b"ok", kept.done, Outcome::Done);
+    tell_word!(text, b"no record", kept.no_record, Outcome::NoRecord);
+    tell_word!(text, b"sent", kept.sent, Outcome::Sent);
+    tell_word!(text, b"kept", kept.kept, Outcome::Kept);
     if let Some(fetched) = fetched_of(text) {
         return tell!(kept.fetched, Outcome::Fetched, fetched);
     }

@@ -11,7 +11,7 @@ use crate::kept::{KeptOutcomes, read_outcome};
 use crate::others::read_other;
 use crate::sizes::read_world;
 use crate::trace::TraceLine;
-use crate::words::{behind, cut, long_number_of, read_frames};
+use crate::words::{behind, cut, long_number_of, number_before, read_frames};
 use iom_base::{Access, AccessKind, DeviceId, Sequence};
 use iom_machine::{Event, Outcome};
 use iom_script::words::is_word;
@@ -80,9 +80,9 @@ fn read_began<'a>(
     outcome: &'a Outcome,
     text: &[u8],
 ) -> Result<TraceLine<'a>, AllocError>
-    ensures { (tables : List ℕ) → IsTrue (is_accepted outcome.now) → IfOk result (λ read. (said answered answer : List ℕ)
-        → IsEventLine said event → line_of outcome.now ≡ answer ++ 10 ∷ [] → answered ≡ answer ++ codes "; " ++ text.now
-        → SaysLine (said ++ codes " => " ++ answered) (said_of read) tables) }
+    ensures { (shown tables : List ℕ) → shown ≡ codes "; " ++ text.now → IsTrue (is_accepted outcome.now)
+        → IfOk result (λ read. (said answered answer : List ℕ) → IsEventLine said event → line_of outcome.now ≡ answer ++ 10 ∷ []
+        → answered ≡ answer ++ shown → SaysLine (said ++ codes " => " ++ answered) (said_of read) tables) }
 {
     let (Event::Step { device }, Some((asked, on))) = (&event, cut_on(text)) else {
         return Ok(TraceLine::Bad);
@@ -104,19 +104,21 @@ fn read_began<'a>(
 
 /// Reads what is shown behind an answer: `tables F F ..` behind the `ok` of an attach or a grant, `on F` behind
 /// `accepted N`, and behind that of a step also the access that it began.
-#[inline(never)]
 fn read_shown<'a>(
     alloc: Global,
     event: Event,
     outcome: &'a Outcome,
-    text: &[u8],
+    shown: &[u8],
     tables: &mut Vec<u64>,
 ) -> Result<TraceLine<'a>, AllocError>
     requires { tables.old.items ≡ [] }
     ensures { IfOk result (λ read. (said answered answer : List ℕ)
-        → IsEventLine said event → line_of outcome.now ≡ answer ++ 10 ∷ [] → answered ≡ answer ++ codes "; " ++ text.now
+        → IsEventLine said event → line_of outcome.now ≡ answer ++ 10 ∷ [] → answered ≡ answer ++ shown.now
         → SaysLine (said ++ codes " => " ++ answered) (said_of read) tables.new.items) }
 {
+    let Some(text) = behind(shown, b"; ") else {
+        return Ok(TraceLine::Bad);
+    };
     if let Some(frames) = behind(text, b"tables") {
         if !takes_frames(&event, outcome) || !read_frames(frames, tables)? {
             return Ok(TraceLine::Bad);
@@ -148,7 +150,6 @@ fn read_shown<'a>(
 }
 
 /// What is answered to a commit, where that tells no more than that an access was made: a read, or whatever it is.
-#[inline(never)]
 fn read_made(event: &Event, answered: &[u8]) -> TraceLine<'static>
     ensures { (said tables : List ℕ) → IsEventLine said event.now → SaysLine (said ++ codes " => " ++ answered.now) (said_of result) tables }
 {
@@ -170,14 +171,66 @@ fn read_made(event: &Event, answered: &[u8]) -> TraceLine<'static>
     }
 }
 
-/// The answer, and what is shown behind it: nothing but behind `ok` and `accepted N`.
+/// The outcome that is answered, and what stands behind it: nothing but behind `ok` and `accepted N`.
 #[inline(always)]
-fn cut_answer(answered: &[u8]) -> (&[u8], Option<&[u8]>)
-    ensures { MatchOption result.1 (answered.now ≡ result.0.now) (λ behind. answered.now ≡ result.0.now ++ codes "; " ++ behind.now) }
+fn read_answer<'a, 't>(
+    printed: &mut LineBuffer,
+    kept: &'a mut KeptOutcomes,
+    event: &Event,
+    answered: &'t [u8],
+) -> Option<(&'a Outcome, &'t [u8])>
+    ensures { IfSome result (λ read. (answer : List ℕ) × (line_of read.0.now ≡ answer ++ 10 ∷ []) × (answered.now ≡ answer ++ read.1.now)) }
 {
-    match answered {
-        [b'o' | b'a', ..] => cut(answered, b"; ", 0),
-        _ => (answered, None),
+    if let Some(word) = behind(answered, b"accepted ") {
+        let (number, rest) = number_before(word)?;
+        return Some((kept.accepted(number)?, rest));
+    }
+    if let Some(rest) = behind(answered, b"ok") {
+        return Some((kept.done()?, rest));
+    }
+    Some((read_outcome(printed, kept, event, answered)?, &[]))
+}
+
+/// What the answer to the event says, with what is shown behind it.
+fn read_step<'a>(
+    alloc: Global,
+    printed: &mut LineBuffer,
+    kept: &'a mut KeptOutcomes,
+    event: Event,
+    answered: &[u8],
+    tables: &mut Vec<u64>,
+) -> Result<TraceLine<'a>, AllocError>
+    requires { tables.old.items ≡ [] }
+    ensures { (said : List ℕ) → IsEventLine said event → IfOk result (λ read. SaysLine (said ++ codes " => " ++ answered.now) (said_of read) tables.new.items) }
+{
+    match read_answer(printed, kept, &event, answered) {
+        None => Ok(read_made(&event, answered)),
+        Some((outcome, [])) => Ok(TraceLine::Step {
+            event,
+            outcome,
+            has_tables: false,
+            on: None,
+            began: None,
+        }),
+        Some((outcome, text)) => read_shown(alloc, event, outcome, text, tables),
+    }
+}
+
+/// What a line says that tells of no event of a script, or is the first.
+fn read_seldom(
+    said: &[u8],
+    answered: Option<&[u8]>,
+    has_world: bool,
+    tables: &mut Vec<u64>,
+) -> Result<TraceLine<'static>, AllocError>
+    requires { tables.old.items ≡ [] }
+    ensures { (line : List ℕ) → MatchOption answered.entry (line ≡ said.now) (λ behind. line ≡ said.now ++ codes " => " ++ behind.now)
+        → IfOk result (λ read. SaysLine line (said_of read) tables.new.items) }
+{
+    if has_world {
+        read_other(said, answered, tables)
+    } else {
+        Ok(read_world(said, answered))
     }
 }
 
@@ -198,24 +251,12 @@ pub fn read_line<'a>(
     }
     tables.clear();
     let (said, answered) = cut(line, b" => ", 1);
-    if !has_world {
-        return Ok(read_world(said, answered));
+    if has_world {
+        if let Some(answered) = answered {
+            if let Some(event) = event_of(alloc, said)? {
+                return read_step(alloc, printed, kept, event, answered, tables);
+            }
+        }
     }
-    let (Some(answered), Some(event)) = (answered, event_of(alloc, said)?) else {
-        return read_other(said, answered, tables);
-    };
-    let (answer, behind) = cut_answer(answered);
-    let Some(outcome) = read_outcome(printed, kept, &event, answer) else {
-        return Ok(read_made(&event, answered));
-    };
-    match behind {
-        Some(text) => read_shown(alloc, event, outcome, text, tables),
-        None => Ok(TraceLine::Step {
-            event,
-            outcome,
-            has_tables: false,
-            on: None,
-            began: None,
-        }),
-    }
+    read_seldom(said, answered, has_world, tables)
 }

@@ -42,7 +42,6 @@ fn size_and_limits(said: &[u8]) -> Option<(WorldSize, WorldLimits)>
 }
 
 /// What a line says that should be that of the world.
-#[inline(never)]
 pub(crate) fn read_world(said: &[u8], answered: Option<&[u8]>) -> TraceLine<'static>
     ensures { (line tables : List ℕ) → MatchOption answered.entry (line ≡ said.now) (λ behind. line ≡ said.now ++ codes " => " ++ behind.now)
         → SaysLine line (said_of result) tables }

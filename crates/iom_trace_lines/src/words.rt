@@ -1,9 +1,10 @@
 // Words of a line of a trace, beside those of scripts, and what they say.
 ghost use Rattle.std.specs.Prelude.{◌≡◌, ◌≢◌, ◌++◌, [], IfOk, IfSome, IsTrue, MatchOption};
+ghost use Rattle.std.specs.Fmt.{decimal};
 ghost use Rattle.iom_script.specs.Words.{IsNumber};
 ghost use Rattle.iom_trace_lines.specs.TraceLines.{frames_text};
 
-use iom_script::words::{after, number_and, number_of};
+use iom_script::words::{after, leading_number, number_and, number_of};
 use memchr::memchr;
 use std::alloc::AllocError;
 
@@ -32,6 +33,26 @@ pub(crate) fn behind<'a>(text: &'a [u8], start: &[u8]) -> Option<&'a [u8]>
 {
     let (first, others) = start.split_at(start.len().min(8));
     after(after(text, first)?, others)
+}
+
+/// The number of 64 bits with which the text begins, and what stands behind it.
+// Written into its few readers: what it answers would go through memory.
+#[inline(always)]
+pub(crate) fn number_before(text: &[u8]) -> Option<(u64, &[u8])>
+    ensures { IfSome result (λ read. text.now ≡ decimal read.0 ++ read.1.now) }
+{
+    let (number, count) = leading_number(text)?;
+    let (_, rest) = text.split_at(count);
+    Some((number, rest))
+}
+
+/// The same, of 32 bits.
+pub(crate) fn short_number_before(text: &[u8]) -> Option<(u32, &[u8])>
+    ensures { IfSome result (λ read. text.now ≡ decimal read.0 ++ read.1.now) }
+{
+    let (number, rest) = number_before(text)?;
+    let short = u32::try_from(number).ok()?;
+    Some((short, rest))
 }
 
 /// The number of 64 bits that the word says.
