@@ -174,7 +174,7 @@ adds_sound disks old new events id what left invariants adds =
     let long : length (old.devices ++ one ∷ []) ≡ length old.devices + 1 = length_pushed old.devices one in
     let rows_now : (flights_of new.iommu).rows ≡ (flights_of old.iommu).rows ++ new_row id ∷ [] = ap (λ (f : Flights). f.rows) adds.row.flights.2 in
     record {
-      size = adds.row.frames ∙ invariants.size ∙ sym (ap (λ m. length m) adds.memory);
+      size = (ap (λ parts. parts.frames) adds.row.rest) ∙ invariants.size ∙ sym (ap (λ m. length m) adds.memory);
       own_ids = subst AreOfOneId (sym adds.devices) (own_ids_new old.devices one invariants.own_ids (none_at old.devices id (absent_of disks old id what adds.admitted)));
       rows = ap flight_ids rows_now ∙ map_pushed (λ (r : FlightRow). r.device) (flights_of old.iommu).rows (new_row id)
           ∙ ap (λ ids. ids ++ id ∷ []) invariants.rows ∙ sym (ap device_ids adds.devices ∙ map_pushed (λ (d : Device). d.id) old.devices one);
@@ -182,7 +182,7 @@ adds_sound disks old new events id what left invariants adds =
       askers = subst (λ (ds : List Device). All (IsMessageOf ds) new.fabric) (sym adds.devices)
           (subst (λ (f : List OnLink). All (IsMessageOf (old.devices ++ one ∷ [])) f) (sym adds.fabric) (λ k d lt. message_pushed old.devices one (get_or old.fabric k d) (invariants.askers k d lt)));
       accepted = subst (λ (f : Flights). f.so_far ≤ events + 1) (sym adds.row.flights.2) (let low = invariants.accepted in omega (arith, low));
-      serials = subst (λ (s : OpenSlots). s.last ≤ events + 1) (sym adds.row.slots) (let low = invariants.serials in omega (arith, low));
+      serials = subst (λ (s : OpenSlots). s.last ≤ events + 1) (sym (ap (λ parts. parts.slots) adds.row.rest)) (let low = invariants.serials in omega (arith, low));
       epochs = λ d. subst (λ (ds : List Device). epoch_in ds d ≤ events + 1) (sym adds.devices)
           (epochs_pushed old.devices one (events + 1) d (new_epoch (kind_of what) (events + 1)) (let low = invariants.epochs d in omega (arith, low)));
     }

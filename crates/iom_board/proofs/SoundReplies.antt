@@ -70,8 +70,8 @@ replied_kept : (Served : Result Translation WalkFault → Translations → Type 
 replied_kept Served transaction old memory iommu events id access BadSpan invariants (outside, same, unchanged) = iommu_kept old iommu events invariants (ap (λ (i : Iommu). frames_of i) same) (ap (λ (i : Iommu). flights_of i) same) (ap (λ (i : Iommu). slots_of i) same)
 replied_kept Served transaction old memory iommu events id access Busy invariants (within, full, same, unchanged) = iommu_kept old iommu events invariants (ap (λ (i : Iommu). frames_of i) same) (ap (λ (i : Iommu). flights_of i) same) (ap (λ (i : Iommu). slots_of i) same)
 replied_kept Served transaction old memory iommu events id access (Accepted number) invariants (accepts, unchanged) =
-    accepted_kept old iommu events id (record { access = access; frame = accepts.frame }) number invariants accepts.accepted accepts.frames accepts.slots
-replied_kept Served transaction old memory iommu events id access (Fault cause) invariants refuses = iommu_kept old iommu events invariants refuses.frames refuses.flights refuses.slots
+    accepted_kept old iommu events id (record { access = access; frame = accepts.frame }) number invariants accepts.accepted (ap (λ parts. parts.frames) accepts.rest) (ap (λ parts. parts.slots) accepts.rest)
+replied_kept Served transaction old memory iommu events id access (Fault cause) invariants refuses = iommu_kept old iommu events invariants (ap (λ parts. parts.frames) refuses.rest) (ap (λ parts. parts.flights) refuses.rest) (ap (λ parts. parts.slots) refuses.rest)
 
 pub replied_sound : (Served : Result Translation WalkFault → Translations → Type 0) (transaction : Transaction) (old new : BoardParts) (events id : ℕ) (access : Access) (reply : Reply)
     → BoardInvariant old events → Answers Served transaction old.memory old.iommu id access reply new.memory new.iommu → length new.memory ≡ length old.memory → new.devices ≡ old.devices
@@ -103,8 +103,8 @@ goes_sound old new events id access reply invariants goes memory = elim goes [
 -- A QUESTION IS ANSWERED
 pub asked_kept : (old : BoardParts) (memory : List (List ℕ)) (iommu : Iommu) (events id page : ℕ) (answer : Answer) → BoardInvariant old events
     → AnswersQuestion old.memory old.iommu id page answer memory iommu → KeepsIommu old.iommu iommu events
-asked_kept old memory iommu events id page (Page frame rights) invariants tells = iommu_kept old iommu events invariants tells.0.frames tells.0.flights tells.0.slots
-asked_kept old memory iommu events id page (Refused cause) invariants tells = iommu_kept old iommu events invariants tells.frames tells.flights tells.slots
+asked_kept old memory iommu events id page (Page frame rights) invariants tells = iommu_kept old iommu events invariants (ap (λ parts. parts.frames) tells.0.rest) (ap (λ parts. parts.flights) tells.0.rest) (ap (λ parts. parts.slots) tells.0.rest)
+asked_kept old memory iommu events id page (Refused cause) invariants tells = iommu_kept old iommu events invariants (ap (λ parts. parts.frames) tells.rest) (ap (λ parts. parts.flights) tells.rest) (ap (λ parts. parts.slots) tells.rest)
 
 -- AN ACCESS IS MADE
 performed_length : (kind : AccessKind) (memory new : List (List ℕ)) (made : AcceptedAccess) → Performs kind memory made new → length new ≡ length memory
@@ -117,14 +117,14 @@ made_length flights now id (Some made) memory new makes = performed_length makes
 
 made_kept : (old : BoardParts) (memory : List (List ℕ)) (iommu : Iommu) (events id : ℕ) (made : Option MadeAt) → BoardInvariant old events → CommitsOldest old.memory old.iommu id made memory iommu
     → KeepsIommu old.iommu iommu events
-made_kept old memory iommu events id None invariants call = iommu_kept old iommu events invariants call.frames call.makes.2 call.slots
+made_kept old memory iommu events id None invariants call = iommu_kept old iommu events invariants (ap (λ parts. parts.frames) call.rest) call.makes.2 (ap (λ parts. parts.slots) call.rest)
 made_kept old memory iommu events id (Some made) invariants call =
     let is : IsMade old.memory (flights_of old.iommu) id made memory (flights_of iommu) = call.makes in
     record {
-      frames = call.frames;
+      frames = (ap (λ parts. parts.frames) call.rest);
       rows = ap (λ (f : Flights). flight_ids f.rows) is.after ∙ ids_with (flights_of old.iommu).rows (record is.row { waiting = is.later });
       accepted = subst (λ (f : Flights). f.so_far ≤ events + 1) (sym is.after) (let low = invariants.accepted in omega (arith, low));
-      serials = subst (λ (s : OpenSlots). s.last ≤ events + 1) (sym call.slots) (let low = invariants.serials in omega (arith, low));
+      serials = subst (λ (s : OpenSlots). s.last ≤ events + 1) (sym (ap (λ parts. parts.slots) call.rest)) (let low = invariants.serials in omega (arith, low));
     }
 
 pub made_sound : (old new : BoardParts) (events id : ℕ) (made : Option MadeAt) → BoardInvariant old events → CommitsOldest old.memory old.iommu id made new.memory new.iommu

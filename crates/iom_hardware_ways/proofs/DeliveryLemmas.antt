@@ -153,12 +153,12 @@ question_arrives trusted old place device epoch page (reply.Page frame rights) n
     let is = answers.call.0 in
     let (may, change) = told_by trusted old device epoch page true (ats_context_for old.memory (registers_of old.iommu) (contexts_of old.iommu) device)
     (record { frame = frame; rights = rights; level = is.level }) (translations_of new.iommu) there asked refl is.served in
-    question_answered trusted old new place device epoch page (reply.Page frame rights) there answers.fabric answers.devices is.flights is.contexts
-    (alike (registers_of new.iommu) (registers_of old.iommu) is.registers) may change (inl (ap slice_get answers.call.1))
+    question_answered trusted old new place device epoch page (reply.Page frame rights) there answers.fabric answers.devices (ap (λ parts. parts.flights) is.rest) is.contexts
+    (alike (registers_of new.iommu) (registers_of old.iommu) (ap (λ parts. parts.registers) is.rest)) may change (inl (ap slice_get answers.call.1))
 question_arrives trusted old place device epoch page (reply.Refused cause) new there asked answers =
     let is = answers.call in
     let fields = record_of (faulted_of device AtsRequest (page * 4096)) (fault_of is.fault) in
-    question_answered trusted old new place device epoch page (reply.Refused cause) there answers.fabric answers.devices is.flights is.contexts
+    question_answered trusted old new place device epoch page (reply.Refused cause) there answers.fabric answers.devices (ap (λ parts. parts.flights) is.rest) is.contexts
     (unless_alike (is_page_fault is.fault.cause) old.memory (registers_of old.iommu) fields new.memory (registers_of new.iommu) is.recorded) tt
     (inl (stays_shown (translations_of old.iommu) (translations_of new.iommu)
     (faults_by true (ats_context_for old.memory (registers_of old.iommu) (contexts_of old.iommu) device) old.memory (page * 4096) Read (translations_of old.iommu) is.fault (translations_of new.iommu) is.served)))

@@ -112,7 +112,7 @@ makes trusted old id made new effect harmless =
           (performed is.oldest.accepted.access.kind old.memory is.oldest.accepted new.memory is.performed),
       scene_is trusted new new.memory (registers_of old.iommu) (contexts_of old.iommu) (translations_of old.iommu)
           (with_row rows (record is.row { waiting = is.later })) old.devices old.fabric
-          refl effect.call.registers (ap cached_contexts effect.call.contexts) (ap ioatc.content effect.call.translations) (ap (λ (f : Flights). f.rows) is.after) effect.devices effect.fabric,
+          refl (ap (λ parts. parts.registers) effect.call.rest) (ap cached_contexts (ap (λ parts. parts.contexts) effect.call.rest)) (ap ioatc.content (ap (λ parts. parts.translations) effect.call.rest)) (ap (λ (f : Flights). f.rows) is.after) effect.devices effect.fabric,
     )
   where
     as_flight : MadeAt → PendingAccess
@@ -126,7 +126,7 @@ commits trusted old id answer new call harmless =
     by : (given : Option MadeAt) → answer ≡ Ok given → MakesAccess id old given new → Comes (scene_of trusted old) (scene_of trusted new)
     by None reply effect = nothing (scene_of trusted old) (scene_of trusted new)
         (scene_is trusted new old.memory (registers_of old.iommu) (contexts_of old.iommu) (translations_of old.iommu) (flights_of old.iommu).rows old.devices old.fabric
-        effect.call.makes.1 effect.call.registers (ap cached_contexts effect.call.contexts) (ap ioatc.content effect.call.translations) (ap (λ (f : Flights). f.rows) effect.call.makes.2)
+        effect.call.makes.1 (ap (λ parts. parts.registers) effect.call.rest) (ap cached_contexts (ap (λ parts. parts.contexts) effect.call.rest)) (ap ioatc.content (ap (λ parts. parts.translations) effect.call.rest)) (ap (λ (f : Flights). f.rows) effect.call.makes.2)
         effect.devices effect.fabric)
     by (Some made) reply effect =
         one (Make id (record { frame = made.frame; kind = made.kind })) (scene_of trusted old) (scene_of trusted new)

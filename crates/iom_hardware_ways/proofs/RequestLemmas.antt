@@ -91,7 +91,7 @@ accepted trusted old new id access number Served there accepts memory devices fa
     let last = record t { translations = mappings_in (translations_of new.iommu); contexts = contexts_in mode (contexts_of new.iommu); memory = slice_get old.memory } in
     ends_as s last (scene_of trusted new)
     (scene_is trusted new old.memory (registers_of old.iommu) (contexts_of new.iommu) (translations_of new.iommu) after old.devices old.fabric
-    memory accepts.registers refl refl (ap (λ (f : Flights). f.rows) is.after) devices fabric)
+    memory (ap (λ parts. parts.registers) accepts.rest) refl refl (ap (λ (f : Flights). f.rows) is.after) devices fabric)
     (in_succession s t last
     (one (Accept id own) s t
     (flights, served, accepted_among rows id is.row (record { access = access; frame = accepts.frame }) ((flights_of old.iommu).so_far + 1) is.stands, refl))
@@ -111,7 +111,7 @@ refused trusted old new id access cause Served transaction there refuses devices
     let last = record s { translations = mappings_in (translations_of new.iommu); contexts = contexts_in mode (contexts_of new.iommu); memory = slice_get new.memory } in
     ends_as s last (scene_of trusted new)
     (scene_is trusted new new.memory (registers_of new.iommu) (contexts_of new.iommu) (translations_of new.iommu) (flights_of old.iommu).rows old.devices old.fabric
-    refl refl refl refl (ap (λ (f : Flights). f.rows) refuses.flights) devices fabric
+    refl refl refl refl (ap (λ (f : Flights). f.rows) (ap (λ parts. parts.flights) refuses.rest)) devices fabric
     ∙ recorded_alike old.memory (registers_of old.iommu) fields refuses.answer new.memory (registers_of new.iommu) refuses.recorded
     trusted new.memory (contexts_of new.iommu) (translations_of new.iommu) (flights_of old.iommu).rows old.devices old.fabric)
     (all_change s id (mappings_in (translations_of new.iommu)) (contexts_in mode (contexts_of new.iommu)) (slice_get new.memory)

@@ -6,6 +6,7 @@ use Rattle.iom_registers.specs.declared.mmio.Mmio.{Ghosts}
 use Rattle.iom_registers.specs.Table.{written, at_power_on}
 use Rattle.iom_registers.specs.Queues.{is_command_queue_on}
 use Rattle.iom_command_queue.specs.OpenSlots.{OpenSlots, no_slots}
+use Rattle.iom_device_dir.specs.declared.cache.DirCache.{DirCache}
 use Rattle.iom_device_dir.specs.declared.context.Context.{Context}
 use Rattle.iom_device_dir.specs.Cached.{cached_contexts, contexts_in_order}
 use Rattle.iom_device_dir.specs.Contents.{Content, IsEmptyContent}
@@ -54,6 +55,29 @@ slots_of iommu = iommu.slots
 abbrev pub frames_of : {C : Type 0} {c : Cache C} → Iommu C c → ℕ
 frames_of iommu = iommu.frames
 
+-- the IOMMU without the facts that tie its parts to one another: by these it is said what a call leaves as it was
+pub record IommuParts (C : Type 0) : Type 0 where
+  pub registers : Registers
+  pub contexts : DirCache
+  pub translations : C
+  pub flights : Flights
+  pub fence_snapshot : Option ℕ
+  pub waits : Bool
+  pub slots : OpenSlots
+  pub frames : ℕ
+
+abbrev pub iommu_parts : {C : Type 0} {c : Cache C} → Iommu C c → IommuParts C
+iommu_parts iommu = record {
+  registers = iommu.registers;
+  contexts = iommu.contexts;
+  translations = iommu.translations;
+  flights = iommu.in_flight;
+  fence_snapshot = iommu.fence_snapshot;
+  waits = iommu.fence_waits;
+  slots = iommu.slots;
+  frames = iommu.frames;
+}
+
 -- the device was added
 abbrev pub IsAdded : {C : Type 0} {c : Cache C} → Iommu C c → ℕ → Type 0
 IsAdded iommu id = IsAddedTo (flights_of iommu) id
@@ -73,13 +97,7 @@ pub record IsAtPowerOn {C : Type 0} {c : Cache C} (count : ℕ) (iommu : Iommu C
 -- a device is added, unless it is there or 16 are
 pub record AddsDevice {C : Type 0} {c : Cache C} (old : Iommu C c) (id : ℕ) (added : Bool) (new : Iommu C c) : Type 0 where
   pub flights : Adds (flights_of old) id added (flights_of new)
-  pub registers : registers_of new ≡ registers_of old
-  pub contexts : new.contexts ≡ old.contexts
-  pub translations : new.translations ≡ old.translations
-  pub fence_snapshot : fence_snapshot_of new ≡ fence_snapshot_of old
-  pub waits : waits_of new ≡ waits_of old
-  pub slots : slots_of new ≡ slots_of old
-  pub frames : frames_of new ≡ frames_of old
+  pub rest : iommu_parts new ≡ record (iommu_parts old) { flights = new.in_flight }
 
 -- what the fence at the head counted is given up where the command queue is off
 abbrev pub fence_snapshot_after : Registers → Option ℕ → Option ℕ

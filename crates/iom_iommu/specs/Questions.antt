@@ -19,7 +19,7 @@ use Rattle.iom_stage_walk.specs.declared.walked.WalkFault.{WalkFault}
 use Rattle.iom_tlb.specs.declared.trans_cache.TransCache.{Ghosts as Cache}
 use Rattle.iom_tlb.specs.declared.trans_cache.Translation.{Translation}
 use Rattle.iom_tlb.specs.Content.{Translations}
-use Rattle.iom_iommu.specs.Parts.{registers_of, contexts_of, translations_of, flights_of, fence_snapshot_of, waits_of, slots_of, frames_of}
+use Rattle.iom_iommu.specs.Parts.{iommu_parts, registers_of, contexts_of, translations_of, frames_of}
 use Rattle.iom_iommu.specs.Requests.{faulted_of, fault_of}
 use Rattle.iom_iommu.specs.Service.{ServesBy, KeepsContext, ats_context_for}
 
@@ -35,12 +35,7 @@ pub record TellsPage {C : Type 0} {c : Cache C} (memory : List (List ℕ)) (old 
   pub served : ServesQuestion memory old id page (Ok (record { frame = frame; rights = rights; level = level })) (translations_of new)
   pub inside : frame < frames_of old
   pub contexts : KeepsContext memory (registers_of old) (contexts_of old) id (contexts_of new)
-  pub registers : registers_of new ≡ registers_of old
-  pub flights : flights_of new ≡ flights_of old
-  pub fence_snapshot : fence_snapshot_of new ≡ fence_snapshot_of old
-  pub waits : waits_of new ≡ waits_of old
-  pub slots : slots_of new ≡ slots_of old
-  pub frames : frames_of new ≡ frames_of old
+  pub rest : iommu_parts new ≡ record (iommu_parts old) { contexts = new.contexts; translations = new.translations }
 
 -- there is no lawful path to the page, in the first stage or in the second: of that the device alone is told (profile)
 abbrev pub is_page_fault : Cause → Bool
@@ -70,11 +65,7 @@ pub record RefusesQuestion {C : Type 0} {c : Cache C} (memory : List (List ℕ))
   pub contexts : KeepsContext memory (registers_of old) (contexts_of old) id (contexts_of new)
   pub recorded : RecordsUnless (is_page_fault fault.cause) memory (registers_of old)
       (record_of (faulted_of id AtsRequest (page * page_size)) (fault_of fault)) new_memory (registers_of new)
-  pub flights : flights_of new ≡ flights_of old
-  pub fence_snapshot : fence_snapshot_of new ≡ fence_snapshot_of old
-  pub waits : waits_of new ≡ waits_of old
-  pub slots : slots_of new ≡ slots_of old
-  pub frames : frames_of new ≡ frames_of old
+  pub rest : iommu_parts new ≡ record (iommu_parts old) { registers = new.registers; contexts = new.contexts; translations = new.translations }
 
 -- A DEVICE ASKS for the translation of a page
 abbrev pub AnswersQuestion : {C : Type 0} {c : Cache C} → List (List ℕ) → Iommu C c → ℕ → ℕ → Answer → List (List ℕ) → Iommu C c → Type 0

@@ -22,7 +22,7 @@ use Rattle.iom_stage_walk.specs.declared.walked.WalkFault.{WalkFault}
 use Rattle.iom_tlb.specs.declared.trans_cache.TransCache.{Ghosts as Cache}
 use Rattle.iom_tlb.specs.declared.trans_cache.Translation.{Translation}
 use Rattle.iom_tlb.specs.Content.{Translations}
-use Rattle.iom_iommu.specs.Parts.{registers_of, contexts_of, translations_of, flights_of, fence_snapshot_of, waits_of, slots_of, frames_of}
+use Rattle.iom_iommu.specs.Parts.{iommu_parts, registers_of, contexts_of, translations_of, flights_of, frames_of}
 use Rattle.iom_iommu.specs.Service.{Serves, KeepsContext}
 
 -- the access of so many bytes from an address on, with the bytes of a write
@@ -43,11 +43,7 @@ pub record IommuAccepts {C : Type 0} {c : Cache C} (Served : Result Translation 
   pub inside : frame < frames_of old
   pub accepted : IsAccepted (flights_of old) id (record { access = access; frame = frame }) number (flights_of new)
   pub contexts : KeepsContext memory (registers_of old) (contexts_of old) id (contexts_of new)
-  pub registers : registers_of new ≡ registers_of old
-  pub fence_snapshot : fence_snapshot_of new ≡ fence_snapshot_of old
-  pub waits : waits_of new ≡ waits_of old
-  pub slots : slots_of new ≡ slots_of old
-  pub frames : frames_of new ≡ frames_of old
+  pub rest : iommu_parts new ≡ record (iommu_parts old) { flights = new.in_flight; contexts = new.contexts; translations = new.translations }
 
 -- what is recorded of a transaction that faults (section 3.2, "Fault/Event-Queue (FQ)"): of its device's number the 24 bits that DID has
 abbrev pub faulted_of : ℕ → Transaction → ℕ → FaultedRequest
@@ -68,11 +64,7 @@ pub record Refuses {C : Type 0} {c : Cache C} (Served : Result Translation WalkF
   pub answer : Put
   pub recorded : PutsRecord memory (registers_of old) (record_of (faulted_of id transaction access.address) (fault_of fault)) answer new_memory
       (registers_of new)
-  pub flights : flights_of new ≡ flights_of old
-  pub fence_snapshot : fence_snapshot_of new ≡ fence_snapshot_of old
-  pub waits : waits_of new ≡ waits_of old
-  pub slots : slots_of new ≡ slots_of old
-  pub frames : frames_of new ≡ frames_of old
+  pub rest : iommu_parts new ≡ record (iommu_parts old) { registers = new.registers; contexts = new.contexts; translations = new.translations }
 
 -- the first that applies is its answer
 abbrev pub Answers : {C : Type 0} {c : Cache C} → (Result Translation WalkFault → Translations → Type 0) → Transaction → List (List ℕ) → Iommu C c → ℕ
@@ -108,10 +100,4 @@ pub record IsWithinFrame (frames : ℕ) (made : MadeAt) : Type 0 where
 -- THE OLDEST ACCESS of a device is made, if there is one
 pub record CommitsOldest {C : Type 0} {c : Cache C} (memory : List (List ℕ)) (old : Iommu C c) (id : ℕ) (made : Option MadeAt) (new_memory : List (List ℕ)) (new : Iommu C c) : Type 0 where
   pub makes : MakesOldestInFlight memory (flights_of old) id made new_memory (flights_of new)
-  pub contexts : new.contexts ≡ old.contexts
-  pub translations : new.translations ≡ old.translations
-  pub registers : registers_of new ≡ registers_of old
-  pub fence_snapshot : fence_snapshot_of new ≡ fence_snapshot_of old
-  pub waits : waits_of new ≡ waits_of old
-  pub slots : slots_of new ≡ slots_of old
-  pub frames : frames_of new ≡ frames_of old
+  pub rest : iommu_parts new ≡ record (iommu_parts old) { flights = new.in_flight }

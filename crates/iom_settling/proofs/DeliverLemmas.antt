@@ -83,9 +83,9 @@ question_iommu : (old new : Parts) (device page : ℕ) (answer : Translation) �
     → (flights_of new.iommu ≡ flights_of old.iommu) × (command_status (registers_of new.iommu) ≡ command_status (registers_of old.iommu))
     × (slots_of new.iommu ≡ slots_of old.iommu) × (frames_of new.iommu ≡ frames_of old.iommu)
 question_iommu old new device page (Page frame rights) answers =
-    let tells = answers.0 in (tells.flights, ap command_status tells.registers, tells.slots, tells.frames)
+    let tells = answers.0 in ((ap (λ parts. parts.flights) tells.rest), ap command_status (ap (λ parts. parts.registers) tells.rest), (ap (λ parts. parts.slots) tells.rest), (ap (λ parts. parts.frames) tells.rest))
 question_iommu old new device page (Refused cause) refuses =
-    (refuses.flights, recorded_status _ old.memory new.memory (registers_of old.iommu) (registers_of new.iommu) _ refuses.recorded, refuses.slots, refuses.frames)
+    ((ap (λ parts. parts.flights) refuses.rest), recorded_status _ old.memory new.memory (registers_of old.iommu) (registers_of new.iommu) _ refuses.recorded, (ap (λ parts. parts.slots) refuses.rest), (ap (λ parts. parts.frames) refuses.rest))
 
 -- a device with a cache has it
 pub cached_there : (devices : List Device) (id : ℕ) → ((device : Device) → Contains devices device → HasItsCache device) → HasCache devices id → (cache : Cache) × (cache_of devices id ≡ Some cache)

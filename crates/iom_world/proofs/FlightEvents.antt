@@ -135,7 +135,7 @@ answered Served transaction memory memory' old new id access reply.BadSpan answe
 answered Served transaction memory memory' old new id access reply.Busy answers = same_numbers (flights_of old) (flights_of new) (ap flights_of answers.2)
 answered Served transaction memory memory' old new id access (reply.Accepted number) answers =
     keeps_accepted (flights_of old) (flights_of new) id (record { access = access; frame = answers.0.frame }) number answers.0.accepted
-answered Served transaction memory memory' old new id access (reply.Fault cause) refuses = same_numbers (flights_of old) (flights_of new) refuses.flights
+answered Served transaction memory memory' old new id access (reply.Fault cause) refuses = same_numbers (flights_of old) (flights_of new) (ap (λ parts. parts.flights) refuses.rest)
 
 asked : (can : DeviceKind → Bool) (old new : Parts) (id : ℕ) (access : Access) (given : Outcome) → AsksAccess can old id access given new → Keeps old new
 asked can old new id access given (inl unknown) = same_parts old new unknown.same
@@ -183,8 +183,8 @@ stepped old new id given (inr (step, is, inr (inr rests))) = same_parts old new 
 
 -- A MESSAGE arrives
 question : (old new : Parts) (device page : ℕ) (answer : Translation) → AnswersQuestion old.memory old.iommu device page answer new.memory new.iommu → flights_of new.iommu ≡ flights_of old.iommu
-question old new device page (translation.Page frame rights) answers = answers.0.flights
-question old new device page (translation.Refused cause) refuses = refuses.flights
+question old new device page (translation.Page frame rights) answers = (ap (λ parts. parts.flights) answers.0.rest)
+question old new device page (translation.Refused cause) refuses = (ap (λ parts. parts.flights) refuses.rest)
 
 arrived : (message : Message) (old new : Parts) (device : ℕ) (others : List OnLink) (given : Outcome) → Arrives message old device others given new → Keeps old new
 arrived (sent.Ask epoch page) old new device others given answers =

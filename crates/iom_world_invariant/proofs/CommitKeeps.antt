@@ -54,9 +54,9 @@ leaves_made old new events id made invariants is call unreserved driver devices 
       size = performed_size is.oldest.accepted.access.kind old.memory new.memory is.oldest.accepted is.performed;
       reserved = λ frame owner mark. performed_elsewhere is.oldest.accepted.access.kind old.memory new.memory is.oldest.accepted frame is.performed
           (owned_differs old.driver.owners frame is.oldest.accepted.frame owner mark free);
-      registers = call.registers;
-      frames = call.frames;
-      slots = call.slots;
+      registers = (ap (λ parts. parts.registers) call.rest);
+      frames = (ap (λ parts. parts.frames) call.rest);
+      slots = (ap (λ parts. parts.slots) call.rest);
       rows = ap (λ (f : Flights). row_ids f.rows) is.after ∙ row_ids_kept (flights_of old.iommu).rows (record is.row { waiting = is.later });
       driver = driver;
       devices = devices;
@@ -67,9 +67,9 @@ leaves_none : (old new : Parts) (id : ℕ) → CommitsOldest old.memory old.iomm
 leaves_none old new id call driver devices fabric = record {
   size = ap (λ m. length m) call.makes.1;
   reserved = λ frame owner mark. ap (λ m. slice_get m frame) call.makes.1;
-  registers = call.registers;
-  frames = call.frames;
-  slots = call.slots;
+  registers = (ap (λ parts. parts.registers) call.rest);
+  frames = (ap (λ parts. parts.frames) call.rest);
+  slots = (ap (λ parts. parts.slots) call.rest);
   rows = ap (λ (f : Flights). row_ids f.rows) call.makes.2;
   driver = driver;
   devices = devices;
@@ -80,11 +80,11 @@ keeps_made : (old new : Parts) (events id : ℕ) (made : Option MadeAt) → Part
     → CommitsOldest old.memory old.iommu id made new.memory new.iommu
     → (flights_of new.iommu).so_far ≡ (flights_of old.iommu).so_far → AreAmong (accesses_of (flights_of new.iommu).rows) (accesses_of (flights_of old.iommu).rows) → PartsInvariant new events
 keeps_made old new events id made invariants own unchanged leaves call so_far among =
-    let contexts : contexts_of new.iommu ≡ contexts_of old.iommu = ap cached_contexts call.contexts in
+    let contexts : contexts_of new.iommu ≡ contexts_of old.iommu = ap cached_contexts (ap (λ parts. parts.contexts) call.rest) in
     sound_from old new events invariants own leaves unchanged (subst (λ n. n ≤ events) (sym so_far) invariants.counted)
     (contexts_stay old new invariants.contexts contexts leaves.driver)
-    (λ has. make_scene (values_of old) (values_of new) (grants_kept old new events invariants own leaves) (queue_kept old new events invariants own leaves call.fence_snapshot)
-    so_far among (λ d there. ap (λ c. is_some (c d)) (sym contexts) ∙ there) (λ key translation at. ap (λ c. ioatc.content c key) (sym call.translations) ∙ at) has)
+    (λ has. make_scene (values_of old) (values_of new) (grants_kept old new events invariants own leaves) (queue_kept old new events invariants own leaves (ap (λ parts. parts.fence_snapshot) call.rest))
+    so_far among (λ d there. ap (λ c. is_some (c d)) (sym contexts) ∙ there) (λ key translation at. ap (λ c. ioatc.content c key) (sym (ap (λ parts. parts.translations) call.rest)) ∙ at) has)
 
 -- a commit keeps the facts, whatever is told of it
 pub keeps_oldest : (old new : Parts) (events id : ℕ) (made : Option MadeAt) → PartsInvariant old events → DriverInvariant old.driver → StaysReady old.driver

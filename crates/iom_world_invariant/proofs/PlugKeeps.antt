@@ -105,7 +105,7 @@ module _ (old new : Parts) (events id : ℕ) (what : NewDevice) (invariants : Pa
   counted_now = ap (λ (f : Flights). f.so_far) row.flights.2
 
   contexts_now : (other : ℕ) → contexts_of new.iommu other ≡ contexts_of old.iommu other
-  contexts_now other = ap (λ c. cached_contexts c other) row.contexts
+  contexts_now other = ap (λ c. cached_contexts c other) (ap (λ parts. parts.contexts) row.rest)
 
   free : has_device old.driver.devices id ≡ false
   free = none_at (why_not_plug old.driver id) 0 (has_device old.driver.devices id) AlreadyPlugged refl admitted
@@ -140,7 +140,7 @@ module _ (old new : Parts) (events id : ℕ) (what : NewDevice) (invariants : Pa
       ∙ ap (λ (es : ℕ → ℕ). record (traffic_of old.devices new.fabric (slots_of new.iommu)) { epoch_of = es })
       (same_function (epoch_in (old.devices ++ new_device id what ∷ [])) (epoch_in old.devices) (epoch_pushed old.devices id what))
       ∙ ap (λ (ms : List OnLink). traffic_of old.devices ms (slots_of new.iommu)) fabric
-      ∙ ap (traffic_of old.devices old.fabric) row.slots
+      ∙ ap (traffic_of old.devices old.fabric) (ap (λ parts. parts.slots) row.rest)
 
   attachments_now : (other : ℕ) → attachment_by_id new.driver.devices other ≡ attachment_by_id old.driver.devices other
   attachments_now other = ap (λ (d : DriverState). attachment_by_id d.devices other) driver_now ∙ attachment_plugged old.driver.devices id (has_cache (kind_of what)) other
@@ -151,7 +151,7 @@ module _ (old new : Parts) (events id : ℕ) (what : NewDevice) (invariants : Pa
     kinds = λ d. ap (λ (ds : List Device). kind_in ds d) devices ∙ kind_pushed old.devices id what d absent;
     agrees = λ h agrees. subst (λ (s : DriverState). Agrees s.ledger h) (sym driver_now) agrees;
     address = ap completion_address leaves.size;
-    waiting = same_waiting old new events invariants row.registers (ap (λ m. slice_get m (command_frame (length old.memory))) memory);
+    waiting = same_waiting old new events invariants (ap (λ parts. parts.registers) row.rest) (ap (λ m. slice_get m (command_frame (length old.memory))) memory);
     completed = same_completed old.memory new.memory leaves.size leaves.word;
     last_fence = ap (λ (d : DriverState). last_fence d) driver_now;
     given = ap (λ (d : DriverState). d.given) driver_now;
@@ -162,10 +162,10 @@ module _ (old new : Parts) (events id : ℕ) (what : NewDevice) (invariants : Pa
     contexts = λ d is. sym (ap is_some (contexts_now d)) ∙ is;
     cached = record {
       spaces = λ other space at. ap (λ a. option_map (λ (stage : Stages). space_in stage.mode stage.number) (owned_stages a)) (attachments_now other) ∙ at;
-      translations = λ key translation at. sym (ap (λ c. ioatc.content c key) row.translations) ∙ at;
-      fence_snapshot = row.fence_snapshot;
+      translations = λ key translation at. sym (ap (λ c. ioatc.content c key) (ap (λ parts. parts.translations) row.rest)) ∙ at;
+      fence_snapshot = (ap (λ parts. parts.fence_snapshot) row.rest);
       fences = ap (λ (d : DriverState). fence_of d) driver_now;
-      stopped = ap (λ (r : Registers). (command_status r).cmd_to) row.registers;
+      stopped = ap (λ (r : Registers). (command_status r).cmd_to) (ap (λ parts. parts.registers) row.rest);
       traffic = traffic_now;
     };
   }
@@ -173,7 +173,7 @@ module _ (old new : Parts) (events id : ℕ) (what : NewDevice) (invariants : Pa
   pub plugged_sound : PartsInvariant new events
   plugged_sound =
       sound_from old new events invariants leaves
-      (record { status = ap command_status row.registers; frames = row.frames; so_far = counted_now; slots = row.slots })
+      (record { status = ap command_status (ap (λ parts. parts.registers) row.rest); frames = (ap (λ parts. parts.frames) row.rest); so_far = counted_now; slots = (ap (λ parts. parts.slots) row.rest) })
       (ap (λ (d : DriverState). d.started) driver_now) ready known_now
       (λ d. subst (λ (n : ℕ). n ≤ events) (sym (ap (λ (ds : List Device). epoch_in ds d) devices ∙ epoch_pushed old.devices id what d)) (invariants.epochs d))
       (subst (λ (d : DriverState). d.given < 2 ^ 32) (sym driver_now) invariants.small)

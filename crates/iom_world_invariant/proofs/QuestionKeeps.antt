@@ -92,7 +92,7 @@ module _ (laws : ServiceLaws) (old new : Parts) (events device page : ℕ) (inva
   told_sound : (frame : ℕ) (rights : Rights) → TellsPage old.memory old.iommu device page frame rights new.iommu → new.memory ≡ old.memory → PartsInvariant (answering old new) events
   told_sound frame rights call memory =
       let reply = told_page frame rights call in
-      quiet_sound memory call.registers call.frames call.slots call.flights call.fence_snapshot (keeps_attached laws old events invariants own device (contexts_of new.iommu) call.contexts)
+      quiet_sound memory (ap (λ parts. parts.registers) call.rest) (ap (λ parts. parts.frames) call.rest) (ap (λ parts. parts.slots) call.rest) (ap (λ parts. parts.flights) call.rest) (ap (λ parts. parts.fence_snapshot) call.rest) (keeps_attached laws old events invariants own device (contexts_of new.iommu) call.contexts)
       (change_of old device (page * 4096) Read (translations_of new.iommu) (record { frame = frame; rights = rights; level = call.level }) reply.1)
 
   -- and it is what a walk gives, or a cached translation, of a device with ATS
@@ -124,12 +124,12 @@ module _ (laws : ServiceLaws) (old new : Parts) (events device page : ℕ) (inva
 
       by : (b : Bool) → RecordsUnless b old.memory (registers_of old.iommu) (record_of (faulted_of device AtsRequest (page * 4096)) (fault_of call.fault)) new.memory (registers_of new.iommu)
           → PartsInvariant (answering old new) events
-      by true (memory, registers) = quiet_sound memory registers call.frames call.slots call.flights call.fence_snapshot keeps change
+      by true (memory, registers) = quiet_sound memory registers (ap (λ parts. parts.frames) call.rest) (ap (λ parts. parts.slots) call.rest) (ap (λ parts. parts.flights) call.rest) (ap (λ parts. parts.fence_snapshot) call.rest) keeps change
       by false (put, recorded) =
-          let leaves : LeavesReport old after = record_leaves old after events fields put invariants report_ready refl refl refl call.frames call.slots call.flights recorded in
-          report_sound old after events invariants own leaves (subst (λ (f : Flights). f.so_far ≤ events) (sym call.flights) invariants.counted)
+          let leaves : LeavesReport old after = record_leaves old after events fields put invariants report_ready refl refl refl (ap (λ parts. parts.frames) call.rest) (ap (λ parts. parts.slots) call.rest) (ap (λ parts. parts.flights) call.rest) recorded in
+          report_sound old after events invariants own leaves (subst (λ (f : Flights). f.so_far ≤ events) (sym (ap (λ parts. parts.flights) call.rest)) invariants.counted)
           (contexts_kept old after device invariants.contexts keeps refl)
-          (settled_scene old after device (report_grants old after events invariants own leaves) (report_queue old after events invariants own leaves call.fence_snapshot) call.flights keeps change)
+          (settled_scene old after device (report_grants old after events invariants own leaves) (report_queue old after events invariants own leaves (ap (λ parts. parts.fence_snapshot) call.rest)) (ap (λ parts. parts.flights) call.rest) keeps change)
 
   -- the answer is sent
   module _ (place epoch : ℕ) (at : slice_get old.fabric place ≡ Some (record { device = device; message = sent.Ask epoch page })) where

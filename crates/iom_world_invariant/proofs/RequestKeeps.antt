@@ -214,7 +214,7 @@ pub report_leaves : {Served : Result Translation WalkFault → Translations → 
     → (cause : Cause) → Refuses Served transaction old.memory old.iommu id access cause new.memory new.iommu → LeavesReport old new
 report_leaves {transaction = transaction} old new events id access invariants reported driver devices fabric cause call =
     record_leaves old new events (record_of (faulted_of id transaction access.address) (fault_of call.fault)) call.answer invariants reported driver devices fabric
-    call.frames call.slots call.flights call.recorded
+    (ap (λ parts. parts.frames) call.rest) (ap (λ parts. parts.slots) call.rest) (ap (λ parts. parts.flights) call.rest) call.recorded
 
 module _ (laws : ServiceLaws) (old new : Parts) (events id : ℕ) (access : Access) (invariants : PartsInvariant old events) (own : DriverInvariant old.driver) (stays_ready : StaysReady old.driver) (report_ready : StaysReported old.driver)
     (driver : new.driver ≡ old.driver) (devices : new.devices ≡ old.devices) (fabric : new.fabric ≡ old.fabric) (below : (flights_of old.iommu).so_far < events) where
@@ -243,9 +243,9 @@ module _ (laws : ServiceLaws) (old new : Parts) (events id : ℕ) (access : Acce
   keeps_refused cause call unchanged =
       let keeps = keeps_attached laws old events invariants own id (contexts_of new.iommu) call.contexts in
       let leaves = report_leaves old new events id access invariants report_ready driver devices fabric cause call in
-      report_sound old new events invariants own leaves (subst (λ (f : Flights). f.so_far ≤ events) (sym call.flights) invariants.counted)
+      report_sound old new events invariants own leaves (subst (λ (f : Flights). f.so_far ≤ events) (sym (ap (λ parts. parts.flights) call.rest)) invariants.counted)
       (contexts_kept old new id invariants.contexts keeps driver)
-      (settled_scene old new id (report_grants old new events invariants own leaves) (report_queue old new events invariants own leaves call.fence_snapshot) call.flights keeps
+      (settled_scene old new id (report_grants old new events invariants own leaves) (report_queue old new events invariants own leaves (ap (λ parts. parts.fence_snapshot) call.rest)) (ap (λ parts. parts.flights) call.rest) keeps
       (inl (λ key translation at. sym (unchanged key) ∙ at)))
 
   keeps_fault : access.address < 2 ^ 64 → (cause : Cause) → RefusesRequest old.memory old.iommu id access cause new.memory new.iommu → PartsInvariant new events
@@ -261,14 +261,14 @@ module _ (laws : ServiceLaws) (old new : Parts) (events id : ℕ) (access : Acce
       let keeps = keeps_attached laws old events invariants own id (contexts_of new.iommu) call.contexts in
       let is = call.accepted in
       let so_far = (flights_of old.iommu).so_far in
-      let leaves = leaves_asked memory call.registers call.frames call.slots
+      let leaves = leaves_asked memory (ap (λ parts. parts.registers) call.rest) (ap (λ parts. parts.frames) call.rest) (ap (λ parts. parts.slots) call.rest)
       (ap (λ (f : Flights). row_ids f.rows) is.after ∙ row_ids_kept (flights_of old.iommu).rows (with_access is.row (record { access = access; frame = call.frame }) (so_far + 1))) in
       let more : so_far + 1 ≤ events = omega (arith, below) in
       sound_from old new events invariants own leaves stays_ready (subst (λ (f : Flights). f.so_far ≤ events) (sym is.after) more)
       (contexts_kept old new id invariants.contexts keeps driver)
       (λ has. accept_scene (between_values old new) (values_of new) id page translation access.kind
       (grants_on (values_of old) (values_of new) cached translations (grants_kept old new events invariants own leaves))
-      (queue_on (values_of old) (values_of new) cached translations (queue_kept old new events invariants own leaves call.fence_snapshot)) (ap (λ (f : Flights). f.so_far) is.after)
+      (queue_on (values_of old) (values_of new) cached translations (queue_kept old new events invariants own leaves (ap (λ parts. parts.fence_snapshot) call.rest))) (ap (λ (f : Flights). f.so_far) is.after)
       (subst (λ n. AreAmongWith (accesses_of (flights_of new.iommu).rows) (record { device = id; frame = n; kind = access.kind; number = so_far + 1 }) (accesses_of (flights_of old.iommu).rows)) frame
       (subst (λ (f : Flights). AreAmongWith (accesses_of f.rows) (record { device = id; frame = call.frame; kind = access.kind; number = so_far + 1 }) (accesses_of (flights_of old.iommu).rows)) (sym is.after)
       (accepted_among (flights_of old.iommu).rows id is.row (record { access = access; frame = call.frame }) (so_far + 1) is.stands)))

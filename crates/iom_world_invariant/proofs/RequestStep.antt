@@ -270,7 +270,7 @@ module _ (can : DeviceKind → Bool) (laws : ServiceLaws) (old new : Parts) (eve
             (subst (λ c. MayFault (shown_attachment (attachment_by_id old.driver.devices id)) state id access c) (sym call.reply)
             (may_fault (attachment_by_id old.driver.devices id) old state id access call.fault.cause own shows refl faults)),
       )
-      refl (shows_reported old new state leaves invariants.ready.stand.size own shows) call.flights
+      refl (shows_reported old new state leaves invariants.ready.stand.size own shows) (ap (λ parts. parts.flights) call.rest)
 
   step_accept : new.memory ≡ old.memory → (number : ℕ) → AcceptsRequest old.memory old.iommu id access number new.iommu → Steps can state id access (outcome.Accepted number) new
   step_accept memory number call =

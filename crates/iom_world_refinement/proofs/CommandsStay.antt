@@ -113,7 +113,7 @@ plug_keeps disks old new id what answered (inl lacks) = ap waiting_in lacks.same
 plug_keeps disks old new id what answered (inr effect) = by effect.answer effect.row
   where
     by : (answer : Result (Unit {0}) Refusal) → AddsRow answer old.iommu id new.iommu → waiting_in new ≡ waiting_in old
-    by (Ok done) row = waits_same old new effect.memory row.registers
+    by (Ok done) row = waits_same old new effect.memory (ap (λ parts. parts.registers) row.rest)
     by (Err why) same = waits_same old new effect.memory (ap registers_of same)
 
 -- a poll clears frames of devices that left
@@ -133,7 +133,7 @@ answer_keeps : (Served : Result Translation WalkFault → Translations → Type 
     → waiting_in new ≡ waiting_in old
 answer_keeps Served transaction old new events id access invariants own reported driver devices fabric reply.BadSpan answers = waits_same old new answers.2 (ap registers_of answers.1)
 answer_keeps Served transaction old new events id access invariants own reported driver devices fabric reply.Busy answers = waits_same old new answers.3 (ap registers_of answers.2)
-answer_keeps Served transaction old new events id access invariants own reported driver devices fabric (reply.Accepted number) answers = waits_same old new answers.1 answers.0.registers
+answer_keeps Served transaction old new events id access invariants own reported driver devices fabric (reply.Accepted number) answers = waits_same old new answers.1 (ap (λ parts. parts.registers) answers.0.rest)
 answer_keeps Served transaction old new events id access invariants own reported driver devices fabric (reply.Fault cause) answers =
     report_waiting old new events invariants own (report_leaves old new events id access invariants reported driver devices fabric cause answers)
 
@@ -192,10 +192,10 @@ answered_keep old new events device epoch page others answered invariants own re
     recorded cause call false (put, puts) =
         report_waiting old (record old { memory = new.memory; iommu = new.iommu }) events invariants own
         (record_leaves old (record old { memory = new.memory; iommu = new.iommu }) events (record_of (faulted_of device AtsRequest (page * page_size)) (fault_of call.fault)) put invariants reported refl refl refl
-        call.frames call.slots call.flights puts)
+        (ap (λ parts. parts.frames) call.rest) (ap (λ parts. parts.slots) call.rest) (ap (λ parts. parts.flights) call.rest) puts)
 
     by : (answer : Told) → AnswersQuestion old.memory old.iommu device page answer new.memory new.iommu → waiting_in new ≡ waiting_in old
-    by (Page frame rights) call = waits_same old new call.1 call.0.registers
+    by (Page frame rights) call = waits_same old new call.1 (ap (λ parts. parts.registers) call.0.rest)
     by (Refused cause) call = recorded cause call (is_page_fault call.fault.cause) call.recorded
 
 delivered_keep : (old new : Parts) (events place : ℕ) (answered : Outcome) → PartsInvariant old events → DriverInvariant old.driver → StaysReported old.driver → DeliversMessage old place answered new
@@ -233,7 +233,7 @@ makes_keep old new events id (Some made) invariants makes unreserved =
 commits_keep : (old new : Parts) (events id : ℕ) (answered : Outcome) → PartsInvariant old events → DriverInvariant old.driver → CommitsAccess old id answered new → waiting_in new ≡ waiting_in old
 commits_keep old new events id answered invariants own commits = elim commits [
   | inl unknown ↦ ap waiting_in unknown.same
-  | inr oldest ↦ waits_still old new events invariants own oldest.call.registers (makes_keep old new events id oldest.made invariants oldest.call.makes oldest.unreserved)
+  | inr oldest ↦ waits_still old new events invariants own (ap (λ parts. parts.registers) oldest.call.rest) (makes_keep old new events id oldest.made invariants oldest.call.makes oldest.unreserved)
 ]
 
 pub poke_keeps : (old : Parts) (events address : ℕ) (bytes : List ℕ) (answered : Outcome) (memory : List (List ℕ)) → PartsInvariant old events → StoresIfAny old address bytes answered memory → KeepsSystem old memory

@@ -1,5 +1,5 @@
 -- Why a device isn't plugged in, before the driver is asked; and that the IOMMU adds one that is.
-use Rattle.std.proofs.Common.{◌≡◌, ◌<◌, ◌≤◌, ◌⊎◌, ◌∙◌, inl, inr, subst, nat_le, ℕ, Bool, true, false, List, length, Option, None, Some, IsSome, Err, refl, sym, arith}
+use Rattle.std.proofs.Common.{ap, ◌≡◌, ◌<◌, ◌≤◌, ◌⊎◌, ◌∙◌, inl, inr, subst, nat_le, ℕ, Bool, true, false, List, length, Option, None, Some, IsSome, Err, refl, sym, arith}
 use Rattle.std.proofs.lemmas.Bool.{false≢true, le-leb, lt-leb}
 use Rattle.iom_driver.specs.Calls.{AnswersPlug}
 use Rattle.iom_driver.specs.State.{DriverState}
@@ -111,4 +111,4 @@ added_new iommu devices id false new same absent few adds = absurd (by adds.flig
 
 -- the driver is ready as before beside it, since its registers stay
 pub ready_still : (d : DriverState) (memory : List (List ℕ)) (iommu new : Iommu) (id : ℕ) (added : Bool) → AddsDevice iommu id added new → IsReady d memory (registers_of iommu) → IsReady d memory (registers_of new)
-ready_still d memory iommu new id added adds ready = subst (IsReady d memory) (sym adds.registers) ready
+ready_still d memory iommu new id added adds ready = subst (IsReady d memory) (sym (ap (λ parts. parts.registers) adds.rest)) ready

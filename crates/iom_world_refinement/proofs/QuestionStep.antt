@@ -75,13 +75,13 @@ module _ (laws : ServiceLaws) (old new : Parts) (events device page : ℕ) (inva
   frames_recorded cause call false (put, recorded) =
       let after : Parts = record old { memory = new.memory; iommu = new.iommu } in
       let leaves : LeavesReport old after =
-      record_leaves old after events (record_of (faulted_of device AtsRequest (page * 4096)) (fault_of call.fault)) put invariants reported refl refl refl call.frames call.slots call.flights recorded in
+      record_leaves old after events (record_of (faulted_of device AtsRequest (page * 4096)) (fault_of call.fault)) put invariants reported refl refl refl (ap (λ parts. parts.frames) call.rest) (ap (λ parts. parts.slots) call.rest) (ap (λ parts. parts.flights) call.rest) recorded in
       shows_reported old after state leaves invariants.ready.stand.size own shows
 
   shows_answered : (answer : Told) → AnswersQuestion old.memory old.iommu device page answer new.memory new.iommu → new.driver ≡ old.driver → new.devices ≡ old.devices → PartsShow new state
-  shows_answered (Page frame rights) call driver devices = shows_where old new state (rw call.1 shows.frames) driver devices call.0.flights shows
+  shows_answered (Page frame rights) call driver devices = shows_where old new state (rw call.1 shows.frames) driver devices (ap (λ parts. parts.flights) call.0.rest) shows
   shows_answered (Refused cause) call driver devices =
-      shows_where old new state (frames_recorded cause call (is_page_fault call.fault.cause) call.recorded) driver devices call.flights shows
+      shows_where old new state (frames_recorded cause call (is_page_fault call.fault.cause) call.recorded) driver devices (ap (λ parts. parts.flights) call.rest) shows
 
   -- its device is found, and may be told so
   delivered : (answer : Told) → AnswersQuestion old.memory old.iommu device page answer new.memory new.iommu → IsPresent old.devices device

@@ -144,7 +144,7 @@ module _ (old : Parts) (before : ℕ) (invariants : PartsInvariant old before) (
   plugged disks new id what given (inr effect) = by effect.answer effect.row
     where
       by : (answer : Result (Unit {0}) Refusal) → AddsRow answer old.iommu id new.iommu → LeavesFence old new.memory new.iommu
-      by (Ok done) row = registers_stay new.memory new.iommu effect.memory (ap command_status row.registers) row.frames
+      by (Ok done) row = registers_stay new.memory new.iommu effect.memory (ap command_status (ap (λ parts. parts.registers) row.rest)) (ap (λ parts. parts.frames) row.rest)
       by (Err why) same = same_both new.memory new.iommu effect.memory same
 
   attached : (new : Parts) (id : ℕ) (mode : Mode) (ats : Bool) (given : Outcome) → AttachesDevice old id mode ats given new → LeavesFence old new.memory new.iommu
@@ -244,7 +244,7 @@ module _ (old : Parts) (before : ℕ) (invariants : PartsInvariant old before) (
     answered Served transaction new id access driver devices fabric reply.BadSpan answers = same_both new.memory new.iommu answers.2 answers.1
     answered Served transaction new id access driver devices fabric reply.Busy answers = same_both new.memory new.iommu answers.3 answers.2
     answered Served transaction new id access driver devices fabric (reply.Accepted number) answers =
-        registers_stay new.memory new.iommu answers.1 (ap command_status answers.0.registers) answers.0.frames
+        registers_stay new.memory new.iommu answers.1 (ap command_status (ap (λ parts. parts.registers) answers.0.rest)) (ap (λ parts. parts.frames) answers.0.rest)
     answered Served transaction new id access driver devices fabric (reply.Fault cause) answers =
         reported_stays new (report_leaves old new before id access invariants reported driver devices fabric cause answers)
 
@@ -304,14 +304,14 @@ module _ (old : Parts) (before : ℕ) (invariants : PartsInvariant old before) (
         recorded : (cause : Cause) → (call : RefusesQuestion old.memory old.iommu device page cause new.memory new.iommu) → (b : Bool)
             → RecordsUnless b old.memory (registers_of old.iommu) (record_of (faulted_of device AtsRequest (page * page_size)) (fault_of call.fault)) new.memory (registers_of new.iommu)
             → LeavesFence old new.memory new.iommu
-        recorded cause call true (memory, registers) = registers_stay new.memory new.iommu memory (ap command_status registers) call.frames
+        recorded cause call true (memory, registers) = registers_stay new.memory new.iommu memory (ap command_status registers) (ap (λ parts. parts.frames) call.rest)
         recorded cause call false (put, puts) =
             reported_stays (record old { memory = new.memory; iommu = new.iommu })
             (record_leaves old (record old { memory = new.memory; iommu = new.iommu }) before (record_of (faulted_of device AtsRequest (page * page_size)) (fault_of call.fault)) put invariants reported
-            refl refl refl call.frames call.slots call.flights puts)
+            refl refl refl (ap (λ parts. parts.frames) call.rest) (ap (λ parts. parts.slots) call.rest) (ap (λ parts. parts.flights) call.rest) puts)
 
         by : (answer : Told) → AnswersQuestion old.memory old.iommu device page answer new.memory new.iommu → LeavesFence old new.memory new.iommu
-        by (Page frame rights) call = registers_stay new.memory new.iommu call.1 (ap command_status call.0.registers) call.0.frames
+        by (Page frame rights) call = registers_stay new.memory new.iommu call.1 (ap command_status (ap (λ parts. parts.registers) call.0.rest)) (ap (λ parts. parts.frames) call.0.rest)
         by (NotTold cause) call = recorded cause call (is_page_fault call.fault.cause) call.recorded
 
     delivered : (new : Parts) (place : ℕ) (given : Outcome) → DeliversMessage old place given new → LeavesFence old new.memory new.iommu
@@ -342,7 +342,7 @@ module _ (old : Parts) (before : ℕ) (invariants : PartsInvariant old before) (
   committed new id given commits = elim commits [
     | inl unknown ↦ same_parts new unknown.same
     | inr oldest ↦
-        system_stays new.memory new.iommu (ap command_status oldest.call.registers) oldest.call.frames (makes_keep old new before id oldest.made invariants oldest.call.makes oldest.unreserved)
+        system_stays new.memory new.iommu (ap command_status (ap (λ parts. parts.registers) oldest.call.rest)) (ap (λ parts. parts.frames) oldest.call.rest) (makes_keep old new before id oldest.made invariants oldest.call.makes oldest.unreserved)
   ]
 
   reset : (new : Parts) (id : ℕ) (given : Outcome) → ResetsDevice old id given new → LeavesFence old new.memory new.iommu

@@ -105,7 +105,7 @@ module _ (can : DeviceKind → Bool) (laws : ServiceLaws) (old new : Parts) (eve
             subst (λ n. cause ≡ cause_without_context state n) (sym is.own) (same ∙ ap (λ l. cause_at l id) (sym shows.levels)),
           ),
         )
-        refl (shows_where old new state (shows_reported old new state leaves invariants.ready.stand.size own shows) driver devices call.flights shows)
+        refl (shows_where old new state (shows_reported old new state leaves invariants.ready.stand.size own shows) driver devices (ap (λ parts. parts.flights) call.rest) shows)
 
     step_replied : (reply : Reply) → AnswersTranslated old.memory old.iommu id (at_frame frame access) reply new.memory new.iommu → Steps can state id access (outcome_of_reply reply) new
     step_replied (Accepted number) call = elim (usable_or old id) [

@@ -79,7 +79,7 @@ module _ (laws : ServiceLaws) (old new : Parts) (events id : ℕ) (access : Acce
             (ap (λ n. shown_attachment (attachment_by_id old.driver.devices n)) is.own) is.own
             (subst (IsNotLet (attachment_by_id old.driver.devices id) old.driver.levels id) (sym same) not_let_for),
       )
-      (shows_where old new state (shows_reported old new state leaves invariants.ready.stand.size own shows) driver devices call.flights shows)
+      (shows_where old new state (shows_reported old new state leaves invariants.ready.stand.size own shows) driver devices (ap (λ parts. parts.flights) call.rest) shows)
 
   step_replied : (reply : Reply) → AnswersTranslated old.memory old.iommu id access reply new.memory new.iommu → RequestsTranslated state id access (outcome_of_reply reply) state × PartsShow new state
   step_replied (Accepted number) call = absurd (never_accepted old id access number new why found call.0)

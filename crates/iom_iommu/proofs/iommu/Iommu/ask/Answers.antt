@@ -33,12 +33,7 @@ returns-in-Ok-clause-answered g c =
             (subst (λ n. ServesBy sure c.find_ats_context-found.result memory (n * 4096) Read old (Ok c.in-Ok.translation) new) c.number-address.ensures.value c.in-Ok.ensures.served);
         inside = subst (λ n. c.in-Ok.translation.frame < n) c.requires c.in-Ok.ensures.inside;
         contexts = c.find_ats_context-found.ensures.kept;
-        registers = refl;
-        flights = refl;
-        fence_snapshot = refl;
-        waits = refl;
-        slots = refl;
-        frames = refl;
+        rest = refl;
       },
       refl,
     )

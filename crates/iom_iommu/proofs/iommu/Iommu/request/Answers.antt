@@ -40,11 +40,7 @@ returns-in-Ok-clause-answered g c = (
         (record { access = access_of c.args.address n c.args.kind c.args.bytes.now; frame = c.in-Ok.translation.frame }) c.accept.result c.accept.new.in_flight)
         c.in-Some.ensures.value.long c.accept.ensures;
     contexts = c.in-Ok.ensures.kept;
-    registers = refl;
-    fence_snapshot = refl;
-    waits = refl;
-    slots = refl;
-    frames = refl;
+    rest = refl;
   },
   refl,
 )

@@ -76,7 +76,7 @@ invariant_of-self-2 g c =
     let stands =
     (plugs (disks_of world) (disks_at_hand c.prepare_plug.new.self) (disks_at_hand board) (hardware_of (parts_of world)) (board_parts c.prepare_plug.new.self) (board_parts board) c.args.id c.args.what
     c.plug-2.result c.in_default.ensures.answer (c.plug-2.ensures.room c.in_default.ensures.has_room) made.parts made.disks c.plug-2.ensures.effect).1 in
-    let ready = ready_beside (parts_of world) new (c.plug.ensures.ready _ _ (counted world).ready) stands.memory stands.row.registers in
+    let ready = ready_beside (parts_of world) new (c.plug.ensures.ready _ _ (counted world).ready) stands.memory (ap (λ parts. parts.registers) stands.row.rest) in
     record {
       invariants = at_count new (world.hardware.board.events + 1) board.events (c.plug-2.ensures.events ∙ ap (λ n. n + 1) made.events)
           (keeps_plugged (disks_of world) (parts_of world) new (world.hardware.board.events + 1) c.args.id c.args.what outcome.Done (counted world) ready
