@@ -3,7 +3,7 @@ use Rattle.std.proofs.Common.{◌≡◌, ℕ, ◌+◌, ◌≤◌, ◌⊎◌, inl
 use Rattle.std.proofs.lemmas.Bool.{false≢true}
 use Rattle.iom_coherence.specs.Among.{AreAmongWith}
 use Rattle.iom_coherence.specs.Attachments.{IsAttached, IsQuarantined, has_ats, in_both_stages, caches_translations, may_forge}
-use Rattle.iom_coherence.specs.Copies.{ContextFits, EntryGoes, IsCutOff, IsFaithfulEntry, IsFaithfulTranslation, IsInUse, IsUnderway, TranslationGoes}
+use Rattle.iom_coherence.specs.Copies.{ContextFits, EntryGoes, IsQuarantinedBefore, IsFaithfulEntry, IsFaithfulTranslation, IsInUse, IsUnderway, TranslationGoes}
 use Rattle.iom_coherence.specs.Deliveries.{MayBeSent, raised}
 use Rattle.iom_coherence.specs.Faithful.{IsFaithful, IsOrdered}
 use Rattle.iom_coherence.specs.Queue.{Extent, extent_covers}
@@ -95,7 +95,7 @@ faithful_context_kept s device kept faithful attached among = record {
 entry-translation : (s : Scene) (d a t : ℕ) → IsInUse s d → has_ats (s.attachment_of d) ≡ true → TranslationGoes s d a t → EntryGoes s d a t
 entry-translation s d a t in_use has (drop, goes) = by (goes has)
   where
-    by : AreToCome s t (drops_translation d a ∷ invalidates d a ∷ []) ⊎ IsCutOff s d t → EntryGoes s d a t
+    by : AreToCome s t (drops_translation d a ∷ invalidates d a ∷ []) ⊎ IsQuarantinedBefore s d t → EntryGoes s d a t
     by (inl (fence, there, order)) = inl (fence, there, in_order-rest (drops_translation d a) (invalidates d a ∷ is_fence fence ∷ []) s.waiting order)
     by (inr (q, cut)) = inr (inr (inr (cut (in_use q), q)))
 

@@ -12,7 +12,7 @@ use Rattle.iom_coherence.specs.Laws.{scene_at_power_on}
 use Rattle.iom_coherence.specs.Transitions.{CompleteFence, FetchIodir, FetchIotinval, OccurInTurn, Occurs, TakeSnapshot}
 use Rattle.iom_coherence.specs.Queue.{DropContext, DropTranslations, Extent, Fence, Invalidate, QueuedCommand, WholeSpace}
 use Rattle.iom_coherence.specs.Scene.{PendingTicket, Scene}
-use Rattle.iom_coherence.specs.Worked.{RevivalsOccur, attach_and_detach, both_rights, cut_off, revival}
+use Rattle.iom_coherence.specs.Worked.{RevivalsOccur, attach_and_detach, both_rights, quarantine, revival}
 use Rattle.iom_machine.specs.declared.state.Attachment.TheVariants.{Attached, Leaving, Quarantined}
 use Rattle.iom_base.specs.declared.device_kind.DeviceKind.TheVariants.{Ats}
 use Rattle.iom_base.specs.declared.mode.Mode.TheVariants.{Both, Second}
@@ -142,8 +142,8 @@ quarantined = record (with_ticket requested (leave_commands 2)) {
   attachment_of = attachments_with requested.attachment_of 2 (Quarantined (requested.given + 1) (Both Sv48) true);
 }
 
-cut_off_occurs : OccurInTurn gone cut_off quarantined
-cut_off_occurs = (
+quarantine_occurs : OccurInTurn gone quarantine quarantined
+quarantine_occurs = (
   attached_again,
   (refl, (λ yes. refl), refl),
   (
@@ -235,4 +235,4 @@ revival_occurs = (
 )
 
 pub revivals_occur : RevivalsOccur
-revivals_occur = (gone, quarantined, revived, detach_occurs, refl, cut_off_occurs, refl, revival_occurs, refl)
+revivals_occur = (gone, quarantined, revived, detach_occurs, refl, quarantine_occurs, refl, revival_occurs, refl)

@@ -31,8 +31,8 @@ IsFaithfulContext scene device = ContextFits scene device (scene.attachment_of d
 -- The translation cache.
 
 -- the device is quarantined, and if its context is still cached, that is dropped before the ticket is confirmed
-abbrev pub IsCutOff : Scene → ℕ → ℕ → Type 0
-IsCutOff scene device ticket =
+abbrev pub IsQuarantinedBefore : Scene → ℕ → ℕ → Type 0
+IsQuarantinedBefore scene device ticket =
     IsQuarantined (scene.attachment_of device)
     × (Contains scene.contexts device → AreToCome scene ticket (drops_context device ∷ []))
 
@@ -42,7 +42,7 @@ abbrev pub TranslationGoes : Scene → ℕ → ℕ → ℕ → Type 0
 TranslationGoes scene device page ticket =
     AreToCome scene ticket (drops_translation device page ∷ [])
     × (has_ats (scene.attachment_of device) ≡ true
-    → AreToCome scene ticket (drops_translation device page ∷ invalidates device page ∷ []) ⊎ IsCutOff scene device ticket)
+    → AreToCome scene ticket (drops_translation device page ∷ invalidates device page ∷ []) ⊎ IsQuarantinedBefore scene device ticket)
 
 -- a cached translation
 abbrev pub IsFaithfulTranslation : Scene → Copy → Type 0

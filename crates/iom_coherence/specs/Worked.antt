@@ -65,8 +65,8 @@ attach_and_detach =
     Plug 2 Ats ∷ Attach 2 (Second Sv39) false ∷ Detach 2 ∷ Reset 2 ∷ FetchIodir 2 ∷ FetchIotinval 2 WholeSpace ∷ TakeSnapshot 1 ∷ CompleteFence 1 ∷ Confirm 1 ∷ []
 
 -- It is attached in both stages with ATS, and granted a guest page, which is released; the invalidation is sent, or lost. The device is quarantined.
-abbrev pub cut_off : List Transition
-cut_off =
+abbrev pub quarantine : List Transition
+quarantine =
     Attach 2 (Both Sv48) true ∷ Grant 2 3 5 both_rights ∷ Release 2 3 ∷ FetchIotinval 2 WholeSpace ∷ FetchAtsInval 2 WholeSpace ∷ Quarantine 2 ∷ []
 
 -- The fence of the release times out. After a restart one fence ends both tickets, and the device is revived.
@@ -78,5 +78,5 @@ revival =
 abbrev pub RevivalsOccur : Type 0
 RevivalsOccur = (detached quarantined after : Scene)
     × OccurInTurn scene_at_power_on attach_and_detach detached × (detached.attachment_of 2 ≡ Detached)
-    × OccurInTurn detached cut_off quarantined × (quarantined.attachment_of 2 ≡ Quarantined 3 (Both Sv48) true)
+    × OccurInTurn detached quarantine quarantined × (quarantined.attachment_of 2 ≡ Quarantined 3 (Both Sv48) true)
     × OccurInTurn quarantined revival after × (after.attachment_of 2 ≡ Attached (Both Sv48) true)

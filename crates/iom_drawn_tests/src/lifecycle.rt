@@ -22,7 +22,7 @@ static LEAST: [(Note, usize); 16] = [
     (Note::Stopped, 5),
     (Note::Told, 3),
     (Note::Restarted, 5),
-    (Note::CutOff, 5),
+    (Note::Quarantined, 5),
     (Note::Revived, 5),
     (Note::NotYet, 5),
     (Note::Detached, 5),
@@ -32,6 +32,6 @@ static LEAST: [(Note, usize); 16] = [
 
 /// One long run over a directory of one level, and one over three.
 #[test]
-fn devices_are_cut_off_and_come_back(rt: HostRuntime) -> Result<(), Fail> {
+fn devices_are_quarantined_and_come_back(rt: HostRuntime) -> Result<(), Fail> {
     have_often(&rt, Plan::Lifecycle, [1, 2], 6000, &LEAST)
 }

@@ -39,7 +39,7 @@ pub(crate) enum Note {
     /// The command queue was emptied and filled anew.
     Restarted,
     /// A device was quarantined.
-    CutOff,
+    Quarantined,
     /// A device was attached again that was quarantined.
     Revived,
     /// A device that was quarantined may still reach what it held.
@@ -102,7 +102,7 @@ fn noted_recovery(step: &Step) -> Option<Note> {
         (Event::Fetch, Outcome::Fetched(Fetched::Stopped)) => Some(Note::Stopped),
         (Event::Poll, outcome) => noted_poll(outcome),
         (Event::Restart, Outcome::Done) => Some(Note::Restarted),
-        (Event::Quarantine { .. }, Outcome::Ticket(_)) => Some(Note::CutOff),
+        (Event::Quarantine { .. }, Outcome::Ticket(_)) => Some(Note::Quarantined),
         (Event::Revive { .. }, outcome) => noted_revival(outcome),
         (Event::Detach { .. }, Outcome::Ticket(_)) => Some(Note::Detached),
         (Event::Attach { .. }, Outcome::Done) => Some(Note::Attached),

@@ -188,7 +188,7 @@ sound_attached ledger owners devices frames levels started given confirmed resta
       ];
       fences = invariants.fences;
       quarantined = λ other ticket s at. elim (either other) [
-        | inl now ↦ absurd (attached_cut_off ticket s (sym now.1 ∙ at))
+        | inl now ↦ absurd (attached_quarantined ticket s (sym now.1 ∙ at))
         | inr was ↦ invariants.quarantined other ticket s (sym was.1 ∙ at)
       ];
       ids = ids_with devices id (Attached stage) invariants.ids;
@@ -202,8 +202,8 @@ sound_attached ledger owners devices frames levels started given confirmed resta
     attached_leaving : (ticket : ℕ) (s : Stages) → ◌≡◌ {A = Attachment} (Attached stage) (Leaving ticket s) → ⊥
     attached_leaving ticket s same = cc
 
-    attached_cut_off : (ticket : ℕ) (s : Stages) → ◌≡◌ {A = Attachment} (Attached stage) (Quarantined ticket s) → ⊥
-    attached_cut_off ticket s same = cc
+    attached_quarantined : (ticket : ℕ) (s : Stages) → ◌≡◌ {A = Attachment} (Attached stage) (Quarantined ticket s) → ⊥
+    attached_quarantined ticket s same = cc
 
 -- DETACH
 
@@ -249,7 +249,7 @@ sound_detached ledger owners devices frames levels started given confirmed resta
       ];
       fences = more_fences given restarts restarted invariants.fences more;
       quarantined = λ other ticket s at. elim (either other) [
-        | inl now ↦ absurd (leaving_cut_off ticket s (sym now.1 ∙ at))
+        | inl now ↦ absurd (leaving_quarantined ticket s (sym now.1 ∙ at))
         | inr was ↦ let before = invariants.quarantined other ticket s (sym was.1 ∙ at) in let high : ticket ≤ given = before.1 in (before.0, omega (arith, high))
       ];
       ids = ids_with devices id (Leaving (given + 1) stage) invariants.ids;
@@ -260,8 +260,8 @@ sound_detached ledger owners devices frames levels started given confirmed resta
     own_ticket : (ticket : ℕ) (s : Stages) → ◌≡◌ {A = Attachment} (Leaving (given + 1) stage) (Leaving ticket s) → given + 1 ≡ ticket
     own_ticket ticket s same = cc
 
-    leaving_cut_off : (ticket : ℕ) (s : Stages) → ◌≡◌ {A = Attachment} (Leaving (given + 1) stage) (Quarantined ticket s) → ⊥
-    leaving_cut_off ticket s same = cc
+    leaving_quarantined : (ticket : ℕ) (s : Stages) → ◌≡◌ {A = Attachment} (Leaving (given + 1) stage) (Quarantined ticket s) → ⊥
+    leaving_quarantined ticket s same = cc
 
 -- GRANT
 

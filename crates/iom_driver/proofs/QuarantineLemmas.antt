@@ -80,9 +80,9 @@ all_namable devices levels own numbers named k d lt =
 -- QUARANTINE
 
 -- a device that is quarantined owns what it owned
-pub owned_cut_off : (devices : List Device) (id ticket : ℕ) (stage : Stages) → stages_of devices id ≡ Some stage → (other : ℕ)
+pub owned_quarantined : (devices : List Device) (id ticket : ℕ) (stage : Stages) → stages_of devices id ≡ Some stage → (other : ℕ)
     → owned_stages_of (with_attachment devices id (Quarantined ticket stage)) other ≡ owned_stages_of devices other
-owned_cut_off devices id ticket stage attached other = elim (set_or_other devices id (Quarantined ticket stage) other (attached_there devices id stage attached)) [
+owned_quarantined devices id ticket stage attached other = elim (set_or_other devices id (Quarantined ticket stage) other (attached_there devices id stage attached)) [
   | inl now ↦ ap owned_stages now.1 ∙ sym (attached_owns (attachment_by_id devices id) stage attached) ∙ ap (λ i. owned_stages_of devices i) (sym now.0)
   | inr was ↦ ap owned_stages was.1
 ]
@@ -142,7 +142,7 @@ sound_quarantined old new owners devices frames levels started given confirmed r
     let either : (other : ℕ) → ((other ≡ id) × (attachment_by_id (with_attachment devices id (Quarantined (given + 1) stage)) other ≡ Quarantined (given + 1) stage))
     ⊎ ((other ≢ id) × (attachment_by_id (with_attachment devices id (Quarantined (given + 1) stage)) other ≡ attachment_by_id devices other)) =
     λ other. set_or_other devices id (Quarantined (given + 1) stage) other (attached_there devices id stage attached) in
-    let owned = owned_cut_off devices id (given + 1) stage attached in
+    let owned = owned_quarantined devices id (given + 1) stage attached in
     let le : confirmed ≤ given = invariants.tickets.ordered in
     record {
       sizes = invariants.sizes;
@@ -163,7 +163,7 @@ sound_quarantined old new owners devices frames levels started given confirmed r
       };
       fences = more_fences given restarts restarted invariants.fences more;
       leaving = λ other ticket s at. elim (either other) [
-        | inl now ↦ absurd (cut_off_leaving ticket s (sym now.1 ∙ at))
+        | inl now ↦ absurd (quarantined_leaving ticket s (sym now.1 ∙ at))
         | inr was ↦ let before = invariants.leaving other ticket s (sym was.1 ∙ at) in let high : ticket ≤ given = before.1 in (before.0, omega (arith, high))
       ];
       quarantined = λ other ticket s at. elim (either other) [
@@ -178,8 +178,8 @@ sound_quarantined old new owners devices frames levels started given confirmed r
     none_left : (other page : ℕ) → other ≡ id → ◌≡◌ {A = Option Pair} (if id == other then None else held_in old other page) None
     none_left other page same = rw (eq-eqb id other (sym same)) refl
 
-    cut_off_leaving : (ticket : ℕ) (s : Stages) → ◌≡◌ {A = Attachment} (Quarantined (given + 1) stage) (Leaving ticket s) → ⊥
-    cut_off_leaving ticket s same = cc
+    quarantined_leaving : (ticket : ℕ) (s : Stages) → ◌≡◌ {A = Attachment} (Quarantined (given + 1) stage) (Leaving ticket s) → ⊥
+    quarantined_leaving ticket s same = cc
 
     own_ticket : (ticket : ℕ) (s : Stages) → ◌≡◌ {A = Attachment} (Quarantined (given + 1) stage) (Quarantined ticket s) → given + 1 ≡ ticket
     own_ticket ticket s same = cc
@@ -191,8 +191,8 @@ not_there None none = refl
 not_there (Some device) none = cc
 
 -- a device that is quarantined is there
-pub cut_off_there : (devices : List Device) (id ticket : ℕ) (stage : Stages) → attachment_by_id devices id ≡ Quarantined ticket stage → has_device devices id ≡ true
-cut_off_there devices id ticket stage at = by (has_device devices id) refl
+pub quarantined_there : (devices : List Device) (id ticket : ℕ) (stage : Stages) → attachment_by_id devices id ≡ Quarantined ticket stage → has_device devices id ≡ true
+quarantined_there devices id ticket stage at = by (has_device devices id) refl
   where
     nothing : has_device devices id ≡ false → attachment_by_id devices id ≡ Detached
     nothing none = attachment_absent devices id (not_there (device_by_id devices id) none)
@@ -206,19 +206,19 @@ cut_off_there devices id ticket stage at = by (has_device devices id) refl
 
 pub owned_revived : (devices : List Device) (id ticket : ℕ) (stage : Stages) → attachment_by_id devices id ≡ Quarantined ticket stage → (other : ℕ)
     → owned_stages_of (with_attachment devices id (Attached stage)) other ≡ owned_stages_of devices other
-owned_revived devices id ticket stage cut_off other = elim (set_or_other devices id (Attached stage) other (cut_off_there devices id ticket stage cut_off)) [
-  | inl now ↦ ap owned_stages now.1 ∙ sym (ap owned_stages cut_off) ∙ ap (λ i. owned_stages_of devices i) (sym now.0)
+owned_revived devices id ticket stage quarantined other = elim (set_or_other devices id (Attached stage) other (quarantined_there devices id ticket stage quarantined)) [
+  | inl now ↦ ap owned_stages now.1 ∙ sym (ap owned_stages quarantined) ∙ ap (λ i. owned_stages_of devices i) (sym now.0)
   | inr was ↦ ap owned_stages was.1
 ]
 
 pub sound_revived : (ledger : Ledger) (owners : List (Option Owner)) (devices : List Device) (frames levels : ℕ) (started : Bool) (given confirmed restarts restarted id ticket : ℕ) (stage : Stages)
     → StateInvariant ledger owners devices frames levels started given confirmed restarts restarted → started ≡ true → attachment_by_id devices id ≡ Quarantined ticket stage
     → StateInvariant ledger owners (with_attachment devices id (Attached stage)) frames levels started given confirmed restarts restarted
-sound_revived ledger owners devices frames levels started given confirmed restarts restarted id ticket stage invariants runs cut_off =
+sound_revived ledger owners devices frames levels started given confirmed restarts restarted id ticket stage invariants runs quarantined =
     let either : (other : ℕ) → ((other ≡ id) × (attachment_by_id (with_attachment devices id (Attached stage)) other ≡ Attached stage))
     ⊎ ((other ≢ id) × (attachment_by_id (with_attachment devices id (Attached stage)) other ≡ attachment_by_id devices other)) =
-    λ other. set_or_other devices id (Attached stage) other (cut_off_there devices id ticket stage cut_off) in
-    let owned = owned_revived devices id ticket stage cut_off in
+    λ other. set_or_other devices id (Attached stage) other (quarantined_there devices id ticket stage quarantined) in
+    let owned = owned_revived devices id ticket stage quarantined in
     record {
       sizes = invariants.sizes;
       fixed = invariants.fixed;
@@ -239,7 +239,7 @@ sound_revived ledger owners devices frames levels started given confirmed restar
         | inr was ↦ invariants.leaving other t s (sym was.1 ∙ at)
       ];
       quarantined = λ other t s at. elim (either other) [
-        | inl now ↦ absurd (attached_cut_off t s (sym now.1 ∙ at))
+        | inl now ↦ absurd (attached_quarantined t s (sym now.1 ∙ at))
         | inr was ↦ invariants.quarantined other t s (sym was.1 ∙ at)
       ];
       ids = ids_with devices id (Attached stage) invariants.ids;
@@ -253,8 +253,8 @@ sound_revived ledger owners devices frames levels started given confirmed restar
     attached_leaving : (t : ℕ) (s : Stages) → ◌≡◌ {A = Attachment} (Attached stage) (Leaving t s) → ⊥
     attached_leaving t s same = cc
 
-    attached_cut_off : (t : ℕ) (s : Stages) → ◌≡◌ {A = Attachment} (Attached stage) (Quarantined t s) → ⊥
-    attached_cut_off t s same = cc
+    attached_quarantined : (t : ℕ) (s : Stages) → ◌≡◌ {A = Attachment} (Attached stage) (Quarantined t s) → ⊥
+    attached_quarantined t s same = cc
 
 -- what writing a context again leaves, on a path that lacks no page
 pub record IsPutAgain (memory memory' : List (List ℕ)) (levels root id : ℕ) (stage : Stages) : Type 0 where

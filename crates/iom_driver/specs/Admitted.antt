@@ -58,7 +58,7 @@ pub record MayBeQuarantined (d : DriverState) (r : Registers) (id : ℕ) (stage 
 pub record MayBeRevived (d : DriverState) (id : ℕ) (stage : Stages) : Type 0 where
   pub started : d.started ≡ true
   pub ticket : ℕ
-  pub cut_off : attachment_by_id d.devices id ≡ Quarantined ticket stage
+  pub quarantined : attachment_by_id d.devices id ≡ Quarantined ticket stage
   pub over : ticket ≤ d.confirmed
 
 -- the root may be that of tables in the mode: a second stage's fills four frames, and is aligned to that

@@ -18,7 +18,7 @@ use Rattle.iom_driver.specs.State.{DriverState}
 pub record WritesContextAgain (d : DriverState) (memory : List (List ℕ)) (id : ℕ) (d' : DriverState) (memory' : List (List ℕ)) : Type 0 where
   pub ticket : ℕ
   pub stage : Stages
-  pub cut_off : attachment_by_id d.devices id ≡ Quarantined ticket stage
+  pub quarantined : attachment_by_id d.devices id ≡ Quarantined ticket stage
   pub driver : d' ≡ record d { devices = with_attachment d.devices id (Attached stage) }
   pub bytes : memory' ≡ hung memory (root_level d.levels) (directory_frame (length memory)) id [] (context_for stage)
   pub others : (f : ℕ) → slice_get d.owners f ≢ Some (Some System) → slice_get memory' f ≡ slice_get memory f

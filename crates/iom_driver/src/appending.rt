@@ -210,7 +210,7 @@ impl Driver {
         requires room { how_many (M.registers io.old) + 3 < queue_entries }
         requires id { id < 2 ^ 24 }
         requires number { stage.number < 2 ^ 16 }
-        requires cut_off { IsQuarantinedInMemory memory.old self.now.levels (directory_frame self.now.frames) id stage }
+        requires quarantined { IsQuarantinedInMemory memory.old self.now.levels (directory_frame self.now.frames) id stage }
         ensures appended { let commands = detach_commands id stage (completion_address self.now.frames) number in
             AppendsAll M.Mmio memory.old io.old commands memory.new io.new }
         ensures ring { IsRing self.now.frames (M.registers io.new) }

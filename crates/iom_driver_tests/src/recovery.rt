@@ -7,7 +7,7 @@ static RUNS: [Run; 15] = [
     // The context and each leaf are zero. The commands are those of a detach: IODIR.INVAL_DDT of id 2, IOTINVAL.VMA of
     // the whole address space 1, and the fence of ticket 1.
     (
-        "a quarantine cuts off",
+        "a quarantine takes all",
         Start::Usual,
         &[
             Step::Plug(2, OK),
@@ -371,6 +371,6 @@ static RUNS: [Run; 15] = [
 
 // Each step is answered as its run says.
 #[test]
-fn devices_are_cut_off_and_revived(rt: HostRuntime) {
+fn devices_are_quarantined_and_revived(rt: HostRuntime) {
     follow(&rt, rt.alloc(), &RUNS);
 }

@@ -14,7 +14,7 @@ fn revived(bench: &mut Bench, alloc: Global, id: DeviceId) -> Option<(Result<(),
 }
 
 /// Of a device in both stages with ATS: it is quarantined; its ticket is confirmed; its context stands as before.
-static CUT_OFF: [Step; 3] = [
+static QUARANTINED: [Step; 3] = [
     Step::PlugTrusted(2, OK),
     Step::AttachAts(2, BOTH, OK),
     Step::Quarantine(2, Ok(1)),
@@ -28,7 +28,7 @@ static REVIVED: [Step; 1] = [Step::Words(0x3c040, &[3, 0x8000_1000_0000_0038, 0x
 #[test]
 fn a_revival_begins_an_epoch(rt: HostRuntime) -> Result<(), Fail> {
     let mut bench = started(rt.alloc())?;
-    bench.follow(&rt, "cut off", &CUT_OFF);
+    bench.follow(&rt, "quarantined", &QUARANTINED);
     let refused = revived(&mut bench, rt.alloc(), 2);
     expect(&rt, refused == Some((Err(Refusal::StillGranted), 0)));
     bench.follow(&rt, "confirmed", &CONFIRMED);

@@ -77,7 +77,7 @@ pub(crate) fn note_parting<D: Disk>(notes: &mut Notes, world: &World<D>, device:
     let mut note = Note::new();
     let _ = write!(
         note,
-        "{device:06x} was cut off or detached under ticket {ticket}"
+        "{device:06x} was quarantined or detached under ticket {ticket}"
     );
     notes.push(note);
     note_ticket(notes, world, ticket);

@@ -14,7 +14,7 @@ fn remedy(refusal: Refusal) -> &'static str {
     match refusal {
         Refusal::NoSuchDevice => "no device has this id: plug it in first",
         Refusal::AlreadyAttached =>
-            "the device is attached, or not yet gone: detach it and wait for its ticket; revive one that was cut off",
+            "the device is attached, or not yet gone: detach it and wait for its ticket; revive one that was quarantined",
         Refusal::NotAttached => "the device isn't attached: attach it first",
         Refusal::NotTrusted =>
             "only a device that obeys invalidations may have ATS: attach it without",
@@ -29,7 +29,7 @@ fn remedy(refusal: Refusal) -> &'static str {
         Refusal::QueueFull => "the command queue has no room: let the IOMMU fetch first",
         Refusal::TooManyPending =>
             "256 tickets aren't confirmed: let the IOMMU fetch, and poll first",
-        Refusal::Quarantined => "the device is cut off: revive it first",
+        Refusal::Quarantined => "the device is quarantined: revive it first",
         Refusal::NumbersUsedUp => "no number is left for a fence",
         Refusal::Memory => "memory was refused",
         Refusal::StillGranted =>

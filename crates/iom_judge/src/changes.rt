@@ -119,10 +119,27 @@ fn shown_at(has_tables: bool, tables: &[u64], index: u64) -> Shown<'_>
 }
 
 impl TraceMachine {
+    /// This came of the event, of which nothing is shown.
+    pub(crate) fn go_on_unshown<'x>(
+        &mut self,
+        line: &Line<'_>,
+        event: &'x Event,
+        outcome: &'x Outcome,
+    ) -> Result<(), Stop>
+        ensures { OnOk result ((choice : spec_choice.Choice) × Continues self.old (Came event.now outcome.now choice ∷ []) self.new) }
+    {
+        let reply = Reported {
+            event,
+            outcome,
+            shown: NOTHING,
+        };
+        self.go_on_alone(line, &reply)
+    }
+
     /// This came of the event of one device more, which took no tables.
     pub(crate) fn go_on_without_tables<'x>(
         &mut self,
-        line: Line<'_>,
+        line: &Line<'_>,
         event: &'x Event,
         outcome: &'x Outcome,
     ) -> Result<(), Stop>
@@ -134,13 +151,13 @@ impl TraceMachine {
             outcome,
             shown: WITHOUT_TABLES,
         };
-        self.go_on_alone(line, reply)
+        self.go_on_alone(line, &reply)
     }
 
     /// It changes of each of these devices too.
     fn change_these(
         &mut self,
-        line: Line<'_>,
+        line: &Line<'_>,
         devices: &[DeviceId],
         change: Change,
         outcome: &Outcome,
@@ -160,7 +177,7 @@ impl TraceMachine {
     /// What this changes of a device changes of each other one that shares its domain.
     fn change_sharers(
         &mut self,
-        line: Line<'_>,
+        line: &Line<'_>,
         event: &Event,
         outcome: &Outcome,
     ) -> Result<(), Stop>
@@ -175,11 +192,11 @@ impl TraceMachine {
     }
 
     /// This came of the event. A grant and a release are those of each device of the domain, and it is its first that is named.
-    pub(crate) fn go_on(&mut self, line: Line<'_>, reply: Reported<'_>) -> Result<(), Stop>
-        ensures { OnOk result ((choice : spec_choice.Choice) × ShowsChoice reply.entry.shown reply.entry.event.now choice
-            × ContinuesBy self.old reply.entry.event.now reply.entry.outcome.now choice self.new) }
+    pub(crate) fn go_on(&mut self, line: &Line<'_>, reply: &Reported<'_>) -> Result<(), Stop>
+        ensures { OnOk result ((choice : spec_choice.Choice) × ShowsChoice reply.now.shown reply.now.event.now choice
+            × ContinuesBy self.old reply.now.event.now reply.now.outcome.now choice self.new) }
     {
-        self.domains.check_first(reply.event)?;
+        self.domains.check_first(line, reply.event)?;
         self.go_on_alone(line, reply)?;
         self.change_sharers(line, reply.event, reply.outcome)
     }
@@ -187,7 +204,7 @@ impl TraceMachine {
     /// It changed so of the device at so many pages, one after another; and the tables that were taken, where they are shown.
     fn change_each<'x>(
         &mut self,
-        line: Line<'_>,
+        line: &Line<'_>,
         device: DeviceId,
         first: Change,
         count: u64,
@@ -206,15 +223,16 @@ impl TraceMachine {
                 outcome,
                 shown: shown_at(has_tables, tables, index),
             };
-            self.go_on(line, reply)?;
+            self.go_on(line, &reply)?;
         }
         Ok(())
     }
 
     /// These pages were granted; and the tables that were taken, where they are shown.
+    #[inline(never)]
     pub(crate) fn grant_each(
         &mut self,
-        line: Line<'_>,
+        line: &Line<'_>,
         granted: GrantedPages,
         has_tables: bool,
         tables: &[u64],
@@ -239,9 +257,10 @@ impl TraceMachine {
     }
 
     /// These pages were released under the ticket.
+    #[inline(never)]
     pub(crate) fn release_each(
         &mut self,
-        line: Line<'_>,
+        line: &Line<'_>,
         released: ReleasedPages,
         ticket: u32,
     ) -> Result<(), Stop>

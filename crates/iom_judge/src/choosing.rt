@@ -136,9 +136,9 @@ fn choose_shown(
     alloc: Global,
     choice: &mut Choice,
     event: &Event,
-    shown: Shown<'_>,
+    shown: &Shown<'_>,
 ) -> Result<(), AllocError>
-    ensures { OnOk result (ShowsChoice shown.entry event.now choice.new) }
+    ensures { OnOk result (ShowsChoice shown.now event.now choice.new) }
 {
     if !choice.returned.as_slice().is_empty() || !shown.freed.is_empty() {
         choice.returned = list_of(alloc, shown.freed)?;
@@ -167,7 +167,7 @@ fn page_told(kept: &KeptState, id: DeviceId, reply: Translation) -> u64 {
 }
 
 /// What asks for an access at an address of its device: the device, and the address and kind where they are shown.
-fn asked_by(reply: Reported<'_>) -> Option<(DeviceId, Option<(u64, AccessKind)>)> {
+fn asked_by(reply: &Reported<'_>) -> Option<(DeviceId, Option<(u64, AccessKind)>)> {
     match reply.event {
         Event::Read {
             device,
@@ -241,7 +241,7 @@ impl Chosen {
     }
 
     /// No tables are chosen; and they are missing of an attach or a grant, where it isn't shown which it took.
-    fn choose_no_tables(&mut self, line: Line<'_>, reply: Reported<'_>) {
+    fn choose_no_tables(&mut self, line: &Line<'_>, reply: &Reported<'_>) {
         self.choice.taken = Sequence::new(line.alloc);
         self.choice.directory = Sequence::new(line.alloc);
         let is_shown = match reply.shown.tables {
@@ -285,9 +285,9 @@ impl Chosen {
     /// What is chosen of an access that was accepted, as this one of its device.
     fn choose_accepted(
         &mut self,
-        line: Line<'_>,
+        line: &Line<'_>,
         kept: &KeptState,
-        reply: Reported<'_>,
+        reply: &Reported<'_>,
         number: u64,
     ) {
         let Some((device, access)) = asked_by(reply) else {
@@ -323,10 +323,10 @@ impl Chosen {
     /// asks for stays as it was.
     fn choose_unshown(
         &mut self,
-        line: Line<'_>,
+        line: &Line<'_>,
         kept: &KeptState,
         notes: &Notes,
-        reply: Reported<'_>,
+        reply: &Reported<'_>,
     ) -> Result<(), AllocError> {
         self.missing = None;
         match (reply.event, reply.outcome) {
@@ -349,14 +349,14 @@ impl Chosen {
     /// What is chosen for a line: what it shows, and of the rest nothing that isn't lawful, where something else is.
     pub(crate) fn choose(
         &mut self,
-        line: Line<'_>,
+        line: &Line<'_>,
         kept: &KeptState,
         notes: &Notes,
-        reply: Reported<'_>,
+        reply: &Reported<'_>,
     ) -> Result<(), AllocError>
-        ensures { OnOk result (ShowsChoice reply.entry.shown reply.entry.event.now self.new.choice) }
+        ensures { OnOk result (ShowsChoice reply.now.shown reply.now.event.now self.new.choice) }
     {
         self.choose_unshown(line, kept, notes, reply)?;
-        choose_shown(line.alloc, &mut self.choice, reply.event, reply.shown)
+        choose_shown(line.alloc, &mut self.choice, reply.event, &reply.shown)
     }
 }

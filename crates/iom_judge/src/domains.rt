@@ -8,7 +8,7 @@ ghost use Rattle.iom_judge.specs.Sharing.{is_gone, is_this, own_domain, sharers,
 
 use crate::choosing::Reported;
 use crate::missing::Missing;
-use crate::stop::{Stop, uncertified};
+use crate::stop::{Line, Stop};
 use indexmap::IndexMap;
 use iom_base::DeviceId;
 use iom_kept_state::{KeptGrants, KeptState};
@@ -144,29 +144,34 @@ impl Domains {
     }
 
     /// What follows can't be certified where tables go back by this, while another device may still walk in them.
-    pub(crate) fn check(&self, kept: &KeptState, reply: Reported<'_>) -> Result<(), Stop>
+    pub(crate) fn check(
+        &self,
+        line: &Line<'_>,
+        kept: &KeptState,
+        reply: &Reported<'_>,
+    ) -> Result<(), Stop>
         ensures { (h : History) → IsPastOf kept.now.grants h → OnOk result
-            (IfSome (tables_end reply.entry.event.now reply.entry.outcome.now) (NoneWalks (first_in self.now) h kept.now.devices)) }
+            (IfSome (tables_end reply.now.event.now reply.now.outcome.now) (NoneWalks (first_in self.now) h kept.now.devices)) }
     {
         if let Some(first) = tables_end(reply.event, reply.outcome) {
             if !self.none_walks(&kept.grants, kept.devices.as_slice(), first) {
-                return Err(uncertified(Missing::Sharers { first }));
+                return Err(line.uncertified(Missing::Sharers { first })?);
             }
         }
         Ok(())
     }
 
     /// Nor where a page is granted to, or released by, a device that isn't the first of its domain.
-    pub(crate) fn check_first(&self, event: &Event) -> Result<(), Stop> {
+    pub(crate) fn check_first(&self, line: &Line<'_>, event: &Event) -> Result<(), Stop> {
         let (Event::Grant { device, .. } | Event::Release { device, .. }) = event else {
             return Ok(());
         };
         match self.first_with(*device) {
             None => Ok(()),
-            Some(first) => Err(uncertified(Missing::Domain {
+            Some(first) => Err(line.uncertified(Missing::Domain {
                 device: *device,
                 first,
-            })),
+            })?),
         }
     }
 

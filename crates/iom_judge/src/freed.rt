@@ -5,7 +5,7 @@ ghost use Rattle.iom_judge.specs.Certified.{ContinuesAs};
 
 use crate::choosing::{NOTHING, Reported, Shown};
 use crate::machine::TraceMachine;
-use crate::stop::{Line, Stop, uncertified};
+use crate::stop::{Line, Stop};
 use iom_base::Owner;
 use iom_kept_state::KeptState;
 use iom_machine::{Attachment, Event, Outcome};
@@ -43,12 +43,13 @@ fn why_in_use(alloc: Global, kept: &KeptState, table: u64) -> Result<String, All
 
 impl TraceMachine {
     /// These tables are given back.
-    pub(crate) fn free_tables(&mut self, line: Line<'_>, tables: &[u64]) -> Result<(), Stop>
+    #[inline(never)]
+    pub(crate) fn free_tables(&mut self, line: &Line<'_>, tables: &[u64]) -> Result<(), Stop>
         ensures { OnOk result (ContinuesAs self.old TablesFreed tables.now self.new) }
     {
         if let Some(table) = first_in_use(&self.kept, tables) {
             if let Some(missing) = self.guesses.of_tables() {
-                return Err(uncertified(missing));
+                return Err(line.uncertified(missing)?);
             }
             let why = why_in_use(line.alloc, &self.kept, table)?;
             return Err(line.unlawful(&why)?);
@@ -62,6 +63,6 @@ impl TraceMachine {
             outcome: &Outcome::NoneConfirmed { timed_out: false },
             shown,
         };
-        self.go_on_alone(line, reply)
+        self.go_on_alone(line, &reply)
     }
 }

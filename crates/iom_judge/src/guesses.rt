@@ -2,7 +2,7 @@
 ghost use Rattle.std.specs.Prelude.{◌≤◌};
 
 use crate::choosing::{Reported, Tables};
-use crate::missing::{Begun, Missing};
+use crate::missing::Missing;
 use crate::settled::device_with;
 use iom_base::{DeviceId, PAGE_SIZE, Refusal};
 use iom_kept_state::KeptState;
@@ -53,13 +53,8 @@ impl Guesses {
         }
     }
 
-    /// Notes what a line shows, what was guessed of the access that it makes, and what is missing of what it shows.
-    pub(crate) fn note_line(
-        &mut self,
-        reply: Reported<'_>,
-        made: Option<Missing>,
-        missing: Option<Missing>,
-    ) -> Result<(), AllocError> {
+    /// Notes what a line shows, and that the access is made of which something was guessed at this place.
+    pub(crate) fn note_line(&mut self, reply: &Reported<'_>, made: Option<usize>) {
         if matches!(
             reply.shown.tables,
             Tables::Own(Some(_)) | Tables::OfAnother(Some(_))
@@ -72,33 +67,36 @@ impl Guesses {
         ) {
             self.gives_back = self.tables.is_some();
         }
-        if let Some(made) = made {
-            self.make(made, reply.outcome);
+        if let Some(place) = made {
+            self.make(place, reply.outcome);
         }
-        match missing {
-            None => {}
-            Some(Missing::Tables { .. }) => {
-                if !self.shows_tables && self.tables.is_none() {
-                    self.tables = missing;
-                }
-            }
-            Some(missing) => self.in_flight.push(missing)?,
+    }
+
+    /// This is missing of what the line shows.
+    #[inline(never)]
+    pub(crate) fn miss(&mut self, missing: Missing) -> Result<(), AllocError> {
+        if !matches!(missing, Missing::Tables { .. }) {
+            self.in_flight.push(missing)?;
+            return Ok(());
+        }
+        if !self.shows_tables && self.tables.is_none() {
+            self.tables = Some(missing);
         }
         Ok(())
     }
 
-    /// What was guessed of the device's access with this number.
-    fn of(&self, device: DeviceId, number: u64) -> Option<Missing> {
-        for missing in &self.in_flight {
+    /// The place of what was guessed of the device's access with this number.
+    fn place_of(&self, device: DeviceId, number: u64) -> Option<usize> {
+        for (place, missing) in self.in_flight.iter().enumerate() {
             if is_of(*missing, device, number) {
-                return Some(*missing);
+                return Some(place);
             }
         }
         None
     }
 
-    /// What was guessed of the access that the event makes, if it is a commit.
-    pub(crate) fn of_oldest(&self, kept: &KeptState, event: &Event) -> Option<Missing> {
+    /// The place of what was guessed of the access that the event makes, if it is a commit.
+    pub(crate) fn place_of_oldest(&self, kept: &KeptState, event: &Event) -> Option<usize> {
         let Event::Commit { device: id } = event else {
             return None;
         };
@@ -106,20 +104,26 @@ impl Guesses {
             return None;
         }
         let device = device_with(kept.devices.as_slice(), *id)?;
-        self.of(*id, oldest_number(device))
+        self.place_of(*id, oldest_number(device))
     }
 
-    /// The access of which this was guessed was made. One that isn't shown may be a write, where the line says no more than that.
-    fn make(&mut self, made: Missing, outcome: &Outcome) {
+    /// What was guessed at the place.
+    fn guess_at(&self, place: Option<usize>) -> Option<Missing> {
+        self.in_flight.get(place?).copied()
+    }
+
+    /// The access is made of which something was guessed at this place. One that isn't shown may be a write, where the line says no
+    /// more than that.
+    #[inline(never)]
+    fn make(&mut self, place: usize, outcome: &Outcome) {
+        if place >= self.in_flight.len() {
+            return;
+        }
+        let made = self.in_flight.remove(place);
         let may_write = matches!(made, Missing::Access(_)) || matches!(outcome, Outcome::Wrote(_));
         if may_write && self.made.is_none() {
             self.made = Some(made);
         }
-        let (Missing::Frame(begun) | Missing::Access(begun)) = made else {
-            return;
-        };
-        let Begun { device, number, .. } = begun;
-        self.in_flight.retain(|missing: &Missing| -> bool { !is_of(*missing, device, number) });
     }
 
     /// What was guessed of tables, if something was.
@@ -172,7 +176,8 @@ impl Guesses {
             let kind = flight.access.kind;
             let grants = &kept.grants;
             if !grants.may_once(device.id, page, flight.frame, kind, from, last) {
-                let guessed = self.of(device.id, first.saturating_add(index as u64))?;
+                let place = self.place_of(device.id, first.saturating_add(index as u64));
+                let guessed = self.guess_at(place)?;
                 if found.is_none() {
                     found = Some(guessed);
                 }
@@ -201,7 +206,9 @@ impl Guesses {
         outcome: &Outcome,
     ) -> Option<Missing> {
         match (event, outcome) {
-            (Event::Commit { .. }, outcome) => match self.of_oldest(kept, event) {
+            (Event::Commit { .. }, outcome) => match self.guess_at(self.place_of_oldest(
+                kept, event,
+            )) {
                 None if matches!(outcome, Outcome::Read(_)) => self.of_bytes(),
                 found => found,
             },

@@ -4,7 +4,7 @@ ghost use Rattle.iom_judge.specs.Certified.{is_given, ContinuesAs};
 ghost use Rattle.iom_judge.specs.Happenings.{frame_granted, is_in, is_used, tables_chosen};
 ghost use Rattle.iom_trace_lines.specs.TraceLines.{takes_frames, Handoff, Take};
 
-use crate::choosing::{NOTHING, Reported};
+use crate::choosing::Reported;
 use crate::machine::TraceMachine;
 use crate::stop::{Line, Stop};
 use indexmap::IndexMap;
@@ -90,9 +90,9 @@ impl Handed {
     }
 
     /// The first of the frames that are used where this came of the event and was given away.
-    fn first_used(&self, reply: Reported<'_>, choice: &Choice) -> Option<u64>
+    fn first_used(&self, reply: &Reported<'_>, choice: &Choice) -> Option<u64>
         ensures { IsNone result → (frame : ℕ)
-            → IsTrue (is_used reply.entry.event.now reply.entry.outcome.now choice.now frame) → is_given self.now frame ≡ false }
+            → IsTrue (is_used reply.now.event.now reply.now.outcome.now choice.now frame) → is_given self.now frame ≡ false }
     {
         if let Some(frame) = granted(reply.event, reply.outcome) {
             if self.frames.contains_key(&frame) {
@@ -121,11 +121,14 @@ impl Handed {
     }
 
     /// The frames that are used where this came of the event are used from here on.
-    pub(crate) fn note(&mut self, reply: Reported<'_>, choice: &Choice)
+    pub(crate) fn note(&mut self, reply: &Reported<'_>, choice: &Choice)
         ensures given { (frame : ℕ)
-            → is_given self.new frame ≡ (is_given self.old frame && not (is_used reply.entry.event.now reply.entry.outcome.now choice.now frame)) }
+            → is_given self.new frame ≡ (is_given self.old frame && not (is_used reply.now.event.now reply.now.outcome.now choice.now frame)) }
         ensures takes { self.new.takes_back ≡ self.old.takes_back }
     {
+        if self.frames.is_empty() {
+            return;
+        }
         if let Some(frame) = granted(reply.event, reply.outcome) {
             let _line = self.frames.swap_remove(&frame);
         }
@@ -137,12 +140,12 @@ impl Handed {
     /// The line is unlawful where this uses a frame that was given away.
     pub(crate) fn check(
         &self,
-        line: Line<'_>,
-        reply: Reported<'_>,
+        line: &Line<'_>,
+        reply: &Reported<'_>,
         choice: &Choice,
     ) -> Result<(), Stop>
         ensures { OnOk result (IsTrue self.now.takes_back → (frame : ℕ)
-            → IsTrue (is_used reply.entry.event.now reply.entry.outcome.now choice.now frame) → is_given self.now frame ≡ false) }
+            → IsTrue (is_used reply.now.event.now reply.now.outcome.now choice.now frame) → is_given self.now frame ≡ false) }
     {
         if !self.takes_back {
             return Ok(());
@@ -161,21 +164,16 @@ impl Handed {
 
 impl TraceMachine {
     /// The frame is given to somebody else.
-    pub(crate) fn hand_off(&mut self, line: Line<'_>, frame: u64) -> Result<(), Stop>
+    pub(crate) fn hand_off(&mut self, line: &Line<'_>, frame: u64) -> Result<(), Stop>
         ensures { OnOk result (ContinuesAs self.old (Handoff frame) [] self.new) }
     {
-        let reply = Reported {
-            event: &Event::Free { frame },
-            outcome: &Outcome::Free(true),
-            shown: NOTHING,
-        };
-        self.go_on_alone(line, reply)?;
+        self.go_on_unshown(line, &Event::Free { frame }, &Outcome::Free(true))?;
         self.handed.hand_off(frame, line.number)?;
         Ok(())
     }
 
     /// The frame is taken back.
-    pub(crate) fn take_back(&mut self, line: Line<'_>, frame: u64) -> Result<(), Stop>
+    pub(crate) fn take_back(&mut self, line: &Line<'_>, frame: u64) -> Result<(), Stop>
         ensures { OnOk result (ContinuesAs self.old (Take frame) [] self.new) }
     {
         if self.handed.take_back(frame) {

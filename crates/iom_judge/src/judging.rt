@@ -17,9 +17,10 @@ use std::io::{self, ErrorKind, Read};
 const NO_END: &str = "it is longer than 65,535 bytes, or has no line feed";
 
 /// The line says this, and no world has its size yet.
+#[inline(never)]
 fn begin<'x>(
     found: &mut Option<TraceMachine>,
-    line: Line<'_>,
+    line: &Line<'_>,
     said: &'x TraceLine<'x>,
 ) -> Result<(), Stop>
     ensures { OnOk result (Begins (said_of said.now) found.old found.new) }
@@ -41,7 +42,7 @@ fn begin<'x>(
 /// The line says this, with these frames of tables beside.
 fn take_said<'x>(
     found: &mut Option<TraceMachine>,
-    line: Line<'_>,
+    line: &Line<'_>,
     said: &'x TraceLine<'x>,
     tables: &'x [u64],
 ) -> Result<(), Stop>
@@ -72,9 +73,9 @@ impl Reading {
     }
 
     /// The machine takes the line, if it may come.
-    fn take(&mut self, found: &mut Option<TraceMachine>, line: Line<'_>) -> Result<(), Stop>
+    fn take(&mut self, found: &mut Option<TraceMachine>, line: &Line<'_>) -> Result<(), Stop>
         ensures { (lines : List (List ℕ)) → Certify found.old (spoken lines)
-            → OnOk result (Certify found.new (spoken (lines ++ line.entry.text.now ∷ []))) }
+            → OnOk result (Certify found.new (spoken (lines ++ line.now.text.now ∷ []))) }
     {
         let said = read_line(
             line.alloc,
@@ -145,13 +146,13 @@ impl Judge {
             number,
             text: self.lines.between(start, end),
         };
-        match self.reading.take(&mut self.machine, line) {
+        match self.reading.take(&mut self.machine, &line) {
             Ok(()) => Ok(None),
             Err(Stop::Found(finding)) => Ok(Some(Verdict::Stops {
                 line: number,
-                finding,
+                finding: Box::into_inner(finding),
             })),
-            Err(Stop::Failed(error)) => Err(error),
+            Err(Stop::Failed(error)) => Err(io::Error::from(error)),
         }
     }
 

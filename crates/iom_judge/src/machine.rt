@@ -10,7 +10,6 @@ use crate::choosing::{Chosen, Reported, Shown, Tables, where_shown};
 use crate::domains::Domains;
 use crate::guesses::Guesses;
 use crate::handed::Handed;
-use crate::missing::Missing;
 use crate::stop::{Line, Stop};
 use crate::verdict::Finding;
 use iom_kept_state::KeptState;
@@ -66,29 +65,33 @@ impl TraceMachine {
     /// Notes what this line shows, and what was guessed of it.
     fn note(
         &mut self,
-        line: Line<'_>,
-        reply: Reported<'_>,
-        made: Option<Missing>,
+        line: &Line<'_>,
+        reply: &Reported<'_>,
+        made: Option<usize>,
     ) -> Result<(), AllocError>
         ensures kept { self.new.kept ≡ self.old.kept }
         ensures given { OnOk result ((frame : ℕ) → is_given self.new.handed frame
-            ≡ (is_given self.old.handed frame && not (is_used reply.entry.event.now reply.entry.outcome.now self.old.chosen.choice frame))) }
+            ≡ (is_given self.old.handed frame && not (is_used reply.now.event.now reply.now.outcome.now self.old.chosen.choice frame))) }
         ensures takes { OnOk result (self.new.handed.takes_back ≡ self.old.handed.takes_back) }
         ensures domains { OnOk result ((k : ℕ) → first_in self.new.domains k
-            ≡ (if is_this (own_domain reply.entry.event.now reply.entry.outcome.now) k then None else first_in self.old.domains k)) }
+            ≡ (if is_this (own_domain reply.now.event.now reply.now.outcome.now) k then None else first_in self.old.domains k)) }
     {
         self.notes.begin_line(line.number);
         self.notes.note(reply.event, reply.outcome)?;
         self.handed.note(reply, &self.chosen.choice);
         self.domains.note(reply.event, reply.outcome);
-        self.guesses.note_line(reply, made, self.chosen.missing)
+        self.guesses.note_line(reply, made);
+        match self.chosen.missing {
+            None => Ok(()),
+            Some(missing) => self.guesses.miss(missing),
+        }
     }
 
     /// Whether this may come of the event without the model's limits.
     fn may_come_unlimited(
         &mut self,
         alloc: Global,
-        reply: Reported<'_>,
+        reply: &Reported<'_>,
     ) -> Result<bool, AllocError> {
         let limits = self.kept.limits;
         if limits.pages.is_some() {
@@ -101,11 +104,12 @@ impl TraceMachine {
         Ok(may_come)
     }
 
-    /// What is found of a line of which this may not come.
-    fn refusal(&mut self, line: Line<'_>, reply: Reported<'_>) -> Result<Finding, AllocError> {
+    /// Why the judging stops at a line of which this may not come.
+    #[inline(never)]
+    fn refusal(&mut self, line: &Line<'_>, reply: &Reported<'_>) -> Result<Stop, AllocError> {
         let guessed = self.guesses.behind(&self.kept, reply.event, reply.outcome);
         if let Some(missing) = guessed {
-            return Ok(Finding::Uncertified(missing));
+            return line.uncertified(missing);
         }
         let facts = Facts {
             kept: &self.kept,
@@ -115,21 +119,21 @@ impl TraceMachine {
         let why = facts.reason(line.alloc, reply.event, reply.outcome)?;
         let reason = line.quoting(&why)?;
         if self.may_come_unlimited(line.alloc, reply)? {
-            return Ok(Finding::Beyond(reason));
+            return line.stop(Finding::Beyond(reason));
         }
-        Ok(Finding::Unlawful(reason))
+        line.stop(Finding::Unlawful(reason))
     }
 
     /// This came of the event, and of no other device's with it. It is left out where it may not come.
-    pub(crate) fn go_on_alone(&mut self, line: Line<'_>, reply: Reported<'_>) -> Result<(), Stop>
-        ensures { OnOk result ((choice : spec.Choice) × ShowsChoice reply.entry.shown reply.entry.event.now choice
-            × Continues self.old (Came reply.entry.event.now reply.entry.outcome.now choice ∷ []) self.new) }
+    pub(crate) fn go_on_alone(&mut self, line: &Line<'_>, reply: &Reported<'_>) -> Result<(), Stop>
+        ensures { OnOk result ((choice : spec.Choice) × ShowsChoice reply.now.shown reply.now.event.now choice
+            × Continues self.old (Came reply.now.event.now reply.now.outcome.now choice ∷ []) self.new) }
     {
         self.chosen.choose(line, &self.kept, &self.notes, reply)?;
         let choice = &self.chosen.choice;
         self.handed.check(line, reply, choice)?;
-        self.domains.check(&self.kept, reply)?;
-        let made = self.guesses.of_oldest(&self.kept, reply.event);
+        self.domains.check(line, &self.kept, reply)?;
+        let made = self.guesses.place_of_oldest(&self.kept, reply.event);
         if !judge(
             line.alloc,
             &mut self.kept,
@@ -137,18 +141,17 @@ impl TraceMachine {
             reply.outcome,
             choice,
         )? {
-            let finding = self.refusal(line, reply)?;
-            return Err(Stop::Found(finding));
+            return Err(self.refusal(line, reply)?);
         }
         self.note(line, reply, made)?;
         Ok(())
     }
 
-    /// The line says this, with these frames of tables beside. It is left out where it may not come, but for those of its events
-    /// that came before.
-    pub(crate) fn take_said<'x>(
+    /// The line says this, which isn't an event with its outcome, with these frames of tables beside.
+    #[inline(never)]
+    fn take_other<'x>(
         &mut self,
-        line: Line<'_>,
+        line: &Line<'_>,
         said: &'x TraceLine<'x>,
         tables: &'x [u64],
     ) -> Result<(), Stop>
@@ -156,28 +159,8 @@ impl TraceMachine {
     {
         match said {
             TraceLine::Nothing => Ok(()),
-            TraceLine::Bad => Err(line.bad_text(false)?),
+            TraceLine::Bad | TraceLine::Step { .. } => Err(line.bad_text(false)?),
             TraceLine::World(..) => Err(line.bad("the world has its size already")?),
-            TraceLine::Step {
-                event,
-                outcome,
-                has_tables,
-                on,
-                began,
-            } => {
-                let shown = Shown {
-                    tables: Tables::Own(where_shown(*has_tables, tables)),
-                    freed: &[],
-                    on: *on,
-                    began: began.as_ref(),
-                };
-                let reply = Reported {
-                    event,
-                    outcome,
-                    shown,
-                };
-                self.go_on(line, reply)
-            }
             TraceLine::Made { device, is_read } => self.make(line, *device, *is_read),
             TraceLine::Grants(granted, has_tables) => {
                 self.grant_each(line, *granted, *has_tables, tables)
@@ -193,5 +176,38 @@ impl TraceMachine {
             } => self.join(line, *device, *with, *ats, *has_tables, tables),
             TraceLine::TablesFreed => self.free_tables(line, tables),
         }
+    }
+
+    /// The line says this, with these frames of tables beside. It is left out where it may not come, but for those of its events
+    /// that came before.
+    pub(crate) fn take_said<'x>(
+        &mut self,
+        line: &Line<'_>,
+        said: &'x TraceLine<'x>,
+        tables: &'x [u64],
+    ) -> Result<(), Stop>
+        ensures { (text : List ℕ) → SaysLine text (said_of said.now) tables.now → OnOk result (Follows self.old (said_of said.now) tables.now self.new) }
+    {
+        let TraceLine::Step {
+            event,
+            outcome,
+            has_tables,
+            on,
+            began,
+        } = said
+        else {
+            return self.take_other(line, said, tables);
+        };
+        let reply = Reported {
+            event,
+            outcome,
+            shown: Shown {
+                tables: Tables::Own(where_shown(*has_tables, tables)),
+                freed: &[],
+                on: *on,
+                began: began.as_ref(),
+            },
+        };
+        self.go_on(line, &reply)
     }
 }

@@ -4,7 +4,6 @@ ghost use Rattle.iom_trace_lines.specs.TraceLines.{Made};
 ghost use Rattle.iom_judge.specs.Certified.{ContinuesAs};
 ghost use Rattle.iom_judge.specs.Happenings.{MayBeTold};
 
-use crate::choosing::{NOTHING, Reported};
 use crate::machine::TraceMachine;
 use crate::settled::device_with;
 use crate::stop::{Line, Stop};
@@ -49,19 +48,16 @@ fn made_now(kept: &KeptState, id: DeviceId, is_read: bool) -> Outcome
 
 impl TraceMachine {
     /// The device's oldest access was made.
+    #[inline(never)]
     pub(crate) fn make(
         &mut self,
-        line: Line<'_>,
+        line: &Line<'_>,
         device: DeviceId,
         is_read: bool,
     ) -> Result<(), Stop>
         ensures { OnOk result (ContinuesAs self.old (Made device is_read) [] self.new) }
     {
-        let reply = Reported {
-            event: &Event::Commit { device },
-            outcome: &made_now(&self.kept, device, is_read),
-            shown: NOTHING,
-        };
-        self.go_on_alone(line, reply)
+        let made = made_now(&self.kept, device, is_read);
+        self.go_on_unshown(line, &Event::Commit { device }, &made)
     }
 }

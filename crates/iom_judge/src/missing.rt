@@ -29,7 +29,7 @@ pub enum Missing {
     #[error("{device:06x} shares the domain of {first:06x}: a grant or a release of {first:06x} is one of each device of the domain")]
     Domain { device: DeviceId, first: DeviceId },
     /// How other devices leave the domain of this one before its tables go back.
-    #[error("others still share the domain of {first:06x}, and its tables: write first how each of them is detached or cut off")]
+    #[error("others still share the domain of {first:06x}, and its tables: write first how each of them is detached or quarantined")]
     Sharers { first: DeviceId },
     /// What the device may reach that is attached to the domain of the other one, where that has pages whose tickets aren't confirmed.
     #[error("{with:06x} has pages whose tickets aren't confirmed, which {device:06x} may reach too: attach it behind the poll that confirms them")]

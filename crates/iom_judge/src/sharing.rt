@@ -16,7 +16,7 @@ ghost use Rattle.iom_judge.specs.Sharing.{first_of, MayShare};
 use crate::choosing::{NOTHING, Reported, Shown, Tables, where_shown};
 use crate::machine::TraceMachine;
 use crate::missing::Missing;
-use crate::stop::{Line, Stop, uncertified};
+use crate::stop::{Line, Stop};
 use crate::verdict::Finding;
 use iom_base::{DeviceId, GrantRights, Mode, Rights};
 use iom_machine::{Attachment, Event, Outcome};
@@ -81,11 +81,11 @@ impl TraceMachine {
     }
 
     /// The device has the domain of the other one from here on.
-    fn share(&mut self, device: DeviceId, with: DeviceId) -> Result<(), Stop>
+    fn share(&mut self, line: &Line<'_>, device: DeviceId, with: DeviceId) -> Result<(), Stop>
         ensures { OnOk result (Continues self.old (Joined device with ∷ []) self.new) }
     {
         let Some(first) = self.first_to_share(device, with) else {
-            return Err(uncertified(Missing::Pending { device, with }));
+            return Err(line.uncertified(Missing::Pending { device, with })?);
         };
         self.domains.join(device, first)?;
         Ok(())
@@ -109,7 +109,7 @@ impl TraceMachine {
     /// The device is granted what this first one holds at the page with the index.
     fn grant_held_at(
         &mut self,
-        line: Line<'_>,
+        line: &Line<'_>,
         device: DeviceId,
         first: DeviceId,
         index: usize,
@@ -123,7 +123,7 @@ impl TraceMachine {
     }
 
     /// The device is granted what this first one holds.
-    fn grant_held(&mut self, line: Line<'_>, device: DeviceId, first: DeviceId) -> Result<(), Stop>
+    fn grant_held(&mut self, line: &Line<'_>, device: DeviceId, first: DeviceId) -> Result<(), Stop>
         ensures { OnOk result (ContinuesByHeld self.old device self.new) }
     {
         for index in 0..self.kept.grants.page_count(first) {
@@ -135,7 +135,7 @@ impl TraceMachine {
     /// The device is attached in the mode, without tables of its own.
     fn attach_without_tables(
         &mut self,
-        line: Line<'_>,
+        line: &Line<'_>,
         device: DeviceId,
         mode: Mode,
         ats: bool,
@@ -153,14 +153,14 @@ impl TraceMachine {
             outcome: &Outcome::Done,
             shown,
         };
-        self.go_on_alone(line, reply)
+        self.go_on_alone(line, &reply)
     }
 
     /// The mode in which the device is attached, whose domain another may have.
-    fn mode_to_share(&self, line: Line<'_>, with: DeviceId) -> Result<Mode, Stop> {
+    fn mode_to_share(&self, line: &Line<'_>, with: DeviceId) -> Result<Mode, Stop> {
         if self.kept.limits.in_order {
             let reason = line.quoting("the devices of a domain release under one ticket")?;
-            return Err(Stop::Found(Finding::Beyond(reason)));
+            return Err(line.stop(Finding::Beyond(reason))?);
         }
         if let Attachment::Attached { mode, .. } = self.kept.attachment(with) {
             return Ok(mode);
@@ -171,9 +171,10 @@ impl TraceMachine {
     }
 
     /// The device is attached to the domain of the other one.
+    #[inline(never)]
     pub(crate) fn join(
         &mut self,
-        line: Line<'_>,
+        line: &Line<'_>,
         device: DeviceId,
         with: DeviceId,
         ats: bool,
@@ -187,6 +188,6 @@ impl TraceMachine {
         let pages = where_shown(has_tables, tables);
         self.attach_without_tables(line, device, mode, ats, pages)?;
         self.grant_held(line, device, first)?;
-        self.share(device, with)
+        self.share(line, device, with)
     }
 }

@@ -3,31 +3,20 @@ use crate::missing::Missing;
 use crate::verdict::Finding;
 use iom_bad_lines::explain_trace_line;
 use std::alloc::{AllocError, Global};
-use std::{io, str};
+use std::str;
 
 /// So many bytes of a line stand in a reason at most.
 const MOST_QUOTED: usize = 100;
 
-/// Why the judging of a trace stops: for what is found of a line, or since reading or memory failed.
+/// Why the judging of a trace stops: for what is found of a line, or since memory failed. It is small, as each call hands it on.
 #[derive(Drop)]
 pub(crate) enum Stop {
-    Found(Finding),
-    Failed(io::Error),
-}
-
-/// What is found depends on this, which isn't shown.
-pub(crate) fn uncertified(missing: Missing) -> Stop {
-    Stop::Found(Finding::Uncertified(missing))
+    Found(Box<Finding>),
+    Failed(AllocError),
 }
 
 impl From<AllocError> for Stop {
     fn from(error: AllocError) -> Stop {
-        Stop::Failed(io::Error::from(error))
-    }
-}
-
-impl From<io::Error> for Stop {
-    fn from(error: io::Error) -> Stop {
         Stop::Failed(error)
     }
 }
@@ -51,7 +40,7 @@ pub(crate) struct Line<'a> {
 
 impl Line<'_> {
     /// The reason, behind the line.
-    pub(crate) fn quoting(self, reason: &str) -> Result<String, AllocError> {
+    pub(crate) fn quoting(&self, reason: &str) -> Result<String, AllocError> {
         let alloc = self.alloc;
         let quoted = quoted(alloc, self.text)?;
         if reason.is_empty() {
@@ -60,19 +49,32 @@ impl Line<'_> {
         format!(in alloc; "{quoted}: {reason}")
     }
 
+    /// The judging stops at it, for what is found.
+    pub(crate) fn stop(&self, finding: Finding) -> Result<Stop, AllocError> {
+        Ok(Stop::Found(Box::new(self.alloc, finding)?))
+    }
+
+    /// What is found depends on this, which isn't shown.
+    pub(crate) fn uncertified(&self, missing: Missing) -> Result<Stop, AllocError> {
+        self.stop(Finding::Uncertified(missing))
+    }
+
     /// It may not come, for this reason.
-    pub(crate) fn unlawful(self, reason: &str) -> Result<Stop, AllocError> {
-        Ok(Stop::Found(Finding::Unlawful(self.quoting(reason)?)))
+    #[inline(never)]
+    pub(crate) fn unlawful(&self, reason: &str) -> Result<Stop, AllocError> {
+        self.stop(Finding::Unlawful(self.quoting(reason)?))
     }
 
     /// It isn't in the grammar, for this that is wrong with it.
-    pub(crate) fn bad(self, wrong: &str) -> Result<Stop, AllocError> {
+    #[inline(never)]
+    pub(crate) fn bad(&self, wrong: &str) -> Result<Stop, AllocError> {
         let wrong = String::from_str(self.alloc, wrong)?;
-        Ok(Stop::Found(Finding::Bad(wrong)))
+        self.stop(Finding::Bad(wrong))
     }
 
     /// Its text isn't in the grammar: where, what stands there, and what was expected.
-    pub(crate) fn bad_text(self, is_first: bool) -> Result<Stop, AllocError> {
+    #[inline(never)]
+    pub(crate) fn bad_text(&self, is_first: bool) -> Result<Stop, AllocError> {
         let alloc = self.alloc;
         let Ok(text) = str::from_utf8(self.text) else {
             return self.bad("it isn't text");
@@ -83,6 +85,6 @@ impl Line<'_> {
         let wrong = format!(in alloc;
             "column {column}: {found} stands where {expected} was expected ({form})"
         )?;
-        Ok(Stop::Found(Finding::Bad(wrong)))
+        self.stop(Finding::Bad(wrong))
     }
 }

@@ -14,6 +14,8 @@ pub struct KeptGrants {
     /// The frames that were ever granted, in the order of their first grants: numbers of 40 bits. The ledger names each by its place
     /// here.
     pub(crate) names: IndexSet<u64>,
+    /// At which page each of them was granted last: there it is looked for first.
+    pub(crate) pages: Vec<u64>,
     pub(crate) ledger: Ledger,
     /// The last ticket that was given; they count from 1.
     pub given: u32,
@@ -27,6 +29,15 @@ pub struct KeptGrants {
     ghost low: { All (λ frame. frame < 2 ^ 40) names.keys },
 }
 
+/// The page of the frame at this place is this from here on.
+fn note_page(pages: &mut Vec<u64>, place: usize, page: u64) -> Result<(), AllocError> {
+    match pages.get_mut(place) {
+        Some(noted) => *noted = page,
+        None => pages.push(page)?,
+    }
+    Ok(())
+}
+
 impl KeptGrants {
     ghost use Rattle.std.specs.Prelude.{◌≡◌, ◌<◌, ◌≤◌, ◌-◌, ◌+◌, ◌^◌, ◌⊎◌, suc, [], ◌∷◌, false, OnOk, IfOk, IsSome, None};
     ghost use Rattle.iom_kept_state.specs.Words.{IsGrantable, History, confirmed_from, Granted, Released, AllReleased, Confirmed, IsPastOf, held_by, lingering_by, is_confirmed_in};
@@ -38,6 +49,7 @@ impl KeptGrants {
     {
         Ok(KeptGrants {
             names: IndexSet::new(alloc),
+            pages: Vec::new(alloc),
             ledger: Ledger::new(alloc, 0)?,
             given: 0,
             confirmed: 0,
@@ -64,6 +76,7 @@ impl KeptGrants {
             return Err(AllocError);
         }
         let (place, _added) = self.names.insert_full(frame)?;
+        note_page(&mut self.pages, place, page)?;
         self.ledger.grant(device, page, place as u32, rights)
     }
 

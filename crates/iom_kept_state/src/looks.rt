@@ -107,7 +107,8 @@ impl KeptGrants {
             last,
             held: true,
         };
-        wanted.is_held_at(&self.ledger, page) || wanted.is_anywhere(&self.ledger)
+        let noted = self.pages.get(place).copied().unwrap_or(page);
+        wanted.is_held_near(&self.ledger, noted, page) || wanted.is_anywhere(&self.ledger)
     }
 
     /// Whether the device could reach the frame by an access of this kind, were the tickets from the first to the last confirmed. It

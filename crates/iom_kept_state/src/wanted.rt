@@ -43,7 +43,7 @@ impl Wanted {
     }
 
     /// Whether there is one at this page, where it holds something.
-    pub(crate) fn is_held_at(&self, ledger: &Ledger, page: u64) -> bool
+    fn is_held_at(&self, ledger: &Ledger, page: u64) -> bool
         requires { self.now.held ≡ true }
         ensures { IsTrue result → IsReached self.now ledger.now }
     {
@@ -51,6 +51,17 @@ impl Wanted {
             None => false,
             Some((place, rights)) => place == self.place && rights.allows(self.kind),
         }
+    }
+
+    /// Whether there is one at either page, where it holds something.
+    pub(crate) fn is_held_near(&self, ledger: &Ledger, one: u64, other: u64) -> bool
+        requires { self.now.held ≡ true }
+        ensures { IsTrue result → IsReached self.now ledger.now }
+    {
+        if self.is_held_at(ledger, one) {
+            return true;
+        }
+        self.is_held_at(ledger, other)
     }
 
     /// Whether there is one.

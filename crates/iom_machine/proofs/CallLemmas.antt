@@ -92,21 +92,21 @@ detached_as ticket old id place device devices none next_one is_place at d new =
     )
 
 -- the state after a quarantine
-abbrev pub cut_off_state : ℕ → ℕ → State → Device → State
-cut_off_state ticket id old device = record (with_device old (record device { attachment = quarantined_under ticket device.attachment })) {
+abbrev pub quarantined_state : ℕ → ℕ → State → Device → State
+quarantined_state ticket id old device = record (with_device old (record device { attachment = quarantined_under ticket device.attachment })) {
   history = entries.AllReleased id ticket ∷ old.history;
   last_ticket = ticket;
 }
 
-pub cut_off_as : (ticket : ℕ) (old : State) (id place : ℕ) (device : Device) (history : History) (devices : List Device)
+pub quarantined_as : (ticket : ℕ) (old : State) (id place : ℕ) (device : Device) (history : History) (devices : List Device)
     → NoneApplies (quarantine_reasons old id) → ticket ≡ old.last_ticket + 1 → StandsAt old.devices id place → slice_get old.devices place ≡ Some device
     → history ≡ entries.AllReleased id ticket ∷ old.history → devices ≡ slice_set old.devices place (record device { attachment = quarantined_under ticket device.attachment })
     → (new : State) → (◌≡◌ {A = Option State} (Some (record { limits = old.limits; levels = old.levels; frames = old.frames; history = history; last_ticket = ticket; devices = devices; disks = old.disks })) (Some new)) ↔ Quarantines old id (Ticket ticket) new
-cut_off_as ticket old id place device history devices none next_one is_place at h d new =
+quarantined_as ticket old id place device history devices none next_one is_place at h d new =
     let next : State = record { limits = old.limits; levels = old.levels; frames = old.frames; history = history; last_ticket = ticket; devices = devices; disks = old.disks } in
     let own = own_place old.devices id place device is_place at in
     let now : Device = record device { attachment = quarantined_under ticket device.attachment } in
-    let is : next ≡ cut_off_state ticket id old device = rw (h, d, own.2 now) refl in
+    let is : next ≡ quarantined_state ticket id old device = rw (h, d, own.2 now) refl in
     let there : device_of old id ≡ Some device = is_place.1 ∙ at in (
       (λ same. (none, next_one, rw there (sym (only_state next new same) ∙ is))),
       (λ step. let left = rw there at step.2 in some_state next new (is ∙ sym left)),

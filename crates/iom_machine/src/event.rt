@@ -36,7 +36,7 @@ pub enum Event {
         device: DeviceId,
         page: u64,
     },
-    /// The driver is asked to cut the device off, and to release all that it holds.
+    /// The driver is asked to quarantine the device, and to release all that it holds.
     Quarantine {
         device: DeviceId,
     },

@@ -9,7 +9,7 @@ pub enum Attachment {
     Detached,
     /// Attached in the mode, with ATS or without.
     Attached { mode: Mode, ats: bool },
-    /// Cut off under the ticket. How it was attached before stays known.
+    /// Quarantined under the ticket. How it was attached before stays known.
     Quarantined { ticket: u32, mode: Mode, ats: bool },
     /// Detached once the ticket is confirmed. How it was attached before stays known.
     Leaving { ticket: u32, mode: Mode, ats: bool },

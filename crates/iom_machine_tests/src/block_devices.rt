@@ -176,7 +176,7 @@ static RUNS: [Run; 4] = [
     ),
     // A device that is quarantined keeps its disk, also where it is revived; one that is detached doesn't.
     (
-        "cut off",
+        "quarantined",
         &[
             (Does::PlugBlock(1, 0), Comes::Done),
             (Does::Attach(1, &[59]), Comes::Done),

@@ -50,7 +50,7 @@ static LEAVING: [(Does, Comes); 4] = [
     (Does::PollReturning(&[59]), Comes::NoneConfirmed),
 ];
 
-static CUT_OFF: [(Does, Comes); 4] = [
+static QUARANTINED: [(Does, Comes); 4] = [
     (Does::Plug(1), Comes::Done),
     (Does::Attach(1, &[59]), Comes::Done),
     (Does::Quarantine(1), Comes::Ticket(1)),
@@ -95,7 +95,7 @@ fn only_attached_devices_give_tables_back(rt: HostRuntime) {
     );
     expect(
         &rt,
-        first_without_order(&rt, alloc, &CUT_OFF, None) == Some(3),
+        first_without_order(&rt, alloc, &QUARANTINED, None) == Some(3),
     );
 }
 

@@ -91,9 +91,9 @@ impl Changes {
     }
 
     fn note_spans(&mut self, choice: Choice, timeline: &Timeline) {
-        for cut in &timeline.cuts {
-            if choice.has_place(timeline, cut.place) {
-                self.note_period(cut.period);
+        for quarantine in &timeline.quarantines {
+            if choice.has_place(timeline, quarantine.place) {
+                self.note_period(quarantine.period);
             }
         }
     }

@@ -143,17 +143,19 @@ impl Layout {
         Ok(())
     }
 
-    /// The legend has to explain the spans of devices that are cut off, in rows that are shown.
+    /// The legend has to explain the spans of devices that are quarantined, in rows that are shown.
     fn show_cuts(&mut self, timeline: &Timeline) -> Result<(), AllocError> {
-        for cut in &timeline.cuts {
-            if !self.choice.has_period(cut.period) || !self.choice.has_place(timeline, cut.place) {
+        for quarantine in &timeline.quarantines {
+            if !self.choice.has_period(quarantine.period)
+                || !self.choice.has_place(timeline, quarantine.place)
+            {
                 continue;
             }
-            let Some(row) = self.row(cut.place) else {
+            let Some(row) = self.row(quarantine.place) else {
                 continue;
             };
             if row.is_shown {
-                self.see(Symbol::CutOff)?;
+                self.see(Symbol::Quarantined)?;
             }
         }
         Ok(())

@@ -34,7 +34,7 @@ pub(crate) fn height_of_legend(layout: &Layout) -> u64 {
 fn append_entry(svg: &mut Svg, symbol: Symbol, left: u64, top: u64) -> Result<(), AllocError> {
     if symbol.is_bar() {
         let (space, height) = match symbol {
-            Symbol::Held | Symbol::Lingering | Symbol::CutOff | Symbol::Folded => (0, BAR),
+            Symbol::Held | Symbol::Lingering | Symbol::Quarantined | Symbol::Folded => (0, BAR),
             _ => (5, THIN),
         };
         svg.rectangle(left, top.saturating_add(space), 24, height, symbol.fill())?;

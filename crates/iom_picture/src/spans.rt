@@ -1,20 +1,20 @@
-// The spans in which a device is cut off, and what the command queue waits for.
+// The spans in which a device is quarantined, and what the command queue waits for.
 use crate::bars::{Bar, append_bar};
 use crate::layout::Layout;
 use crate::rows::THIN;
 use crate::symbol::Symbol;
 use iom_svg::Svg;
-use iom_timeline::{CutOff, Place, Timeline};
+use iom_timeline::{Place, Quarantine, Timeline};
 use std::alloc::AllocError;
 
 /// The span of one row.
-fn append_cut(
+fn append_quarantine(
     svg: &mut Svg,
     layout: &Layout,
     timeline: &Timeline,
-    cut: CutOff,
+    quarantine: Quarantine,
 ) -> Result<(), AllocError> {
-    let Some(row) = layout.row(cut.place) else {
+    let Some(row) = layout.row(quarantine.place) else {
         return Ok(());
     };
     if !row.is_shown {
@@ -22,26 +22,28 @@ fn append_cut(
     }
     let top = row.top.saturating_sub(2);
     let bar = Bar {
-        place: cut.place,
-        period: cut.period,
+        place: quarantine.place,
+        period: quarantine.period,
         top,
         height: row.end().saturating_sub(top).saturating_sub(4),
-        symbol: Symbol::CutOff,
+        symbol: Symbol::Quarantined,
         ticket: None,
         free_from: None,
     };
     append_bar(svg, layout, timeline, bar)
 }
 
-/// The spans in which devices are cut off, behind the bars of the same rows.
-pub(crate) fn append_cuts(
+/// The spans in which devices are quarantined, behind the bars of the same rows.
+pub(crate) fn append_quarantines(
     svg: &mut Svg,
     layout: &Layout,
     timeline: &Timeline,
 ) -> Result<(), AllocError> {
-    for cut in &timeline.cuts {
-        if layout.choice.has_period(cut.period) && layout.choice.has_place(timeline, cut.place) {
-            append_cut(svg, layout, timeline, *cut)?;
+    for quarantine in &timeline.quarantines {
+        if layout.choice.has_period(quarantine.period)
+            && layout.choice.has_place(timeline, quarantine.place)
+        {
+            append_quarantine(svg, layout, timeline, *quarantine)?;
         }
     }
     Ok(())

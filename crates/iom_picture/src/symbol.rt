@@ -10,7 +10,7 @@ pub(crate) enum Symbol {
     Answer,
     InFlight,
     OfNoUse,
-    CutOff,
+    Quarantined,
     WaitsForAccesses,
     WaitsForDevices,
     Stopped,
@@ -37,7 +37,7 @@ pub(crate) static SYMBOLS: [Symbol; 23] = [
     Symbol::Answer,
     Symbol::InFlight,
     Symbol::OfNoUse,
-    Symbol::CutOff,
+    Symbol::Quarantined,
     Symbol::WaitsForAccesses,
     Symbol::WaitsForDevices,
     Symbol::Stopped,
@@ -99,7 +99,7 @@ impl Symbol {
             Symbol::Answer => "answer under way",
             Symbol::InFlight => "access in flight",
             Symbol::OfNoUse => "left over, of no use",
-            Symbol::CutOff => "cut off by the driver",
+            Symbol::Quarantined => "quarantined by the driver",
             Symbol::WaitsForAccesses => "waits for accesses",
             Symbol::WaitsForDevices => "waits for a device",
             Symbol::Stopped => "queue is stopped",
@@ -127,7 +127,7 @@ impl Symbol {
             Symbol::DeviceCache => "url(#kept)",
             Symbol::Answer => "url(#answer)",
             Symbol::OfNoUse => "#ffffff",
-            Symbol::CutOff => "url(#cut)",
+            Symbol::Quarantined => "url(#cut)",
             Symbol::WaitsForAccesses => "url(#waits)",
             Symbol::WaitsForDevices => "url(#asks)",
             Symbol::Stopped => "#d55e00",
@@ -141,7 +141,7 @@ impl Symbol {
         match self {
             Symbol::Lingering => " stroke=\"#0072b2\"",
             Symbol::OfNoUse => " stroke=\"#888888\"",
-            Symbol::CutOff => " stroke=\"#d55e00\" stroke-dasharray=\"6 3\"",
+            Symbol::Quarantined => " stroke=\"#d55e00\" stroke-dasharray=\"6 3\"",
             _ => "",
         }
     }
@@ -156,7 +156,7 @@ impl Symbol {
             | Symbol::Answer
             | Symbol::InFlight
             | Symbol::OfNoUse
-            | Symbol::CutOff
+            | Symbol::Quarantined
             | Symbol::WaitsForAccesses
             | Symbol::WaitsForDevices
             | Symbol::Stopped

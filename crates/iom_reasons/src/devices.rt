@@ -35,7 +35,7 @@ impl Facts<'_> {
         let (what, ticket) = match device.attachment {
             Attachment::Detached => return words.say(format_args!("{id:06x} isn't attached")),
             Attachment::Attached { .. } => return words.say(format_args!("{id:06x} is attached")),
-            Attachment::Quarantined { ticket, .. } => ("cut off", ticket),
+            Attachment::Quarantined { ticket, .. } => ("quarantined", ticket),
             Attachment::Leaving { ticket, .. } => ("leaving", ticket),
         };
         let leave = self.notes.past.leaves.get(&ticket);

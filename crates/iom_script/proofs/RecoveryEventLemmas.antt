@@ -1,4 +1,4 @@
--- The words behind a keyword are those of an event: those of cutting devices off, and of what follows where one doesn't answer.
+-- The words behind a keyword are those of an event: those of quarantining devices, and of what follows where one doesn't answer.
 use Rattle.std.proofs.Common.{◌≡◌, ℕ, List, [], ◌++◌, Option, Some, codes, sym, subst, refl}
 use Rattle.std.specs.Option.{option_map}
 use Rattle.std.proofs.lemmas.List.{append_cancel_left}

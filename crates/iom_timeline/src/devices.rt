@@ -32,7 +32,7 @@ pub(crate) struct Device {
     pub(crate) mode: Option<Mode>,
     pub(crate) has_ats: bool,
     pub(crate) standing: Standing,
-    /// The stays that were granted since it was cut off last.
+    /// The stays that were granted since it was quarantined last.
     pub(crate) granted: Vec<usize>,
     /// The newest stay at each page.
     pub(crate) pages: IndexMap<u64, usize>,
@@ -42,11 +42,11 @@ pub(crate) struct Device {
     pub(crate) cached: Vec<usize>,
     /// The lanes of the pages that the device's own cache has, the oldest first.
     pub(crate) kept: Vec<usize>,
-    /// Whether the IOMMU accepts nothing of it, since it is cut off and its context is forgotten.
+    /// Whether the IOMMU accepts nothing of it, since it is quarantined and its context is forgotten.
     pub(crate) is_barred: bool,
-    /// The times in which it is cut off that haven't ended, in the timeline's list: from the first to before the last.
-    pub(crate) first_cut: usize,
-    pub(crate) cuts_end: usize,
+    /// The times in which it is quarantined that haven't ended, in the timeline's list: from the first to before the last.
+    pub(crate) first_quarantine: usize,
+    pub(crate) quarantines_end: usize,
     /// The accesses that were accepted, in order, and how many of them are made.
     pub(crate) flights: Vec<Flight>,
     pub(crate) made: usize,
@@ -66,8 +66,8 @@ impl Device {
             cached: Vec::new(alloc),
             kept: Vec::new(alloc),
             is_barred: false,
-            first_cut: 0,
-            cuts_end: 0,
+            first_quarantine: 0,
+            quarantines_end: 0,
             flights: Vec::new(alloc),
             made: 0,
         }

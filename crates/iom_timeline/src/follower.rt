@@ -70,7 +70,7 @@ impl Follower {
                 lanes: Vec::new(alloc),
                 stays: Vec::new(alloc),
                 copies: Vec::new(alloc),
-                cuts: Vec::new(alloc),
+                quarantines: Vec::new(alloc),
                 waits: Vec::new(alloc),
                 marks: Vec::new(alloc),
                 lines: Vec::new(alloc),

@@ -5,7 +5,7 @@ use crate::follower::{Follower, Pending, Waiting};
 use crate::messages::Message;
 use crate::period::{NEVER, Period};
 use crate::stay::Stay;
-use crate::timeline::{CutOff, Lane, MarkKind, Place};
+use crate::timeline::{Lane, MarkKind, Place, Quarantine};
 use iom_base::{DeviceId, GrantRights, Mode};
 use iom_machine::CommandName;
 use std::alloc::AllocError;
@@ -180,7 +180,7 @@ impl Follower {
         self.queue_farewell(id)?;
         self.commands.push(Command::Fence)?;
         self.reset(id);
-        self.end_cuts(id);
+        self.end_quarantines(id);
         if let Some(device) = self.devices.get_mut(id) {
             device.standing = Standing::Leaving;
         }
@@ -207,13 +207,13 @@ impl Follower {
             }
         }
         device.granted.clear();
-        self.cut_off(id)
+        self.quarantine(id)
     }
 
-    /// The device is cut off from this line on, at each of its pages that lingers.
-    fn cut_off(&mut self, id: DeviceId) -> Result<(), AllocError> {
+    /// The device is quarantined from this line on, at each of its pages that lingers.
+    fn quarantine(&mut self, id: DeviceId) -> Result<(), AllocError> {
         let period = Period::since(self.line);
-        let first = self.timeline.cuts.len();
+        let first = self.timeline.quarantines.len();
         let Some(device) = self.devices.get_mut(id) else {
             return Ok(());
         };
@@ -223,33 +223,37 @@ impl Follower {
             };
             if stay.confirmed == NEVER {
                 let place = Place::Lane(stay.lane);
-                self.timeline.cuts.push(CutOff { place, period })?;
+                self.timeline
+                    .quarantines
+                    .push(Quarantine { place, period })?;
             }
         }
         let place = Place::Device(id);
-        self.timeline.cuts.push(CutOff { place, period })?;
-        device.first_cut = first;
-        device.cuts_end = self.timeline.cuts.len();
+        self.timeline
+            .quarantines
+            .push(Quarantine { place, period })?;
+        device.first_quarantine = first;
+        device.quarantines_end = self.timeline.quarantines.len();
         Ok(())
     }
 
-    /// The device isn't cut off any more.
-    fn end_cuts(&mut self, id: DeviceId) {
+    /// The device isn't quarantined any more.
+    fn end_quarantines(&mut self, id: DeviceId) {
         let line = self.line;
         let Some(device) = self.devices.get_mut(id) else {
             return;
         };
         device.is_barred = false;
-        for place in device.first_cut..device.cuts_end {
-            if let Some(cut) = self.timeline.cuts.get_mut(place) {
-                cut.period = cut.period.ended(line);
+        for place in device.first_quarantine..device.quarantines_end {
+            if let Some(quarantine) = self.timeline.quarantines.get_mut(place) {
+                quarantine.period = quarantine.period.ended(line);
             }
         }
-        device.first_cut = 0;
-        device.cuts_end = 0;
+        device.first_quarantine = 0;
+        device.quarantines_end = 0;
     }
 
-    /// The IOMMU has forgotten the device's context. Where it is cut off nothing of it is accepted any more.
+    /// The IOMMU has forgotten the device's context. Where it is quarantined nothing of it is accepted any more.
     fn bar(&mut self, id: DeviceId) {
         let line = self.line;
         let Some(device) = self.devices.get_mut(id) else {
@@ -267,7 +271,7 @@ impl Follower {
 
     pub(crate) fn revive(&mut self, id: DeviceId) {
         self.reset(id);
-        self.end_cuts(id);
+        self.end_quarantines(id);
         if let Some(device) = self.devices.get_mut(id) {
             device.standing = Standing::Attached;
         }

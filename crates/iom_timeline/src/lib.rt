@@ -30,5 +30,5 @@ pub use page_copy::PageCopy;
 pub use period::{NEVER, Period};
 pub use stay::Stay;
 pub use timeline::{
-    CopyKind, CutOff, Lane, LineText, Mark, MarkKind, Place, Timeline, Wait, WaitCause,
+    CopyKind, Lane, LineText, Mark, MarkKind, Place, Quarantine, Timeline, Wait, WaitCause,
 };

@@ -37,9 +37,9 @@ pub enum CopyKind {
     InFlight,
 }
 
-/// The time in which a device is cut off: from a quarantine to the revival, at a page that lingered, or at the device's others.
+/// The time in which a device is quarantined: from the quarantine to the revival, at a page that lingered, or at the device's others.
 #[derive(Clone, Copy, PartialEq, Eq, Debug)]
-pub struct CutOff {
+pub struct Quarantine {
     pub place: Place,
     pub period: Period,
 }
@@ -113,7 +113,7 @@ pub struct Timeline {
     /// In the order in which they came to be.
     pub copies: Vec<PageCopy>,
     /// In the order of the quarantines.
-    pub cuts: Vec<CutOff>,
+    pub quarantines: Vec<Quarantine>,
     /// One after another.
     pub waits: Vec<Wait>,
     /// In the order of the lines.

@@ -89,12 +89,12 @@ detached d d' memory memory' io io' id (Ok ticket) queues =
     (without_context memory (root_level d.levels) (directory_frame (length memory)) id) memory' io io' queues.queued
 detached d d' memory memory' io io' id (Err why) same = ap flights_of same.2
 
-cut_off : (d d' : DriverState) (memory memory' : List (List ℕ)) (io io' : Iommu) (id : ℕ) (answer : Result Ticket Refusal)
+quarantined : (d d' : DriverState) (memory memory' : List (List ℕ)) (io io' : Iommu) (id : ℕ) (answer : Result Ticket Refusal)
     → AnswersQuarantine mmio d memory io id answer d' memory' io' → flights_of io' ≡ flights_of io
-cut_off d d' memory memory' io io' id (Ok ticket) (none, queues) =
+quarantined d d' memory memory' io io' id (Ok ticket) (none, queues) =
     flights_appended (detach_commands id queues.stage (completion_address (length memory)) (last_fence d + 1))
     (all_unmapped (size_in queues.stage.mode) (without_context memory (root_level d.levels) (directory_frame (length memory)) id) queues.stage.root queues.pages) memory' io io' queues.queued
-cut_off d d' memory memory' io io' id (Err why) refused = ap flights_of refused.3
+quarantined d d' memory memory' io io' id (Err why) refused = ap flights_of refused.3
 
 restarted : (d d' : DriverState) (memory memory' : List (List ℕ)) (io io' : Iommu) (answer : Result (Unit {0}) Refusal)
     → AnswersRestart mmio d memory io answer d' memory' io' → flights_of io' ≡ flights_of io
@@ -225,7 +225,7 @@ keeps_all disks old new (events.Release id page) given none effect =
 keeps_all disks old new (events.Detach id) given none effect =
     same_numbers (flights_of old.iommu) (flights_of new.iommu) (detached old.driver new.driver old.memory new.memory old.iommu new.iommu id effect.answer effect.call.effect)
 keeps_all disks old new (events.Quarantine id) given none effect =
-    same_numbers (flights_of old.iommu) (flights_of new.iommu) (cut_off old.driver new.driver old.memory new.memory old.iommu new.iommu id effect.answer effect.call)
+    same_numbers (flights_of old.iommu) (flights_of new.iommu) (quarantined old.driver new.driver old.memory new.memory old.iommu new.iommu id effect.answer effect.call)
 keeps_all disks old new (events.Revive id) given none effect = same_iommu old new effect.iommu
 keeps_all disks old new events.Restart given none effect =
     same_numbers (flights_of old.iommu) (flights_of new.iommu) (restarted old.driver new.driver old.memory new.memory old.iommu new.iommu effect.answer effect.call)

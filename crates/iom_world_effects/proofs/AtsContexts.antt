@@ -16,7 +16,7 @@ use Rattle.iom_iommu.specs.Parts.{registers_of, contexts_of}
 use Rattle.iom_iommu.specs.Service.{found_context, context_or_cause, letting_ats, ats_context_in, ats_context_for}
 use Rattle.iom_world_effects.specs.Parts.{Parts}
 use Rattle.iom_world_effects.specs.Invariant.{PartsInvariant}
-use Rattle.iom_world_effects.proofs.CutOffLemmas.{IsPending, pending_cached}
+use Rattle.iom_world_effects.proofs.QuarantinedLemmas.{IsPending, pending_cached}
 use Rattle.iom_world_effects.proofs.DriverLemmas.{DriverInvariant}
 use Rattle.iom_world_effects.proofs.ServedLemmas.{ServiceLaws, cause_at, located_as, found_as}
 

@@ -33,7 +33,7 @@ use Rattle.iom_world_effects.specs.Read.{space_in, space_at, values_of}
 use Rattle.iom_world_effects.specs.Scenes.{copy_of, IsSceneOf}
 use Rattle.iom_world_effects.specs.Shows.{PartsShow}
 use Rattle.iom_world_effects.specs.Invariant.{PartsInvariant}
-use Rattle.iom_world_effects.proofs.CutOffLemmas.{IsPending, accept_formerly, cut_off_holds}
+use Rattle.iom_world_effects.proofs.QuarantinedLemmas.{IsPending, accept_formerly, quarantined_holds}
 use Rattle.iom_world_effects.proofs.DriverLemmas.{DriverInvariant}
 use Rattle.iom_world_effects.proofs.HistoryMay.{may_merely, facts_of_history}
 use Rattle.iom_world_effects.proofs.SceneCalls.{none_cached}
@@ -154,17 +154,17 @@ module _ (parts : Parts) (events : ℕ) (state : State) (id : ℕ) (access : Acc
   by_mode (Both size) ats is = may_merely state.history id translation.frame access.kind (∥∥₁_map invariants.copies (λ (scene, shown, facts). may_in is scene shown facts))
 
   -- of a device that is quarantined it is what lingers
-  cut_off : (ticket : ℕ) (s : Stages) → attachment_by_id parts.driver.devices id ≡ driver.Quarantined ticket s → MayAccept (shown_attachment (driver.Quarantined ticket s)) state id access translation.frame
-  cut_off ticket s is = (
+  quarantined : (ticket : ℕ) (s : Stages) → attachment_by_id parts.driver.devices id ≡ driver.Quarantined ticket s → MayAccept (shown_attachment (driver.Quarantined ticket s)) state id access translation.frame
+  quarantined ticket s is = (
     shows.none_later ticket (pending ticket s is),
-    accept_formerly state.history id (access.address / 4096) translation.frame translation.rights (cut_off_holds parts.driver own state.history shows.ledger id ticket s is) s.mode access refl allowed
+    accept_formerly state.history id (access.address / 4096) translation.frame translation.rights (quarantined_holds parts.driver own state.history shows.ledger id ticket s is) s.mode access refl allowed
         (∥∥₁_map invariants.copies (λ (scene, shown, facts). reach_in (is_both s.mode) (ap (λ a. in_both_stages (shown_attachment a)) is) scene shown facts)),
   )
 
   by_attachment : (a : Attachment) → attachment_by_id parts.driver.devices id ≡ a → MayAccept (shown_attachment a) state id access translation.frame
   by_attachment driver.Detached is = absurd (detached_none parts events state id (access.address / 4096) stage translation invariants own shows owned cached is)
   by_attachment (driver.Attached s) is = by_mode s.mode s.ats (ap (λ a. in_both_stages (shown_attachment a)) is)
-  by_attachment (driver.Quarantined ticket s) is = cut_off ticket s is
+  by_attachment (driver.Quarantined ticket s) is = quarantined ticket s is
   by_attachment (driver.Leaving ticket s) is = absurd (leaves_none parts events state id (access.address / 4096) stage translation invariants own shows owned cached ticket s is)
 
 pub cached_accept : (parts : Parts) (events : ℕ) (state : State) (id : ℕ) (access : Access) (stage : Stages) (translation : Translation) → PartsInvariant parts events → DriverInvariant parts.driver

@@ -57,7 +57,7 @@ use Rattle.iom_world_effects.specs.Shows.{PartsShow}
 use Rattle.iom_world_effects.specs.Invariant.{PartsInvariant}
 use Rattle.iom_world_effects.specs.Traffic.{Traffic, entry_copy, entries_by, entries_in}
 use Rattle.iom_world_effects.proofs.AtsContexts.{FindsAts, ats_context, finds_ats, finds_cached}
-use Rattle.iom_world_effects.proofs.CutOffLemmas.{pending_cached, accept_formerly, cut_off_holds}
+use Rattle.iom_world_effects.proofs.QuarantinedLemmas.{pending_cached, accept_formerly, quarantined_holds}
 use Rattle.iom_world_effects.proofs.DriverLemmas.{DriverInvariant}
 use Rattle.iom_world_effects.proofs.HistoryMay.{may_merely, facts_of_history}
 use Rattle.iom_world_effects.proofs.MadeFrames.{lingers_in}
@@ -127,10 +127,10 @@ usable_or parts id = by (attachment_by_id parts.driver.devices id) refl (context
 
 pub used_by : (parts : Parts) (id : ℕ) → IsUsable parts id → (scene : Scene) → scene.attachment_of id ≡ shown_attachment (attachment_by_id parts.driver.devices id)
     → (is_some (contexts_of parts.iommu id) ≡ true → Contains scene.contexts id) → IsInUse scene id
-used_by parts id usable scene attached cached cut_off = by (attachment_by_id parts.driver.devices id) refl
+used_by parts id usable scene attached cached quarantined = by (attachment_by_id parts.driver.devices id) refl
   where
     never : (a : Attachment) → attachment_by_id parts.driver.devices id ≡ a → is_quarantined (shown_attachment a) ≡ false → Contains scene.contexts id
-    never a is none = absurd (false≢true (sym none ∙ ap is_quarantined (sym (attached ∙ ap shown_attachment is)) ∙ cut_off))
+    never a is none = absurd (false≢true (sym none ∙ ap is_quarantined (sym (attached ∙ ap shown_attachment is)) ∙ quarantined))
 
     by : (a : Attachment) → attachment_by_id parts.driver.devices id ≡ a → Contains scene.contexts id
     by driver.Detached is = never driver.Detached is refl
@@ -269,10 +269,10 @@ module _ (parts : Parts) (events id : ℕ) (access : Access) (frame : ℕ) (inva
     by_mode (Both size) ats is = may_merely state.history id frame access.kind (∥∥₁_map invariants.copies (λ (scene, shown, facts). reachable_in true is scene shown facts access.kind entry.allowed))
 
     -- of a device that is quarantined it is what lingers
-    cut_off : (ticket : ℕ) (stage : Stages) → attachment_by_id parts.driver.devices id ≡ driver.Quarantined ticket stage → MayGoThrough (shown_attachment (driver.Quarantined ticket stage)) state id access frame
-    cut_off ticket stage is = (
+    quarantined : (ticket : ℕ) (stage : Stages) → attachment_by_id parts.driver.devices id ≡ driver.Quarantined ticket stage → MayGoThrough (shown_attachment (driver.Quarantined ticket stage)) state id access frame
+    quarantined ticket stage is = (
       shows.none_later ticket (pending_cached parts events invariants id (ap is_some (usable ticket stage is).1) ticket stage is),
-      accept_formerly state.history id (page_of access) frame entry.rights (cut_off_holds parts.driver own state.history shows.ledger id ticket stage is) stage.mode access refl entry.allowed
+      accept_formerly state.history id (page_of access) frame entry.rights (quarantined_holds parts.driver own state.history shows.ledger id ticket stage is) stage.mode access refl entry.allowed
           (∥∥₁_map invariants.copies (λ (scene, shown, facts). reachable_in (is_both stage.mode) (ap (λ a. in_both_stages (shown_attachment a)) is) scene shown facts)),
     )
 
@@ -283,5 +283,5 @@ module _ (parts : Parts) (events id : ℕ) (access : Access) (frame : ℕ) (inva
         by : (a : Attachment) → attachment_by_id parts.driver.devices id ≡ a → MayGoThrough (shown_attachment a) state id access frame
         by driver.Detached is = absurd (false≢true (with_ats driver.Detached is))
         by (driver.Attached stage) is = by_mode stage.mode stage.ats (ap (λ a. in_both_stages (shown_attachment a)) is)
-        by (driver.Quarantined ticket stage) is = cut_off ticket stage is
+        by (driver.Quarantined ticket stage) is = quarantined ticket stage is
         by (driver.Leaving ticket stage) is = absurd (never_leaving ticket stage is)

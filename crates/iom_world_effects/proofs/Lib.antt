@@ -5,7 +5,7 @@ pub mod CacheSets
 pub mod CachedLemmas
 pub mod CachedMay
 pub mod ConfirmScenes
-pub mod CutOffLemmas
+pub mod QuarantinedLemmas
 pub mod DeviceLemmas
 pub mod DiskPlaces
 pub mod DriverLemmas

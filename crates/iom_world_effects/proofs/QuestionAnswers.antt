@@ -22,9 +22,9 @@ use Rattle.iom_world_effects.specs.Devices.{shown_attachment}
 use Rattle.iom_world_effects.specs.Parts.{Parts}
 use Rattle.iom_world_effects.specs.Invariant.{PartsInvariant}
 use Rattle.iom_world_effects.proofs.AtsContexts.{FindsAts, finds_ats}
-use Rattle.iom_world_effects.proofs.CutOffLemmas.{IsPending}
+use Rattle.iom_world_effects.proofs.QuarantinedLemmas.{IsPending}
 use Rattle.iom_world_effects.proofs.DriverLemmas.{DriverInvariant}
-use Rattle.iom_world_effects.proofs.ServedLemmas.{ServiceLaws, FaultsAs, IsAnswered, cause_at, of_attached, of_cut_off, of_leaving}
+use Rattle.iom_world_effects.proofs.ServedLemmas.{ServiceLaws, FaultsAs, IsAnswered, cause_at, of_attached, of_quarantined, of_leaving}
 use Rattle.iom_world_effects.proofs.WalkLemmas.{FaultsBy}
 
 -- for which cause a question is refused by the context of the stages that a device had
@@ -72,16 +72,16 @@ module _ (laws : ServiceLaws) (parts : Parts) (events : ℕ) (invariants : Parts
     unchanged,
   )
 
-  cut_off : (ticket : ℕ) (stage : Stages) (cause : Cause) → stage.ats ≡ true → ((d.confirmed < ticket) × IsPageFaultOf stage.mode Read cause) ⊎ (cause ≡ cause_at d.levels id)
+  quarantined : (ticket : ℕ) (stage : Stages) (cause : Cause) → stage.ats ≡ true → ((d.confirmed < ticket) × IsPageFaultOf stage.mode Read cause) ⊎ (cause ≡ cause_at d.levels id)
       → (cause ≡ cause_at d.levels id) ⊎ ((d.confirmed < ticket) × RefusedFormerly stage cause)
-  cut_off ticket stage cause ats (inl (pending, page)) = inr (pending, inl (ats, page))
-  cut_off ticket stage cause ats (inr none) = inl none
+  quarantined ticket stage cause ats (inl (pending, page)) = inr (pending, inl (ats, page))
+  quarantined ticket stage cause ats (inr none) = inl none
 
-  told_cut_off : (ticket : ℕ) (stage : Stages) (answer : Result Translation WalkFault) → attachment_by_id d.devices id ≡ Quarantined ticket stage → stage.ats ≡ true
+  told_quarantined : (ticket : ℕ) (stage : Stages) (answer : Result Translation WalkFault) → attachment_by_id d.devices id ≡ Quarantined ticket stage → stage.ats ≡ true
       → IsAnswered sure d id address Read old answer new → Told answer
-  told_cut_off ticket stage (Ok answer) is ats answered = (ap (λ a. has_ats (shown_attachment a)) is ∙ ats, answered)
-  told_cut_off ticket stage (Err fault) is ats (faults, unchanged) = (
-    subst (λ a. RefusedAs a d id address fault.cause) (sym is) (cut_off ticket stage fault.cause ats (subst (λ a. FaultsAs a d id address Read fault.cause) is faults)),
+  told_quarantined ticket stage (Ok answer) is ats answered = (ap (λ a. has_ats (shown_attachment a)) is ∙ ats, answered)
+  told_quarantined ticket stage (Err fault) is ats (faults, unchanged) = (
+    subst (λ a. RefusedAs a d id address fault.cause) (sym is) (quarantined ticket stage fault.cause ats (subst (λ a. FaultsAs a d id address Read fault.cause) is faults)),
     unchanged,
   )
 
@@ -105,11 +105,11 @@ module _ (laws : ServiceLaws) (parts : Parts) (events : ℕ) (invariants : Parts
   by_attached stage answer is false none served =
       refused_for answer TransactionTypeDisallowed (subst (λ a. RefusedAs a d id address TransactionTypeDisallowed) (sym is) (inr (none, refl))) served.0 served.1
 
-  by_cut_off : (ticket : ℕ) (stage : Stages) (answer : Result Translation WalkFault) → attachment_by_id d.devices id ≡ Quarantined ticket stage → IsPending parts.driver id → (b : Bool) → stage.ats ≡ b
+  by_quarantined : (ticket : ℕ) (stage : Stages) (answer : Result Translation WalkFault) → attachment_by_id d.devices id ≡ Quarantined ticket stage → IsPending parts.driver id → (b : Bool) → stage.ats ≡ b
       → Served (if b then Ok (context_for stage) else Err TransactionTypeDisallowed) answer → Told answer
-  by_cut_off ticket stage answer is pending true ats served =
-      told_cut_off ticket stage answer is ats (of_cut_off laws parts events invariants own id address Read fits sure old new ticket stage answer is pending served)
-  by_cut_off ticket stage answer is pending false none served =
+  by_quarantined ticket stage answer is pending true ats served =
+      told_quarantined ticket stage answer is ats (of_quarantined laws parts events invariants own id address Read fits sure old new ticket stage answer is pending served)
+  by_quarantined ticket stage answer is pending false none served =
       refused_for answer TransactionTypeDisallowed (subst (λ a. RefusedAs a d id address TransactionTypeDisallowed) (sym is) (inr (pending ticket stage is, inr (none, refl)))) served.0 served.1
 
   by_leaving : (ticket : ℕ) (stage : Stages) (answer : Result Translation WalkFault) → attachment_by_id d.devices id ≡ Leaving ticket stage → (b : Bool) → stage.ats ≡ b
@@ -129,7 +129,7 @@ module _ (laws : ServiceLaws) (parts : Parts) (events : ℕ) (invariants : Parts
       let by : Served (Err (cause_at d.levels id)) answer = subst (λ f. Served f answer) none served in
       refused_for answer (cause_at d.levels id) (subst (λ a. RefusedAs a d id address (cause_at d.levels id)) (sym is) (inl refl)) by.0 by.1
   by_found (Quarantined ticket stage) found answer is (inr (pending, finds)) served =
-      by_cut_off ticket stage answer is pending stage.ats refl (subst (λ f. Served f answer) finds served)
+      by_quarantined ticket stage answer is pending stage.ats refl (subst (λ f. Served f answer) finds served)
   by_found (Leaving ticket stage) found answer is (inl none) served =
       let by : Served (Err (cause_at d.levels id)) answer = subst (λ f. Served f answer) none served in
       refused_for answer (cause_at d.levels id) (subst (λ a. RefusedAs a d id address (cause_at d.levels id)) (sym is) (inl refl)) by.0 by.1

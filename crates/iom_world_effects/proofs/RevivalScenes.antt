@@ -22,7 +22,7 @@ pub record RevivesOne (old new : Values) (id : ℕ) (left : List Copy) : Type 0 
   pub ticket : ℕ
   pub mode : Mode
   pub ats : Bool
-  pub cut_off : old.attachment_of id ≡ Quarantined ticket mode ats
+  pub quarantined : old.attachment_of id ≡ Quarantined ticket mode ats
   pub done : ticket ≤ old.confirmed
   pub attached : AttachesOne old new id (Attached mode ats)
   pub others : AreOthers left id old.traffic.entries
@@ -88,7 +88,7 @@ revival_scene old new id left revives (scene, shows, facts) =
         revives.mode,
         revives.ats,
         left,
-        shows.attachments id ∙ revives.cut_off,
+        shows.attachments id ∙ revives.quarantined,
         subst (λ (n : ℕ). revives.ticket ≤ n) (sym shows.confirmed) revives.done,
         subst (λ (t : Traffic). AreOthers left id t.entries) (sym shows.traffic) revives.others,
         refl,

@@ -47,7 +47,7 @@ use Rattle.iom_stage_walk.specs.Second.{ReachesSecond, StopsSecond}
 use Rattle.iom_world_effects.specs.Parts.{Parts}
 use Rattle.iom_world_effects.specs.Invariant.{PartsInvariant}
 use Rattle.iom_world_effects.specs.Read.{space_in}
-use Rattle.iom_world_effects.proofs.CutOffLemmas.{IsPending, pending_cached}
+use Rattle.iom_world_effects.proofs.QuarantinedLemmas.{IsPending, pending_cached}
 use Rattle.iom_world_effects.proofs.DriverLemmas.{DriverInvariant}
 use Rattle.iom_world_effects.proofs.SceneSteps.{HoldsWalked}
 use Rattle.iom_world_effects.proofs.WalkLemmas.{WalkLaws, ReachesBy, StopsBy, FaultsBy, reached, stopped}
@@ -366,9 +366,9 @@ module _ (laws : ServiceLaws) (parts : Parts) (events : ℕ) (invariants : Parts
         never : (ticket : ℕ) (other : Stages) → Attached stage ≡ Quarantined ticket other → ⊥
         never ticket other same = cc
 
-    pub of_cut_off : (ticket : ℕ) (stage : Stages) (answer : Result Translation WalkFault) → attachment_by_id parts.driver.devices id ≡ Quarantined ticket stage → IsPending parts.driver id
+    pub of_quarantined : (ticket : ℕ) (stage : Stages) (answer : Result Translation WalkFault) → attachment_by_id parts.driver.devices id ≡ Quarantined ticket stage → IsPending parts.driver id
         → ServesBy sure (Ok (context_for stage)) parts.memory address kind old answer new → IsAnswered sure parts.driver id address kind old answer new
-    of_cut_off ticket stage answer is pending served =
+    of_quarantined ticket stage answer is pending served =
         by_cache stage answer (ap owned_stages is) pending
         (none_reached stage answer (ap owned_stages is) (ap attached_stages is)
         (λ cause fault. subst (λ a. FaultsAs a d id address kind cause) (sym is) (inl (pending ticket stage is, fault))))
@@ -395,7 +395,7 @@ module _ (laws : ServiceLaws) (parts : Parts) (events : ℕ) (invariants : Parts
     by_attachment (Quarantined ticket stage) (Some context) answer is true_for pends served =
         let both = true_for context refl in
         let same : context ≡ context_for stage = cc in
-        of_cut_off ticket stage answer is (pends refl) (subst (λ c. ServesBy sure (Ok c) parts.memory address kind old answer new) same served)
+        of_quarantined ticket stage answer is (pends refl) (subst (λ c. ServesBy sure (Ok c) parts.memory address kind old answer new) same served)
     by_attachment (Attached stage) (Some context) answer is true_for pends served =
         let both = true_for context refl in
         let same : context ≡ context_for stage = cc in

@@ -17,7 +17,7 @@ use Rattle.iom_device.specs.Caches.{IsAble}
 use Rattle.iom_world_effects.specs.Parts.{Parts}
 use Rattle.iom_world_effects.specs.Unable.{IsUnknown}
 
--- A DEVICE IS CUT OFF
+-- A DEVICE IS QUARANTINED
 pub record QuarantinesDevice (old : Parts) (id : ℕ) (reply : Outcome) (new : Parts) : Type 0 where
   pub answer : Result Ticket Refusal
   pub reply_is : reply ≡ outcome_of_ticket answer
@@ -25,7 +25,7 @@ pub record QuarantinesDevice (old : Parts) (id : ℕ) (reply : Outcome) (new : P
   pub devices : new.devices ≡ old.devices
   pub fabric : new.fabric ≡ old.fabric
 
--- A DEVICE THAT WAS CUT OFF is attached again, and reset
+-- A DEVICE THAT WAS QUARANTINED is attached again, and reset
 pub record RevivesDevice (old : Parts) (id : ℕ) (reply : Outcome) (new : Parts) : Type 0 where
   pub answer : Result (Unit {0}) Refusal
   pub reply_is : reply ≡ outcome_of_done answer

@@ -58,7 +58,7 @@ module _ (old new : Parts) (events id : ℕ) (invariants : PartsInvariant old ev
   again_keeps : (f : ℕ) → ((g : ℕ) → HasPage old.memory (root_level old.driver.levels) (directory_frame (length old.memory)) g → f ≢ g) → slice_get new.memory f ≡ slice_get old.memory f
   again_keeps f apart =
       let top = root_level old.driver.levels in
-      let low : id < id_limit old.driver.levels = own.named id writes.stage (ap owned_stages writes.cut_off) in
+      let low : id < id_limit old.driver.levels = own.named id writes.stage (ap owned_stages writes.quarantined) in
       let below : id < ids_below top = subst (λ n. id < n) (room_for_ids old.driver.levels own.sizes.in_range) low in
       ap (λ m. slice_get m f) writes.bytes
       ∙ hung_keeps old.memory old.memory top (directory_frame (length old.memory)) id [] (context_for writes.stage) f
@@ -77,7 +77,7 @@ module _ (old new : Parts) (events id : ℕ) (invariants : PartsInvariant old ev
   ticket_done : writes.ticket ≤ old.driver.confirmed
   ticket_done =
       let low = leb-false (suc old.driver.confirmed) writes.ticket
-      (subst (λ a. waits_for_its_ticket old.driver.confirmed a ≡ false) writes.cut_off (none_at (why_not_revive old.driver id) 4 _ StillGranted refl admitted)) in
+      (subst (λ a. waits_for_its_ticket old.driver.confirmed a ≡ false) writes.quarantined (none_at (why_not_revive old.driver id) 4 _ StillGranted refl admitted)) in
       omega (arith, low)
 
   -- it has the stages that it had
@@ -86,7 +86,7 @@ module _ (old new : Parts) (events id : ℕ) (invariants : PartsInvariant old ev
       ap (λ (s : DriverState). owned_stages_of s.devices other) writes.driver
       ∙ elim (eqb_tells other id) [
         | inl e ↦ ap (owned_stages_of (with_attachment old.driver.devices id (Attached writes.stage))) e.1
-            ∙ ap owned_stages (attachment_set old.driver.devices id (Attached writes.stage) revival_plugged) ∙ sym (ap owned_stages writes.cut_off) ∙ sym (ap (owned_stages_of old.driver.devices) e.1)
+            ∙ ap owned_stages (attachment_set old.driver.devices id (Attached writes.stage) revival_plugged) ∙ sym (ap owned_stages writes.quarantined) ∙ sym (ap (owned_stages_of old.driver.devices) e.1)
         | inr ne ↦ ap owned_stages (attachment_other old.driver.devices id other (Attached writes.stage) ne.1)
       ]
 
@@ -104,7 +104,7 @@ module _ (old new : Parts) (events id : ℕ) (invariants : PartsInvariant old ev
     ticket = writes.ticket;
     mode = writes.stage.mode;
     ats = writes.stage.ats;
-    cut_off = ap shown_attachment writes.cut_off;
+    quarantined = ap shown_attachment writes.quarantined;
     done = ticket_done old new events id invariants own admitted writes;
     attached = λ d. ap (λ (s : DriverState). shown_attachment (attachment_by_id s.devices d)) writes.driver
         ∙ shown_set old.driver.devices id (Attached writes.stage) (revival_plugged old new events id invariants own admitted writes) d;

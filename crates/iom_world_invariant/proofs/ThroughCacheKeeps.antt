@@ -49,11 +49,11 @@ module _ (laws : ServiceLaws) (old new : Parts) (events id : ℕ) (access : Acce
   -- a context that is cached of a device that is quarantined stays
   used_still : IsUsable old id → KeepsAttached (attachment_by_id old.driver.devices id) id (contexts_of old.iommu) (contexts_of new.iommu) → (scene : Scene)
       → IsSceneOf (cached_so (values_of old) (λ d. is_some (contexts_of new.iommu d)) (translations_of new.iommu)) scene → IsInUse scene id
-  used_still usable keeps scene shown cut_off = by keeps
+  used_still usable keeps scene shown quarantined = by keeps
     where
       by : KeepsAttached (attachment_by_id old.driver.devices id) id (contexts_of old.iommu) (contexts_of new.iommu) → Contains scene.contexts id
-      by (inl same) = used_by old id usable scene (shown.attachments id) (λ there. shown.contexts id (ap is_some (same id) ∙ there)) cut_off
-      by (inr (stage, is, kept)) = absurd (false≢true (ap is_quarantined (sym (shown.attachments id ∙ ap shown_attachment is)) ∙ cut_off))
+      by (inl same) = used_by old id usable scene (shown.attachments id) (λ there. shown.contexts id (ap is_some (same id) ∙ there)) quarantined
+      by (inr (stage, is, kept)) = absurd (false≢true (ap is_quarantined (sym (shown.attachments id ∙ ap shown_attachment is)) ∙ quarantined))
 
   -- whatever scene there is has the entry
   source : (frame : ℕ) → (entry : HasEntry old.devices id (page_of access) access.kind frame) → IsUsable old id

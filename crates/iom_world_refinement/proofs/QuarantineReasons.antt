@@ -45,25 +45,25 @@ driver_first started there how many full used = first_that_applies (
     ∷ [])
 
 -- these two may come where none of the machine's applies
-cut_off_refused : (there : Bool) (how : owned.Attachment) (many full used : Bool) (why : Refusal) → driver_first true there how many full used ≡ Some why
+quarantined_refused : (there : Bool) (how : owned.Attachment) (many full used : Bool) (why : Refusal) → driver_first true there how many full used ≡ Some why
     → MatchOption (machine_first there (shown_attachment how) many) (MayFindNoPlace why) (λ first. why ≡ first)
-cut_off_refused false how many full used why first = cc
-cut_off_refused true attached.Detached many full used why first = cc
-cut_off_refused true (attached.Quarantined ticket stage) many full used why first = cc
-cut_off_refused true (attached.Leaving ticket stage) many full used why first = cc
-cut_off_refused true (attached.Attached stage) true full used why first = cc
-cut_off_refused true (attached.Attached stage) false true used why first = let is : QueueFull ≡ why = cc in subst MayFindNoPlace is tt
-cut_off_refused true (attached.Attached stage) false false true why first = let is : NumbersUsedUp ≡ why = cc in subst MayFindNoPlace is tt
-cut_off_refused true (attached.Attached stage) false false false why first = cc
+quarantined_refused false how many full used why first = cc
+quarantined_refused true attached.Detached many full used why first = cc
+quarantined_refused true (attached.Quarantined ticket stage) many full used why first = cc
+quarantined_refused true (attached.Leaving ticket stage) many full used why first = cc
+quarantined_refused true (attached.Attached stage) true full used why first = cc
+quarantined_refused true (attached.Attached stage) false true used why first = let is : QueueFull ≡ why = cc in subst MayFindNoPlace is tt
+quarantined_refused true (attached.Attached stage) false false true why first = let is : NumbersUsedUp ≡ why = cc in subst MayFindNoPlace is tt
+quarantined_refused true (attached.Attached stage) false false false why first = cc
 
-cut_off_none : (there : Bool) (how : owned.Attachment) (many full used : Bool) → driver_first true there how many full used ≡ None
+quarantined_none : (there : Bool) (how : owned.Attachment) (many full used : Bool) → driver_first true there how many full used ≡ None
     → machine_first there (shown_attachment how) many ≡ None
-cut_off_none false how many full used none = cc
-cut_off_none true attached.Detached many full used none = cc
-cut_off_none true (attached.Quarantined ticket stage) many full used none = cc
-cut_off_none true (attached.Leaving ticket stage) many full used none = cc
-cut_off_none true (attached.Attached stage) true full used none = cc
-cut_off_none true (attached.Attached stage) false full used none = refl
+quarantined_none false how many full used none = cc
+quarantined_none true attached.Detached many full used none = cc
+quarantined_none true (attached.Quarantined ticket stage) many full used none = cc
+quarantined_none true (attached.Leaving ticket stage) many full used none = cc
+quarantined_none true (attached.Attached stage) true full used none = cc
+quarantined_none true (attached.Attached stage) false full used none = refl
 
 first_same : (there there' many many' : Bool) (attachment attachment' : Attachment) → there ≡ there' → attachment ≡ attachment' → many ≡ many'
     → machine_first there attachment many ≡ machine_first there' attachment' many'
@@ -93,7 +93,7 @@ quarantine_refused_by parts events state id why invariants shows first =
     let full = lacks_places 3 (registers_of parts.iommu) in
     let used = nat_le 4294967295 (last_fence d) in
     subst (λ o. MatchOption o (MayFindNoPlace why) (λ one. why ≡ one)) (sym (quarantine_first parts events state id invariants shows))
-    (cut_off_refused (has_device d.devices id) how many full used why (started_first d.started (has_device d.devices id) how many full used (Some why) invariants.started first))
+    (quarantined_refused (has_device d.devices id) how many full used why (started_first d.started (has_device d.devices id) how many full used (Some why) invariants.started first))
 
 pub may_quarantine : (parts : Parts) (events : ℕ) (state : State) (id : ℕ) → PartsInvariant parts events → PartsShow parts state
     → NoneApplies (why_not_quarantine parts.driver (registers_of parts.iommu) id) → NoneApplies (machine.quarantine_reasons state id)
@@ -104,4 +104,4 @@ may_quarantine parts events state id invariants shows none =
     let full = lacks_places 3 (registers_of parts.iommu) in
     let used = nat_le 4294967295 (last_fence d) in
     quarantine_first parts events state id invariants shows
-    ∙ cut_off_none (has_device d.devices id) how many full used (started_first d.started (has_device d.devices id) how many full used None invariants.started none)
+    ∙ quarantined_none (has_device d.devices id) how many full used (started_first d.started (has_device d.devices id) how many full used None invariants.started none)

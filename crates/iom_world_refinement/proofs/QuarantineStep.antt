@@ -55,8 +55,8 @@ length-all_unmapped size memory root [] = refl
 length-all_unmapped size memory root (page ∷ pages) = length-all_unmapped size (unmapped size memory root page) root pages ∙ length-unmapped size memory root page
 
 -- and after a quarantine
-size_cut_off : (d d' : DriverState) (memory memory' : List (List ℕ)) (io io' : Iommu) (id ticket : ℕ) → QueuesQuarantine mmio d memory io id ticket d' memory' io' → length memory' ≡ length memory
-size_cut_off d d' memory memory' io io' id ticket queues =
+size_quarantined : (d d' : DriverState) (memory memory' : List (List ℕ)) (io io' : Iommu) (id ticket : ℕ) → QueuesQuarantine mmio d memory io id ticket d' memory' io' → length memory' ≡ length memory
+size_quarantined d d' memory memory' io io' id ticket queues =
     let cleared = without_context memory (root_level d.levels) (directory_frame (length memory)) id in
     size_appended (detach_commands id queues.stage (completion_address (length memory)) (last_fence d + 1)) (all_unmapped (size_in queues.stage.mode) cleared queues.stage.root queues.pages) memory' io io' queues.queued
     ∙ length-all_unmapped (size_in queues.stage.mode) cleared queues.stage.root queues.pages
@@ -74,8 +74,8 @@ how_found : (state : State) (id : ℕ) (found : declared.Device) → device_of s
 how_found state id found at = sym (ap (λ (o : Option declared.Device). option_map_or (λ (device : declared.Device). device.attachment) o Detached) at)
 
 -- the machine's state after it
-abbrev pub cut_off : State → declared.Device → ℕ → ℕ → State
-cut_off state device id ticket = record (with_device state (record device { attachment = quarantined_under ticket device.attachment })) {
+abbrev pub quarantined : State → declared.Device → ℕ → ℕ → State
+quarantined state device id ticket = record (with_device state (record device { attachment = quarantined_under ticket device.attachment })) {
   history = entry.AllReleased id ticket ∷ state.history;
   last_ticket = ticket;
 }
@@ -90,7 +90,7 @@ module _ (old new : Parts) (events id ticket : ℕ) (found : declared.Device) (i
       let ring = subst (λ n. slice_get d.owners (command_frame n) ≡ Some (Some System)) (sym invariants.ready.stand.size) own.fixed.command in
       shows_kept old.memory new.memory d.owners state.frames shows.frames
       (λ k free. queues.others k (not_owned d.owners k (OneDevice id) free) (no_page old events k invariants free) (not_ring d.owners k (length old.memory) ring free))
-      (size_cut_off d new.driver old.memory new.memory old.iommu new.iommu id ticket queues)
+      (size_quarantined d new.driver old.memory new.memory old.iommu new.iommu id ticket queues)
 
   flights_kept : flights_of new.iommu ≡ flights_of old.iommu
   flights_kept =
@@ -98,8 +98,8 @@ module _ (old new : Parts) (events id ticket : ℕ) (found : declared.Device) (i
       (all_unmapped (size_in queues.stage.mode) (without_context old.memory (root_level old.driver.levels) (directory_frame (length old.memory)) id) queues.stage.root queues.pages)
       new.memory old.iommu new.iommu queues.queued
 
-  pub shows_cut_off : PartsShow new (cut_off state found id ticket)
-  shows_cut_off =
+  pub shows_quarantined : PartsShow new (quarantined state found id ticket)
+  shows_quarantined =
       let d = old.driver in
       let cut = attached.Quarantined ticket queues.stage in
       let next : ticket ≡ d.given + 1 = queues.next in
@@ -132,14 +132,14 @@ quarantine_step old new events id reply invariants own effect state shows = by e
         let found = found_there (device_of state id) (there_shown old events state id invariants shows ∙ there) in
         let how : found.0.attachment ≡ Attached queues.stage.mode queues.stage.ats = how_found state id found.0 found.1 ∙ how_shown old events state id invariants shows
         ∙ ap shown_attachment (attached_is (attachment_by_id d.devices id) queues.stage queues.attached) in
-        let next = cut_off state found.0 id ticket.0 in (
+        let next = quarantined state found.0 id ticket.0 in (
           next,
           subst (λ t. machine.Quarantines state id t next) (sym is) (
             may_quarantine old events state id invariants shows none,
             queues.next ∙ ap (λ n. n + 1) (sym shows.given),
-            some_and (λ (d : declared.Device). next ≡ cut_off state d id ticket.0) (device_of state id) found.0 found.1 refl,
+            some_and (λ (d : declared.Device). next ≡ quarantined state d id ticket.0) (device_of state id) found.0 found.1 refl,
           ),
-          shows_cut_off old new events id ticket.0 found.0 invariants own queues effect.devices state shows found.1 how,
+          shows_quarantined old new events id ticket.0 found.0 invariants own queues effect.devices state shows found.1 how,
         )
     by (Err why) is call = (
       state,

@@ -39,7 +39,7 @@ use Rattle.iom_world_effects.specs.Scenes.{IsSceneOf}
 use Rattle.iom_world_effects.specs.Shows.{PartsShow}
 use Rattle.iom_world_effects.specs.Invariant.{PartsInvariant}
 use Rattle.iom_world_effects.proofs.CachedMay.{in_history, reachable_in, leaves_none, detached_none}
-use Rattle.iom_world_effects.proofs.CutOffLemmas.{IsPending, show_formerly, cut_off_holds}
+use Rattle.iom_world_effects.proofs.QuarantinedLemmas.{IsPending, show_formerly, quarantined_holds}
 use Rattle.iom_world_effects.proofs.DriverLemmas.{DriverInvariant}
 use Rattle.iom_world_effects.proofs.HistoryMay.{may_merely}
 use Rattle.iom_world_effects.proofs.MessageLemmas.{the_one}
@@ -154,12 +154,12 @@ module _ (parts : Parts) (events : ℕ) (state : State) (id page : ℕ) (stage :
   )
 
   -- of a device that is quarantined it is what lingers
-  cut_off : (ticket : ℕ) (s : Stages) → attachment_by_id parts.driver.devices id ≡ driver.Quarantined ticket s → s.ats ≡ true
+  quarantined : (ticket : ℕ) (s : Stages) → attachment_by_id parts.driver.devices id ≡ driver.Quarantined ticket s → s.ats ≡ true
       → MayTell (shown.Quarantined ticket s.mode s.ats) state id page (Page translation.frame translation.rights)
-  cut_off ticket s is ats = inr (
+  quarantined ticket s is ats = inr (
     shows.none_later ticket (pending ticket s is),
     subst (λ b. MayTellFormerly s.mode b state.history id page (Page translation.frame translation.rights)) (sym ats)
-        (show_formerly state.history id page translation.frame translation.rights (cut_off_holds parts.driver own state.history shows.ledger id ticket s is) s.mode allowed
+        (show_formerly state.history id page translation.frame translation.rights (quarantined_holds parts.driver own state.history shows.ledger id ticket s is) s.mode allowed
         (∥∥₁_map invariants.copies (λ (scene, at, facts).
         reachable_in parts events state id page stage translation invariants own shows owned cached (is_both s.mode) (ap (λ a. in_both_stages (shown_attachment a)) is) scene at facts))),
   )
@@ -170,7 +170,7 @@ module _ (parts : Parts) (events : ℕ) (state : State) (id page : ℕ) (stage :
   cached_tell (driver.Attached s) is ats =
       subst (λ b. MayTell (shown.Attached s.mode b) state id page (Page translation.frame translation.rights)) (sym ats)
       (shown_cached s.mode (ap (λ a. in_both_stages (shown_attachment a)) is))
-  cached_tell (driver.Quarantined ticket s) is ats = cut_off ticket s is ats
+  cached_tell (driver.Quarantined ticket s) is ats = quarantined ticket s is ats
   cached_tell (driver.Leaving ticket s) is ats = absurd (leaves_none parts events state id page stage translation invariants own shows owned cached ticket s is)
 
 -- WHAT A WALK GIVES

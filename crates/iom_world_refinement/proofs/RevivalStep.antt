@@ -69,7 +69,7 @@ shows_revived old new events id found invariants own admitted writes iommu devic
     let known' = with_attachment d.devices id now in
     let there = revival_plugged old new events id invariants own admitted writes in
     let was : found.attachment ≡ shown_attachment (attached.Quarantined writes.ticket writes.stage) =
-    found_how (device_of state id) found _ at (how_shown old events state id invariants shows ∙ ap shown_attachment writes.cut_off) in
+    found_how (device_of state id) found _ at (how_shown old events state id invariants shows ∙ ap shown_attachment writes.quarantined) in
     let size : length new.memory ≡ length old.memory =
     ap (λ (m : List (List ℕ)). length m) writes.bytes ∙ length-hung (root_level d.levels) old.memory (directory_frame (length old.memory)) id [] (context_for writes.stage) in
     record {

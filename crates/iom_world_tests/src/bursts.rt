@@ -165,7 +165,7 @@ pub(crate) fn planned(draw: &mut Draw, knows: &Knows, shown: Seen, task: Task) -
     if task.burst == Burst::Devices || task.burst == Burst::Crowded {
         call.new = new_device(call.device);
     }
-    call.place = if task.burst == Burst::CutOff {
+    call.place = if task.burst == Burst::Quarantine {
         shown.messages.saturating_sub(1)
     } else {
         0
@@ -186,14 +186,14 @@ pub(crate) fn drawn_task(draw: &mut Draw, knows: &Knows) -> Task {
         7 => (Burst::Restart, any),
         8..=11 => (Burst::Grants, any),
         12 => (Burst::Links, any),
-        13 => (Burst::CutOff, ATS),
+        13 => (Burst::Quarantine, ATS),
         14 => (Burst::Faults, any),
         15 => (Burst::GivenUp, ATS),
         _ => (Burst::Block, block),
     };
     let wants_page = matches!(
         burst,
-        Burst::Begins | Burst::CutOff | Burst::GivenUp | Burst::Block
+        Burst::Begins | Burst::Quarantine | Burst::GivenUp | Burst::Block
     );
     match lowest_held(knows, device) {
         Some(page) => Task::new(burst, device, page),

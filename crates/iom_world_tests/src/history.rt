@@ -103,7 +103,7 @@ pub(crate) enum Tie {
     Attached,
     /// It was detached.
     Leaving,
-    CutOff,
+    Quarantined,
 }
 
 /// What decides of a device's requests, beside its grants.
@@ -135,7 +135,7 @@ fn after(old: Standing, entry: Entry) -> Standing {
         }
         Act::Revive => new.tie = Tie::Attached,
         Act::Detach => new.tie = Tie::Leaving,
-        Act::Quarantine => new.tie = Tie::CutOff,
+        Act::Quarantine => new.tie = Tie::Quarantined,
         _ => return old,
     }
     new.ticket = entry.ticket;

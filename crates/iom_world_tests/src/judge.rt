@@ -275,7 +275,7 @@ fn judge_driver(knows: &Knows, call: Call, heard: Heard) -> (Rule, bool) {
             let standing = standing_of(&knows.entries, knows.confirmed, call.device);
             (
                 Rule::Act,
-                standing.tie == Tie::CutOff && !standing.is_pending,
+                standing.tie == Tie::Quarantined && !standing.is_pending,
             )
         }
         (Act::Faults, reply) => (Rule::Record, (reply == Told::Record) == (knows.records > 0)),

@@ -29,7 +29,7 @@ pub(crate) enum Burst {
     /// The command queue begins anew, and all is fetched that can be.
     Restart,
     /// The device with a cache is told of a page, and then quarantined: its cache still has the page when its context is gone.
-    CutOff,
+    Quarantine,
     /// Fences are done, and another is given up before a poll.
     GivenUp,
     /// All fault records are taken.
@@ -498,7 +498,7 @@ static PARTS: [Part; 71] = [
         Where::Drawn,
     ),
     (
-        Burst::CutOff,
+        Burst::Quarantine,
         0,
         1,
         1,
@@ -507,7 +507,7 @@ static PARTS: [Part; 71] = [
         Where::Drawn,
     ),
     (
-        Burst::CutOff,
+        Burst::Quarantine,
         1,
         2,
         1,
@@ -516,7 +516,7 @@ static PARTS: [Part; 71] = [
         Where::Subject,
     ),
     (
-        Burst::CutOff,
+        Burst::Quarantine,
         2,
         4,
         1,
@@ -525,7 +525,7 @@ static PARTS: [Part; 71] = [
         Where::Drawn,
     ),
     (
-        Burst::CutOff,
+        Burst::Quarantine,
         4,
         5,
         1,
@@ -534,7 +534,7 @@ static PARTS: [Part; 71] = [
         Where::Drawn,
     ),
     (
-        Burst::CutOff,
+        Burst::Quarantine,
         5,
         6,
         1,
@@ -542,9 +542,17 @@ static PARTS: [Part; 71] = [
         Who::This(ATS),
         Where::Drawn,
     ),
-    (Burst::CutOff, 6, 8, 1, Act::Fetch, Who::Drawn, Where::Drawn),
     (
-        Burst::CutOff,
+        Burst::Quarantine,
+        6,
+        8,
+        1,
+        Act::Fetch,
+        Who::Drawn,
+        Where::Drawn,
+    ),
+    (
+        Burst::Quarantine,
         8,
         12,
         2,
@@ -553,7 +561,7 @@ static PARTS: [Part; 71] = [
         Where::Subject,
     ),
     (
-        Burst::CutOff,
+        Burst::Quarantine,
         9,
         12,
         2,

@@ -4,7 +4,7 @@ use Rattle.iom_ledger.specs.declared.entry.HistoryEntry.TheVariants.{AllReleased
 use Rattle.iom_machine.specs.declared.outcome.Outcome.TheVariants.{Ticket}
 use Rattle.iom_machine.specs.Machine.{Quarantines}
 use Rattle.iom_machine.specs.Refusals.{quarantine_reasons, MayFindNoPlace}
-use Rattle.iom_machine.proofs.CallLemmas.{cut_off_as}
+use Rattle.iom_machine.proofs.CallLemmas.{quarantined_as}
 use Rattle.iom_machine.proofs.HeadlineLemmas.{element_at}
 use Rattle.iom_kept_state.specs.Frames.{frames_in}
 use Rattle.iom_kept_state.specs.States.{state_of}
@@ -27,7 +27,7 @@ returns-in_ok-release_all-in-Ticket c =
       given_as c.args.kept.now (frames_in c.args.kept.now.frames) (AllReleased c.args.id c.in-Ticket.ticket ∷ h) c.in-Ticket.ticket _ _
           (λ after. Quarantines (state_of c.args.kept.now h) c.args.id (Ticket c.in-Ticket.ticket) after)
           c.in_ok-release_all-in-Ticket.ensures.tickets.0
-          (cut_off_as c.in-Ticket.ticket (state_of c.args.kept.now h) c.args.id c.in-Some.place found.0 _ _
+          (quarantined_as c.in-Ticket.ticket (state_of c.args.kept.now h) c.args.id c.in-Some.place found.0 _ _
           (sym (c.quarantine_refusal-first.ensures h past) ∙ gives.0) gives.1 place found.1 refl (c.under_ticket.ensures found.0 found.1)),
     ))
 

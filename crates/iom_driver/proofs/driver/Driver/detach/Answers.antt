@@ -87,8 +87,8 @@ append_detach-requires-clause-number g c =
     let le : c.in-Ok.stage.number ≤ 17 = small.1 in
     omega (arith, le)
 
-pub append_detach-requires-clause-cut_off : goal.append_detach-requires-clause-cut_off
-append_detach-requires-clause-cut_off g c =
+pub append_detach-requires-clause-quarantined : goal.append_detach-requires-clause-quarantined
+append_detach-requires-clause-quarantined g c =
     let driver = c.args.self.now in
     let memory = c.args.memory.now in
     let stage = c.in-Ok.stage in

@@ -17,7 +17,7 @@ use Rattle.iom_driver.specs.Layout.{command_frame, fault_frame, completion_addre
 use Rattle.iom_driver.specs.Quarantines.{all_unmapped, held_pages}
 use Rattle.iom_driver.specs.Ready.{IsRing}
 use Rattle.iom_driver.specs.Invariant.{StateInvariant}
-use Rattle.iom_driver.proofs.QuarantineLemmas.{IsCleared, not_of_device, tables_uncontexted, owned_cut_off, sound_quarantined}
+use Rattle.iom_driver.proofs.QuarantineLemmas.{IsCleared, not_of_device, tables_uncontexted, owned_quarantined, sound_quarantined}
 use Rattle.iom_driver.proofs.Directories.{DirectoryIn, low_id, room_for_ids, in_stands, stands_in, directory_cleared, directory_stay}
 use Rattle.iom_driver.proofs.FaultRings.{fault_ring_stays}
 use Rattle.iom_driver.proofs.Limits.{held_low}
@@ -123,8 +123,8 @@ append_detach-requires-clause-number g c =
     let le : c.in-Ok.stage.number ≤ 17 = small.1 in
     omega (arith, le)
 
-pub append_detach-requires-clause-cut_off : goal.append_detach-requires-clause-cut_off
-append_detach-requires-clause-cut_off g c =
+pub append_detach-requires-clause-quarantined : goal.append_detach-requires-clause-quarantined
+append_detach-requires-clause-quarantined g c =
     let driver = c.args.self.now in
     let memory = c.args.memory.now in
     let id = c.args.id in
@@ -271,7 +271,7 @@ returns-clause-ready g c =
     let none : stages_of devices id ≡ None = ap attached_stages (attachment_set driver.devices.items id (Quarantined ticket stage) (attached_there driver.devices.items id stage may.attached)) in
     let same : (other : ℕ) → other ≢ id → stages_of devices other ≡ stages_of driver.devices.items other =
     λ other apart. ap attached_stages (attachment_other driver.devices.items id other (Quarantined ticket stage) apart) in
-    let owned = owned_cut_off driver.devices.items id ticket stage may.attached in
+    let owned = owned_quarantined driver.devices.items id ticket stage may.attached in
     let after = directory_cleared driver.frames memory between driver.owners driver.devices.items devices driver.levels id here cleared.tree cleared.pages cleared.here cleared.others cleared.paths none same owned in
     let mapped = tables_unmapped between bare driver.owners driver.ledger ledger driver.devices.items id ticket stage tables owns unmapped c.release_all.ensures.released in
     let all = all_stay bare new driver.owners ledger ledger driver.devices.items mapped

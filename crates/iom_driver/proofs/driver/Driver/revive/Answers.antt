@@ -9,7 +9,7 @@ use Rattle.iom_driver.specs.Directory.{located_for}
 use Rattle.iom_driver.specs.Layout.{directory_frame, fault_frame}
 use Rattle.iom_driver.specs.StateOf.{state_of}
 use Rattle.iom_driver.specs.Invariant.{StateInvariant}
-use Rattle.iom_driver.proofs.QuarantineLemmas.{IsPutAgain, cut_off_there, owned_revived, sound_revived, tables_put_again}
+use Rattle.iom_driver.proofs.QuarantineLemmas.{IsPutAgain, quarantined_there, owned_revived, sound_revived, tables_put_again}
 use Rattle.iom_driver.proofs.Directories.{DirectoryIn, room_for_ids, in_stands, stands_in, directory_put}
 use Rattle.iom_driver.proofs.Modes.{rooted}
 use Rattle.iom_driver.proofs.Orders.{maps_nothing}
@@ -32,15 +32,15 @@ pub context_for-context-requires-clause-root : goal.context_for-context-requires
 context_for-context-requires-clause-root c =
     let may = c.in-Ok.ensures.may in
     let stage = c.in-Ok.stage in
-    (rooted stage.mode c.args.memory.now stage.root (c.requires.stand.tables c.args.id stage (ap owned_stages may.cut_off)).tree).aligned
+    (rooted stage.mode c.args.memory.now stage.root (c.requires.stand.tables c.args.id stage (ap owned_stages may.quarantined)).tree).aligned
 
 pub context_for-context-requires-clause-nothing : goal.context_for-context-requires-clause-nothing
 context_for-context-requires-clause-nothing c =
     let driver = c.args.self.now in
     let may = c.in-Ok.ensures.may in
     let stage = c.in-Ok.stage in
-    maps_nothing c.args.memory.now driver.owners driver.ledger c.args.id stage.mode stage.root (c.requires.stand.tables c.args.id stage (ap owned_stages may.cut_off))
-    (λ page. driver.invariants.holders c.args.id page (ap attached_stages may.cut_off))
+    maps_nothing c.args.memory.now driver.owners driver.ledger c.args.id stage.mode stage.root (c.requires.stand.tables c.args.id stage (ap owned_stages may.quarantined))
+    (λ page. driver.invariants.holders c.args.id page (ap attached_stages may.quarantined))
 
 pub put_context-requires-clause-levels : goal.put_context-requires-clause-levels
 put_context-requires-clause-levels c = c.args.self.now.invariants.sizes.in_range
@@ -56,7 +56,7 @@ pub put_context-requires-clause-id : goal.put_context-requires-clause-id
 put_context-requires-clause-id c =
     let driver = c.args.self.now in
     subst (λ n. c.args.id < n) (room_for_ids driver.levels driver.invariants.sizes.in_range)
-    (driver.invariants.named c.args.id c.in-Ok.stage (ap owned_stages c.in-Ok.ensures.may.cut_off))
+    (driver.invariants.named c.args.id c.in-Ok.stage (ap owned_stages c.in-Ok.ensures.may.quarantined))
 
 pub put_context-requires-clause-empty : goal.put_context-requires-clause-empty
 put_context-requires-clause-empty c =
@@ -64,8 +64,8 @@ put_context-requires-clause-empty c =
     let may = c.in-Ok.ensures.may in
     let stand = c.requires.stand in
     let here = in_stands driver.frames c.args.memory.now driver.owners driver.devices.items driver.levels (stand.size ∙ driver.invariants.sizes.marked) (stand.directory may.started) in
-    let low = subst (λ n. c.args.id < n) (room_for_ids driver.levels driver.invariants.sizes.in_range) (driver.invariants.named c.args.id c.in-Ok.stage (ap owned_stages may.cut_off)) in
-    rw c.directory_frame-directory.ensures (here.contexts c.args.id low ∙ ap located_for (ap attached_stages may.cut_off))
+    let low = subst (λ n. c.args.id < n) (room_for_ids driver.levels driver.invariants.sizes.in_range) (driver.invariants.named c.args.id c.in-Ok.stage (ap owned_stages may.quarantined)) in
+    rw c.directory_frame-directory.ensures (here.contexts c.args.id low ∙ ap located_for (ap attached_stages may.quarantined))
 
 pub put_context-requires-clause-count : goal.put_context-requires-clause-count
 put_context-requires-clause-count c =
@@ -73,8 +73,8 @@ put_context-requires-clause-count c =
     let may = c.in-Ok.ensures.may in
     let stand = c.requires.stand in
     let here = in_stands driver.frames c.args.memory.now driver.owners driver.devices.items driver.levels (stand.size ∙ driver.invariants.sizes.marked) (stand.directory may.started) in
-    let low = subst (λ n. c.args.id < n) (room_for_ids driver.levels driver.invariants.sizes.in_range) (driver.invariants.named c.args.id c.in-Ok.stage (ap owned_stages may.cut_off)) in
-    let path = here.places c.args.id c.in-Ok.stage (ap owned_stages may.cut_off) low in
+    let low = subst (λ n. c.args.id < n) (room_for_ids driver.levels driver.invariants.sizes.in_range) (driver.invariants.named c.args.id c.in-Ok.stage (ap owned_stages may.quarantined)) in
+    let path = here.places c.args.id c.in-Ok.stage (ap owned_stages may.quarantined) low in
     rw c.directory_frame-directory.ensures (sym (whole_path_there c.args.memory.now (root_level driver.levels) (directory_frame driver.frames) c.args.id path))
 
 pub invariant_of-self : goal.invariant_of-self
@@ -85,7 +85,7 @@ invariant_of-self c =
       invariants =
           subst (λ (ds : List Device). StateInvariant driver.ledger driver.owners ds driver.frames driver.levels driver.started driver.given driver.confirmed driver.restarts driver.restarted) (sym {A = List Device} c.set_attachment.ensures)
           (sound_revived driver.ledger driver.owners driver.devices.items driver.frames driver.levels driver.started driver.given driver.confirmed driver.restarts driver.restarted c.args.id may.ticket c.in-Ok.stage
-          driver.invariants may.started may.cut_off);
+          driver.invariants may.started may.quarantined);
     }
 
 pub returns-clause-effect : goal.returns-clause-effect
@@ -111,7 +111,7 @@ returns-clause-effect c =
       record {
         ticket = may.ticket;
         stage = c.in-Ok.stage;
-        cut_off = may.cut_off;
+        quarantined = may.quarantined;
         driver = rw c.set_attachment.ensures refl;
         bytes =
             c.put_context.ensures.whole
@@ -142,8 +142,8 @@ returns-clause-stand c =
       outside = c.put_context.ensures.outside;
       size = c.put_context.ensures.size;
     } in
-    let plugged = cut_off_there driver.devices.items id may.ticket stage may.cut_off in
-    let owned = owned_revived driver.devices.items id may.ticket stage may.cut_off in
+    let plugged = quarantined_there driver.devices.items id may.ticket stage may.quarantined in
+    let owned = owned_revived driver.devices.items id may.ticket stage may.quarantined in
     let tables = tables_put_again driver.frames memory c.put_context.new.memory driver.owners driver.ledger driver.devices.items driver.levels id stage here put stand.tables in
     rw c.set_attachment.ensures record {
       size = put.size ∙ stand.size;

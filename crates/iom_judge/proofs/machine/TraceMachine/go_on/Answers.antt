@@ -9,6 +9,6 @@ returns c =
     (λ others. (
       went.0,
       went.1,
-      comes_so c.args.self.now c.go_on_alone.new.self c.change_sharers.new.self c.args.reply.event.now c.args.reply.outcome.now went.0 went.2 others,
+      comes_so c.args.self.now c.go_on_alone.new.self c.change_sharers.new.self c.args.reply.now.event.now c.args.reply.now.outcome.now went.0 went.2 others,
     ))
     c.change_sharers.ensures

@@ -54,9 +54,9 @@ pending_cached parts events invariants id there ticket stage is = by (nat_lt par
         let low = above scene shown facts in let most = leb-false (suc parts.driver.confirmed) ticket high in omega (arith, low, most)))
 
 -- it holds nothing
-pub cut_off_holds : (d : DriverState) → DriverInvariant d → (history : History) → Agrees d.ledger history → (id ticket : ℕ) (stage : Stages)
+pub quarantined_holds : (d : DriverState) → DriverInvariant d → (history : History) → Agrees d.ledger history → (id ticket : ℕ) (stage : Stages)
     → attachment_by_id d.devices id ≡ driver.Quarantined ticket stage → (page : ℕ) → held_at history id page ≡ None
-cut_off_holds d own history agrees id ticket stage is page = (agrees.pages id page).holds ∙ own.holders id page (ap attached_stages is)
+quarantined_holds d own history agrees id ticket stage is page = (agrees.pages id page).holds ∙ own.holders id page (ap attached_stages is)
 
 none_some : (pair : Pair) → ◌≡◌ {A = Option Pair} None (Some pair) → ⊥
 none_some pair same = cc
