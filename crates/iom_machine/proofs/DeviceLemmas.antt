@@ -1,37 +1,27 @@
--- How a step changes the devices: which accesses enter, in order, and which are made.
-use Rattle.std.proofs.Common.{◌≡◌, ℕ, zero, suc, ◌+◌, ◌==◌, inl, inr, Bool, true, false, cond, List, [], ◌∷◌, ◌++◌, length, length-append, append_assoc, map, drop, find, Option, None, Some, if◌then◌else◌, get_or, slice_get, refl, sym, ap, ◌∙◌, subst, arith}
+-- What flows through the devices: which accesses enter, in order, and which are made.
+use Rattle.std.proofs.Common.{◌≡◌, ℕ, zero, suc, ◌+◌, ◌==◌, Bool, true, false, cond, List, [], ◌∷◌, ◌++◌, length, length-append, append_assoc, map, drop, find, Option, None, Some, if◌then◌else◌, get_or, slice_get, refl, sym, ap, ◌∙◌, subst, arith}
 use Rattle.std.specs.Option.{option_map, option_map_or, option_or}
 use Rattle.std.proofs.lemmas.Bool.{eq-eqb, eqb-true, eqb-false}
 use Rattle.std.proofs.lemmas.List.{append-nil}
 use Rattle.std.proofs.lemmas.List.Folds.{find-append}
 use Rattle.std.proofs.lemmas.Option.{slice_get-get_or}
 use Rattle.iom_machine.specs.declared.event.Event.{Event}
-use Rattle.iom_machine.specs.declared.event.Event.TheVariants as events
 use Rattle.iom_machine.specs.declared.outcome.Outcome.{Outcome}
-use Rattle.iom_machine.specs.declared.outcome.Outcome.TheVariants.{Done, Refused, Ticket, Confirmed, NoneConfirmed, Record, NoRecord, Fetched, TimedOut, NoEffect, Accepted, Busy, BadSpan, Fault, Miss, Read, Wrote, NothingInFlight, Bytes, Free, Stepped}
-use Rattle.iom_base.specs.declared.access.Access.{Access}
 use Rattle.iom_base.specs.declared.access.AcceptedAccess.{AcceptedAccess}
 use Rattle.iom_machine.specs.declared.state.Device.{Device}
 use Rattle.iom_base.specs.declared.device_kind.NewDevice.{NewDevice}
 use Rattle.iom_machine.specs.declared.state.State.{State}
 use Rattle.iom_machine.specs.Devices.{device_of, replaced_device}
-use Rattle.iom_base.specs.Accesses.{read_of, write_of, at_frame}
-use Rattle.iom_base.specs.DeviceKinds.{is_block_device, sends_untranslated, sends_through_cache, is_any_kind, has_cache}
-use Rattle.iom_machine.specs.BlockDevices.{Inserts, IsAnswered, TakesStep}
-use Rattle.iom_machine.specs.Requests.{MayAnswer, state_after, with_accepted}
-use Rattle.iom_machine.specs.ThroughCache.{MayAnswerThroughCache, state_after_cached}
-use Rattle.iom_machine.specs.Machine.{Requests, RequestsThroughCache, InsertsDisk, Steps, Makes, Commits, Step, Run, plugged_device}
-use Rattle.iom_base.specs.Refusals.{first_that_applies}
-use Rattle.iom_machine.specs.Refusals.{plug_reasons}
+use Rattle.iom_machine.specs.Machine.{Run, plugged_device}
 use Rattle.iom_machine.specs.Laws.{Asked, IsSentOf, AreSent, AreAccepted, AreMade, AccessesInFlightWereAccepted}
 use Rattle.iom_machine.specs.PowerOn.{opening}
 use Rattle.iom_ledger.specs.History.{History}
-use Rattle.iom_machine.specs.Leaving.{leaving_under, device_once_confirmed}
-use Rattle.iom_machine.specs.Tickets.{with_confirmed}
-use Rattle.iom_machine.proofs.AskedLemmas.{asked_untranslated, asked_through_cache, asked_by, accepted_by, accepted_in, made_by, made_in, are_accepted, are_made}
-use Rattle.iom_machine.proofs.InFlightLemmas.{act_cases, some_case, found_device, same-sets_queue, same-tells_status, same-translated, same-asks, same-forges, same-delivers, same-drops, same-repeats, same-resets}
-use Rattle.iom_virtqueue.specs.Layouts.{layout_of}
+use Rattle.iom_machine.specs.Leaving.{device_once_confirmed}
+use Rattle.iom_machine.proofs.AskedLemmas.{accepted_by, accepted_in, made_by, made_in, are_accepted, are_made}
+use Rattle.iom_machine.proofs.InFlightLemmas.{found_device}
 use Rattle.iom_machine.proofs.LeavingLemmas.{found_once_confirmed}
+use Rattle.iom_machine.proofs.ReasonLemmas.{plug_finds_nothing}
+use Rattle.iom_machine.proofs.StepChanges.{DeviceChange, DevicesChange, NothingFlows, step_change}
 
 -- the accesses of a device in flight; none where there is no device
 abbrev pub in_flight_of : Option Device → List AcceptedAccess
@@ -53,22 +43,6 @@ pub record FlowsFrom (waiting accepted : List Asked) (count : ℕ) (old new : Op
 
 abbrev pub Flows : List Asked → ℕ → Option Device → Option Device → Type 0
 Flows accepted count old new = (waiting : List Asked) → AreSent waiting (in_flight_of old) → FlowsFrom waiting accepted count old new
-
--- nothing of the device is accepted or made
-abbrev pub NothingFlows : Event → Outcome → ℕ → Type 0
-NothingFlows event outcome id = (accepted_by event outcome id ≡ []) × (made_by event outcome id ≡ 0)
-
--- How a step changes the devices.
-pub data DevicesChange (event : Event) (outcome : Outcome) (old new : State) : Type 0 where
-  stay : ((id : ℕ) → NothingFlows event outcome id) → new.devices ≡ old.devices → DevicesChange event outcome old new
-  leave : ((id : ℕ) → NothingFlows event outcome id) → (history : History) → new.devices ≡ map (device_once_confirmed history) old.devices
-      → DevicesChange event outcome old new
-  enters : (id : ℕ) (what : NewDevice) → device_of old id ≡ None → ((other : ℕ) → NothingFlows event outcome other)
-      → new.devices ≡ old.devices ++ plugged_device id what ∷ [] → DevicesChange event outcome old new
-  changes : (id : ℕ) (device now : Device) → device_of old id ≡ Some device → now.id ≡ device.id
-      → Flows (accepted_by event outcome id) (made_by event outcome id) (Some device) (Some now)
-      → ((other : ℕ) → (id == other) ≡ false → NothingFlows event outcome other)
-      → new.devices ≡ replaced_device old.devices device.id now → DevicesChange event outcome old new
 
 -- nothing changes where nothing flows
 nothing : (found : Option Device) → Flows [] 0 found found
@@ -155,6 +129,50 @@ flows-leave history devices id =
     by (Some device) = same_flights (Some device) (Some (device_once_confirmed history device)) refl refl
     by None = nothing None
 
+-- one more access of a device is in flight
+AreSent-push : (waiting : List Asked) (flights : List AcceptedAccess) (asked : Asked) (flight : AcceptedAccess) → AreSent waiting flights → IsSentOf asked flight
+    → AreSent (waiting ++ asked ∷ []) (flights ++ flight ∷ [])
+AreSent-push [] [] asked flight sent its = (its, tt)
+AreSent-push (first ∷ waiting) (own ∷ flights) asked flight sent its = (sent.0, AreSent-push waiting flights asked flight sent.1 its)
+AreSent-push [] (own ∷ flights) asked flight sent its = absurd sent
+AreSent-push (first ∷ waiting) [] asked flight sent its = absurd sent
+
+-- the oldest access is made
+made_first : (in_flight : List AcceptedAccess) (made : AcceptedAccess) → slice_get in_flight 0 ≡ Some made → in_flight ≡ made ∷ drop 1 in_flight
+made_first [] made at = cc
+made_first (flight ∷ later) made at = let same : flight ≡ made = cc in ap (λ f. f ∷ later) same
+
+-- what flows of one device
+flows-device : (event : Event) (outcome : Outcome) (old : State) (id : ℕ) (device now : Device) → DeviceChange event outcome old id device now
+    → Flows (accepted_by event outcome id) (made_by event outcome id) (Some device) (Some now)
+flows-device event outcome old id device now (DeviceChange.rearranged flights count none) =
+    quiet event outcome id (Some device) (Some now) none (same_flights (Some device) (Some now) flights count)
+flows-device event outcome old id device now (DeviceChange.accepts asked flight is accepted none_made sent idle whole may) =
+    subst (λ (d : Device). Flows (accepted_by event outcome id) (made_by event outcome id) (Some device) (Some d)) (sym is) (λ waiting its. record {
+      made = [];
+      later = waiting ++ asked ∷ [];
+      as_many = sym none_made;
+      in_order = ap (λ l. waiting ++ l) accepted;
+      sent = AreSent-push waiting device.in_flight asked flight its sent;
+      counted = ap (λ (l : List Asked). device.accepted + length l) (sym accepted);
+    })
+flows-device event outcome old id device now (DeviceChange.makes first at is accepted one) =
+    subst (λ (d : Device). Flows (accepted_by event outcome id) (made_by event outcome id) (Some device) (Some d)) (sym is)
+    (subst (λ l. Flows l (made_by event outcome id) (Some device) (Some (record device { in_flight = drop 1 device.in_flight }))) (sym accepted)
+    (λ waiting sent. from waiting (subst (AreSent waiting) (made_first device.in_flight first at) sent)))
+  where
+    from : (waiting : List Asked) → AreSent waiting (first ∷ drop 1 device.in_flight)
+        → FlowsFrom waiting [] (made_by event outcome id) (Some device) (Some (record device { in_flight = drop 1 device.in_flight }))
+    from [] sent = absurd sent
+    from (asked ∷ others) sent = record {
+      made = asked ∷ [];
+      later = others;
+      as_many = sym one;
+      in_order = append-nil (asked ∷ others);
+      sent = sent.1;
+      counted = omega arith;
+    }
+
 flows-change : (event : Event) (outcome : Outcome) (old new : State) → DevicesChange event outcome old new
     → (id : ℕ) → Flows (accepted_by event outcome id) (made_by event outcome id) (device_of old id) (device_of new id)
 flows-change event outcome old new (DevicesChange.stay none same) id =
@@ -163,12 +181,12 @@ flows-change event outcome old new (DevicesChange.stay none same) id =
 flows-change event outcome old new (DevicesChange.leave none history same) id =
     subst (λ devices. Flows (accepted_by event outcome id) (made_by event outcome id) (device_of old id) (find (λ d. d.id == id) devices)) (sym same)
     (quiet event outcome id _ _ (none id) (flows-leave history old.devices id))
-flows-change event outcome old new (DevicesChange.enters entered what absent none same) id =
+flows-change event outcome old new (DevicesChange.enters entered what fits none same) id =
     subst (λ devices. Flows (accepted_by event outcome id) (made_by event outcome id) (device_of old id) (find (λ d. d.id == id) devices)) (sym same)
     (quiet event outcome id _ _ (none id) (flows-enters old.devices entered what id))
-flows-change event outcome old new (DevicesChange.changes changed device now at own flows others same) id =
+flows-change event outcome old new (DevicesChange.changes changed device now at own change others same) id =
     subst (λ devices. Flows (accepted_by event outcome id) (made_by event outcome id) (device_of old id) (find (λ d. d.id == id) devices)) (sym same)
-    (flows-changes event outcome old.devices changed device now at own flows others id)
+    (flows-changes event outcome old.devices changed device now at own (flows-device event outcome old changed device now change) others id)
 
 -- no two devices have the same id
 abbrev pub HaveOwnIds : List Device → Type 0
@@ -221,9 +239,9 @@ own_ids-leave history (device ∷ devices) own =
 own_ids-change : (event : Event) (outcome : Outcome) (old new : State) → DevicesChange event outcome old new → HaveOwnIds old.devices → HaveOwnIds new.devices
 own_ids-change event outcome old new (DevicesChange.stay none same) own = subst HaveOwnIds (sym same) own
 own_ids-change event outcome old new (DevicesChange.leave none history same) own = subst HaveOwnIds (sym same) (own_ids-leave history old.devices own)
-own_ids-change event outcome old new (DevicesChange.enters id what absent none same) own =
-    subst HaveOwnIds (sym same) (own_ids-enters old.devices (plugged_device id what) own absent)
-own_ids-change event outcome old new (DevicesChange.changes id device now at is flows others same) own =
+own_ids-change event outcome old new (DevicesChange.enters id what fits none same) own =
+    subst HaveOwnIds (sym same) (own_ids-enters old.devices (plugged_device id what) own (plug_finds_nothing old id what fits))
+own_ids-change event outcome old new (DevicesChange.changes id device now at is change others same) own =
     subst HaveOwnIds (sym same) (own_ids-replaced old.devices device.id now is own)
 
 -- each device is the one that its id names
@@ -236,263 +254,6 @@ own_ids-found (d ∷ devices) (suc k) device own at = by (d.id == device.id) ref
     by : (b : Bool) → (d.id == device.id) ≡ b → find (λ x. x.id == device.id) devices ≡ Some device → cond b (Some d) (find (λ x. x.id == device.id) devices) ≡ Some device
     by false e rest = rest
     by true e rest = let none : find (λ x. x.id == device.id) devices ≡ None = subst (λ n. find (λ x. x.id == n) devices ≡ None) (eqb-true d.id device.id e) own.0 in cc
-
--- one more access of a device is in flight
-AreSent-push : (waiting : List Asked) (flights : List AcceptedAccess) (asked : Asked) (flight : AcceptedAccess) → AreSent waiting flights → IsSentOf asked flight
-    → AreSent (waiting ++ asked ∷ []) (flights ++ flight ∷ [])
-AreSent-push [] [] asked flight sent its = (its, tt)
-AreSent-push (first ∷ waiting) (own ∷ flights) asked flight sent its = (sent.0, AreSent-push waiting flights asked flight sent.1 its)
-AreSent-push [] (own ∷ flights) asked flight sent its = absurd sent
-AreSent-push (first ∷ waiting) [] asked flight sent its = absurd sent
-
--- where the event asked for it
-change-accepted : (old new : State) (event : Event) (number id : ℕ) (device : Device) (asked : Asked) (entered : AcceptedAccess) → device_of old id ≡ Some device
-    → asked_by event ≡ Some (id, asked) → IsSentOf asked entered → ((reply : Outcome) (other : ℕ) → made_by event reply other ≡ 0)
-    → new ≡ with_accepted old device entered.access entered.frame → DevicesChange event (Accepted number) old new
-change-accepted old new event number id device asked entered at asks its none_made same =
-    DevicesChange.changes id device (record device { accepted = device.accepted + 1; in_flight = device.in_flight ++ entered ∷ [] }) at refl
-    (λ waiting sent. record {
-      made = [];
-      later = waiting ++ asked ∷ [];
-      as_many = sym (none_made (Accepted number) id);
-      in_order = ap (λ l. waiting ++ l) own;
-      sent = AreSent-push waiting device.in_flight asked entered sent its;
-      counted = ap (λ (l : List Asked). device.accepted + length l) (sym own);
-    })
-    (λ other differ. (at_event other ∙ ap (λ b. cond b (asked ∷ []) []) differ, none_made (Accepted number) other))
-    (ap (λ (s : State). s.devices) same)
-  where
-    at_event : (other : ℕ) → accepted_by event (Accepted number) other ≡ (if id == other then asked ∷ [] else [])
-    at_event other = ap (λ (found : Option (ℕ × Asked)). option_map_or (λ it. if it.0 == other then it.1 ∷ [] else []) found []) asks
-
-    own : accepted_by event (Accepted number) id ≡ asked ∷ []
-    own = at_event id ∙ ap (λ b. cond b (asked ∷ []) []) (eq-eqb id id refl)
-
--- where nothing is accepted
-stays_quiet : (event : Event) (reply : Outcome) (old new : State) → ((other : ℕ) → accepted_by event reply other ≡ []) → ((other : ℕ) → made_by event reply other ≡ 0) → new ≡ old
-    → DevicesChange event reply old new
-stays_quiet event reply old new none none_made same = DevicesChange.stay (λ other. (none other, none_made other)) (ap (λ (s : State). s.devices) same)
-
--- where the event asks for nothing and makes nothing, and the devices stay
-stays_asking : (event : Event) (outcome : Outcome) (old new : State) → asked_by event ≡ None → ((other : ℕ) → made_by event outcome other ≡ 0) → new.devices ≡ old.devices
-    → DevicesChange event outcome old new
-stays_asking event outcome old new asks none_made same = DevicesChange.stay (λ other. (none outcome other, none_made other)) same
-  where
-    none : (reply : Outcome) (other : ℕ) → accepted_by event reply other ≡ []
-    none (Accepted number) other = ap (λ (found : Option (ℕ × Asked)). option_map_or (λ asked. if asked.0 == other then asked.1 ∷ [] else []) found []) asks
-    none _ other = refl
-
--- An access that is asked for is answered: by the IOMMU, or through a cache.
-change-answer : (chosen : ℕ) (old new : State) (event : Event) (outcome : Outcome) (id : ℕ) (asked : Asked) (access : Access) (device : Device) → device_of old id ≡ Some device
-    → asked_by event ≡ Some (id, asked) → IsSentOf asked (record { access = access; frame = chosen }) → ((reply : Outcome) (other : ℕ) → made_by event reply other ≡ 0)
-    → MayAnswer old device access chosen outcome → new ≡ state_after old device access chosen outcome → DevicesChange event outcome old new
-change-answer chosen old new event (Accepted number) id asked access device at asks sent none_made answer same =
-    change-accepted old new event number id device asked (record { access = access; frame = chosen }) at asks sent none_made same
-change-answer chosen old new event BadSpan id asked access device at asks sent none_made answer same = stays_quiet event BadSpan old new (λ other. refl) (none_made BadSpan) same
-change-answer chosen old new event Busy id asked access device at asks sent none_made answer same = stays_quiet event Busy old new (λ other. refl) (none_made Busy) same
-change-answer chosen old new event (Fault cause) id asked access device at asks sent none_made answer same =
-    stays_quiet event (Fault cause) old new (λ other. refl) (none_made (Fault cause)) same
-change-answer chosen old new event _ id asked access device at asks sent none_made answer same = absurd answer
-
-change-cached : (chosen : ℕ) (old new : State) (event : Event) (outcome : Outcome) (id : ℕ) (asked : Asked) (access : Access) (device : Device) → device_of old id ≡ Some device
-    → asked_by event ≡ Some (id, asked) → IsSentOf asked (record { access = at_frame chosen access; frame = chosen }) → ((reply : Outcome) (other : ℕ) → made_by event reply other ≡ 0)
-    → MayAnswerThroughCache old device access chosen outcome → new ≡ state_after_cached old device access chosen outcome → DevicesChange event outcome old new
-change-cached chosen old new event (Accepted number) id asked access device at asks sent none_made answer same =
-    change-accepted old new event number id device asked (record { access = at_frame chosen access; frame = chosen }) at asks sent none_made same
-change-cached chosen old new event BadSpan id asked access device at asks sent none_made answer same = stays_quiet event BadSpan old new (λ other. refl) (none_made BadSpan) same
-change-cached chosen old new event Busy id asked access device at asks sent none_made answer same = stays_quiet event Busy old new (λ other. refl) (none_made Busy) same
-change-cached chosen old new event Miss id asked access device at asks sent none_made answer same = stays_quiet event Miss old new (λ other. refl) (none_made Miss) same
-change-cached chosen old new event (Fault cause) id asked access device at asks sent none_made answer same =
-    stays_quiet event (Fault cause) old new (λ other. refl) (none_made (Fault cause)) same
-change-cached chosen old new event _ id asked access device at asks sent none_made answer same = absurd answer
-
--- the step of a request
-change-requests : (chosen : ℕ) (old new : State) (event : Event) (outcome : Outcome) (id : ℕ) (access : Access) → Requests chosen old id access outcome new
-    → asked_by event ≡ asked_untranslated id access → ((reply : Outcome) (other : ℕ) → made_by event reply other ≡ 0) → DevicesChange event outcome old new
-change-requests chosen old new event outcome id access step asks none_made = elim (act_cases sends_untranslated _ old id outcome new step) [
-  | inl (why, reply, same) ↦ stays_quiet event outcome old new (λ other. ap (λ o. accepted_by event o other) reply) (none_made outcome) same
-  | inr (device, at, answer) ↦ change-answer chosen old new event outcome id (Asked.Named access false) access device at asks refl none_made answer.0 answer.1
-]
-
--- the step of an access through a cache
-change-through_cache : (chosen : ℕ) (old new : State) (event : Event) (outcome : Outcome) (id : ℕ) (access : Access) → RequestsThroughCache chosen old id access outcome new
-    → asked_by event ≡ asked_through_cache id access → ((reply : Outcome) (other : ℕ) → made_by event reply other ≡ 0) → DevicesChange event outcome old new
-change-through_cache chosen old new event outcome id access step asks none_made = elim (act_cases sends_through_cache _ old id outcome new step) [
-  | inl (why, reply, same) ↦ stays_quiet event outcome old new (λ other. ap (λ o. accepted_by event o other) reply) (none_made outcome) same
-  | inr (device, at, answer) ↦ change-cached chosen old new event outcome id (Asked.Named access true) access device at asks refl none_made answer.0 answer.1
-]
-
--- the step of a block device
-change-answered : (access : Access) (chosen : ℕ) (old new : State) (id : ℕ) (outcome : Outcome) (device : Device) (b : Bool) → device_of old id ≡ Some device
-    → IsAnswered b old device access chosen outcome new → DevicesChange (events.Step id) outcome old new
-change-answered access chosen old new id outcome device false at answer =
-    change-answer chosen old new (events.Step id) outcome id Asked.Chosen access device at refl tt (λ reply other. refl) answer.0 answer.1
-change-answered access chosen old new id outcome device true at answer =
-    change-cached chosen old new (events.Step id) outcome id Asked.Chosen access device at refl tt (λ reply other. refl) answer.0 answer.1
-
-change-steps : (access : Access) (chosen : ℕ) (old new : State) (id : ℕ) (outcome : Outcome) → Steps access chosen old id outcome new → DevicesChange (events.Step id) outcome old new
-change-steps access chosen old new id outcome step = elim (act_cases is_block_device _ old id outcome new step) [
-  | inl (why, reply, same) ↦ stays_quiet (events.Step id) outcome old new (λ other. ap (λ o. accepted_by (events.Step id) o other) reply) (λ other. refl) same
-  | inr (device, at, takes) ↦ by device at outcome takes
-]
-  where
-    by : (device : Device) → device_of old id ≡ Some device → (reply : Outcome) → TakesStep old device access chosen reply new → DevicesChange (events.Step id) reply old new
-    by device at (Stepped step) takes = stays_quiet (events.Step id) (Stepped step) old new (λ other. refl) (λ other. refl) takes.1
-    by device at (Accepted number) takes = change-answered access chosen old new id (Accepted number) device (has_cache device.kind) at takes.1
-    by device at Busy takes = change-answered access chosen old new id Busy device (has_cache device.kind) at takes.1
-    by device at (Fault cause) takes = change-answered access chosen old new id (Fault cause) device (has_cache device.kind) at takes.1
-    by device at _ takes = absurd takes
-
--- a disk is put into a device
-change-inserts : (disk : ℕ) (old new : State) (id : ℕ) (outcome : Outcome) → InsertsDisk disk old id outcome new → DevicesChange (events.Medium id disk) outcome old new
-change-inserts disk old new id outcome step = elim (act_cases is_block_device _ old id outcome new step) [
-  | inl (why, reply, same) ↦ stays_asking (events.Medium id disk) outcome old new refl (λ other. refl) (ap (λ (s : State). s.devices) same)
-  | inr (device, at, inserts) ↦ by device at outcome inserts
-]
-  where
-    by : (device : Device) → device_of old id ≡ Some device → (reply : Outcome) → Inserts disk old device reply new → DevicesChange (events.Medium id disk) reply old new
-    by device at Done inserts = DevicesChange.changes id device (record device { has_disk = true }) at refl
-        (same_flights (Some device) (Some (record device { has_disk = true })) refl refl)
-        (λ other differ. (refl, refl)) (ap (λ (s : State). s.devices) inserts.1)
-    by device at (Refused why) inserts = stays_asking (events.Medium id disk) (Refused why) old new refl (λ other. refl) (ap (λ (s : State). s.devices) inserts.1)
-    by device at _ inserts = absurd inserts
-
--- the oldest access is made
-made_first : (in_flight : List AcceptedAccess) (made : AcceptedAccess) → slice_get in_flight 0 ≡ Some made → in_flight ≡ made ∷ drop 1 in_flight
-made_first [] made at = cc
-made_first (flight ∷ later) made at = let same : flight ≡ made = cc in ap (λ f. f ∷ later) same
-
--- the step of a commit
-change-commits : (old new : State) (id : ℕ) (outcome : Outcome) → Commits old id outcome new → DevicesChange (events.Commit id) outcome old new
-change-commits old new id outcome step = elim (act_cases is_any_kind _ old id outcome new step) [
-  | inl (why, reply, same) ↦
-      stays_quiet (events.Commit id) outcome old new (λ other. ap (λ o. accepted_by (events.Commit id) o other) reply) (λ other. ap (λ o. made_by (events.Commit id) o other) reply) same
-  | inr (device, at, makes) ↦ by device at outcome makes
-]
-  where
-    flows : (device : Device) (made : AcceptedAccess) (count : ℕ) → slice_get device.in_flight 0 ≡ Some made → count ≡ 1
-        → Flows [] count (Some device) (Some (record device { in_flight = drop 1 device.in_flight }))
-    flows device made count first one = λ waiting sent. from waiting (subst (AreSent waiting) (made_first device.in_flight made first) sent)
-      where
-        from : (waiting : List Asked) → AreSent waiting (made ∷ drop 1 device.in_flight)
-            → FlowsFrom waiting [] count (Some device) (Some (record device { in_flight = drop 1 device.in_flight }))
-        from [] sent = absurd sent
-        from (asked ∷ others) sent = record {
-          made = asked ∷ [];
-          later = others;
-          as_many = sym one;
-          in_order = append-nil (asked ∷ others);
-          sent = sent.1;
-          counted = omega arith;
-        }
-
-    its_own : ◌≡◌ {A = ℕ} (if id == id then 1 else 0) 1
-    its_own = ap (λ b. cond b 1 0) (eq-eqb id id refl)
-
-    by : (device : Device) → device_of old id ≡ Some device → (reply : Outcome) → Makes old device reply new → DevicesChange (events.Commit id) reply old new
-    by device at (Read bytes) makes =
-        let made = some_case (slice_get device.in_flight 0) _ makes in
-        DevicesChange.changes id device (record device { in_flight = drop 1 device.in_flight }) at refl (flows device made.0 _ made.1 its_own)
-        (λ other differ. (refl, ap (λ b. cond b 1 0) differ)) (ap (λ (s : State). s.devices) made.2.1)
-    by device at (Wrote len) makes =
-        let made = some_case (slice_get device.in_flight 0) _ makes in
-        DevicesChange.changes id device (record device { in_flight = drop 1 device.in_flight }) at refl (flows device made.0 _ made.1 its_own)
-        (λ other differ. (refl, ap (λ b. cond b 1 0) differ)) (ap (λ (s : State). s.devices) made.2.1)
-    by device at NothingInFlight makes = stays_quiet (events.Commit id) NothingInFlight old new (λ other. refl) (λ other. refl) makes.1
-    by device at _ makes = absurd makes
-
--- a device that is plugged in was absent
-plug_finds_nothing : (state : State) (id : ℕ) (what : NewDevice) → first_that_applies (plug_reasons state id what) ≡ None → device_of state id ≡ None
-plug_finds_nothing state id what none = by (device_of state id) refl none
-  where
-    by : (found : Option Device) → device_of state id ≡ found → first_that_applies (plug_reasons state id what) ≡ None → device_of state id ≡ None
-    by None at h = at
-    by (Some device) at h = cc
-
-pub devices-step : (old new : State) (event : Event) (outcome : Outcome) → Step old event outcome new → DevicesChange event outcome old new
-devices-step old new (events.Plug id what) Done (choice, step) =
-    DevicesChange.enters id _ (plug_finds_nothing old id what step.0) (λ other. (refl, refl)) (ap (λ (s : State). s.devices) step.1)
-devices-step old new (events.Plug id what) (Refused why) (choice, step) = stays_asking _ _ old new refl (λ other. refl) (ap (λ (s : State). s.devices) step.1)
-devices-step old new (events.Plug id what) _ (choice, step) = absurd step
-devices-step old new (events.Medium id disk) outcome (choice, step) = change-inserts disk old new id outcome step
-devices-step old new (events.Attach id mode ats) Done (choice, step) =
-    let found = some_case (device_of old id) _ step.2 in
-    DevicesChange.changes id found.0 (record found.0 { attachment = _ }) found.1 refl
-    (same_flights (Some found.0) (Some (record found.0 { attachment = _ })) refl refl)
-    (λ other differ. (refl, refl)) (ap (λ (s : State). s.devices) found.2)
-devices-step old new (events.Attach id mode ats) (Refused why) (choice, step) = stays_asking _ _ old new refl (λ other. refl) (ap (λ (s : State). s.devices) step.1)
-devices-step old new (events.Attach id mode ats) _ (choice, step) = absurd step
-devices-step old new (events.Detach id) (Ticket ticket) (choice, step) =
-    let found = some_case (device_of old id) _ step.2 in
-    DevicesChange.changes id found.0 (record found.0 { has_disk = false; attachment = leaving_under ticket found.0.attachment }) found.1 refl
-    (same_flights (Some found.0) (Some (record found.0 { has_disk = false; attachment = leaving_under ticket found.0.attachment })) refl refl)
-    (λ other differ. (refl, refl)) (ap (λ (s : State). s.devices) found.2)
-devices-step old new (events.Detach id) (Refused why) (choice, step) = stays_asking _ _ old new refl (λ other. refl) (ap (λ (s : State). s.devices) step.1)
-devices-step old new (events.Detach id) _ (choice, step) = absurd step
-devices-step old new (events.Grant id page frame rights) Done (choice, step) = stays_asking _ _ old new refl (λ other. refl) (ap (λ (s : State). s.devices) step.2)
-devices-step old new (events.Grant id page frame rights) (Refused why) (choice, step) = stays_asking _ _ old new refl (λ other. refl) (ap (λ (s : State). s.devices) step.1)
-devices-step old new (events.Grant id page frame rights) _ (choice, step) = absurd step
-devices-step old new (events.Release id page) (Ticket ticket) (choice, step) = stays_asking _ _ old new refl (λ other. refl) (ap (λ (s : State). s.devices) step.2)
-devices-step old new (events.Release id page) (Refused why) (choice, step) = stays_asking _ _ old new refl (λ other. refl) (ap (λ (s : State). s.devices) step.1)
-devices-step old new (events.Release id page) _ (choice, step) = absurd step
-devices-step old new (events.Quarantine id) (Ticket ticket) (choice, step) =
-    let found = some_case (device_of old id) _ step.2 in
-    DevicesChange.changes id found.0 (record found.0 { attachment = _ }) found.1 refl
-    (same_flights (Some found.0) (Some (record found.0 { attachment = _ })) refl refl)
-    (λ other differ. (refl, refl)) (ap (λ (s : State). s.devices) found.2)
-devices-step old new (events.Quarantine id) (Refused why) (choice, step) = stays_asking _ _ old new refl (λ other. refl) (ap (λ (s : State). s.devices) step.1)
-devices-step old new (events.Quarantine id) _ (choice, step) = absurd step
-devices-step old new (events.Revive id) Done (choice, step) =
-    let found = some_case (device_of old id) _ step.1 in
-    DevicesChange.changes id found.0 (record found.0 { attachment = _ }) found.1 refl
-    (same_flights (Some found.0) (Some (record found.0 { attachment = _ })) refl refl)
-    (λ other differ. (refl, refl)) (ap (λ (s : State). s.devices) found.2)
-devices-step old new (events.Revive id) (Refused why) (choice, step) = stays_asking _ _ old new refl (λ other. refl) (ap (λ (s : State). s.devices) step.1)
-devices-step old new (events.Revive id) _ (choice, step) = absurd step
-devices-step old new events.Restart Done (choice, step) = stays_asking _ _ old new refl (λ other. refl) (ap (λ (s : State). s.devices) step)
-devices-step old new events.Restart (Refused why) (choice, step) = stays_asking _ _ old new refl (λ other. refl) (ap (λ (s : State). s.devices) step.1)
-devices-step old new events.Restart _ (choice, step) = absurd step
-devices-step old new events.Fetch (Fetched result) (choice, step) = stays_asking _ _ old new refl (λ other. refl) (ap (λ (s : State). s.devices) step)
-devices-step old new events.Fetch _ (choice, step) = absurd step
-devices-step old new events.Timeout TimedOut (choice, step) = stays_asking _ _ old new refl (λ other. refl) (ap (λ (s : State). s.devices) step)
-devices-step old new events.Timeout NoEffect (choice, step) = stays_asking _ _ old new refl (λ other. refl) (ap (λ (s : State). s.devices) step)
-devices-step old new events.Timeout _ (choice, step) = absurd step
-devices-step old new events.Poll (Confirmed first last timed_out) (choice, step) =
-    DevicesChange.leave (λ other. (refl, refl)) (with_confirmed old first last).history (ap (λ (s : State). s.devices) step.1)
-devices-step old new events.Poll (NoneConfirmed timed_out) (choice, step) = stays_asking _ _ old new refl (λ other. refl) (ap (λ (s : State). s.devices) step.1)
-devices-step old new events.Poll _ (choice, step) = absurd step
-devices-step old new events.Faults (Record taken) (choice, step) = stays_asking _ _ old new refl (λ other. refl) (ap (λ (s : State). s.devices) step)
-devices-step old new events.Faults NoRecord (choice, step) = stays_asking _ _ old new refl (λ other. refl) (ap (λ (s : State). s.devices) step)
-devices-step old new events.Faults _ (choice, step) = absurd step
-devices-step old new (events.Read id address len) outcome (choice, step) = change-requests choice.frame old new _ outcome id (read_of address len) step refl (λ reply other. refl)
-devices-step old new (events.Write id address bytes) outcome (choice, step) = change-requests choice.frame old new _ outcome id (write_of address bytes) step refl (λ reply other. refl)
-devices-step old new (events.ReadTranslated id address len) outcome (choice, step) = stays_asking _ _ old new refl (λ other. refl) (ap (λ (s : State). s.devices) (same-translated old new id (read_of address len) outcome step))
-devices-step old new (events.WriteTranslated id address bytes) outcome (choice, step) = stays_asking _ _ old new refl (λ other. refl) (ap (λ (s : State). s.devices) (same-translated old new id (write_of address bytes) outcome step))
-devices-step old new (events.ReadThroughCache id address len) outcome (choice, step) = change-through_cache choice.frame old new _ outcome id (read_of address len) step refl (λ reply other. refl)
-devices-step old new (events.WriteThroughCache id address bytes) outcome (choice, step) = change-through_cache choice.frame old new _ outcome id (write_of address bytes) step refl (λ reply other. refl)
-devices-step old new (events.Ask id page) outcome (choice, step) = stays_asking _ _ old new refl (λ other. refl) (ap (λ (s : State). s.devices) (same-asks old new id outcome step))
-devices-step old new (events.Forge id serial) outcome (choice, step) = stays_asking _ _ old new refl (λ other. refl) (ap (λ (s : State). s.devices) (same-forges old new id outcome step))
-devices-step old new (events.Deliver place) outcome (choice, step) = stays_asking _ _ old new refl (λ other. refl) (ap (λ (s : State). s.devices) (same-delivers choice.device choice.page old new outcome step))
-devices-step old new (events.Drop place) outcome (choice, step) = stays_asking _ _ old new refl (λ other. refl) (ap (λ (s : State). s.devices) (same-drops old new outcome step))
-devices-step old new (events.Repeat place) outcome (choice, step) = stays_asking _ _ old new refl (λ other. refl) (ap (λ (s : State). s.devices) (same-repeats old new outcome step))
-devices-step old new (events.Reset id) outcome (choice, step) = stays_asking _ _ old new refl (λ other. refl) (ap (λ (s : State). s.devices) (same-resets old new id outcome step))
-devices-step old new (events.Queue id size descriptors available used) outcome (choice, step) =
-    stays_asking _ _ old new refl (λ other. refl) (ap (λ (s : State). s.devices) (same-sets_queue (layout_of size descriptors available used) old new id outcome step))
-devices-step old new (events.Step id) outcome (choice, step) = change-steps choice.access choice.frame old new id outcome step
-devices-step old new (events.Status id) outcome (choice, step) =
-    stays_asking _ _ old new refl (λ other. refl) (ap (λ (s : State). s.devices) (same-tells_status old new id outcome step))
-devices-step old new (events.Commit id) outcome (choice, step) = change-commits old new id outcome step
-devices-step old new (events.Poke address bytes) Done (choice, step) = stays_asking _ _ old new refl (λ other. refl) (ap (λ (s : State). s.devices) step.2)
-devices-step old new (events.Poke address bytes) (Refused why) (choice, step) = stays_asking _ _ old new refl (λ other. refl) (ap (λ (s : State). s.devices) step.2)
-devices-step old new (events.Poke address bytes) BadSpan (choice, step) = stays_asking _ _ old new refl (λ other. refl) (ap (λ (s : State). s.devices) step.1)
-devices-step old new (events.Poke address bytes) _ (choice, step) = absurd step
-devices-step old new (events.Peek address len) (Bytes bytes) (choice, step) = stays_asking _ _ old new refl (λ other. refl) (ap (λ (s : State). s.devices) step.3)
-devices-step old new (events.Peek address len) (Refused why) (choice, step) = stays_asking _ _ old new refl (λ other. refl) (ap (λ (s : State). s.devices) step.2)
-devices-step old new (events.Peek address len) BadSpan (choice, step) = stays_asking _ _ old new refl (λ other. refl) (ap (λ (s : State). s.devices) step.1)
-devices-step old new (events.Peek address len) _ (choice, step) = absurd step
-devices-step old new (events.Free frame) (Free is_free) (choice, step) = stays_asking _ _ old new refl (λ other. refl) (ap (λ (s : State). s.devices) step.2)
-devices-step old new (events.Free frame) (Refused why) (choice, step) = stays_asking _ _ old new refl (λ other. refl) (ap (λ (s : State). s.devices) step.1)
-devices-step old new (events.Free frame) _ (choice, step) = absurd step
 
 -- what flows in two parts of a run flows in both
 flows_on : (first second : List Asked) (n m : ℕ) (old mid new : Option Device) → Flows first n old mid → Flows second m mid new → Flows (first ++ second) (n + m) old new
@@ -517,14 +278,14 @@ flows-run old new [] (outcome ∷ outcomes) run id = absurd run
 flows-run old new (event ∷ events) [] run id = absurd run
 flows-run old new (event ∷ events) (outcome ∷ outcomes) (mid, step, run) id =
     flows_on (accepted_by event outcome id) (accepted_in events outcomes id) (made_by event outcome id) (made_in events outcomes id) _ (device_of mid id) _
-    (flows-change event outcome old mid (devices-step old mid event outcome step) id) (flows-run mid new events outcomes run id)
+    (flows-change event outcome old mid (step_change old mid event outcome step).devices id) (flows-run mid new events outcomes run id)
 
 pub own_ids-run : (old new : State) (events : List Event) (outcomes : List Outcome) → Run old events outcomes new → HaveOwnIds old.devices → HaveOwnIds new.devices
 own_ids-run old new [] [] run own = subst (λ (s : State). HaveOwnIds s.devices) (sym run) own
 own_ids-run old new [] (outcome ∷ outcomes) run own = absurd run
 own_ids-run old new (event ∷ events) [] run own = absurd run
 own_ids-run old new (event ∷ events) (outcome ∷ outcomes) (mid, step, run) own =
-    own_ids-run mid new events outcomes run (own_ids-change event outcome old mid (devices-step old mid event outcome step) own)
+    own_ids-run mid new events outcomes run (own_ids-change event outcome old mid (step_change old mid event outcome step).devices own)
 
 -- each access in flight was accepted at an event of its own
 pub in_flight_were_accepted : AccessesInFlightWereAccepted

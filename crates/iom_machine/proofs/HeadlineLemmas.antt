@@ -33,7 +33,8 @@ use Rattle.iom_machine.specs.Laws.{IsReached}
 use Rattle.iom_machine.proofs.ReachLemmas.{NamesFrame, reach_before}
 use Rattle.iom_machine.proofs.ByteLemmas.{slice_get-set_same, slice_get-set_other, slice_get-written_inside, slice_get-written_outside, slice_get-range, length-range}
 use Rattle.iom_machine.proofs.InFlightLemmas.{act_cases, able_act, some_case, All-at, AllInFlight-of, found_device, IsWhole}
-use Rattle.iom_machine.proofs.InvariantLemmas.{StateInvariant, Change, change-step, sound_if_reached}
+use Rattle.iom_machine.proofs.InvariantLemmas.{StateInvariant, sound_if_reached}
+use Rattle.iom_machine.proofs.StepChanges.{LedgerChange, step_change}
 
 pub in_flight_may : (state : State) → IsReached state → EachInFlightMay state
 in_flight_may state reached = (sound_if_reached state reached).reaches
@@ -244,25 +245,25 @@ barred_confirmed first zero h id frame barred = barred
 barred_confirmed first (suc n) h id frame barred =
     barred_after (entries.Confirmed (first + n)) (confirmed_from first n h) id frame (λ x. x) (barred_confirmed first n h id frame barred)
 
-barred-change : (event : Event) (outcome : Outcome) (old new : State) (id frame : ℕ) → Change event outcome old new → ¬ GrantsFrameTo event outcome id frame
+barred-change : (event : Event) (outcome : Outcome) (old new : State) (id frame : ℕ) → LedgerChange event outcome old new → ¬ GrantsFrameTo event outcome id frame
     → CannotReach old.history id frame → CannotReach new.history id frame
-barred-change event outcome old new id frame (Change.ledger_stays unchanged) other barred = subst (λ h. CannotReach h id frame) (sym unchanged.0) barred
-barred-change event outcome old new id frame (Change.detaches unchanged next) other barred = subst (λ h. CannotReach h id frame) (sym unchanged) barred
-barred-change event outcome old new id frame (Change.grants d page named rights granted low empty extended tickets) other barred =
+barred-change event outcome old new id frame (LedgerChange.ledger_stays unchanged) other barred = subst (λ h. CannotReach h id frame) (sym unchanged.0) barred
+barred-change event outcome old new id frame (LedgerChange.detaches unchanged next) other barred = subst (λ h. CannotReach h id frame) (sym unchanged) barred
+barred-change event outcome old new id frame (LedgerChange.grants d page named rights granted low empty extended tickets) other barred =
     subst (λ h. CannotReach h id frame) (sym extended)
     (barred_after (entries.Granted d page named rights) old.history id frame
     (λ same. other (subst (λ f. GrantsFrameTo event outcome id f) same.1 (subst (λ i. GrantsFrameTo event outcome i named) same.0 granted))) barred)
-barred-change event outcome old new id frame (Change.releases d page extended next) other barred =
+barred-change event outcome old new id frame (LedgerChange.releases d page extended next) other barred =
     subst (λ h. CannotReach h id frame) (sym extended) (barred_after (entries.Released d page new.last_ticket) old.history id frame (λ x. x) barred)
-barred-change event outcome old new id frame (Change.releases_all d extended next) other barred =
+barred-change event outcome old new id frame (LedgerChange.releases_all d extended next) other barred =
     subst (λ h. CannotReach h id frame) (sym extended) (barred_after (entries.AllReleased d new.last_ticket) old.history id frame (λ x. x) barred)
-barred-change event outcome old new id frame (Change.confirms_some first n most extended tickets reaches) other barred =
+barred-change event outcome old new id frame (LedgerChange.confirms_some first n most extended tickets reaches) other barred =
     subst (λ h. CannotReach h id frame) (sym extended) (barred_confirmed first n old.history id frame barred)
 
 -- a device that can't reach a frame can't after a step that doesn't grant it that frame
 pub barred-step : (id frame : ℕ) (old new : State) (event : Event) (outcome : Outcome) → Step old event outcome new → ¬ GrantsFrameTo event outcome id frame
     → CannotReach old.history id frame → CannotReach new.history id frame
-barred-step id frame old new event outcome step other barred = barred-change event outcome old new id frame (change-step old new event outcome step) other barred
+barred-step id frame old new event outcome step other barred = barred-change event outcome old new id frame (step_change old new event outcome step).ledger other barred
 
 -- a frame that is free stays so, after a step that doesn't grant it
 pub free-step : (frame : ℕ) (old new : State) (event : Event) (outcome : Outcome) → Step old event outcome new → ¬ GrantsFrame event outcome frame

@@ -1,18 +1,16 @@
 -- What a step keeps of each access in flight.
-use Rattle.std.proofs.Common.{◌≡◌, ℕ, ◌+◌, ◌%◌, ◌≤◌, ◌==◌, ◌⊎◌, inl, inr, Bool, true, false, cond, List, [], ◌∷◌, ◌-◌, length, take, drop, find, map, All, Contains, Option, None, Some, MatchOption, IsSomeAnd, if◌then◌else◌, slice_get, refl, sym, ap, subst, arith}
+use Rattle.std.proofs.Common.{◌≡◌, ℕ, ◌+◌, ◌%◌, ◌≤◌, ◌==◌, ◌⊎◌, inl, inr, Bool, true, false, cond, List, [], ◌∷◌, ◌-◌, length, take, drop, find, All, Contains, Option, None, Some, MatchOption, IsSomeAnd, if◌then◌else◌, slice_get, refl, sym, subst, arith}
 use Rattle.std.specs.Prelude.{⊤}
 use Rattle.std.proofs.lemmas.Bool.{eqb-true}
 use Rattle.std.proofs.lemmas.Grind.{common_steps}
-use Rattle.std.proofs.lemmas.List.Elements.{All-map, All-push, All-nil, All-weaker, All-contains, All-cons, All-tail, All-head}
+use Rattle.std.proofs.lemmas.List.Elements.{All-weaker, All-contains, All-cons, All-tail, All-head}
 use Rattle.std.proofs.lemmas.Nat.{mod-mul-add, mod_below}
 use Rattle.std.proofs.lemmas.Option.{get_or_from_slice_get, slice_get_within}
 use Rattle.iom_base.specs.declared.refusal.Refusal.{Refusal}
 use Rattle.iom_base.specs.declared.refusal.Refusal.TheVariants.{NoSuchDevice, WrongKind}
 use Rattle.iom_ledger.specs.History.{History, May}
-use Rattle.iom_machine.specs.declared.event.Event.{Event}
-use Rattle.iom_machine.specs.declared.event.Event.TheVariants as events
 use Rattle.iom_machine.specs.declared.outcome.Outcome.{Outcome}
-use Rattle.iom_machine.specs.declared.outcome.Outcome.TheVariants.{Done, Refused, Ticket, Confirmed, NoneConfirmed, Record, NoRecord, Fetched, TimedOut, NoEffect, Accepted, Busy, BadSpan, Fault, Miss, Sent, Lost, Answered, Kept, Stale, AnswerRefused, Ignored, Invalidated, Closed, NotClosed, Dropped, Repeated, NoMessage, Read, Wrote, NothingInFlight, Bytes, Free, Stepped}
+use Rattle.iom_machine.specs.declared.outcome.Outcome.TheVariants.{Refused, Accepted, Sent, Lost, Answered, Kept, Stale, AnswerRefused, Ignored, Invalidated, Closed, NotClosed, Dropped, Repeated, NoMessage}
 use Rattle.iom_base.specs.declared.access.Access.{Access}
 use Rattle.iom_machine.specs.declared.state.Attachment.{Attachment}
 use Rattle.iom_machine.specs.declared.state.Attachment.TheVariants.{Detached, Attached, Quarantined, Leaving}
@@ -26,16 +24,12 @@ use Rattle.iom_machine.specs.Devices.{device_of, replaced_device}
 use Rattle.iom_base.specs.Accesses.{read_of, write_of, page_of, offset_of, IsWithinPage, at_frame, HasBytes, MayWant}
 use Rattle.iom_base.specs.declared.access.AccessKind.{AccessKind}
 use Rattle.iom_base.specs.declared.access.AccessKind.TheVariants as kinds
-use Rattle.iom_machine.specs.BlockDevices.{Inserts, IsAnswered, TakesStep}
-use Rattle.iom_base.specs.DeviceKinds.{has_cache, is_block_device, sends_untranslated, forges, sends_through_cache, asks_questions, is_any_kind}
+use Rattle.iom_base.specs.DeviceKinds.{is_block_device, forges, asks_questions, is_any_kind}
 use Rattle.iom_virtqueue.specs.declared.layout.Layout.{Layout}
-use Rattle.iom_virtqueue.specs.Layouts.{layout_of}
 use Rattle.iom_machine.specs.Messages.{Sends, Delivers, Drops, Repeats}
-use Rattle.iom_machine.specs.Requests.{MayAcceptFormerly, MayAccept, MayAnswer, state_after, with_accepted}
-use Rattle.iom_machine.specs.ThroughCache.{MayGoThrough, MayAnswerThroughCache, state_after_cached}
-use Rattle.iom_machine.specs.Machine.{IfItCan, Acts, Requests, RequestsTranslated, RequestsThroughCache, Asks, Forges, Resets, InsertsDisk, SetsQueue, Steps, TellsStatus, Makes, Commits, Step}
-use Rattle.iom_machine.specs.Leaving.{device_once_confirmed}
-use Rattle.iom_machine.specs.Tickets.{with_confirmed}
+use Rattle.iom_machine.specs.Requests.{MayAcceptFormerly, MayAccept}
+use Rattle.iom_machine.specs.ThroughCache.{MayGoThrough}
+use Rattle.iom_machine.specs.Machine.{IfItCan, Acts, RequestsTranslated, Asks, Forges, Resets, SetsQueue, TellsStatus}
 use Rattle.iom_machine.proofs.ReachLemmas.{contains_head, contains_tail}
 
 -- a fact by cases of an option, with the case that it is
@@ -120,7 +114,7 @@ formerly_reach (Second size) history id access frame lingers = (page_of access, 
 formerly_reach (Both size) history id access frame lingers = (lingers.0, lingers.1, inr lingers.2, lingers.3)
 
 -- what may be accepted may be reached
-accepted_reach : (attachment : Attachment) (state : State) (id : ℕ) (access : Access) (frame : ℕ) → MayAccept attachment state id access frame → May state.history id frame access.kind
+pub accepted_reach : (attachment : Attachment) (state : State) (id : ℕ) (access : Access) (frame : ℕ) → MayAccept attachment state id access frame → May state.history id frame access.kind
 accepted_reach (Attached (First size) ats) state id access frame (inl holds) = (page_of access, holds.0, inl holds.1, holds.2)
 accepted_reach (Attached (First size) ats) state id access frame (inr (none, lingers)) = (page_of access, lingers.0, inr lingers.1, lingers.2)
 accepted_reach (Attached (Second size) ats) state id access frame (inl holds) = (page_of access, holds.0, inl holds.1, holds.2)
@@ -139,14 +133,14 @@ IsAcceptance _ = ⊥
 abbrev pub NamesItsBytes : Access → Type 0
 NamesItsBytes access = access.kind ≡ kinds.Write → length access.bytes ≡ access.len
 
-read_names : (address len : ℕ) → NamesItsBytes (read_of address len)
+pub read_names : (address len : ℕ) → NamesItsBytes (read_of address len)
 read_names address len write = let same : kinds.Read ≡ kinds.Write = write in cc
 
-write_names : (address : ℕ) (bytes : List ℕ) → NamesItsBytes (write_of address bytes)
+pub write_names : (address : ℕ) (bytes : List ℕ) → NamesItsBytes (write_of address bytes)
 write_names address bytes write = refl
 
 -- and so does one that a step may begin
-wanted_names : (access : Access) → MayWant access → NamesItsBytes access
+pub wanted_names : (access : Access) → MayWant access → NamesItsBytes access
 wanted_names access wanted write = by access.kind write wanted.1
   where
     by : (kind : AccessKind) → kind ≡ kinds.Write → HasBytes kind access.len access.bytes → length access.bytes ≡ access.len
@@ -158,7 +152,7 @@ abbrev pub IsWhole : ℕ → AcceptedAccess → Type 0
 IsWhole id flight = IsWithinPage flight.access × NamesItsBytes flight.access
 
 -- what a cache may have may be reached
-went_through_reach : (attachment : Attachment) (state : State) (id : ℕ) (access : Access) (frame : ℕ) → MayGoThrough attachment state id access frame → May state.history id frame access.kind
+pub went_through_reach : (attachment : Attachment) (state : State) (id : ℕ) (access : Access) (frame : ℕ) → MayGoThrough attachment state id access frame → May state.history id frame access.kind
 went_through_reach (Attached (First size) ats) state id access frame (inl holds) = (page_of access, holds.0, inl holds.1, holds.2)
 went_through_reach (Attached (First size) ats) state id access frame (inr lingers) = (page_of access, lingers.0, inr lingers.1, lingers.2)
 went_through_reach (Attached (Second size) ats) state id access frame (inl holds) = (page_of access, holds.0, inl holds.1, holds.2)
@@ -173,137 +167,8 @@ pub offset_at_frame : (frame : ℕ) (access : Access) → offset_of (at_frame fr
 offset_at_frame frame access = mod-mul-add frame 4096 (access.address % 4096) (mod_below access.address 4096 (omega arith))
 
 -- an access within its page is within its frame
-within_frame : (frame : ℕ) (access : Access) → IsWithinPage access → IsWithinPage (at_frame frame access)
+pub within_frame : (frame : ℕ) (access : Access) → IsWithinPage access → IsWithinPage (at_frame frame access)
 within_frame frame access within = (within.0, subst (λ n. n + access.len ≤ 4096) (sym (offset_at_frame frame access)) within.1)
-
--- one more access of a device is in flight
-in_flight-accepted : (P : ℕ → AcceptedAccess → Type 0) (old new : State) (id : ℕ) (device : Device) (entered : AcceptedAccess) → device_of old id ≡ Some device
-    → new ≡ with_accepted old device entered.access entered.frame → (device.id ≡ id → P device.id entered) → AllInFlight P old.devices → AllInFlight P new.devices
-in_flight-accepted P old new id device entered at same enters all =
-    let own : device.id ≡ id = (found_device old.devices id device at).1 in
-    subst (λ (s : State). AllInFlight P s.devices) (sym same)
-    (AllInFlight-with P old.devices device.id _ all (All-push (P device.id) device.in_flight _ (AllInFlight-of P old.devices id device at all) (enters own)))
-
-in_flight-answer : (P : ℕ → AcceptedAccess → Type 0) (chosen : ℕ) (old new : State) (id : ℕ) (device : Device) (access : Access) (outcome : Outcome) → device_of old id ≡ Some device
-    → MayAnswer old device access chosen outcome → new ≡ state_after old device access chosen outcome
-    → (IsAcceptance outcome → IsWithinPage access → May old.history id chosen access.kind → P id (record { access = access; frame = chosen }))
-    → AllInFlight P old.devices → AllInFlight P new.devices
-in_flight-answer P chosen old new id device access (Accepted number) at (forwarded, accepts, next) same enters all =
-    in_flight-accepted P old new id device (record { access = access; frame = chosen }) at same
-    (λ own. subst (λ i. P i (record { access = access; frame = chosen })) (sym own)
-    (enters tt forwarded.0 (subst (λ i. May old.history i chosen access.kind) own (accepted_reach device.attachment old device.id access chosen accepts)))) all
-in_flight-answer P chosen old new id device access BadSpan at answer same enters all = subst (λ (s : State). AllInFlight P s.devices) (sym same) all
-in_flight-answer P chosen old new id device access Busy at answer same enters all = subst (λ (s : State). AllInFlight P s.devices) (sym same) all
-in_flight-answer P chosen old new id device access (Fault cause) at answer same enters all = subst (λ (s : State). AllInFlight P s.devices) (sym same) all
-in_flight-answer P chosen old new id device access _ at answer same enters all = absurd answer
-
-in_flight-requests : (P : ℕ → AcceptedAccess → Type 0) (chosen : ℕ) (old new : State) (id : ℕ) (access : Access) (outcome : Outcome) → Requests chosen old id access outcome new
-    → (IsAcceptance outcome → IsWithinPage access → May old.history id chosen access.kind → P id (record { access = access; frame = chosen }))
-    → AllInFlight P old.devices → AllInFlight P new.devices
-in_flight-requests P chosen old new id access outcome step enters all = elim (act_cases sends_untranslated _ old id outcome new step) [
-  | inl (why, reply, same) ↦ subst (λ (s : State). AllInFlight P s.devices) (sym same) all
-  | inr (device, at, answer) ↦ in_flight-answer P chosen old new id device access outcome at answer.0 answer.1 enters all
-]
-
--- of an access through a cache
-in_flight-cached : (P : ℕ → AcceptedAccess → Type 0) (chosen : ℕ) (old new : State) (id : ℕ) (device : Device) (access : Access) (outcome : Outcome) → device_of old id ≡ Some device
-    → MayAnswerThroughCache old device access chosen outcome → new ≡ state_after_cached old device access chosen outcome
-    → (IsAcceptance outcome → IsWithinPage (at_frame chosen access) → May old.history id chosen access.kind → P id (record { access = at_frame chosen access; frame = chosen }))
-    → AllInFlight P old.devices → AllInFlight P new.devices
-in_flight-cached P chosen old new id device access (Accepted number) at (forwarded, through, next) same enters all =
-    in_flight-accepted P old new id device (record { access = at_frame chosen access; frame = chosen }) at same
-    (λ own. subst (λ i. P i (record { access = at_frame chosen access; frame = chosen })) (sym own)
-    (enters tt (within_frame chosen access forwarded.0) (subst (λ i. May old.history i chosen access.kind) own (went_through_reach device.attachment old device.id access chosen through)))) all
-in_flight-cached P chosen old new id device access BadSpan at answer same enters all = subst (λ (s : State). AllInFlight P s.devices) (sym same) all
-in_flight-cached P chosen old new id device access Busy at answer same enters all = subst (λ (s : State). AllInFlight P s.devices) (sym same) all
-in_flight-cached P chosen old new id device access Miss at answer same enters all = subst (λ (s : State). AllInFlight P s.devices) (sym same) all
-in_flight-cached P chosen old new id device access (Fault cause) at answer same enters all = subst (λ (s : State). AllInFlight P s.devices) (sym same) all
-in_flight-cached P chosen old new id device access _ at answer same enters all = absurd answer
-
-in_flight-through_cache : (P : ℕ → AcceptedAccess → Type 0) (chosen : ℕ) (old new : State) (id : ℕ) (access : Access) (outcome : Outcome) → RequestsThroughCache chosen old id access outcome new
-    → (IsAcceptance outcome → IsWithinPage (at_frame chosen access) → May old.history id chosen access.kind → P id (record { access = at_frame chosen access; frame = chosen }))
-    → AllInFlight P old.devices → AllInFlight P new.devices
-in_flight-through_cache P chosen old new id access outcome step enters all = elim (act_cases sends_through_cache _ old id outcome new step) [
-  | inl (why, reply, same) ↦ subst (λ (s : State). AllInFlight P s.devices) (sym same) all
-  | inr (device, at, answer) ↦ in_flight-cached P chosen old new id device access outcome at answer.0 answer.1 enters all
-]
-
--- of an access that a step of a block device begins
-in_flight-answered : (P : ℕ → AcceptedAccess → Type 0) (chosen : ℕ) (old new : State) (id : ℕ) (device : Device) (access : Access) (outcome : Outcome) (b : Bool) → device_of old id ≡ Some device
-    → MayWant access → IsAnswered b old device access chosen outcome new
-    → ((flight : AcceptedAccess) → IsAcceptance outcome → IsWhole id flight → StillMay old.history id flight → P id flight)
-    → AllInFlight P old.devices → AllInFlight P new.devices
-in_flight-answered P chosen old new id device access outcome false at wanted answer enters all =
-    in_flight-answer P chosen old new id device access outcome at answer.0 answer.1
-    (λ accepts within may. enters (record { access = access; frame = chosen }) accepts (within, wanted_names access wanted) may) all
-in_flight-answered P chosen old new id device access outcome true at wanted answer enters all =
-    in_flight-cached P chosen old new id device access outcome at answer.0 answer.1
-    (λ accepts within may. enters (record { access = at_frame chosen access; frame = chosen }) accepts (within, wanted_names access wanted) may) all
-
-in_flight-steps : (P : ℕ → AcceptedAccess → Type 0) (access : Access) (chosen : ℕ) (old new : State) (id : ℕ) (outcome : Outcome) → Steps access chosen old id outcome new
-    → ((flight : AcceptedAccess) → IsAcceptance outcome → IsWhole id flight → StillMay old.history id flight → P id flight)
-    → AllInFlight P old.devices → AllInFlight P new.devices
-in_flight-steps P access chosen old new id outcome step enters all = elim (act_cases is_block_device _ old id outcome new step) [
-  | inl (why, reply, same) ↦ subst (λ (s : State). AllInFlight P s.devices) (sym same) all
-  | inr (device, at, takes) ↦ by device at outcome takes enters
-]
-  where
-    by : (device : Device) → device_of old id ≡ Some device → (reply : Outcome) → TakesStep old device access chosen reply new
-        → ((flight : AcceptedAccess) → IsAcceptance reply → IsWhole id flight → StillMay old.history id flight → P id flight) → AllInFlight P new.devices
-    by device at (Stepped step) takes enters = subst (λ (s : State). AllInFlight P s.devices) (sym takes.1) all
-    by device at (Accepted number) takes enters =
-        in_flight-answered P chosen old new id device access (Accepted number) (has_cache device.kind) at takes.0 takes.1 enters all
-    by device at Busy takes enters = in_flight-answered P chosen old new id device access Busy (has_cache device.kind) at takes.0 takes.1 enters all
-    by device at (Fault cause) takes enters =
-        in_flight-answered P chosen old new id device access (Fault cause) (has_cache device.kind) at takes.0 takes.1 enters all
-    by device at _ takes enters = absurd takes
-
--- where a disk is put into a device
-in_flight-inserts : (P : ℕ → AcceptedAccess → Type 0) (disk : ℕ) (old new : State) (id : ℕ) (outcome : Outcome) → InsertsDisk disk old id outcome new
-    → AllInFlight P old.devices → AllInFlight P new.devices
-in_flight-inserts P disk old new id outcome step all = elim (act_cases is_block_device _ old id outcome new step) [
-  | inl (why, reply, same) ↦ subst (λ (s : State). AllInFlight P s.devices) (sym same) all
-  | inr (device, at, inserts) ↦ by device at outcome inserts
-]
-  where
-    by : (device : Device) → device_of old id ≡ Some device → (reply : Outcome) → Inserts disk old device reply new → AllInFlight P new.devices
-    by device at Done inserts =
-        subst (λ (s : State). AllInFlight P s.devices) (sym inserts.1) (AllInFlight-with P old.devices device.id _ all (AllInFlight-of P old.devices id device at all))
-    by device at (Refused why) inserts = subst (λ (s : State). AllInFlight P s.devices) (sym inserts.1) all
-    by device at _ inserts = absurd inserts
-
--- where the oldest access of a device is made
-in_flight-made : (P : ℕ → AcceptedAccess → Type 0) (old : State) (id : ℕ) (device : Device) → device_of old id ≡ Some device → AllInFlight P old.devices
-    → AllInFlight P (replaced_device old.devices device.id (record device { in_flight = drop 1 device.in_flight }))
-in_flight-made P old id device at all =
-    AllInFlight-with P old.devices device.id _ all (All-rest (P device.id) device.in_flight (AllInFlight-of P old.devices id device at all))
-
-in_flight-makes : (P : ℕ → AcceptedAccess → Type 0) (old new : State) (id : ℕ) (device : Device) (outcome : Outcome) → device_of old id ≡ Some device → Makes old device outcome new
-    → AllInFlight P old.devices → AllInFlight P new.devices
-in_flight-makes P old new id device (Read bytes) at makes all =
-    let made = some_case (slice_get device.in_flight 0) _ makes in
-    subst (λ (s : State). AllInFlight P s.devices) (sym made.2.1) (in_flight-made P old id device at all)
-in_flight-makes P old new id device (Wrote len) at makes all =
-    let made = some_case (slice_get device.in_flight 0) _ makes in
-    subst (λ (s : State). AllInFlight P s.devices) (sym made.2.1) (in_flight-made P old id device at all)
-in_flight-makes P old new id device NothingInFlight at makes all = subst (λ (s : State). AllInFlight P s.devices) (sym makes.1) all
-in_flight-makes P old new id device _ at makes all = absurd makes
-
-in_flight-commits : (P : ℕ → AcceptedAccess → Type 0) (old new : State) (id : ℕ) (outcome : Outcome) → Commits old id outcome new → AllInFlight P old.devices → AllInFlight P new.devices
-in_flight-commits P old new id outcome step all = elim (act_cases is_any_kind _ old id outcome new step) [
-  | inl (why, reply, same) ↦ subst (λ (s : State). AllInFlight P s.devices) (sym same) all
-  | inr (device, at, makes) ↦ in_flight-makes P old new id device outcome at makes all
-]
-
--- the devices stay
-devices_stay : (P : ℕ → AcceptedAccess → Type 0) (old new : State) → new.devices ≡ old.devices → AllInFlight P old.devices → AllInFlight P new.devices
-devices_stay P old new same all = subst (AllInFlight P) (sym same) all
-
--- the devices that have left are detached, and keep their accesses in flight
-devices_leave : (P : ℕ → AcceptedAccess → Type 0) (old new : State) (history : History) → new.devices ≡ map (device_once_confirmed history) old.devices
-    → AllInFlight P old.devices → AllInFlight P new.devices
-devices_leave P old new history same all =
-    subst (AllInFlight P) (sym same) (All-map (λ (device : Device). All (P device.id) device.in_flight) (device_once_confirmed history) old.devices all)
 
 -- the steps of messages, of resets, of queues that are set, of statuses, and of translated requests of devices that forge them, change nothing
 same-sends : (old new : State) (outcome : Outcome) → Sends old outcome new → new ≡ old
@@ -369,96 +234,6 @@ same-repeats old new Repeated step = step
 same-repeats old new Lost step = step
 same-repeats old new NoMessage step = step
 same-repeats old new _ step = absurd step
-
--- A step keeps each fact of each access in flight, where it is true of those that enter.
-pub in_flight-step : (P : ℕ → AcceptedAccess → Type 0) (old new : State) (event : Event) (outcome : Outcome) → Step old event outcome new
-    → ((id : ℕ) (flight : AcceptedAccess) → IsWhole id flight → StillMay old.history id flight → P id flight)
-    → AllInFlight P old.devices → AllInFlight P new.devices
-in_flight-step P old new (events.Plug id what) Done (choice, step) enters all =
-    subst (λ (s : State). AllInFlight P s.devices) (sym step.1) (All-push (λ (d : Device). All (P d.id) d.in_flight) old.devices _ all (All-nil (P id)))
-in_flight-step P old new (events.Plug id what) (Refused why) (choice, step) enters all = devices_stay P old new (ap (λ (s : State). s.devices) step.1) all
-in_flight-step P old new (events.Plug id what) _ (choice, step) enters all = absurd step
-in_flight-step P old new (events.Medium id disk) outcome (choice, step) enters all = in_flight-inserts P disk old new id outcome step all
-in_flight-step P old new (events.Attach id mode ats) Done (choice, step) enters all =
-    let found = some_case (device_of old id) _ step.2 in
-    subst (λ (s : State). AllInFlight P s.devices) (sym found.2) (AllInFlight-with P old.devices found.0.id _ all (AllInFlight-of P old.devices id found.0 found.1 all))
-in_flight-step P old new (events.Attach id mode ats) (Refused why) (choice, step) enters all = devices_stay P old new (ap (λ (s : State). s.devices) step.1) all
-in_flight-step P old new (events.Attach id mode ats) _ (choice, step) enters all = absurd step
-in_flight-step P old new (events.Detach id) (Ticket ticket) (choice, step) enters all =
-    let found = some_case (device_of old id) _ step.2 in
-    subst (λ (s : State). AllInFlight P s.devices) (sym found.2) (AllInFlight-with P old.devices found.0.id _ all (AllInFlight-of P old.devices id found.0 found.1 all))
-in_flight-step P old new (events.Detach id) (Refused why) (choice, step) enters all = devices_stay P old new (ap (λ (s : State). s.devices) step.1) all
-in_flight-step P old new (events.Detach id) _ (choice, step) enters all = absurd step
-in_flight-step P old new (events.Grant id page frame rights) Done (choice, step) enters all = devices_stay P old new (ap (λ (s : State). s.devices) step.2) all
-in_flight-step P old new (events.Grant id page frame rights) (Refused why) (choice, step) enters all = devices_stay P old new (ap (λ (s : State). s.devices) step.1) all
-in_flight-step P old new (events.Grant id page frame rights) _ (choice, step) enters all = absurd step
-in_flight-step P old new (events.Release id page) (Ticket ticket) (choice, step) enters all = devices_stay P old new (ap (λ (s : State). s.devices) step.2) all
-in_flight-step P old new (events.Release id page) (Refused why) (choice, step) enters all = devices_stay P old new (ap (λ (s : State). s.devices) step.1) all
-in_flight-step P old new (events.Release id page) _ (choice, step) enters all = absurd step
-in_flight-step P old new (events.Quarantine id) (Ticket ticket) (choice, step) enters all =
-    let found = some_case (device_of old id) _ step.2 in
-    subst (λ (s : State). AllInFlight P s.devices) (sym found.2) (AllInFlight-with P old.devices found.0.id _ all (AllInFlight-of P old.devices id found.0 found.1 all))
-in_flight-step P old new (events.Quarantine id) (Refused why) (choice, step) enters all = devices_stay P old new (ap (λ (s : State). s.devices) step.1) all
-in_flight-step P old new (events.Quarantine id) _ (choice, step) enters all = absurd step
-in_flight-step P old new (events.Revive id) Done (choice, step) enters all =
-    let found = some_case (device_of old id) _ step.1 in
-    subst (λ (s : State). AllInFlight P s.devices) (sym found.2) (AllInFlight-with P old.devices found.0.id _ all (AllInFlight-of P old.devices id found.0 found.1 all))
-in_flight-step P old new (events.Revive id) (Refused why) (choice, step) enters all = devices_stay P old new (ap (λ (s : State). s.devices) step.1) all
-in_flight-step P old new (events.Revive id) _ (choice, step) enters all = absurd step
-in_flight-step P old new events.Restart Done (choice, step) enters all = devices_stay P old new (ap (λ (s : State). s.devices) step) all
-in_flight-step P old new events.Restart (Refused why) (choice, step) enters all = devices_stay P old new (ap (λ (s : State). s.devices) step.1) all
-in_flight-step P old new events.Restart _ (choice, step) enters all = absurd step
-in_flight-step P old new events.Fetch (Fetched result) (choice, step) enters all = devices_stay P old new (ap (λ (s : State). s.devices) step) all
-in_flight-step P old new events.Fetch _ (choice, step) enters all = absurd step
-in_flight-step P old new events.Timeout TimedOut (choice, step) enters all = devices_stay P old new (ap (λ (s : State). s.devices) step) all
-in_flight-step P old new events.Timeout NoEffect (choice, step) enters all = devices_stay P old new (ap (λ (s : State). s.devices) step) all
-in_flight-step P old new events.Timeout _ (choice, step) enters all = absurd step
-in_flight-step P old new events.Poll (Confirmed first last timed_out) (choice, step) enters all =
-    devices_leave P old new (with_confirmed old first last).history (ap (λ (s : State). s.devices) step.1) all
-in_flight-step P old new events.Poll (NoneConfirmed timed_out) (choice, step) enters all = devices_stay P old new (ap (λ (s : State). s.devices) step.1) all
-in_flight-step P old new events.Poll _ (choice, step) enters all = absurd step
-in_flight-step P old new events.Faults (Record taken) (choice, step) enters all = devices_stay P old new (ap (λ (s : State). s.devices) step) all
-in_flight-step P old new events.Faults NoRecord (choice, step) enters all = devices_stay P old new (ap (λ (s : State). s.devices) step) all
-in_flight-step P old new events.Faults _ (choice, step) enters all = absurd step
-in_flight-step P old new (events.Read id address len) outcome (choice, step) enters all =
-    in_flight-requests P choice.frame old new id (read_of address len) outcome step
-    (λ accepts within may. enters id _ (within, read_names address len) may) all
-in_flight-step P old new (events.Write id address bytes) outcome (choice, step) enters all =
-    in_flight-requests P choice.frame old new id (write_of address bytes) outcome step
-    (λ accepts within may. enters id _ (within, write_names address bytes) may) all
-in_flight-step P old new (events.ReadTranslated id address len) outcome (choice, step) enters all = devices_stay P old new (ap (λ (s : State). s.devices) (same-translated old new id (read_of address len) outcome step)) all
-in_flight-step P old new (events.WriteTranslated id address bytes) outcome (choice, step) enters all = devices_stay P old new (ap (λ (s : State). s.devices) (same-translated old new id (write_of address bytes) outcome step)) all
-in_flight-step P old new (events.ReadThroughCache id address len) outcome (choice, step) enters all =
-    in_flight-through_cache P choice.frame old new id (read_of address len) outcome step
-    (λ accepts within may. enters id _ (within, read_names address len) may) all
-in_flight-step P old new (events.WriteThroughCache id address bytes) outcome (choice, step) enters all =
-    in_flight-through_cache P choice.frame old new id (write_of address bytes) outcome step
-    (λ accepts within may. enters id _ (within, write_names address bytes) may) all
-in_flight-step P old new (events.Ask id page) outcome (choice, step) enters all = devices_stay P old new (ap (λ (s : State). s.devices) (same-asks old new id outcome step)) all
-in_flight-step P old new (events.Forge id serial) outcome (choice, step) enters all = devices_stay P old new (ap (λ (s : State). s.devices) (same-forges old new id outcome step)) all
-in_flight-step P old new (events.Deliver place) outcome (choice, step) enters all = devices_stay P old new (ap (λ (s : State). s.devices) (same-delivers choice.device choice.page old new outcome step)) all
-in_flight-step P old new (events.Drop place) outcome (choice, step) enters all = devices_stay P old new (ap (λ (s : State). s.devices) (same-drops old new outcome step)) all
-in_flight-step P old new (events.Repeat place) outcome (choice, step) enters all = devices_stay P old new (ap (λ (s : State). s.devices) (same-repeats old new outcome step)) all
-in_flight-step P old new (events.Reset id) outcome (choice, step) enters all = devices_stay P old new (ap (λ (s : State). s.devices) (same-resets old new id outcome step)) all
-in_flight-step P old new (events.Queue id size descriptors available used) outcome (choice, step) enters all =
-    devices_stay P old new (ap (λ (s : State). s.devices) (same-sets_queue (layout_of size descriptors available used) old new id outcome step)) all
-in_flight-step P old new (events.Step id) outcome (choice, step) enters all =
-    in_flight-steps P choice.access choice.frame old new id outcome step
-    (λ flight accepts whole may. enters id flight whole may) all
-in_flight-step P old new (events.Status id) outcome (choice, step) enters all =
-    devices_stay P old new (ap (λ (s : State). s.devices) (same-tells_status old new id outcome step)) all
-in_flight-step P old new (events.Commit id) outcome (choice, step) enters all = in_flight-commits P old new id outcome step all
-in_flight-step P old new (events.Poke address bytes) Done (choice, step) enters all = devices_stay P old new (ap (λ (s : State). s.devices) step.2) all
-in_flight-step P old new (events.Poke address bytes) (Refused why) (choice, step) enters all = devices_stay P old new (ap (λ (s : State). s.devices) step.2) all
-in_flight-step P old new (events.Poke address bytes) BadSpan (choice, step) enters all = devices_stay P old new (ap (λ (s : State). s.devices) step.1) all
-in_flight-step P old new (events.Poke address bytes) _ (choice, step) enters all = absurd step
-in_flight-step P old new (events.Peek address len) (Bytes bytes) (choice, step) enters all = devices_stay P old new (ap (λ (s : State). s.devices) step.3) all
-in_flight-step P old new (events.Peek address len) (Refused why) (choice, step) enters all = devices_stay P old new (ap (λ (s : State). s.devices) step.2) all
-in_flight-step P old new (events.Peek address len) BadSpan (choice, step) enters all = devices_stay P old new (ap (λ (s : State). s.devices) step.1) all
-in_flight-step P old new (events.Peek address len) _ (choice, step) enters all = absurd step
-in_flight-step P old new (events.Free frame) (Free is_free) (choice, step) enters all = devices_stay P old new (ap (λ (s : State). s.devices) step.2) all
-in_flight-step P old new (events.Free frame) (Refused why) (choice, step) enters all = devices_stay P old new (ap (λ (s : State). s.devices) step.1) all
-in_flight-step P old new (events.Free frame) _ (choice, step) enters all = absurd step
 
 -- all elements are so where the first one is, and the later ones are
 pub All-from_parts : {X : Type 0} (P : X → Type 0) (xs : List X) (x : X) → slice_get xs 0 ≡ Some x → P x → All P (drop 1 xs) → All P xs

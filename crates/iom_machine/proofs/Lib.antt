@@ -4,6 +4,8 @@ pub mod InFlightLemmas
 pub mod LeavingLemmas
 pub mod GrantLemmas
 pub mod AskedLemmas
+pub mod ReasonLemmas
+pub mod StepChanges
 pub mod DeviceLemmas
 pub mod LimitLemmas
 pub mod InvariantLemmas

@@ -18,7 +18,8 @@ use Rattle.iom_machine.proofs.ByteLemmas.{length-range}
 use Rattle.iom_machine.proofs.HeadlineLemmas.{element_at, bytes_there}
 use Rattle.iom_machine.proofs.InFlightLemmas.{All-at}
 use Rattle.iom_machine.proofs.JudgeLemmas.{out_of_reach_test}
-use Rattle.iom_machine.proofs.InvariantLemmas.{none_applies, sound_if_reached}
+use Rattle.iom_machine.proofs.InvariantLemmas.{sound_if_reached}
+use Rattle.iom_machine.proofs.ReasonLemmas.{none_applies}
 
 fits_or_not : (address len : ℕ) → FitsInPage address len ⊎ (¬ FitsInPage address len)
 fits_or_not address len =

@@ -22,7 +22,7 @@ use Rattle.iom_machine.specs.Traces.{count_in_flight}
 use Rattle.iom_machine.proofs.DeviceLemmas.{HaveOwnIds, own_ids-run}
 use Rattle.iom_machine.proofs.HeadlineLemmas.{commits_are_answered}
 use Rattle.iom_machine.proofs.InFlightLemmas.{able_act, some_case}
-use Rattle.iom_machine.proofs.InvariantLemmas.{SameLedger}
+use Rattle.iom_machine.proofs.StepChanges.{SameLedger}
 use Rattle.iom_settling.specs.Settles.{in_flight_by, AreInSettlingOrder, SettlesBy, RefusesToSettle, Settles}
 use Rattle.iom_settling.proofs.FewLemmas.{AreFew, few_if_reached, few_in_flight}
 

@@ -14,7 +14,8 @@ use Rattle.iom_world.specs.declared.world.World.{World}
 use Rattle.iom_world_effects.specs.Below.{LawsBelow, AddressFits}
 use Rattle.iom_base.specs.DeviceKinds.{sends_untranslated, sends_through_cache}
 use Rattle.iom_virtqueue.specs.Layouts.{layout_of}
-use Rattle.iom_world_effects.specs.Effect.{Effect, disks_after}
+use Rattle.iom_world_effects.specs.Effect.{Effect}
+use Rattle.iom_machine.specs.Disks.{disks_after}
 use Rattle.iom_world.specs.Happens.{Happens}
 use Rattle.iom_world_effects.specs.Parts.{Parts}
 use Rattle.iom_world_effects.specs.Recovery.{RestartsQueue}
@@ -30,7 +31,7 @@ use Rattle.iom_world_refinement.proofs.CommandsStay.{commands_stay}
 use Rattle.iom_world_refinement.proofs.CommitStep.{commit_step}
 use Rattle.iom_world_refinement.proofs.DeliverStep.{delivered_step}
 use Rattle.iom_world_refinement.proofs.DetachStep.{detach_step}
-use Rattle.iom_world_refinement.proofs.DiskLemmas.{step_disks}
+use Rattle.iom_machine.proofs.StepChanges.{step_change}
 use Rattle.iom_world_effects.proofs.DriverLemmas.{DriverInvariant, driver_invariant}
 use Rattle.iom_world_refinement.proofs.FetchStep.{fetch_step}
 use Rattle.iom_world_refinement.proofs.FlightMay.{each_may}
@@ -142,7 +143,7 @@ happens shown laws old new event reply fits effect disks blocks counted =
           let next = steps service (disks_of old) (parts_of old) (parts_of new) after before old.invariants (driver_invariant old.driver) reported new.invariants event reply fits effect state shows.0 shows.1 in (
             next.0,
             next.1,
-            (next.2, step_disks state next.0 event reply next.1 ∙ ap (disks_after event reply) shows.1 ∙ sym disks),
+            (next.2, (step_change state next.0 event reply next.1).disks ∙ ap (disks_after event reply) shows.1 ∙ sym disks),
           );
       effect = effect;
       disks = disks;

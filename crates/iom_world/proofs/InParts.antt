@@ -39,7 +39,8 @@ use Rattle.iom_machine.specs.declared.outcome.Outcome.TheVariants as outcome
 use Rattle.iom_world_effects.specs.Answers.{outcome_of_done}
 use Rattle.iom_world_effects.specs.BlockDevices.{IsBlockDevice, InsertsMedium}
 use Rattle.iom_world_effects.specs.Deliveries.{TakesInto, Arrives, ArrivesIfAny, DeliversMessage}
-use Rattle.iom_world_effects.specs.Effect.{FetchesNext, disks_after, fetch_named}
+use Rattle.iom_world_effects.specs.Effect.{FetchesNext, fetch_named}
+use Rattle.iom_machine.specs.Disks.{disks_after}
 use Rattle.iom_world_effects.specs.Messages.{SendsOnLink, AsksQuestion, ForgesCompletion, DropsMessage, RepeatsMessage, outcome_of_repeat}
 use Rattle.iom_world_effects.specs.Parts.{Parts}
 use Rattle.iom_world_effects.specs.Places.{IsPresent}

@@ -2,6 +2,7 @@ pub mod InParts
 pub mod OfHardware
 pub mod HappensLemmas
 pub mod NumberLemmas
+pub mod OldestLemmas
 pub mod FlightEvents
 pub mod BegunLemmas
 pub mod NeverRefused

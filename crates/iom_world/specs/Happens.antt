@@ -5,7 +5,8 @@ use Rattle.iom_machine.specs.declared.event.Event.{Event}
 use Rattle.iom_machine.specs.declared.outcome.Outcome.{Outcome}
 use Rattle.iom_machine.specs.declared.state.State.{State}
 use Rattle.iom_machine.specs.Machine.{Step}
-use Rattle.iom_world_effects.specs.Effect.{Effect, disks_after}
+use Rattle.iom_world_effects.specs.Effect.{Effect}
+use Rattle.iom_machine.specs.Disks.{disks_after}
 use Rattle.iom_world_effects.specs.Unchanged.{SameIfRefused, KeepsCommands, HasTimedOut, StaysStopped}
 use Rattle.iom_world_effects.specs.Requests.{ReadsGuestTables}
 use Rattle.iom_world.specs.Blocks.{EffectOnBlocks}

@@ -3,7 +3,7 @@ ghost use Rattle.std.specs.Prelude.{◌≡◌, ◌+◌, ◌<◌, ◌^◌, ℕ};
 ghost use Rattle.iom_machine.specs.declared.event.Event.TheVariants as events;
 ghost use Rattle.iom_virtqueue.specs.Layouts.{layout_of};
 ghost use Rattle.iom_world_effects.specs.BlockDevices.{InsertsMedium, SetsBlockQueue, TakesBlockStep, TellsBlockStatus};
-ghost use Rattle.iom_world_effects.specs.Effect.{disks_after};
+ghost use Rattle.iom_machine.specs.Disks.{disks_after};
 ghost use Rattle.iom_world.specs.Blocks.{InsertsIntoBlock, SetsQueueOf, TakesStepOf, TellsStatusOf};
 ghost use Rattle.iom_world.specs.OnHardware.{outcome_of_status, outcome_unless};
 ghost use Rattle.iom_world.specs.Shown.{parts_of, disks_of, inside_of};

@@ -7,6 +7,7 @@ ghost use Rattle.iom_inflight.specs.Invariant.{AreFlights};
 ghost use Rattle.iom_iommu.specs.Parts.{flights_of};
 ghost use Rattle.iom_machine.specs.declared.state.State.{State};
 ghost use Rattle.iom_world.specs.Counts.{IsTraceOf};
+ghost use Rattle.iom_world.specs.Made.{IsMadeByCommit};
 ghost use Rattle.iom_world.specs.Shown.{shown_of};
 ghost use Rattle.iom_world.specs.Shows.{Shows};
 
@@ -28,8 +29,10 @@ impl<D: Disk> World<D> {
     }
 
     /// The access that a commit of the device would make. None where nothing of it is in flight, or no device has the id.
+    #[tactic(auto, using(crate::proofs::OldestLemmas::oldest_is_made))]
     pub fn oldest(&self, id: DeviceId) -> Option<MadeAt>
-        ensures { result ≡ oldest_in (row_of (flights_of self.now.hardware.board.iommu).rows id) }
+        ensures oldest { result ≡ oldest_in (row_of (flights_of self.now.hardware.board.iommu).rows id) }
+        ensures made { IsMadeByCommit (flights_of self.now.hardware.board.iommu) id result }
     {
         self.hardware.board.iommu.oldest(id)
     }

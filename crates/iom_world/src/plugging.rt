@@ -2,7 +2,8 @@
 ghost use Rattle.std.specs.Prelude.{◌≡◌, ◌+◌, ◌<◌, ◌^◌};
 ghost use Rattle.iom_machine.specs.declared.event.Event.TheVariants as events;
 ghost use Rattle.iom_device.specs.Caches.{kind_in, epoch_in};
-ghost use Rattle.iom_world_effects.specs.Effect.{PlugsDevice, disks_after};
+ghost use Rattle.iom_world_effects.specs.Effect.{PlugsDevice};
+ghost use Rattle.iom_machine.specs.Disks.{disks_after};
 ghost use Rattle.iom_world.specs.Shown.{parts_of, disks_of, inside_of};
 ghost use Rattle.iom_base.specs.DeviceKinds.{disk_of};
 ghost use Rattle.iom_world.specs.Blocks.{PlugsBlock};

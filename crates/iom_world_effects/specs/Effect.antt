@@ -32,7 +32,7 @@ use Rattle.iom_machine.specs.declared.outcome.Fetched.TheVariants as tells
 use Rattle.iom_machine.specs.declared.outcome.Outcome.{Outcome}
 use Rattle.iom_machine.specs.declared.outcome.Outcome.TheVariants as outcome
 use Rattle.iom_base.specs.declared.device_kind.NewDevice.{NewDevice}
-use Rattle.iom_base.specs.Disks.{is_missing, without_disk}
+use Rattle.iom_base.specs.Disks.{is_missing}
 use Rattle.iom_base.specs.DeviceKinds.{kind_of, disk_of, sends_untranslated, sends_through_cache, has_cache}
 use Rattle.iom_device.specs.Calls.{new_cache}
 use Rattle.iom_device.specs.declared.device.Device.{Device}
@@ -206,9 +206,3 @@ Effect disks old (events.Status id) reply new = (status : ℕ) × TellsBlockStat
 Effect disks old (events.Poke address bytes) reply new = PokesBytes old address bytes reply new
 Effect disks old (events.Peek address len) reply new = PeeksBytes old address len reply × (new ≡ old)
 Effect disks old (events.Free frame) reply new = AsksFree old frame reply × (new ≡ old)
-
--- THE DISKS THAT WERE NEVER IN A DEVICE, after an event: a device that is plugged in takes its own, and a medium goes into one
-abbrev pub disks_after : Event → Outcome → List ℕ → List ℕ
-disks_after (events.Plug id what) outcome.Done disks = without_disk (disk_of what) disks
-disks_after (events.Medium id disk) outcome.Done disks = without_disk (Some disk) disks
-disks_after event reply disks = disks

@@ -7,7 +7,6 @@ pub mod CommitStep
 pub mod CountLemmas
 pub mod DetachStep
 pub mod DeliverStep
-pub mod DiskLemmas
 pub mod EventLemmas
 pub mod FetchStep
 pub mod FlightMay

@@ -4,7 +4,7 @@ use Rattle.iom_machine.specs.declared.outcome.Outcome.{Outcome}
 use Rattle.iom_driver.specs.StateOf.{state_of}
 use Rattle.iom_world_effects.specs.Answers.{outcome_of_done}
 use Rattle.iom_world_effects.specs.BlockDevices.{InsertsMedium}
-use Rattle.iom_world_effects.specs.Effect.{disks_after}
+use Rattle.iom_machine.specs.Disks.{disks_after}
 use Rattle.iom_world_invariant.proofs.BlockKeeps.{keeps_medium}
 use Rattle.iom_world.proofs.InParts.{inserted_in_parts, disks_left}
 use Rattle.iom_world.proofs.OfHardware.{with_driver, counted, at_count, hardware_invariant}
