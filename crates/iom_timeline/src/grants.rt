@@ -207,11 +207,11 @@ impl Follower {
             }
         }
         device.granted.clear();
-        self.quarantine(id)
+        self.begin_quarantine(id)
     }
 
     /// The device is quarantined from this line on, at each of its pages that lingers.
-    fn quarantine(&mut self, id: DeviceId) -> Result<(), AllocError> {
+    fn begin_quarantine(&mut self, id: DeviceId) -> Result<(), AllocError> {
         let period = Period::since(self.line);
         let first = self.timeline.quarantines.len();
         let Some(device) = self.devices.get_mut(id) else {

@@ -1,0 +1,4 @@
+pub mod PartLemmas
+pub mod WholeLemmas
+pub mod LoadLemmas
+pub mod ReclaimLemmas

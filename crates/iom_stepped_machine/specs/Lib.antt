@@ -1,0 +1,4 @@
+pub mod Walks
+pub mod Machine
+pub mod Laws
+pub mod Reclaim
