@@ -14,8 +14,8 @@ use Rattle.iom_stage_walk.proofs.Alike.{same_entry}
 use Rattle.iom_page_table.specs.Laws.{SameTree}
 use Rattle.iom_page_table.specs.Leaves.{leaf_of, is_translated}
 use Rattle.iom_page_table.specs.Trees.{shape_of}
-use Rattle.iom_page_table.proofs.Prefixes.{no_leaf}
-use Rattle.iom_page_table.proofs.Trees.{AlikeOn, alike_slot_was, alike_slot_stays, alike_tree, alike_leaves}
+use Rattle.iom_page_table.proofs.Prefixes.{alike_table, no_leaf}
+use Rattle.iom_page_table.proofs.Trees.{AlikeOn, alike_in, alike_slot_was, alike_slot_stays, alike_tree, alike_leaves}
 use Rattle.iom_page_table.proofs.Pages.{path_shaped}
 use Rattle.iom_page_table.proofs.Words.{zero_entry}
 
@@ -30,6 +30,8 @@ unchanged size old new root tree same =
       tree = alike_tree (shape_of size) (entries old) (entries new) root on tree;
       tables = λ f. (λ h. (h.0, h.1, h.2, alike_slot_was (shape_of size) (entries old) (entries new) root on h.0 h.1 h.2 h.3, h.4), λ h. (h.0, h.1, h.2, alike_slot_stays (shape_of size) (entries old) (entries new) root on h.0 h.1 h.2 h.3, h.4));
       leaves = λ page. ap (λ x. if is_translated (levels_of size) page then x else None) (alike_leaves (shape_of size) (entries old) (entries new) root on (path_of (shape_of size) page) (path_shaped size page));
+      keeps = λ prefix table inside at.
+          alike_table (entries old) (entries new) root prefix table (alike_in (shape_of size) (entries old) (entries new) root prefix on inside prefix [] root refl refl) at;
     }
 
 only_root : (e : Entries) (f w : ℕ) (ws p : List ℕ) (i t : ℕ) → ((j : ℕ) → j < w → e (slot f j) ≡ Invalid) → InShape (w ∷ ws) (p ++ i ∷ []) → IsTableAt e f p t → (p ≡ []) × (t ≡ f) × (i < w)

@@ -95,6 +95,7 @@ pub record Maps (size : Size) (old new : List (List ℕ)) (root page : ℕ) (lea
   pub tables : (f : ℕ) → IsFrameOf (shape_of size) (entries new) root f ↔ (IsFrameOf (shape_of size) (entries old) root f ⊎ Contains frames f)
   pub leaves : (p : ℕ) → p < 2 ^ 52 → leaf_of (levels_of size) new root p ≡ (if p == page then Some leaf else leaf_of (levels_of size) old root p)
   pub others : (f : ℕ) → (IsFrameOf (shape_of size) (entries new) root f → ⊥) → slice_get new f ≡ slice_get old f
+  pub unchanged : (p : List ℕ) (i k : ℕ) → IsSlotAt (shape_of size) (entries old) root p i k → IsSlotAt (shape_of size) (entries new) root p i k
 
 -- an entry at the last level that gives no leaf leads nowhere
 lowest_nowhere : (x : Entry) → IsLowest x → leaf_here x [] (λ next. None) ≡ None → x ≡ Invalid
@@ -132,6 +133,7 @@ maps size old mid new root page table upper frames leaf low b splits put =
       );
       leaves = leaves_after size old new root page (Some leaf) low (s.leaf ∙ leaf_one leaf) (λ is inside long ne. s.same is inside long ne ∙ b.same is inside long);
       others = λ f out. s.others f (λ h. out ((same f).1 h)) ∙ b.others f (λ h. out ((same f).1 h));
+      unchanged = λ p i k at. s.unchanged p i k (b.grown.unchanged p i k at);
     }
 
 -- mapping a page fills entries on its path alone

@@ -5,7 +5,7 @@ use Rattle.iom_base.specs.Sizes.{levels_of}
 use Rattle.iom_stage_walk.specs.Entries.{entries}
 use Rattle.iom_stage_walk.specs.Paths.{path_of}
 use Rattle.iom_page_table.specs.Leaves.{leaf_of}
-use Rattle.iom_page_table.specs.Trees.{shape_of, IsTree, IsFrameOf, IsLastEntry, IsFilledEntry, missing_under}
+use Rattle.iom_page_table.specs.Trees.{shape_of, TablesStay, IsTree, IsFrameOf, IsLastEntry, IsFilledEntry, missing_under}
 use Rattle.iom_page_table.specs.Written.{word_of_leaf, with_entries, mapped_entries, cleared_entries}
 use Rattle.iom_page_table.specs.declared.leaf.PageLeaf.{PageLeaf}
 
@@ -37,6 +37,10 @@ ChangesLeaf size old new root page found =
 -- each frame but the root's tables, as they are afterwards, has the bytes that it had
 abbrev pub KeepsOutside : Size → List (List ℕ) → List (List ℕ) → ℕ → Type 0
 KeepsOutside size old new root = (f : ℕ) → (HasTable size new root f → ⊥) → slice_get new f ≡ slice_get old f
+
+-- each table of the root is where it was
+abbrev pub KeepsTables : Size → List (List ℕ) → List (List ℕ) → ℕ → Type 0
+KeepsTables size old new root = TablesStay (shape_of size) (entries old) (entries new) root
 
 -- memory after the page's leaf is written, and the tables that were missing hung in the frames, from the root down
 abbrev pub mapped : Size → List (List ℕ) → ℕ → ℕ → PageLeaf → List ℕ → List (List ℕ)

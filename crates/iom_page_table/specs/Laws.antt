@@ -8,11 +8,11 @@ use Rattle.iom_base.specs.Sizes.{page_size, levels_of}
 use Rattle.iom_base.specs.declared.access.AccessKind.{AccessKind}
 use Rattle.iom_phys_mem.specs.Words.{zeroed}
 use Rattle.iom_stage_walk.specs.Entries.{entries}
-use Rattle.iom_stage_walk.specs.Paths.{ReachesFirst, leaf_level, first_path, StopsFirst, IsInMemory}
+use Rattle.iom_stage_walk.specs.Paths.{ReachesFirst, leaf_level, first_path, path_of, StopsFirst, IsInMemory}
 use Rattle.iom_stage_walk.specs.Through.{first_through}
 use Rattle.iom_stage_walk.specs.declared.walked.Walked.{Walked}
 use Rattle.iom_page_table.specs.Leaves.{leaf_of}
-use Rattle.iom_page_table.specs.FirstTables.{IsRoot, HasTable, KeepsOutside}
+use Rattle.iom_page_table.specs.FirstTables.{IsRoot, HasTable, KeepsOutside, KeepsTables}
 use Rattle.iom_page_table.specs.Trees.{shape_of, InShape, IsTableAt}
 use Rattle.iom_page_table.specs.declared.leaf.PageLeaf.{PageLeaf}
 
@@ -35,11 +35,12 @@ WalkFaultsElse = (size : Size) (frames : List (List ℕ)) (root address : ℕ) (
     → ((leaf : PageLeaf) → leaf_of (levels_of size) frames root (address / page_size) ≡ Some leaf → allows leaf.rights kind ≡ false)
     → StopsFirst (levels_of size) frames root address kind record { cause = page_fault_of kind; gpa = 0; implicit = false }
 
--- the root is a tree as before, of the same frames, and every page has the leaf that it had
+-- the root is a tree as before, of the same frames, each table where it was, and every page has the leaf that it had
 pub record SameTree (size : Size) (old new : List (List ℕ)) (root : ℕ) : Type 0 where
   pub tree : IsRoot size new root
   pub tables : (f : ℕ) → HasTable size new root f ↔ HasTable size old root f
   pub leaves : (page : ℕ) → leaf_of (levels_of size) new root page ≡ leaf_of (levels_of size) old root page
+  pub keeps : KeepsTables size old new root
 
 -- what changes no frame of a tree, as a store outside it, leaves the tree and all that it reaches
 abbrev pub TreeStays : Type 0
@@ -63,3 +64,7 @@ ZeroedTree = (size : Size) (frames : List (List ℕ)) (root : ℕ) → slice_get
 abbrev pub DifferentTables : Type 0
 DifferentTables = (size : Size) (frames : List (List ℕ)) (root : ℕ) → IsRoot size frames root → (p q : List ℕ) (f : ℕ)
     → InShape (shape_of size) (p ++ 0 ∷ []) → InShape (shape_of size) (q ++ 0 ∷ []) → IsTableAt (entries frames) root p f → IsTableAt (entries frames) root q f → p ≡ q
+
+-- the first indices of a page, however many, are a prefix of the shape
+abbrev pub PathsInShape : Type 0
+PathsInShape = (size : Size) (page : ℕ) (done left : List ℕ) → path_of (shape_of size) page ≡ done ++ left → InShape (shape_of size) done

@@ -1,6 +1,6 @@
 //! Laws of the tables of both stages, of either size, each the contract of a function that does nothing.
-ghost use Rattle.iom_page_table.specs.Laws.{WalkReachesLeaf, WalkThroughTables, WalkFaultsElse, TreeStays, TreesApart, ZeroedTree, DifferentTables};
-ghost use Rattle.iom_page_table.specs.GuestLaws.{GuestWalkReachesLeaf, GuestLeaves, GuestWalkFaultsElse, GuestTablesFault, ZeroedGuestRoot, GuestTablesStay};
+ghost use Rattle.iom_page_table.specs.Laws.{WalkReachesLeaf, WalkThroughTables, WalkFaultsElse, TreeStays, TreesApart, ZeroedTree, DifferentTables, PathsInShape};
+ghost use Rattle.iom_page_table.specs.GuestLaws.{GuestWalkReachesLeaf, GuestLeaves, GuestWalkFaultsElse, GuestTablesFault, ZeroedGuestRoot, GuestTablesStay, GuestTablesKept, GuestPathsInShape};
 
 /// The walk of an address reaches exactly the leaf of its page, where that allows the access.
 pub fn walk_reaches_leaf()
@@ -65,4 +65,15 @@ pub fn zeroed_guest_root()
 /// What changes no frame of the tables of a second stage leaves them.
 pub fn guest_tables_stay()
     ensures { GuestTablesStay }
+{}
+
+/// Where the tables of a first stage stay where they are, those of a second stage at the same root do.
+pub fn guest_tables_kept()
+    ensures { GuestTablesKept }
+{}
+
+/// The first indices of a page, or of a guest physical one, are a prefix of the shape of its tables.
+pub fn paths_in_shape()
+    ensures first { PathsInShape }
+    ensures second { GuestPathsInShape }
 {}

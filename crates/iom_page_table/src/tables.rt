@@ -6,7 +6,7 @@ ghost use Rattle.iom_base.specs.Tables.{entry_size, table_entries};
 ghost use Rattle.iom_phys_mem.specs.Words.{word_at, byte_at};
 ghost use Rattle.iom_stage_walk.specs.Paths.{path_of, first_widths};
 ghost use Rattle.iom_page_table.specs.Leaves.{leaf_of};
-ghost use Rattle.iom_page_table.specs.FirstTables.{IsRoot, HasTable, missing_for, IsLeafEntry, FillsEntry, ChangesLeaf, KeepsOutside, mapped, unmapped};
+ghost use Rattle.iom_page_table.specs.FirstTables.{IsRoot, HasTable, missing_for, IsLeafEntry, FillsEntry, ChangesLeaf, KeepsOutside, KeepsTables, mapped, unmapped};
 ghost use Rattle.iom_page_table.specs.Trees.{shape_of, AreFresh};
 
 use crate::above_last::{build, count_missing, last_table};
@@ -66,6 +66,7 @@ pub fn map<B: Bytes>(
     ensures other_bytes { (a : ℕ) → (FillsEntry size (B.frames_of memory.old) (B.frames_of memory.new) root page (a / entry_size) → ⊥)
         → byte_at (B.frames_of memory.new) a ≡ byte_at (B.frames_of memory.old) a }
     ensures outside { KeepsOutside size (B.frames_of memory.old) (B.frames_of memory.new) root }
+    ensures keeps { KeepsTables size (B.frames_of memory.old) (B.frames_of memory.new) root }
     ensures size { length (B.frames_of memory.new) ≡ length (B.frames_of memory.old) }
 
     // What the clauses above follow from, as one equation.
@@ -92,6 +93,7 @@ pub fn unmap<B: Bytes>(memory: &mut B, size: Size, root: u32, page: u64)
     ensures other_bytes { (a : ℕ) → (IsLeafEntry size (B.frames_of memory.old) root page (a / entry_size) → ⊥)
         → byte_at (B.frames_of memory.new) a ≡ byte_at (B.frames_of memory.old) a }
     ensures outside { KeepsOutside size (B.frames_of memory.old) (B.frames_of memory.new) root }
+    ensures keeps { KeepsTables size (B.frames_of memory.old) (B.frames_of memory.new) root }
     ensures size { length (B.frames_of memory.new) ≡ length (B.frames_of memory.old) }
 
     // What the clauses above follow from, as one equation.

@@ -6,6 +6,7 @@ use Rattle.iom_page_table.specs.Written.{word_of_leaf}
 use Rattle.iom_stage_walk.specs.Entries.{entries, slot}
 use Rattle.iom_page_table.specs.Trees.{missing_under}
 use Rattle.iom_page_table.specs.Building.{Puts, SameWrites}
+use Rattle.iom_page_table.proofs.KeptTables.{tables_kept}
 use Rattle.iom_page_table.proofs.Mapping.{missing_above_last, whole_table}
 use Rattle.iom_page_table.proofs.Written.{writes_done}
 use Rattle.iom_page_table.proofs.Pages.{is_page}
@@ -60,6 +61,9 @@ returns-clause-leaf g c = (done g c).leaves
 
 pub returns-clause-outside : goal.returns-clause-outside
 returns-clause-outside g c = (done g c).others
+
+pub returns-clause-keeps : goal.returns-clause-keeps
+returns-clause-keeps g c = tables_kept c.args.size (g.B.Bytes.frames_of c.args.memory.now) (g.B.Bytes.frames_of c.put.new.memory) c.args.root c.requires.tree (done g c).unchanged
 
 pub returns-clause-whole : goal.returns-clause-whole
 returns-clause-whole g c =

@@ -5,6 +5,7 @@ use Rattle.iom_stage_walk.specs.Entries.{entries}
 use Rattle.iom_stage_walk.specs.Paths.{path_of}
 use Rattle.iom_stage_walk.specs.declared.entry.Entry.TheVariants.{Invalid}
 use Rattle.iom_page_table.specs.Trees.{shape_of, IsLastEntry}
+use Rattle.iom_page_table.proofs.KeptTables.{tables_kept}
 use Rattle.iom_page_table.proofs.Pages.{leaves_after}
 use Rattle.iom_page_table.proofs.Whole.{entry_inside, sets_page, same_frames, entry_number, is_entry, no_entry, not_mapped}
 use Rattle.iom_page_table.specs.Written.{with_entries, cleared_entries}
@@ -48,6 +49,11 @@ returns-in-Some-clause-outside g c =
     let new = g.B.Bytes.frames_of c.put.new.memory in
     let s = sets_page c.args.size old new c.args.root c.args.page c.in-Some.table (upper_in c.args.size c.first_indices-all.result) Invalid c.requires.tree (upper_path c.args.size c.args.page c.first_indices-all.result c.first_indices-all.ensures) c.in-Some.ensures.some c.put.ensures.put tt in
     λ f out. s.others f (λ h. out ((same_frames (shape_of c.args.size) old new c.args.root (path_of (shape_of c.args.size) c.args.page) Invalid s f).1 h))
+
+pub returns-in-Some-clause-keeps : goal.returns-in-Some-clause-keeps
+returns-in-Some-clause-keeps g c =
+    tables_kept c.args.size (g.B.Bytes.frames_of c.args.memory.now) (g.B.Bytes.frames_of c.put.new.memory) c.args.root c.requires.tree
+    (sets_page c.args.size (g.B.Bytes.frames_of c.args.memory.now) (g.B.Bytes.frames_of c.put.new.memory) c.args.root c.args.page c.in-Some.table (upper_in c.args.size c.first_indices-all.result) Invalid c.requires.tree (upper_path c.args.size c.args.page c.first_indices-all.result c.first_indices-all.ensures) c.in-Some.ensures.some c.put.ensures.put tt).unchanged
 
 pub returns-in-None-clause-leaf : goal.returns-in-None-clause-leaf
 returns-in-None-clause-leaf g c =
