@@ -12,8 +12,8 @@ use Rattle.iom_device_dir.specs.Paths.{ddi, entry_place, ids_below}
 use Rattle.iom_device_dir.specs.Located.{path_end_from}
 use Rattle.iom_directory_build.specs.Pages.{next_page, page_at, HasPage, HasWholePath, IsDirectory, missing_below, missing_pages, AreFreshPages}
 use Rattle.iom_directory_build.specs.Written.{entry_word, with_entry_at, with_context_at, hung_below, hung}
-use Rattle.iom_directory_build.specs.Changes.{StoresOneWord, WritesPlace, KeepsOthers, KeepsOutsideDirectory}
-use Rattle.iom_directory_build.proofs.Paths.{at_root, goes_down, to_level, one_down, none_follows, past_root}
+use Rattle.iom_directory_build.specs.Changes.{StoresOneWord, WritesPlace, KeepsOthers, KeepsPages, KeepsOutsideDirectory}
+use Rattle.iom_directory_build.proofs.Paths.{at_root, goes_down, to_level, one_down, none_follows, past_root, level_within}
 use Rattle.iom_directory_build.proofs.Prefixes.{index_fits}
 use Rattle.iom_directory_build.proofs.Words.{zero_next}
 use Rattle.iom_directory_build.proofs.Places.{writes}
@@ -31,7 +31,7 @@ pub record Hung (old now : List (List ℕ)) (top root id : ℕ) (pages : List �
   pub ends : (other : ℕ) → other < ids_below top → path_end_from now top root other ≡ path_end_from old top root other
   pub outside : KeepsOutsideDirectory old now top root
   pub size : length now ≡ length old
-  pub paths : (other : ℕ) → other < ids_below top → HasWholePath old top root other → HasWholePath now top root other
+  pub keeps : KeepsPages old now top root
   pub writes : hung now level page id (drop used pages) context ≡ hung old top root id pages context
 
 drop_at : (xs : List ℕ) (k d : ℕ) → k < length xs → drop k xs ≡ get_or xs k d ∷ drop (k + 1) xs
@@ -79,7 +79,7 @@ hung_start old top root id pages context d count fresh =
       ends = λ other lt. refl;
       outside = λ f out. refl;
       size = refl;
-      paths = λ other lt path. path;
+      keeps = λ lower other f lt at. at;
       writes = refl;
     }
 
@@ -99,7 +99,7 @@ hung_down old now top root id pages context level page used next h named =
       ends = h.ends;
       outside = h.outside;
       size = h.size;
-      paths = h.paths;
+      keeps = h.keeps;
       writes = sym (ap (λ o. hung_below o (drop used pages) (λ n left. hung now level n id left context) (λ n left. hung (with_entry_at now page (suc level) id n) level n id left context) now) named) ∙ h.writes;
     }
 
@@ -208,8 +208,9 @@ module _ (old mid new : List (List ℕ)) (top root id : ℕ) (pages : List ℕ) 
         ends = λ other lt. ends_hung mid new top root level id page f hangs other lt ∙ h.ends other lt;
         outside = λ g out. outside_hung mid new top root level id page f hangs g out ∙ h.outside g (λ was. out ((has_after g).1 (inl was)));
         size = stores.size ∙ h.size;
-        paths = λ other lt path. let was = there (page_at mid top root 0 other) (h.paths other lt path) in
-            ap is_some ((pages_after mid new top root level id page f hangs other lt 0 (omega arith) was.0).1 (inl was.1));
+        keeps = λ lower other g lt at.
+            let was = h.keeps lower other g lt at in
+            (pages_after mid new top root level id page f hangs other lt lower (level_within mid top root lower other g was) g).1 (inl was);
         writes = writes_after;
       }
 
@@ -223,6 +224,7 @@ pub record Puts (old new : List (List ℕ)) (top root id : ℕ) (pages : List �
   pub size : length new ≡ length old
   pub path : HasWholePath new top root id
   pub paths : (other : ℕ) → other < ids_below top → HasWholePath old top root other → HasWholePath new top root other
+  pub keeps : KeepsPages old new top root
   pub whole : new ≡ hung old top root id pages context
 
 pub puts : (old mid new : List (List ℕ)) (top root id : ℕ) (pages : List ℕ) (context : Context) (page used : ℕ) → id < ids_below top → Hung old mid top root id pages context 0 page used
@@ -247,7 +249,8 @@ puts old mid new top root id pages context page used in_range h place whole =
       outside = λ f out. w.outside f out ∙ h.outside f (λ was. out ((w.pages f).1 was));
       size = w.size ∙ h.size;
       path = w.paths id in_range (ap is_some h.at);
-      paths = λ other lt path. w.paths other lt (h.paths other lt path);
+      paths = λ other lt path. let at = there (page_at old top root 0 other) path in w.paths other lt (ap is_some (h.keeps 0 other at.0 lt at.1));
+      keeps = λ lower other f lt at. w.keeps lower other f lt (h.keeps lower other f lt at);
       whole = whole ∙ h.writes;
     }
 

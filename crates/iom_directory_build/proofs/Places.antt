@@ -10,10 +10,10 @@ use Rattle.iom_device_dir.specs.declared.context.Context.{Context}
 use Rattle.iom_device_dir.specs.Paths.{ddi, entry_place, context_place, ids_below}
 use Rattle.iom_device_dir.specs.Located.{loaded_entry, path_end_from}
 use Rattle.iom_directory_build.specs.Pages.{next_page, page_at, HasPage, HasWholePath, IsDirectory, EndsLawfully}
-use Rattle.iom_directory_build.specs.Changes.{WritesPlace, KeepsOthers, KeepsOutsideDirectory}
+use Rattle.iom_directory_build.specs.Changes.{WritesPlace, KeepsOthers, KeepsPages, KeepsOutsideDirectory}
 use Rattle.iom_directory_build.proofs.Paths.{past_root, end_past, stops_lawfully, same_end_from}
 use Rattle.iom_directory_build.proofs.Prefixes.{index_fits, context_index_fits, same_id}
-use Rattle.iom_directory_build.proofs.Same.{SameEntries, SameContextOf, same_page, same_pages, same_directory, same_end}
+use Rattle.iom_directory_build.proofs.Same.{SameEntries, SameContextOf, same_page, same_pages, pages_kept, same_directory, same_end}
 use Rattle.iom_directory_build.proofs.Words.{words_stay}
 
 -- all that a write of the id's place leaves and changes
@@ -25,6 +25,7 @@ pub record Writes (old new : List (List ℕ)) (top root id : ℕ) (found : Resul
   pub outside : KeepsOutsideDirectory old new top root
   pub size : length new ≡ length old
   pub paths : (other : ℕ) → other < ids_below top → HasWholePath old top root other → HasWholePath new top root other
+  pub keeps : KeepsPages old new top root
 
 module _ (old new : List (List ℕ)) (top root page id : ℕ) (found : Result Context Cause) (d : IsDirectory old top root) (in_range : id < ids_below top) (at : page_at old top root 0 id ≡ Some page) (w : WritesPlace old new page id found) where
   -- an entry stands in another page
@@ -78,6 +79,7 @@ module _ (old new : List (List ℕ)) (top root page id : ℕ) (found : Result Co
         outside = λ f out. w.frames f (λ e. out ((pages f).1 (0, id, omega arith, in_range, at ∙ ap (λ n. Some n) (sym e))));
         size = w.size;
         paths = λ other other_in_range path. ap is_some (same_page old new top root other (entries_stay other other_in_range) 0 (omega arith)) ∙ path;
+        keeps = pages_kept old new top root entries_stay;
       }
 
 none_below : (m : List (List ℕ)) (top page id : ℕ) (o : Option ℕ) → next_page m page (suc top) id ≡ o → option_and_then (λ next. page_at m top next 0 id) o ≡ None → EndsLawfully (path_end_from m (suc top) page id)

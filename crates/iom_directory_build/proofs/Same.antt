@@ -7,6 +7,7 @@ use Rattle.iom_phys_mem.specs.Words.{word_at}
 use Rattle.iom_device_dir.specs.declared.entry.NonLeafEntry.{NonLeafEntry}
 use Rattle.iom_device_dir.specs.Paths.{ddi, entry_place, context_place, context_words_at, ids_below}
 use Rattle.iom_device_dir.specs.Located.{loaded_entry, loaded_context, follow_entry, path_end_from}
+use Rattle.iom_directory_build.specs.Changes.{KeepsPages}
 use Rattle.iom_directory_build.specs.Pages.{page_named, next_page, page_at, HasPage, IsDirectory, EndsLawfully}
 use Rattle.iom_directory_build.proofs.Paths.{to_level, at_root, one_down, goes_down, level_within}
 
@@ -43,6 +44,9 @@ module _ (old new : List (List ℕ)) (top root : ℕ) where
     λ h. (h.0, h.1, h.2, h.3, sym (same_page h.1 (same h.1 h.3) h.0 h.2) ∙ h.4),
     λ h. (h.0, h.1, h.2, h.3, same_page h.1 (same h.1 h.3) h.0 h.2 ∙ h.4),
   )
+
+  pub pages_kept : SameEntries → KeepsPages old new top root
+  pages_kept same level id f in_range at = same_page id (same id in_range) level (level_within old top root level id f at) ∙ at
 
   was_at : SameEntries → (level id f : ℕ) → id < ids_below top → page_at new top root level id ≡ Some f → page_at old top root level id ≡ Some f
   was_at same level id f in_range at = sym (same_page id (same id in_range) level (level_within new top root level id f at)) ∙ at

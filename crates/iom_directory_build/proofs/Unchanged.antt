@@ -6,7 +6,7 @@ use Rattle.iom_device_dir.specs.Located.{loaded_entry}
 use Rattle.iom_directory_build.specs.Pages.{page_named, next_page, page_at, HasPage, missing_below, missing_pages, EndsLawfully}
 use Rattle.iom_directory_build.proofs.Paths.{at_root, goes_down}
 use Rattle.iom_directory_build.proofs.Prefixes.{index_fits, context_index_fits}
-use Rattle.iom_directory_build.proofs.Same.{SameEntries, SameContextOf, same_page, same_pages, same_directory, same_end}
+use Rattle.iom_directory_build.proofs.Same.{SameEntries, SameContextOf, same_page, same_pages, pages_kept, same_directory, same_end}
 use Rattle.iom_directory_build.proofs.Words.{word_stays, words_stay}
 use Rattle.iom_directory_build.specs.Laws.{DirectoryStays}
 
@@ -52,4 +52,5 @@ unchanged =
       pages = same_pages old new top root entries;
       ends = ends;
       paths = λ id in_range path. ap is_some (same_page old new top root id (entries id in_range) 0 (omega arith)) ∙ path;
+      keeps = pages_kept old new top root entries;
     }

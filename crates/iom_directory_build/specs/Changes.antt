@@ -6,12 +6,17 @@ use Rattle.iom_phys_mem.specs.Words.{word_at}
 use Rattle.iom_device_dir.specs.declared.context.Context.{Context}
 use Rattle.iom_device_dir.specs.Paths.{ddi, context_size, context_place, context_words_at, ids_below}
 use Rattle.iom_device_dir.specs.Located.{loaded_context, path_end_from}
-use Rattle.iom_directory_build.specs.Pages.{HasPage}
+use Rattle.iom_directory_build.specs.Pages.{page_at, HasPage}
 
 -- the path of each other id ends as it did
 abbrev pub KeepsOthers : List (List ℕ) → List (List ℕ) → ℕ → ℕ → ℕ → Type 0
 KeepsOthers old new top root id =
     (other : ℕ) → other < ids_below top → other ≢ id → path_end_from new top root other ≡ path_end_from old top root other
+
+-- each page of the directory is where it was, on the path of each id: new ones may come
+abbrev pub KeepsPages : List (List ℕ) → List (List ℕ) → ℕ → ℕ → Type 0
+KeepsPages old new top root =
+    (level id page : ℕ) → id < ids_below top → page_at old top root level id ≡ Some page → page_at new top root level id ≡ Some page
 
 -- each frame that is no page of the directory, as it is afterwards, has the bytes that it had
 abbrev pub KeepsOutsideDirectory : List (List ℕ) → List (List ℕ) → ℕ → ℕ → Type 0

@@ -7,14 +7,16 @@ use Rattle.iom_registers.specs.declared.directory.DirectoryMode.TheVariants.{Off
 use Rattle.iom_registers.specs.declared.directory.DirectoryPointer.{DirectoryPointer}
 use Rattle.iom_device_dir.specs.Paths.{ids_below}
 use Rattle.iom_device_dir.specs.Located.{path_end_from, located_context}
+use Rattle.iom_directory_build.specs.Changes.{KeepsPages}
 use Rattle.iom_directory_build.specs.Pages.{HasPage, HasWholePath, IsDirectory, missing_pages}
 
--- the root has a directory as before, of the same pages, and every path in it ends as it did
+-- the root has a directory as before, of the same pages, each where it was, and every path in it ends as it did
 pub record SameDirectory (old new : List (List ℕ)) (top root : ℕ) : Type 0 where
   pub directory : IsDirectory new top root
   pub pages : (f : ℕ) → HasPage new top root f ↔ HasPage old top root f
   pub ends : (id : ℕ) → id < ids_below top → path_end_from new top root id ≡ path_end_from old top root id
   pub paths : (id : ℕ) → id < ids_below top → HasWholePath old top root id → HasWholePath new top root id
+  pub keeps : KeepsPages old new top root
 
 -- what changes no page of a directory leaves it, and all that its paths find
 abbrev pub DirectoryStays : Type 0

@@ -6,11 +6,10 @@
 //! are, and when they are one: no two places in it have the same page, and no path ends but at a context or
 //! at something that isn't valid.
 //!
-//! The layers above may rely on this: [`put_context`] and [`clear_context`] keep a directory a directory, change
-//! what their id finds and what no other id finds, and no frame outside the directory; on each path that leads to a
-//! page of contexts doing so still, which lacks no page then; and on the laws in [`laws`]: a directory stays what it
-//! is while its own pages do. Where pages come from is not this crate's
-//! business.
+//! The layers above may rely on this: [`put_context`] and [`clear_context`] keep a directory a directory, with each of
+//! its pages where it was, change what their id finds and what no other id finds, and no frame outside the directory;
+//! on each path that leads to a page of contexts doing so still, which lacks no page then; and on the laws in
+//! [`laws`]: a directory stays what it is while its own pages do. Where pages come from is not this crate's business.
 #![tactic(auto)]
 
 mod entries;

@@ -5,7 +5,7 @@ ghost use Rattle.iom_device_dir.specs.Paths.{ids_below};
 ghost use Rattle.iom_device_dir.specs.Located.{path_end_from};
 ghost use Rattle.iom_directory_build.specs.Pages.{root_level, page_at, HasPage, HasWholePath, IsDirectory, missing_pages, AreFreshPages};
 ghost use Rattle.iom_directory_build.specs.Written.{hung, without_context};
-ghost use Rattle.iom_directory_build.specs.Changes.{KeepsOthers, KeepsOutsideDirectory};
+ghost use Rattle.iom_directory_build.specs.Changes.{KeepsOthers, KeepsPages, KeepsOutsideDirectory};
 
 use crate::entries::{erase_context, next_page, put_entry, write_context};
 use iom_base::DeviceId;
@@ -66,6 +66,7 @@ pub fn put_context<B: Bytes>(
         → HasWholePath (B.frames_of memory.old) (root_level levels) root other
         → HasWholePath (B.frames_of memory.new) (root_level levels) root other }
     ensures others { KeepsOthers (B.frames_of memory.old) (B.frames_of memory.new) (root_level levels) root id }
+    ensures keeps { KeepsPages (B.frames_of memory.old) (B.frames_of memory.new) (root_level levels) root }
     ensures outside { KeepsOutsideDirectory (B.frames_of memory.old) (B.frames_of memory.new) (root_level levels) root }
     ensures size { length (B.frames_of memory.new) ≡ length (B.frames_of memory.old) }
 
@@ -101,6 +102,7 @@ pub fn clear_context<B: Bytes>(memory: &mut B, levels: u8, root: u32, id: Device
         → HasWholePath (B.frames_of memory.old) (root_level levels) root other
         → HasWholePath (B.frames_of memory.new) (root_level levels) root other }
     ensures others { KeepsOthers (B.frames_of memory.old) (B.frames_of memory.new) (root_level levels) root id }
+    ensures keeps { KeepsPages (B.frames_of memory.old) (B.frames_of memory.new) (root_level levels) root }
     ensures outside { KeepsOutsideDirectory (B.frames_of memory.old) (B.frames_of memory.new) (root_level levels) root }
     ensures size { length (B.frames_of memory.new) ≡ length (B.frames_of memory.old) }
 

@@ -21,5 +21,6 @@ returns-in-Some g c =
       outside = w.outside;
       size = w.size;
       paths = w.paths;
+      keeps = w.keeps;
       whole = rw (sym c.page_of_contexts.ensures.page ∙ c.in-Some.is) c.erase_context.ensures.whole;
     }

@@ -58,4 +58,4 @@ pub returns : goal.returns
 returns g c =
     let p = puts_all (g.B.Bytes.frames_of c.args.memory.now) (g.B.Bytes.frames_of c.loop-level.memory) (g.B.Bytes.frames_of c.write_context.new.memory) (root_level c.args.levels) c.args.root c.args.id c.args.pages.now c.args.context c.loop-level.level c.loop-level.page c.loop-level.used
     c.loop-level-test.false c.requires.id c.loop-level.invariant.hung c.write_context.ensures.writes c.write_context.ensures.whole in
-    record { directory = p.directory; pages = p.pages_are; here = p.here; others = p.others; outside = p.outside; size = p.size; path = p.path; paths = p.paths; whole = p.whole }
+    record { directory = p.directory; pages = p.pages_are; here = p.here; others = p.others; outside = p.outside; size = p.size; path = p.path; paths = p.paths; keeps = p.keeps; whole = p.whole }
