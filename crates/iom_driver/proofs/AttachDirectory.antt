@@ -7,7 +7,7 @@ use Rattle.iom_base.specs.declared.owner.Owner.TheVariants.{System, OneDevice}
 use Rattle.iom_device_dir.specs.Located.{path_end_from}
 use Rattle.iom_device_dir.specs.Paths.{ids_below}
 use Rattle.iom_directory_build.proofs.Unchanged.{missing_stays}
-use Rattle.iom_directory_build.specs.Changes.{KeepsOthers, KeepsOutsideDirectory}
+use Rattle.iom_directory_build.specs.Changes.{KeepsOthers, KeepsPages, KeepsOutsideDirectory}
 use Rattle.iom_directory_build.specs.Pages.{IsDirectory, HasPage, HasWholePath, AreFreshPages, root_level, missing_pages}
 use Rattle.iom_phys_mem.specs.Words.{zeroed}
 use Rattle.iom_driver.specs.declared.device.Device.{Device}
@@ -24,6 +24,7 @@ use Rattle.iom_driver.specs.State.{DriverState}
 use Rattle.iom_driver.proofs.AttachRoots.{taken_so}
 use Rattle.iom_driver.proofs.Directories.{DirectoryIn, directory_stay, directory_put, in_stands}
 use Rattle.iom_driver.proofs.Owners.{Among, NotAmong, among_get, among_not, among_left, among_right, apart_either, not_among_left, all_among, among_contained, not_contained, length-cleared, length-marked_for, mark_stays, bytes_stay, marked_among, zero_among}
+use Rattle.iom_driver.proofs.StandingLemmas.{pages_stay}
 use Rattle.iom_driver.proofs.Taken.{unmarked, owned_differs, owned_not_taken, taken_owners, taken_stays, AreTaken, taken_inside, taken_free}
 
 -- what the call that puts a context leaves
@@ -34,6 +35,7 @@ pub record IsPut (memory memory' : List (List ℕ)) (levels root id : ℕ) (stag
   pub path : HasWholePath memory' (root_level levels) root id
   pub paths : (other : ℕ) → other < ids_below (root_level levels) → HasWholePath memory (root_level levels) root other → HasWholePath memory' (root_level levels) root other
   pub others : KeepsOthers memory memory' (root_level levels) root id
+  pub keeps : KeepsPages memory memory' (root_level levels) root
   pub outside : KeepsOutsideDirectory memory memory' (root_level levels) root
 
 -- What an attach finds: the directory stands, and the frames that it takes are free.
@@ -140,6 +142,12 @@ module _ (d : DriverState) (frames : ℕ) (memory : List (List ℕ)) (id count :
         let kept = owned_kept (fault_frame frames) System may.fixed.fault in
         let apart = not_among_left (fault_frame frames) pages roots (owned_apart (fault_frame frames) System may.fixed.fault) in
         put_keeps (fault_frame frames) (λ at. (stands_between.own (fault_frame frames) at).no_fault refl) apart ∙ kept.0
+
+    pub pages_keep : KeepsPages memory memory' (root_level d.levels) (directory_frame frames)
+    pages_keep level one page low at =
+        put.keeps level one page low
+        (pages_stay d.levels (directory_frame frames) memory between may.range may.stands.tree (length-cleared (pages ++ roots) memory)
+        (λ f has. (owned_kept f System (may.stands.own f has).system).0) level one page low at)
 
     pub devices_keep : (n other : ℕ) → slice_get d.owners n ≡ Some (Some (OneDevice other)) → (slice_get memory' n ≡ slice_get memory n) × (slice_get owners' n ≡ slice_get d.owners n)
     devices_keep n other own =

@@ -15,7 +15,7 @@ use Rattle.iom_stage_walk.specs.declared.entry.Entry.TheVariants.{Outside, Inval
 use Rattle.iom_stage_walk.proofs.Alike.{Alike, same_entry}
 use Rattle.iom_page_table.specs.declared.leaf.PageLeaf.{PageLeaf}
 use Rattle.iom_page_table.specs.Leaves.{leaf_of}
-use Rattle.iom_page_table.specs.FirstTables.{IsRoot, HasTable, ChangesLeaf, KeepsOutside, missing_for, mapped}
+use Rattle.iom_page_table.specs.FirstTables.{IsRoot, HasTable, ChangesLeaf, KeepsOutside, KeepsTables, missing_for, mapped}
 use Rattle.iom_page_table.specs.Trees.{shape_of, IsFrameOf, AreFresh, missing_under, missing_here}
 use Rattle.iom_page_table.proofs.Pages.{path_shaped}
 use Rattle.iom_page_table.proofs.Unchanged.{unchanged}
@@ -40,6 +40,7 @@ use Rattle.iom_driver.proofs.Limits.{low_page}
 use Rattle.iom_driver.proofs.Taken.{unmarked, owned_differs}
 use Rattle.iom_driver.proofs.Owners.{Among, NotAmong, not_among, among_not, among_contained, among_get, mark_stays, bytes_stay, marked_still, marked_among, zero_among}
 use Rattle.iom_driver.proofs.Modes.{rest, rooted, root_in, table_of, table_in}
+use Rattle.iom_driver.proofs.StandingLemmas.{keeps_through}
 use Rattle.iom_driver.proofs.Unchanged.{tables_stay}
 
 -- as many tables are missing on a path whose entries are alike
@@ -125,6 +126,7 @@ pub record IsMapped (size : Size) (memory memory' : List (List ℕ)) (root page 
   pub tables : (f : ℕ) → HasTable size memory' root f ↔ (HasTable size memory root f ⊎ Contains chosen f)
   pub leaf : ChangesLeaf size memory memory' root page (Some mapping)
   pub outside : KeepsOutside size memory memory' root
+  pub keeps : KeepsTables size memory memory' root
   pub long : length memory' ≡ length memory
 
 -- each frame of the mapped tables is the device's
@@ -156,6 +158,15 @@ others_kept memory memory' owners ledger id mode root page named count leaf chos
     mapped_others memory memory' owners ledger id mode root page named count f leaf chosen long tables chose mapped differs
     ∙ bytes_stay f chosen memory (not_among (λ n. slice_get (marked_for (OneDevice id) chosen owners) n ≡ Some (Some (OneDevice id))) f chosen
     (λ k d lt. marked_among (OneDevice id) (get_or chosen k d) chosen owners inside (among_get chosen k d lt)) differs)
+
+-- each table that was is where it was
+pub granted_keeps : (memory memory' : List (List ℕ)) (owners : List (Option Owner)) (ledger : Ledger) (id : ℕ) (mode : Mode) (root page named count : ℕ) (leaf : PageLeaf) (chosen : List ℕ)
+    → AreTablesOf memory owners ledger id mode root → AreChosen owners ledger (Some named) (length memory) count chosen → IsMapped (size_in mode) (cleared chosen memory) memory' root page leaf chosen
+    → KeepsTables (size_in mode) memory memory' root
+granted_keeps memory memory' owners ledger id mode root page named count leaf chosen tables chose mapped =
+    keeps_through (size_in mode) memory (cleared chosen memory) memory' root
+    (unchanged (size_in mode) memory (cleared chosen memory) root (rooted mode memory root tables.tree).tree (table_bytes memory owners ledger id mode root named chosen tables chose.free)).keeps
+    mapped.keeps
 
 -- a frame that is somebody's isn't chosen
 not_chosen : (memory : List (List ℕ)) (owners : List (Option Owner)) (ledger : Ledger) (named count n : ℕ) (chosen : List ℕ) (owner : Owner) → length owners ≡ length memory

@@ -17,6 +17,7 @@ pub mod Modes
 pub mod FaultRings
 pub mod Limits
 pub mod Unchanged
+pub mod StandingLemmas
 pub mod Reported
 pub mod Taking
 pub mod Chosen

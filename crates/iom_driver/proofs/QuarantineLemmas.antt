@@ -7,7 +7,7 @@ use Rattle.iom_base.specs.declared.owner.Owner.{Owner}
 use Rattle.iom_base.specs.declared.owner.Owner.TheVariants.{System, OneDevice}
 use Rattle.iom_device_dir.specs.Located.{path_end_from}
 use Rattle.iom_device_dir.specs.Paths.{ids_below}
-use Rattle.iom_directory_build.specs.Changes.{KeepsOthers, KeepsOutsideDirectory}
+use Rattle.iom_directory_build.specs.Changes.{KeepsOthers, KeepsPages, KeepsOutsideDirectory}
 use Rattle.iom_directory_build.specs.Pages.{IsDirectory, HasPage, HasWholePath, root_level}
 use Rattle.iom_ledger.specs.declared.ledger.Ledger.{Ledger}
 use Rattle.iom_ledger.specs.Changes.{ShowsReleaseOfAll, released_from}
@@ -94,6 +94,7 @@ pub record IsCleared (memory memory' : List (List ℕ)) (levels root id : ℕ) :
   pub here : path_end_from memory' (root_level levels) root id ≡ Err DirectoryEntryNotValid
   pub paths : (other : ℕ) → other < ids_below (root_level levels) → HasWholePath memory (root_level levels) root other → HasWholePath memory' (root_level levels) root other
   pub others : KeepsOthers memory memory' (root_level levels) root id
+  pub keeps : KeepsPages memory memory' (root_level levels) root
   pub outside : KeepsOutsideDirectory memory memory' (root_level levels) root
   pub size : length memory' ≡ length memory
 
@@ -264,6 +265,7 @@ pub record IsPutAgain (memory memory' : List (List ℕ)) (levels root id : ℕ) 
   pub path : HasWholePath memory' (root_level levels) root id
   pub paths : (other : ℕ) → other < ids_below (root_level levels) → HasWholePath memory (root_level levels) root other → HasWholePath memory' (root_level levels) root other
   pub others : KeepsOthers memory memory' (root_level levels) root id
+  pub keeps : KeepsPages memory memory' (root_level levels) root
   pub outside : KeepsOutsideDirectory memory memory' (root_level levels) root
   pub size : length memory' ≡ length memory
 

@@ -8,7 +8,7 @@ use Rattle.iom_ledger.specs.History.{Pair}
 use Rattle.iom_ledger.specs.Shown.{held_in}
 use Rattle.iom_page_table.specs.declared.leaf.PageLeaf.{PageLeaf}
 use Rattle.iom_page_table.specs.Leaves.{leaf_of}
-use Rattle.iom_page_table.specs.FirstTables.{IsRoot, HasTable, ChangesLeaf, KeepsOutside}
+use Rattle.iom_page_table.specs.FirstTables.{IsRoot, HasTable, ChangesLeaf, KeepsOutside, KeepsTables}
 use Rattle.iom_base.specs.declared.mode.Mode.{Mode}
 use Rattle.iom_base.specs.declared.size.Size.{Size}
 use Rattle.iom_base.specs.Modes.{size_in}
@@ -28,6 +28,7 @@ pub record IsUnmapped (size : Size) (memory memory' : List (List ℕ)) (root pag
   pub tree : IsRoot size memory' root
   pub tables : (f : ℕ) → HasTable size memory' root f ↔ HasTable size memory root f
   pub leaf : ChangesLeaf size memory memory' root page None
+  pub keeps : KeepsTables size memory memory' root
   pub outside : KeepsOutside size memory memory' root
   pub long : length memory' ≡ length memory
 

@@ -15,7 +15,7 @@ use Rattle.iom_ledger.specs.History.{Pair}
 use Rattle.iom_ledger.specs.Shown.{held_in, pages_listed}
 use Rattle.iom_page_table.specs.declared.leaf.PageLeaf.{PageLeaf}
 use Rattle.iom_page_table.specs.Leaves.{leaf_of}
-use Rattle.iom_page_table.specs.FirstTables.{IsRoot, HasTable, KeepsOutside, unmapped}
+use Rattle.iom_page_table.specs.FirstTables.{IsRoot, HasTable, KeepsOutside, KeepsTables, unmapped}
 use Rattle.iom_driver.specs.declared.device.Device.{Device}
 use Rattle.iom_driver.specs.declared.device.Stages.{Stages}
 use Rattle.iom_driver.specs.Devices.{owned_stages_of}
@@ -25,6 +25,7 @@ use Rattle.iom_driver.proofs.Lists.{differs, take_more}
 use Rattle.iom_driver.proofs.Owners.{Among, among_contained, contained_among}
 use Rattle.iom_driver.proofs.Modes.{IsRooted, rooted, root_in, table_of, table_in}
 use Rattle.iom_driver.proofs.ReleaseTables.{IsUnmapped, other_frame}
+use Rattle.iom_driver.proofs.StandingLemmas.{keeps_through}
 use Rattle.iom_driver.proofs.Unchanged.{tables_kept}
 
 -- of the pages up to a place, those that the device holds have no leaf any more; each page that it doesn't hold has what it had
@@ -34,6 +35,7 @@ pub record UnmapsTo (size : Size) (ledger : Ledger) (id root : ℕ) (old new : L
   pub lost : (k page : ℕ) → k < place → slice_get (pages_listed ledger id) k ≡ Some page → IsSome (held_in ledger id page) → page < 2 ^ 52 → leaf_of (levels_of size) new root page ≡ None
   pub kept : (page : ℕ) → page < 2 ^ 52 → held_in ledger id page ≡ None → leaf_of (levels_of size) new root page ≡ leaf_of (levels_of size) old root page
   pub outside : KeepsOutside size old new root
+  pub keeps : KeepsTables size old new root
   pub long : length new ≡ length old
   pub whole : new ≡ all_unmapped size old root (held_pages ledger id (take place (pages_listed ledger id)))
 
@@ -85,6 +87,7 @@ unmaps_none size ledger id root memory tree = record {
   lost = λ k page lt at held low. absurd (omega arith);
   kept = λ page low none. refl;
   outside = λ f apart. refl;
+  keeps = λ prefix table inside at. at;
   long = refl;
   whole = refl;
 }
@@ -104,6 +107,7 @@ unmaps_next size ledger id root old between new place page before at held now wh
     | inr ne ↦ now.leaf p low ∙ rw ne.0 (before.kept p low none)
   ];
   outside = λ f apart. other_frame size between new root page f now (λ has. apart ((now.tables f).1 has)) ∙ before.outside f (λ has. apart ((now.tables f).1 has));
+  keeps = keeps_through size old between new root before.keeps now.keeps;
   long = now.long ∙ before.long;
   whole =
       whole ∙ ap (λ m. unmapped size m root page) before.whole ∙ sym (all_unmapped_more size old root (held_pages ledger id (take place (pages_listed ledger id))) page)
@@ -132,6 +136,7 @@ unmaps_past size ledger id root old new place page before at not_held = record {
   lost = λ k p lt there held_there low. before.lost k p (earlier k p lt there held_there) there held_there low;
   kept = before.kept;
   outside = before.outside;
+  keeps = before.keeps;
   long = before.long;
   whole = before.whole
       ∙ ap (λ ps. all_unmapped size old root ps) (sym (ap (λ ps. held_pages ledger id ps) (next_place (pages_listed ledger id) place page at) ∙ not_held_more ledger id (take place (pages_listed ledger id)) page not_held));
@@ -207,6 +212,7 @@ pub record AreUnmapped (size : Size) (ledger : Ledger) (id root : ℕ) (memory m
   pub tables : (f : ℕ) → HasTable size memory' root f ↔ HasTable size memory root f
   pub leaves : LosesHeldLeaves size ledger id root memory memory'
   pub outside : KeepsOutside size memory memory' root
+  pub keeps : KeepsTables size memory memory' root
   pub long : length memory' ≡ length memory
 
 -- a frame that holds none of its tables keeps its bytes

@@ -18,6 +18,7 @@ use Rattle.iom_driver.specs.Devices.{with_attachment, IsLowestNumber}
 use Rattle.iom_driver.specs.Directory.{context_for}
 use Rattle.iom_driver.specs.Layout.{directory_frame}
 use Rattle.iom_driver.specs.Reasons.{why_not_attach}
+use Rattle.iom_driver.specs.Standing.{LeavesStanding}
 use Rattle.iom_driver.specs.State.{DriverState}
 
 -- how many pages of the directory the id's path lacks
@@ -68,6 +69,7 @@ pub record TakesRoot (d : DriverState) (memory : List (List ℕ)) (id : ℕ) (mo
   }
   pub bytes : memory' ≡ hung (cleared (pages ++ root_frames mode stage.root) memory) (root_level d.levels) (directory_frame (length memory)) id pages (context_for stage)
   pub others : (f : ℕ) → slice_get d.owners f ≢ Some (Some System) → ¬ Contains (pages ++ root_frames mode stage.root) f → slice_get memory' f ≡ slice_get memory f
+  pub standing : LeavesStanding d memory d' memory'
 
 -- an attach finds too few free frames: for the pages, or, once these are taken, for the root
 abbrev pub LacksRoot : DriverState → List (List ℕ) → ℕ → Mode → Refusal → Type 0

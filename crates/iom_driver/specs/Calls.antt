@@ -32,6 +32,7 @@ use Rattle.iom_driver.specs.Devices.{stages_of, detached}
 use Rattle.iom_driver.specs.Fences.{last_fence}
 use Rattle.iom_driver.specs.Layout.{command_frame, directory_frame, completion_address, ddtp_of, cqb_of, fqb_of}
 use Rattle.iom_driver.specs.Reasons.{why_not_plug, why_not_grant, why_not_release}
+use Rattle.iom_driver.specs.Standing.{LeavesStanding}
 use Rattle.iom_driver.specs.State.{DriverState}
 
 -- NEW: nothing is held or waits, the last four frames are the system's, there is no device, and it isn't started
@@ -95,6 +96,7 @@ pub record TakesTables (d : DriverState) (memory : List (List ℕ)) (id page fra
   pub driver : d' ≡ record d { ledger = d'.ledger; owners = marked_for (OneDevice id) tables d.owners }
   pub bytes : memory' ≡ mapped (size_in stage.mode) (cleared tables memory) stage.root page (granted_leaf frame rights) tables
   pub others : KeepsOtherFrames d'.owners id memory memory'
+  pub standing : LeavesStanding d memory d' memory'
 
 -- the frames that are free besides the granted one are enough for the tables that the page lacks
 pub record HasFrames (d : DriverState) (memory : List (List ℕ)) (id page frame : ℕ) : Type 0 where
@@ -127,6 +129,7 @@ pub record QueuesRelease {M : Type 0} (g : Ghosts M) (d : DriverState) (memory :
   pub list : commands_in memory' (g.registers io') ≡ commands_in memory (g.registers io)
       ++ map stands.Command (release_commands id stage page (completion_address (length memory)) (last_fence d + 1))
   pub others : (f : ℕ) → slice_get d.owners f ≢ Some (Some (OneDevice id)) → f ≢ command_frame (length memory) → slice_get memory' f ≡ slice_get memory f
+  pub standing : LeavesStanding d memory d' memory'
 
 -- RELEASE
 abbrev pub AnswersRelease : {M : Type 0} → Ghosts M → DriverState → List (List ℕ) → M → ℕ → ℕ → Result Ticket Refusal → DriverState → List (List ℕ) → M → Type 0

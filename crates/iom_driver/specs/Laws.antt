@@ -8,7 +8,8 @@ use Rattle.iom_fault_queue.specs.Calls.{PutsRecord}
 use Rattle.iom_fault_queue.specs.Fields.{Fields}
 use Rattle.iom_driver.specs.declared.driver.Driver.{Driver}
 use Rattle.iom_driver.specs.Layout.{completion_frame, fault_frame}
-use Rattle.iom_driver.specs.Ready.{IsReady}
+use Rattle.iom_driver.specs.Ready.{TablesStand, IsReady}
+use Rattle.iom_driver.specs.Standing.{LeavesStanding}
 use Rattle.iom_driver.specs.StateOf.{state_of}
 use Rattle.iom_driver.specs.State.{DriverState}
 
@@ -53,3 +54,13 @@ abbrev pub ReadyAfterRecord : Type 0
 ReadyAfterRecord = (driver : Driver) (old new : List (List ℕ)) (r s : Registers) (fields : Fields) (answer : Put)
     → IsReady (state_of driver) old r → (state_of driver).started ≡ true → PutsRecord old r fields answer new s
     → IsReady (state_of driver) new s × LeavesAllElse old new r s
+
+-- who keeps the reserved frames, but that of the completion word, leaves tables and pages where they are
+abbrev pub OthersLeaveStanding : Type 0
+OthersLeaveStanding = (driver : Driver) (old new : List (List ℕ)) → TablesStand (state_of driver) old → KeepsReserved (state_of driver) old new
+    → LeavesStanding (state_of driver) old (state_of driver) new
+
+-- and so does a fault record
+abbrev pub RecordsLeaveStanding : Type 0
+RecordsLeaveStanding = (driver : Driver) (old new : List (List ℕ)) (r s : Registers) → TablesStand (state_of driver) old → LeavesAllElse old new r s
+    → LeavesStanding (state_of driver) old (state_of driver) new

@@ -16,6 +16,7 @@ use Rattle.iom_driver.specs.Devices.{stages_of, with_attachment}
 use Rattle.iom_driver.specs.Fences.{last_fence}
 use Rattle.iom_driver.specs.Layout.{command_frame, directory_frame, completion_address}
 use Rattle.iom_driver.specs.Reasons.{why_not_detach, HasGrants}
+use Rattle.iom_driver.specs.Standing.{LeavesStanding}
 use Rattle.iom_driver.specs.State.{DriverState}
 
 -- The next ticket is given, and the device leaves under it, with its stages; its context's bytes are zero; then the commands of the detach are appended:
@@ -30,6 +31,7 @@ pub record QueuesDetach {M : Type 0} (g : Ghosts M) (d : DriverState) (memory : 
   pub list : commands_in memory' (g.registers io') ≡ commands_in memory (g.registers io)
       ++ map stands.Command (detach_commands id stage (completion_address (length memory)) (last_fence d + 1))
   pub others : (f : ℕ) → ¬ HasPage memory (root_level d.levels) (directory_frame (length memory)) f → f ≢ command_frame (length memory) → slice_get memory' f ≡ slice_get memory f
+  pub standing : LeavesStanding d memory d' memory'
 
 -- why it is refused, or that it isn't, where the device holds or lingers on something or not
 abbrev pub IsReplyToDetach : DriverState → Registers → Bool → ℕ → Result Ticket Refusal → Type 0

@@ -3,6 +3,7 @@ pub mod Places
 pub mod State
 pub mod Fences
 pub mod Layout
+pub mod Standing
 pub mod Invariant
 pub mod StateOf
 pub mod Tables

@@ -13,6 +13,7 @@ use Rattle.iom_driver.specs.Confirmed.{driven_once_confirmed, owner_given_back, 
 use Rattle.iom_driver.specs.Fences.{fence_of, done_by}
 use Rattle.iom_driver.specs.Layout.{completion_address}
 use Rattle.iom_driver.specs.Reasons.{why_not_poll}
+use Rattle.iom_driver.specs.Standing.{LeavesStanding}
 use Rattle.iom_driver.specs.State.{DriverState}
 
 -- the last ticket that is confirmed after a poll
@@ -37,6 +38,7 @@ pub record ConfirmsDone (r : Registers) (d : DriverState) (memory : List (List �
     confirmed = done_after d polled;
   }
   pub cleared : ClearsGone (done_after d polled) d.devices d.owners memory memory'
+  pub standing : LeavesStanding d memory d' memory'
 
 -- POLL, which leaves the registers
 abbrev pub AnswersPoll : Registers → DriverState → List (List ℕ) → Result Polled Refusal → DriverState → List (List ℕ) → Type 0

@@ -26,6 +26,7 @@ use Rattle.iom_driver.specs.Devices.{stages_of, with_attachment}
 use Rattle.iom_driver.specs.Fences.{last_fence}
 use Rattle.iom_driver.specs.Layout.{command_frame, directory_frame, completion_address}
 use Rattle.iom_driver.specs.Reasons.{why_not_quarantine}
+use Rattle.iom_driver.specs.Standing.{LeavesStanding}
 use Rattle.iom_driver.specs.State.{DriverState}
 
 -- memory after the leaves of these pages are cleared, one after another
@@ -60,6 +61,7 @@ pub record QueuesQuarantine {M : Type 0} (g : Ghosts M) (d : DriverState) (memor
       ++ map stands.Command (detach_commands id stage (completion_address (length memory)) (last_fence d + 1))
   pub others : (f : ℕ) → slice_get d.owners f ≢ Some (Some (OneDevice id)) → ¬ HasPage memory (root_level d.levels) (directory_frame (length memory)) f
       → f ≢ command_frame (length memory) → slice_get memory' f ≡ slice_get memory f
+  pub standing : LeavesStanding d memory d' memory'
 
 -- QUARANTINE
 abbrev pub AnswersQuarantine : {M : Type 0} → Ghosts M → DriverState → List (List ℕ) → M → ℕ → Result Ticket Refusal → DriverState → List (List ℕ) → M → Type 0

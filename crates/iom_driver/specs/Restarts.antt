@@ -16,6 +16,7 @@ use Rattle.iom_driver.specs.Devices.{owned_stages, is_attached_with_ats}
 use Rattle.iom_driver.specs.Fences.{last_fence}
 use Rattle.iom_driver.specs.Layout.{command_frame, completion_address}
 use Rattle.iom_driver.specs.Reasons.{why_not_restart}
+use Rattle.iom_driver.specs.Standing.{LeavesStanding}
 use Rattle.iom_driver.specs.State.{DriverState}
 
 -- Whatever has registers, once the command queue is turned off, its tail is 0, and it is turned on: so it is empty, and nothing is wrong any more (IOMMU
@@ -58,6 +59,7 @@ pub record QueuesRestart {M : Type 0} (g : Ghosts M) (d : DriverState) (memory :
   pub list : commands_in memory' (g.registers io')
       ≡ map stands.Command (restart_commands d.devices (completion_address (length memory)) (last_fence d + 1))
   pub others : (f : ℕ) → f ≢ command_frame (length memory) → slice_get memory' f ≡ slice_get memory f
+  pub standing : LeavesStanding d memory d' memory'
 
 -- RESTART
 abbrev pub AnswersRestart : {M : Type 0} → Ghosts M → DriverState → List (List ℕ) → M → Result (Unit {0}) Refusal → DriverState → List (List ℕ) → M → Type 0

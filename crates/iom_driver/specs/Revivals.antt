@@ -11,6 +11,7 @@ use Rattle.iom_driver.specs.Devices.{attachment_by_id, with_attachment}
 use Rattle.iom_driver.specs.Directory.{context_for}
 use Rattle.iom_driver.specs.Layout.{directory_frame}
 use Rattle.iom_driver.specs.Reasons.{why_not_revive}
+use Rattle.iom_driver.specs.Standing.{LeavesStanding}
 use Rattle.iom_driver.specs.State.{DriverState}
 
 -- A device that was quarantined is attached in the stages that it had, and its context stands in the directory as before. No frame changes but the system's, of
@@ -22,6 +23,7 @@ pub record WritesContextAgain (d : DriverState) (memory : List (List ℕ)) (id :
   pub driver : d' ≡ record d { devices = with_attachment d.devices id (Attached stage) }
   pub bytes : memory' ≡ hung memory (root_level d.levels) (directory_frame (length memory)) id [] (context_for stage)
   pub others : (f : ℕ) → slice_get d.owners f ≢ Some (Some System) → slice_get memory' f ≡ slice_get memory f
+  pub standing : LeavesStanding d memory d' memory'
 
 -- REVIVE
 abbrev pub AnswersRevive : DriverState → List (List ℕ) → ℕ → Result (Unit {0}) Refusal → DriverState → List (List ℕ) → Type 0

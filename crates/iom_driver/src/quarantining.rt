@@ -3,7 +3,7 @@ ghost use Rattle.std.specs.Prelude.{◌≡◌, ◌<◌, ◌↔◌, ℕ, Some, If
 ghost use Rattle.iom_base.specs.Sizes.{page_limit_of};
 ghost use Rattle.iom_base.specs.Refusals.{first_that_applies, NoneApplies};
 ghost use Rattle.iom_ledger.specs.Shown.{held_in, pages_listed};
-ghost use Rattle.iom_page_table.specs.FirstTables.{IsRoot, HasTable, KeepsOutside};
+ghost use Rattle.iom_page_table.specs.FirstTables.{IsRoot, HasTable, KeepsOutside, KeepsTables};
 ghost use Rattle.iom_registers.specs.declared.registers.Registers.{Registers};
 ghost use Rattle.iom_driver.specs.Quarantines.{all_unmapped, held_pages, LosesHeldLeaves, AnswersQuarantine};
 ghost use Rattle.iom_driver.specs.Ready.{TablesStand, IsReady};
@@ -32,6 +32,7 @@ fn clear_leaves(ledger: &Ledger, memory: &mut Memory, id: DeviceId, size: Size, 
     ensures tables { (f : ℕ) → HasTable size memory.new root f ↔ HasTable size memory.old root f }
     ensures leaves { LosesHeldLeaves size ledger.now id root memory.old memory.new }
     ensures outside { KeepsOutside size memory.old memory.new root }
+    ensures keeps { KeepsTables size memory.old memory.new root }
     ensures size { length memory.new ≡ length memory.old }
     ensures whole { memory.new ≡ all_unmapped size memory.old root (held_pages ledger.now id (pages_listed ledger.now id)) }
     ensures all { (page : ℕ) → IsSome (held_in ledger.now id page)

@@ -35,6 +35,7 @@ loop-index-preserved c =
               tables = w.unmap.ensures.tables;
               leaf = w.unmap.ensures.leaf;
               outside = w.unmap.ensures.outside;
+              keeps = w.unmap.ensures.keeps;
               long = w.unmap.ensures.size;
             } w.unmap.ensures.whole;
           }

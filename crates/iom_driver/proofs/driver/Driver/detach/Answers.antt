@@ -13,6 +13,7 @@ use Rattle.iom_driver.specs.Directory.{NamesDirectory}
 use Rattle.iom_driver.specs.Layout.{command_frame, fault_frame, completion_address, directory_frame}
 use Rattle.iom_driver.specs.Ready.{IsRing}
 use Rattle.iom_driver.specs.Invariant.{StateInvariant}
+use Rattle.iom_driver.specs.StateOf.{state_of}
 use Rattle.iom_driver.specs.Tables.{HaveTables}
 use Rattle.iom_driver.proofs.QuarantineLemmas.{IsCleared, not_of_device, tables_uncontexted}
 use Rattle.iom_driver.proofs.Directories.{DirectoryIn, low_id, room_for_ids, in_stands, stands_in, directory_cleared, directory_stay}
@@ -21,6 +22,7 @@ use Rattle.iom_driver.proofs.Keeps.{sound_detached, owned_leaving}
 use Rattle.iom_driver.proofs.Orders.{maps_nothing}
 use Rattle.iom_driver.proofs.Places.{attached_owns, attached_there, attachment_set, attachment_other}
 use Rattle.iom_driver.proofs.Ring.{same_commands, all_last, stays_named}
+use Rattle.iom_driver.proofs.StandingLemmas.{frames_keep, leaves_standing, pages_stay}
 use Rattle.iom_driver.proofs.Unchanged.{all_stay, of_one}
 use Rattle.iom_driver.proofs.driver.Driver.detach.Goals as goal
 
@@ -101,6 +103,7 @@ append_detach-requires-clause-quarantined g c =
       here = c.clear_context.ensures.here;
       paths = c.clear_context.ensures.paths;
       others = c.clear_context.ensures.others;
+      keeps = c.clear_context.ensures.keeps;
       outside = c.clear_context.ensures.outside;
       size = c.clear_context.ensures.size;
     } in
@@ -120,11 +123,18 @@ returns-clause-effect g c =
     let io = c.args.io.now in
     let many : length memory ≡ driver.frames = stand.size ∙ driver.invariants.sizes.marked in
     let here : DirectoryIn driver.frames memory driver.owners driver.devices.items driver.levels = in_stands driver.frames memory driver.owners driver.devices.items driver.levels many (stand.directory may.started) in
-    let at_root : (f : ℕ) → HasPage c.clear_context.new.memory (root_level driver.levels) (directory_frame driver.frames) f → HasPage memory (root_level driver.levels) (directory_frame driver.frames) f =
-    λ f. subst (λ r. HasPage c.clear_context.new.memory (root_level driver.levels) r f → HasPage memory (root_level driver.levels) r f) c.directory_frame-directory.ensures (c.clear_context.ensures.pages f).0 in
+    let cleared = subst (λ r. IsCleared memory c.clear_context.new.memory driver.levels r c.args.id) c.directory_frame-directory.ensures record {
+      tree = c.clear_context.ensures.directory;
+      pages = λ f. (c.clear_context.ensures.pages f).0;
+      here = c.clear_context.ensures.here;
+      paths = c.clear_context.ensures.paths;
+      others = c.clear_context.ensures.others;
+      keeps = c.clear_context.ensures.keeps;
+      outside = c.clear_context.ensures.outside;
+      size = c.clear_context.ensures.size;
+    } in
     let outside : (f : ℕ) → (HasPage memory (root_level driver.levels) (directory_frame driver.frames) f → ⊥) → slice_get c.clear_context.new.memory f ≡ slice_get memory f =
-    λ f apart. c.clear_context.ensures.outside f
-    (λ at. apart (at_root f (subst (λ r. HasPage c.clear_context.new.memory (root_level driver.levels) r f) c.directory_frame-directory.ensures at))) in
+    λ f apart. cleared.outside f (λ at. apart (cleared.pages f at)) in
     let commands = detach_commands c.args.id c.in-Ok.stage (completion_address driver.frames) (driver.given + driver.restarts + 1) in
     let appended = subst (λ n. AppendsAll g.M.Mmio c.clear_context.new.memory io (detach_commands c.args.id c.in-Ok.stage (completion_address driver.frames) (n + 1)) c.append_detach.new.memory c.append_detach.new.io)
     c.last_fence-number.ensures c.append_detach.ensures.appended in
@@ -146,6 +156,14 @@ returns-clause-effect g c =
         others = λ f apart differs.
             c.append_detach.ensures.other_frames f (λ same. differs (same ∙ ap command_frame (sym many)))
             ∙ outside f (λ at. apart (subst (λ n. HasPage memory (root_level driver.levels) (directory_frame n) f) (sym many) at));
+        standing = leaves_standing (state_of driver) _ driver.frames memory c.append_detach.new.memory many stand.tables
+            (λ other s was is. frames_keep memory c.append_detach.new.memory driver.owners driver.ledger other s.mode s.root (stand.tables other s was)
+            (λ n own.
+            c.append_detach.ensures.other_frames n (of_one driver.owners (driver.frames - 1) n other driver.invariants.fixed.command own)
+            ∙ outside n (λ at. not_of_device driver.owners n other (here.own n at).system own)))
+            (λ started level other page low at.
+            pages_stay driver.levels (directory_frame driver.frames) c.clear_context.new.memory c.append_detach.new.memory driver.invariants.sizes.in_range cleared.tree c.append_detach.ensures.size
+            (λ f has. c.append_detach.ensures.other_frames f (here.own f (cleared.pages f has)).no_command) level other page low (cleared.keeps level other page low at));
       };
     }
 
@@ -165,6 +183,7 @@ returns-clause-ready g c =
       here = c.clear_context.ensures.here;
       paths = c.clear_context.ensures.paths;
       others = c.clear_context.ensures.others;
+      keeps = c.clear_context.ensures.keeps;
       outside = c.clear_context.ensures.outside;
       size = c.clear_context.ensures.size;
     } in

@@ -17,7 +17,7 @@ use Rattle.iom_driver.specs.Orders.{MapsNothing}
 use Rattle.iom_driver.specs.Places.{IsAttachmentPlace}
 use Rattle.iom_driver.specs.Ready.{TablesStand}
 use Rattle.iom_driver.specs.StateOf.{state_of}
-use Rattle.iom_driver.proofs.AttachDirectory.{IsPut, MayTake, may_take, stands_between, roots_zero, fresh, counted, empty, others_keep, reports_keep, devices_keep, roots_new, stands_after}
+use Rattle.iom_driver.proofs.AttachDirectory.{IsPut, MayTake, may_take, stands_between, roots_zero, fresh, counted, empty, others_keep, reports_keep, pages_keep, devices_keep, roots_new, stands_after}
 use Rattle.iom_driver.proofs.AttachRoots.{root_aligned}
 use Rattle.iom_driver.proofs.AttachTables.{zeroed_maps_nothing, tables_attached}
 use Rattle.iom_driver.proofs.Directories.{stands_in, room_for_ids}
@@ -26,6 +26,7 @@ use Rattle.iom_driver.proofs.Lists.{read_is, get_within}
 use Rattle.iom_driver.proofs.Owners.{Among, all_among, length-cleared, length-marked_for, cleared_append}
 use Rattle.iom_driver.proofs.Modes.{root_among, frames_are}
 use Rattle.iom_driver.proofs.Places.{not_attached, attachment_set, attachment_other}
+use Rattle.iom_driver.proofs.StandingLemmas.{frames_keep, leaves_standing}
 use Rattle.iom_driver.proofs.Unchanged.{ready_from}
 use Rattle.iom_driver.proofs.Taken.{taken_owners, length-taken}
 use Rattle.iom_driver.proofs.driver.Driver.enter.Goals as goal
@@ -180,6 +181,7 @@ returns c =
       path = c.put_context.ensures.path;
       paths = c.put_context.ensures.paths;
       others = c.put_context.ensures.others;
+      keeps = c.put_context.ensures.keeps;
       outside = c.put_context.ensures.outside;
     }) in
     let size : length after ≡ length memory = c.put_context.ensures.size ∙ ap (λ (m : List (List ℕ)). length m) cleared_is ∙ length-cleared (pages ++ roots) memory in
@@ -215,6 +217,10 @@ returns c =
             ∙ ap (λ r. hung (cleared (pages ++ roots) memory) (root_level driver.levels) r id pages c.context_for-context.result) (at_root ∙ ap directory_frame (sym may.size))
             ∙ ap (λ x. hung (cleared (pages ++ roots) memory) (root_level driver.levels) (directory_frame (length memory)) id pages x) c.context_for-context.ensures;
         others = others_keep d driver.frames memory id count pages roots may after stages put;
+        standing = leaves_standing d _ driver.frames memory after may.size c.requires.stand.tables
+            (λ other s was is. frames_keep memory after driver.owners driver.ledger other s.mode s.root (c.requires.stand.tables other s was)
+            (λ n own. (devices_keep d driver.frames memory id count pages roots may after stages put n other own).0))
+            (λ started. pages_keep d driver.frames memory id count pages roots may after stages put);
       };
       stand = stand;
       ready = λ r ready. ready_from d _ memory after r stand size unreported refl refl ready;

@@ -1,4 +1,4 @@
-use Rattle.std.proofs.Common.{◌≡◌, ◌∙◌, ℕ, List, ◌∷◌, true, false, Option, Some, Result, Ok, Err, OnOk, OnErr, length, slice_get, get_or, ◌<◌, ◌≤◌, refl, sym, ap, subst}
+use Rattle.std.proofs.Common.{◌≡◌, ◌≢◌, ◌∙◌, ℕ, List, ◌∷◌, true, false, Option, Some, Result, Ok, Err, OnOk, OnErr, length, slice_get, get_or, ◌<◌, ◌≤◌, refl, sym, ap, subst}
 use Rattle.std.specs.Result.{is_err}
 use Rattle.std.proofs.lemmas.Bool.{false≢true}
 use Rattle.iom_base.specs.declared.owner.Owner.{Owner}
@@ -19,7 +19,7 @@ use Rattle.iom_driver.specs.Calls.{granted_leaf, KeepsOtherFrames, HasFrames, Is
 use Rattle.iom_driver.specs.Choices.{AreHighestFree, marked_for, cleared}
 use Rattle.iom_driver.specs.declared.device.Stages.{Stages}
 use Rattle.iom_driver.specs.Devices.{attachment_by_id, stages_of}
-use Rattle.iom_driver.specs.Layout.{fault_frame}
+use Rattle.iom_driver.specs.Layout.{directory_frame, fault_frame}
 use Rattle.iom_driver.specs.Reasons.{why_not_grant}
 use Rattle.iom_driver.specs.StateOf.{state_of}
 use Rattle.iom_driver.specs.Invariant.{StateInvariant}
@@ -27,11 +27,12 @@ use Rattle.iom_driver.specs.State.{DriverState}
 use Rattle.iom_driver.specs.Tables.{HaveTables}
 use Rattle.iom_driver.proofs.Chosen.{AreChosen, are_chosen, enough}
 use Rattle.iom_driver.proofs.Directories.{directory_stay, in_stands, stands_in}
-use Rattle.iom_driver.proofs.GrantTables.{missing_few, may_be_mapped, IsMapped, mapped_is, others_kept, kept_others, tables_granted}
+use Rattle.iom_driver.proofs.GrantTables.{missing_few, may_be_mapped, IsMapped, mapped_is, granted_keeps, others_kept, kept_others, tables_granted}
 use Rattle.iom_driver.proofs.Keeps.{sound_granted}
 use Rattle.iom_driver.proofs.Limits.{low_in_any}
 use Rattle.iom_driver.proofs.Owners.{length-cleared, length-marked_for, mark_stays}
 use Rattle.iom_driver.proofs.Places.{attached_owns}
+use Rattle.iom_driver.proofs.StandingLemmas.{leaves_standing, one_changes, pages_stay}
 use Rattle.iom_driver.proofs.Unchanged.{all_stay, ready_from}
 use Rattle.iom_driver.proofs.Taken.{unmarked, owned_not_chosen}
 use Rattle.iom_driver.proofs.FirstRefusals.{first_told, none_told}
@@ -264,6 +265,7 @@ returns-clause-effect c =
               tables = c.map.ensures.tables;
               leaf = c.map.ensures.leaf;
               outside = c.map.ensures.outside;
+              keeps = c.map.ensures.keeps;
               long = c.map.ensures.size;
             } in
             subst (λ (ms : List (Option Owner)). KeepsOtherFrames ms c.args.id memory c.map.new.memory)
@@ -271,9 +273,41 @@ returns-clause-effect c =
             (others_kept memory c.map.new.memory driver.owners driver.ledger c.args.id c.in-Ok.stage.mode root c.args.mapping.page c.args.mapping.frame c.missing-lacking.result leaf tables (sym c.requires.stand.size)
             (c.requires.stand.tables c.args.id c.in-Ok.stage (attached_owns (attachment_by_id driver.devices.items c.args.id) c.in-Ok.stage c.in-Ok.ensures.may.attached))
             (chosen_below driver.owners driver.ledger c.args.mapping.frame driver.frames c.missing-lacking.result tables memory many c.in-Some.ensures.chosen) mapped_so);
+        standing =
+            let stage = c.in-Ok.stage in
+            let stand = c.requires.stand in
+            let named = c.args.mapping.frame in
+            let lacking = c.missing-lacking.result in
+            let new = c.map.new.memory in
+            let leaf : PageLeaf = record { frame = named; rights = c.rights-rights.result } in
+            let mapped_so = mapped_as size c.size-size.result memory c.reserve_all.new.memory new root c.args.mapping.page leaf c.as_slice.result.now c.as_slice-2.result.now tables
+            c.size-size.ensures c.reserve_all.ensures.memory c.as_slice.ensures.value c.as_slice-2.ensures.value record {
+              tree = c.map.ensures.tree;
+              tables = c.map.ensures.tables;
+              leaf = c.map.ensures.leaf;
+              outside = c.map.ensures.outside;
+              keeps = c.map.ensures.keeps;
+              long = c.map.ensures.size;
+            } in
+            let owns = attached_owns (attachment_by_id driver.devices.items c.args.id) stage c.in-Ok.ensures.may.attached in
+            let before = stand.tables c.args.id stage owns in
+            let chose = chosen_below driver.owners driver.ledger named driver.frames lacking tables memory many c.in-Some.ensures.chosen in
+            let kept : (n : ℕ) (owner : Owner) → slice_get driver.owners n ≡ Some (Some owner) → owner ≢ OneDevice c.args.id → slice_get new n ≡ slice_get memory n =
+            λ n owner mark other. kept_others memory new driver.owners driver.ledger c.args.id stage.mode root c.args.mapping.page named lacking n leaf tables owner (sym stand.size) before chose mapped_so mark other in
+            leaves_standing (state_of driver) _ driver.frames memory new (sym many) stand.tables
+            (λ other s was is. one_changes memory new driver.owners driver.ledger driver.devices.items c.args.id stage stand.tables owns
+            (granted_keeps memory new driver.owners driver.ledger c.args.id stage.mode root c.args.mapping.page named lacking leaf tables before chose mapped_so)
+            (λ n one apart mark. kept n (OneDevice one) mark (λ same. apart (one_device one c.args.id same))) other s was)
+            (λ started.
+            let here = in_stands driver.frames memory driver.owners driver.devices.items driver.levels (sym many) (stand.directory started) in
+            pages_stay driver.levels (directory_frame driver.frames) memory new driver.invariants.sizes.in_range here.tree (mapped_so.long ∙ length-cleared tables memory)
+            (λ f at. kept f System (here.own f at).system (λ same. not_system c.args.id same)));
       },
     )
   where
+    one_device : (one other : ℕ) → ◌≡◌ {A = Owner} (OneDevice one) (OneDevice other) → one ≡ other
+    one_device one other same = cc
+
     granted_with : ℕ → Rights → PageLeaf
     granted_with frame rights = record { frame = frame; rights = rights }
 
@@ -290,6 +324,7 @@ returns-clause-stand c =
       tables = c.map.ensures.tables;
       leaf = c.map.ensures.leaf;
       outside = c.map.ensures.outside;
+      keeps = c.map.ensures.keeps;
       long = c.map.ensures.size;
     } in
     let granted = ok_then c.grant.result (sym c.is_err.ensures.value ∙ c.if-is_err.false) c.grant.ensures.granted in

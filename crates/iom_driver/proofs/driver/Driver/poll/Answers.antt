@@ -2,13 +2,14 @@ use Rattle.std.proofs.Common.{◌≡◌, ◌≢◌, ◌-◌, ◌↔◌, ◌≤�
 use Rattle.std.proofs.lemmas.Bool.{false≢true}
 use Rattle.std.proofs.lemmas.List.{length-map}
 use Rattle.iom_base.specs.declared.owner.Owner.{Owner}
-use Rattle.iom_base.specs.declared.owner.Owner.TheVariants.{System}
+use Rattle.iom_base.specs.declared.owner.Owner.TheVariants.{System, OneDevice}
 use Rattle.iom_phys_mem.specs.Words.{word_at}
 use Rattle.iom_driver.specs.declared.device.Device.{Device}
 use Rattle.iom_driver.specs.Confirmed.{driven_once_confirmed, owner_given_back, is_gone, has_left_until, ClearsGone}
+use Rattle.iom_driver.specs.Devices.{owned_stages_of}
 use Rattle.iom_driver.specs.Directory.{NamesDirectory}
 use Rattle.iom_driver.specs.Fences.{fence_of, done_by}
-use Rattle.iom_driver.specs.Layout.{completion_address, fault_frame}
+use Rattle.iom_driver.specs.Layout.{completion_address, directory_frame, fault_frame}
 use Rattle.iom_driver.specs.Ready.{IsRing}
 use Rattle.iom_driver.specs.StateOf.{state_of}
 use Rattle.iom_driver.specs.State.{DriverState}
@@ -16,12 +17,13 @@ use Rattle.iom_driver.proofs.Confirms.{confirms_none}
 use Rattle.iom_driver.proofs.Directories.{in_stands, stands_in}
 use Rattle.iom_driver.proofs.FaultRings.{fault_ring_stays, same_faults}
 use Rattle.iom_driver.proofs.DoneTickets.{done_given, done_exactly}
-use Rattle.iom_driver.proofs.Gone.{none_left, nobody_gone, marks_same, devices_same}
+use Rattle.iom_driver.proofs.Gone.{still_owned, none_left, nobody_gone, marks_same, devices_same}
 use Rattle.iom_driver.proofs.Ids.{device_at}
 use Rattle.iom_driver.proofs.Keeps.{sound_polled}
 use Rattle.iom_driver.proofs.Lists.{differs}
 use Rattle.iom_driver.proofs.Places.{attachment_is}
 use Rattle.iom_driver.proofs.PollTables.{owned_stays, tables_polled, directory_polled}
+use Rattle.iom_driver.proofs.StandingLemmas.{frames_keep, leaves_standing, pages_stay}
 use Rattle.iom_driver.proofs.driver.Driver.poll.Goals as goal
 
 -- a driver of which no device has left
@@ -65,6 +67,7 @@ returns-then-done-self-clause-effect g c =
         agrees = λ h agrees. agrees;
         driver = unchanged_so (state_of driver) (driver.confirmed + 0) none (marks_same driver.confirmed devices driver.owners nobody) (devices_same driver.confirmed devices at_place);
         cleared = subst (λ n. ClearsGone n devices driver.owners memory memory) (sym none) (none_cleared driver.confirmed devices driver.owners memory nobody);
+        standing = leaves_standing (state_of driver) _ driver.frames memory memory many c.requires.ready.stand.tables (λ id stage was is prefix table inside at. at) (λ started level id page low at. at);
       },
     )
 
@@ -107,6 +110,15 @@ returns-clause-effect g c =
         agrees = c.confirm_after.ensures.agrees;
         driver = rw (c.let_go.ensures.owners, c.let_go.ensures.devices, up) refl;
         cleared = subst (λ n. ClearsGone n driver.devices.items driver.owners memory c.let_go.new.memory) (sym up) c.let_go.ensures.memory;
+        standing = leaves_standing (state_of driver) _ driver.frames memory c.let_go.new.memory many c.requires.ready.stand.tables
+            (λ id stage was is.
+            let still = still_owned done driver.devices.items id stage (ap (λ (ds : List Device). owned_stages_of ds id) (sym {A = List Device} c.let_go.ensures.devices) ∙ is) in
+            frames_keep memory c.let_go.new.memory driver.owners driver.ledger id stage.mode stage.root (c.requires.ready.stand.tables id stage was)
+            (λ n own. (owned_stays done driver.devices.items driver.owners memory c.let_go.new.memory n (OneDevice id) c.let_go.ensures.memory own still.1).0))
+            (λ started.
+            let here = in_stands driver.frames memory driver.owners driver.devices.items driver.levels many (c.requires.ready.stand.directory started) in
+            pages_stay driver.levels (directory_frame driver.frames) memory c.let_go.new.memory driver.invariants.sizes.in_range here.tree c.let_go.ensures.memory.size
+            (λ f at. (owned_stays done driver.devices.items driver.owners memory c.let_go.new.memory f System c.let_go.ensures.memory (here.own f at).system refl).0));
       },
     )
 

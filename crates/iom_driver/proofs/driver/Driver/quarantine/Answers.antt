@@ -1,5 +1,6 @@
-use Rattle.std.proofs.Common.{◌≡◌, ◌≢◌, ◌<◌, ◌≤◌, ◌+◌, ◌-◌, ◌++◌, ◌∙◌, inl, ℕ, List, map, None, Some, length, slice_get, refl, sym, ap, subst, arith}
+use Rattle.std.proofs.Common.{◌≡◌, ◌≢◌, ◌<◌, ◌≤◌, ◌+◌, ◌-◌, ◌++◌, ◌∙◌, inl, ℕ, List, map, None, Option, Some, length, slice_get, refl, sym, ap, subst, arith}
 use Rattle.iom_base.specs.Modes.{size_in}
+use Rattle.iom_base.specs.declared.owner.Owner.{Owner}
 use Rattle.iom_base.specs.declared.owner.Owner.TheVariants.{System, OneDevice}
 use Rattle.iom_command_queue.specs.declared.entry.QueueEntry.{QueueEntry}
 use Rattle.iom_command_queue.specs.declared.entry.QueueEntry.TheVariants as stands
@@ -17,6 +18,7 @@ use Rattle.iom_driver.specs.Layout.{command_frame, fault_frame, completion_addre
 use Rattle.iom_driver.specs.Quarantines.{all_unmapped, held_pages}
 use Rattle.iom_driver.specs.Ready.{IsRing}
 use Rattle.iom_driver.specs.Invariant.{StateInvariant}
+use Rattle.iom_driver.specs.StateOf.{state_of}
 use Rattle.iom_driver.proofs.QuarantineLemmas.{IsCleared, not_of_device, tables_uncontexted, owned_quarantined, sound_quarantined}
 use Rattle.iom_driver.proofs.Directories.{DirectoryIn, low_id, room_for_ids, in_stands, stands_in, directory_cleared, directory_stay}
 use Rattle.iom_driver.proofs.FaultRings.{fault_ring_stays}
@@ -25,6 +27,7 @@ use Rattle.iom_driver.proofs.Modes.{rooted, table_in}
 use Rattle.iom_driver.proofs.Orders.{maps_nothing, none_left, still_cleared}
 use Rattle.iom_driver.proofs.Places.{attached_owns, attached_there, attachment_set, attachment_other}
 use Rattle.iom_driver.proofs.Ring.{same_commands, all_last, stays_named}
+use Rattle.iom_driver.proofs.StandingLemmas.{frames_keep, keeps_through, leaves_standing, one_changes, pages_stay, tree_keeps}
 use Rattle.iom_driver.proofs.Unchanged.{all_stay, of_one}
 use Rattle.iom_driver.proofs.Tickets.{few_rise}
 use Rattle.iom_driver.proofs.Unmaps.{AreUnmapped, contained_held, frame_stays, tables_unmapped}
@@ -66,6 +69,7 @@ clear_leaves-requires-clause-tree g c =
       here = c.clear_context.ensures.here;
       paths = c.clear_context.ensures.paths;
       others = c.clear_context.ensures.others;
+      keeps = c.clear_context.ensures.keeps;
       outside = c.clear_context.ensures.outside;
       size = c.clear_context.ensures.size;
     } in
@@ -142,6 +146,7 @@ append_detach-requires-clause-quarantined g c =
       here = c.clear_context.ensures.here;
       paths = c.clear_context.ensures.paths;
       others = c.clear_context.ensures.others;
+      keeps = c.clear_context.ensures.keeps;
       outside = c.clear_context.ensures.outside;
       size = c.clear_context.ensures.size;
     } in
@@ -151,6 +156,7 @@ append_detach-requires-clause-quarantined g c =
       tables = c.clear_leaves.ensures.tables;
       leaves = c.clear_leaves.ensures.leaves;
       outside = c.clear_leaves.ensures.outside;
+      keeps = c.clear_leaves.ensures.keeps;
       long = c.clear_leaves.ensures.size;
     } in
     let mapped = tables_unmapped between bare driver.owners driver.ledger ledger driver.devices.items id (driver.given + 1) stage tables owns unmapped c.release_all.ensures.released in
@@ -182,6 +188,7 @@ returns-clause-effect g c =
       here = c.clear_context.ensures.here;
       paths = c.clear_context.ensures.paths;
       others = c.clear_context.ensures.others;
+      keeps = c.clear_context.ensures.keeps;
       outside = c.clear_context.ensures.outside;
       size = c.clear_context.ensures.size;
     } in
@@ -191,6 +198,7 @@ returns-clause-effect g c =
       tables = c.clear_leaves.ensures.tables;
       leaves = c.clear_leaves.ensures.leaves;
       outside = c.clear_leaves.ensures.outside;
+      keeps = c.clear_leaves.ensures.keeps;
       long = c.clear_leaves.ensures.size;
     } in
     let kept : (f : ℕ) → slice_get driver.owners f ≢ Some (Some (OneDevice id)) → (HasPage memory (root_level driver.levels) (directory_frame driver.frames) f → ⊥) → slice_get bare f ≡ slice_get memory f =
@@ -226,8 +234,33 @@ returns-clause-effect g c =
         others = λ f apart outside differs.
             c.append_detach.ensures.other_frames f (λ same. differs (same ∙ ap command_frame (sym many)))
             ∙ kept f apart (λ at. outside (subst (λ n. HasPage memory (root_level driver.levels) (directory_frame n) f) (sym many) at));
+        standing = leaves_standing (state_of driver) _ driver.frames memory new many stand.tables
+            (λ other s was is. one_changes memory new driver.owners driver.ledger driver.devices.items id stage stand.tables owns
+            (keeps_through (size_in stage.mode) memory bare new stage.root
+            (keeps_through (size_in stage.mode) memory between bare stage.root
+            (frames_keep memory between driver.owners driver.ledger id stage.mode stage.root (stand.tables id stage owns)
+            (λ n mark. cleared.outside n (λ at. not_of_device driver.owners n id (here.own n (cleared.pages n at)).system mark)))
+            unmapped.keeps)
+            (tree_keeps (size_in stage.mode) bare new stage.root unmapped.tree
+            (λ f at. c.append_detach.ensures.other_frames f
+            (of_one driver.owners (driver.frames - 1) f id driver.invariants.fixed.command (own.own f (table_in stage.mode between stage.root f (inl ((unmapped.tables f).0 at))))))))
+            (λ n one apart mark.
+            c.append_detach.ensures.other_frames n (of_one driver.owners (driver.frames - 1) n one driver.invariants.fixed.command mark)
+            ∙ kept n (λ at. apart (one_owner driver.owners n one id mark at)) (λ at. not_of_device driver.owners n one (here.own n at).system mark))
+            other s was)
+            (λ started level one page low at.
+            pages_stay driver.levels (directory_frame driver.frames) between new driver.invariants.sizes.in_range cleared.tree (c.append_detach.ensures.size ∙ c.clear_leaves.ensures.size)
+            (λ f has.
+            let frame = here.own f (cleared.pages f has) in
+            c.append_detach.ensures.other_frames f frame.no_command
+            ∙ frame_stays (size_in stage.mode) driver.ledger id stage.root between bare f unmapped
+            (λ table. not_of_device driver.owners f id frame.system (own.own f (table_in stage.mode between stage.root f (inl table)))))
+            level one page low (cleared.keeps level one page low at));
       },
     )
+  where
+    one_owner : (owners : List (Option Owner)) (n one other : ℕ) → slice_get owners n ≡ Some (Some (OneDevice one)) → slice_get owners n ≡ Some (Some (OneDevice other)) → one ≡ other
+    one_owner owners n one other a b = cc
 
 pub returns-clause-ready : goal.returns-clause-ready
 returns-clause-ready g c =
@@ -252,6 +285,7 @@ returns-clause-ready g c =
       here = c.clear_context.ensures.here;
       paths = c.clear_context.ensures.paths;
       others = c.clear_context.ensures.others;
+      keeps = c.clear_context.ensures.keeps;
       outside = c.clear_context.ensures.outside;
       size = c.clear_context.ensures.size;
     } in
@@ -262,6 +296,7 @@ returns-clause-ready g c =
       tables = c.clear_leaves.ensures.tables;
       leaves = c.clear_leaves.ensures.leaves;
       outside = c.clear_leaves.ensures.outside;
+      keeps = c.clear_leaves.ensures.keeps;
       long = c.clear_leaves.ensures.size;
     } in
     let rest : length new ≡ length between = c.append_detach.ensures.size ∙ c.clear_leaves.ensures.size in

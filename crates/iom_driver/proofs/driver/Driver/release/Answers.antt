@@ -15,8 +15,9 @@ use Rattle.iom_page_table.specs.Leaves.{leaf_of}
 use Rattle.iom_driver.specs.Appends.{release_commands, AppendsAll}
 use Rattle.iom_driver.specs.Devices.{attachment_by_id}
 use Rattle.iom_driver.specs.Directory.{NamesDirectory}
-use Rattle.iom_driver.specs.Layout.{command_frame, fault_frame, completion_address}
+use Rattle.iom_driver.specs.Layout.{command_frame, directory_frame, fault_frame, completion_address}
 use Rattle.iom_driver.specs.Ready.{IsRing}
+use Rattle.iom_driver.specs.StateOf.{state_of}
 use Rattle.iom_driver.proofs.Directories.{directory_stay, low_id, in_stands, stands_in}
 use Rattle.iom_driver.proofs.FaultRings.{fault_ring_stays}
 use Rattle.iom_driver.proofs.Keeps.{sound_released}
@@ -25,6 +26,7 @@ use Rattle.iom_driver.proofs.Modes.{rooted, table_in}
 use Rattle.iom_driver.proofs.Places.{attached_owns}
 use Rattle.iom_driver.proofs.ReleaseTables.{IsUnmapped, other_frame, tables_released}
 use Rattle.iom_driver.proofs.Ring.{same_commands, all_last, stays_named}
+use Rattle.iom_driver.proofs.StandingLemmas.{keeps_through, leaves_standing, one_changes, pages_stay, tree_keeps}
 use Rattle.iom_driver.proofs.Unchanged.{all_stay, of_one}
 use Rattle.iom_driver.proofs.Tickets.{few_rise}
 use Rattle.iom_driver.proofs.driver.Driver.release.Goals as goal
@@ -122,6 +124,7 @@ returns-clause-effect g c =
       tables = c.unmap.ensures.tables;
       leaf = c.unmap.ensures.leaf;
       outside = c.unmap.ensures.outside;
+      keeps = c.unmap.ensures.keeps;
       long = c.unmap.ensures.size;
     } in
     let many : length memory ≡ driver.frames = stand.size ∙ driver.invariants.sizes.marked in
@@ -150,8 +153,32 @@ returns-clause-effect g c =
         others = λ f differs apart.
             c.append_release.ensures.other_frames f (λ same. apart (same ∙ ap command_frame (sym many)))
             ∙ other_frame size memory c.unmap.new.memory c.in-Ok.stage.root c.args.page f unmapped_so (λ at. differs (tables.own f (table_in c.in-Ok.stage.mode memory c.in-Ok.stage.root f (inl at))));
+        standing =
+            let root = c.in-Ok.stage.root in
+            let between = c.unmap.new.memory in
+            let new = c.append_release.new.memory in
+            let other : (f : ℕ) → (slice_get driver.owners f ≡ Some (Some (OneDevice c.args.id)) → ⊥) → slice_get between f ≡ slice_get memory f =
+            λ f differs. other_frame size memory between root c.args.page f unmapped_so (λ at. differs (tables.own f (table_in c.in-Ok.stage.mode memory root f (inl at)))) in
+            leaves_standing (state_of driver) _ driver.frames memory new many stand.tables
+            (λ one s was is. one_changes memory new driver.owners driver.ledger driver.devices.items c.args.id c.in-Ok.stage stand.tables
+            (attached_owns (attachment_by_id driver.devices.items c.args.id) c.in-Ok.stage c.in-Ok.ensures.may.attached)
+            (keeps_through size memory between new root unmapped_so.keeps
+            (tree_keeps size between new root unmapped_so.tree
+            (λ f at. c.append_release.ensures.other_frames f
+            (of_one driver.owners (driver.frames - 1) f c.args.id driver.invariants.fixed.command (tables.own f (table_in c.in-Ok.stage.mode memory root f (inl ((unmapped_so.tables f).0 at))))))))
+            (λ n two apart own.
+            c.append_release.ensures.other_frames n (of_one driver.owners (driver.frames - 1) n two driver.invariants.fixed.command own)
+            ∙ other n (λ mark. apart (one_owner driver.owners n two c.args.id own mark)))
+            one s was)
+            (λ started.
+            let here = in_stands driver.frames memory driver.owners driver.devices.items driver.levels many (stand.directory started) in
+            pages_stay driver.levels (directory_frame driver.frames) memory new driver.invariants.sizes.in_range here.tree (c.append_release.ensures.size ∙ c.unmap.ensures.size)
+            (λ f at. c.append_release.ensures.other_frames f (here.own f at).no_command ∙ other f (λ mark. not_of_device driver.owners f c.args.id (here.own f at).system mark)));
       },
     )
+  where
+    one_owner : (owners : List (Option Owner)) (n one other : ℕ) → slice_get owners n ≡ Some (Some (OneDevice one)) → slice_get owners n ≡ Some (Some (OneDevice other)) → one ≡ other
+    one_owner owners n one other a b = cc
 
 pub returns-clause-ready : goal.returns-clause-ready
 returns-clause-ready g c =
@@ -162,6 +189,7 @@ returns-clause-ready g c =
       tables = c.unmap.ensures.tables;
       leaf = c.unmap.ensures.leaf;
       outside = c.unmap.ensures.outside;
+      keeps = c.unmap.ensures.keeps;
       long = c.unmap.ensures.size;
     } in
     let tables = tables_released c.args.memory.now c.unmap.new.memory driver.owners driver.ledger c.release.new.self driver.devices.items c.args.id c.args.page (driver.given + 1) c.in-Ok.stage

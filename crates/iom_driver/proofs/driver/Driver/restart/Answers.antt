@@ -8,7 +8,7 @@ use Rattle.iom_driver.specs.declared.device.Device.{Device}
 use Rattle.iom_driver.specs.Appends.{fence, AppendsAll}
 use Rattle.iom_driver.specs.Directory.{NamesDirectory}
 use Rattle.iom_driver.specs.Fences.{last_fence}
-use Rattle.iom_driver.specs.Layout.{command_frame, fault_frame, completion_address}
+use Rattle.iom_driver.specs.Layout.{command_frame, directory_frame, fault_frame, completion_address}
 use Rattle.iom_driver.specs.Ready.{IsRing}
 use Rattle.iom_driver.specs.Restarts.{all_requeued, restart_commands, IsNamable}
 use Rattle.iom_driver.specs.StateOf.{state_of}
@@ -18,6 +18,7 @@ use Rattle.iom_driver.proofs.QuarantineLemmas.{may_restart, sound_restarted, all
 use Rattle.iom_driver.proofs.Directories.{directory_stay, in_stands, stands_in}
 use Rattle.iom_driver.proofs.FaultRings.{fault_ring_stays}
 use Rattle.iom_driver.proofs.Ring.{all_last, stays_named}
+use Rattle.iom_driver.proofs.StandingLemmas.{frames_keep, leaves_standing, pages_stay}
 use Rattle.iom_driver.proofs.Unchanged.{all_stay, of_one}
 use Rattle.iom_driver.proofs.FirstRefusals.{applies, passes, more_numbers, no_more_numbers}
 use Rattle.iom_driver.proofs.driver.Driver.restart.Goals as goal
@@ -86,7 +87,10 @@ returns-clause-effect g c =
     let driver = c.args.self.now in
     let d = state_of driver in
     let memory = c.args.memory.now in
-    let many : length memory ≡ driver.frames = c.requires.ready.stand.size ∙ driver.invariants.sizes.marked in
+    let stand = c.requires.ready.stand in
+    let many : length memory ≡ driver.frames = stand.size ∙ driver.invariants.sizes.marked in
+    let kept : (f : ℕ) → f ≢ command_frame driver.frames → slice_get c.append_fence.new.memory f ≡ slice_get memory f =
+    λ f apart. c.append_fence.ensures.other_frames f apart ∙ c.append_devices.ensures.other_frames f (λ same. apart (same ∙ ap command_frame many)) in
     let last = last_fence d in
     let high : last ≤ 4294967295 = driver.invariants.fences.numbered in
     let more : last < 4294967295 = omega (arith, high, c.last_fence.ensures, c.if-last_fence-eq4294967295.false) in
@@ -110,6 +114,13 @@ returns-clause-effect g c =
         others = λ f apart.
             c.append_fence.ensures.other_frames f (λ same. apart (same ∙ ap command_frame (sym many)))
             ∙ c.append_devices.ensures.other_frames f apart;
+        standing = leaves_standing d _ driver.frames memory c.append_fence.new.memory many stand.tables
+            (λ id stage was is. frames_keep memory c.append_fence.new.memory driver.owners driver.ledger id stage.mode stage.root (stand.tables id stage was)
+            (λ n own. kept n (of_one driver.owners (command_frame driver.frames) n id driver.invariants.fixed.command own)))
+            (λ started.
+            let here = in_stands driver.frames memory driver.owners driver.devices.items driver.levels many (stand.directory started) in
+            pages_stay driver.levels (directory_frame driver.frames) memory c.append_fence.new.memory driver.invariants.sizes.in_range here.tree (c.append_fence.ensures.size ∙ c.append_devices.ensures.size)
+            (λ f at. kept f (here.own f at).no_command));
       },
     )
 

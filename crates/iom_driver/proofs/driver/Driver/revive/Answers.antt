@@ -9,11 +9,12 @@ use Rattle.iom_driver.specs.Directory.{located_for}
 use Rattle.iom_driver.specs.Layout.{directory_frame, fault_frame}
 use Rattle.iom_driver.specs.StateOf.{state_of}
 use Rattle.iom_driver.specs.Invariant.{StateInvariant}
-use Rattle.iom_driver.proofs.QuarantineLemmas.{IsPutAgain, quarantined_there, owned_revived, sound_revived, tables_put_again}
+use Rattle.iom_driver.proofs.QuarantineLemmas.{IsPutAgain, not_of_device, quarantined_there, owned_revived, sound_revived, tables_put_again}
 use Rattle.iom_driver.proofs.Directories.{DirectoryIn, room_for_ids, in_stands, stands_in, directory_put}
 use Rattle.iom_driver.proofs.Modes.{rooted}
 use Rattle.iom_driver.proofs.Orders.{maps_nothing}
 use Rattle.iom_driver.proofs.Places.{attachment_set, attachment_other}
+use Rattle.iom_driver.proofs.StandingLemmas.{frames_keep, leaves_standing}
 use Rattle.iom_driver.proofs.Unchanged.{ready_from}
 use Rattle.iom_driver.proofs.driver.Driver.revive.Goals as goal
 
@@ -104,6 +105,7 @@ returns-clause-effect c =
       path = c.put_context.ensures.path;
       paths = c.put_context.ensures.paths;
       others = c.put_context.ensures.others;
+      keeps = c.put_context.ensures.keeps;
       outside = c.put_context.ensures.outside;
       size = c.put_context.ensures.size;
     } in (
@@ -118,6 +120,10 @@ returns-clause-effect c =
             ∙ ap (λ r. hung memory (root_level driver.levels) r c.args.id [] c.context_for-context.result) at_root
             ∙ ap (λ x. hung memory (root_level driver.levels) (directory_frame (length memory)) c.args.id [] x) c.context_for-context.ensures;
         others = λ f apart. put.outside f (λ at. apart (here.own f (put.pages f at)).system);
+        standing = leaves_standing (state_of driver) _ driver.frames memory c.put_context.new.memory many stand.tables
+            (λ other s was is. frames_keep memory c.put_context.new.memory driver.owners driver.ledger other s.mode s.root (stand.tables other s was)
+            (λ n own. put.outside n (λ at. not_of_device driver.owners n other (here.own n (put.pages n at)).system own)))
+            (λ started. put.keeps);
       },
     )
 
@@ -139,6 +145,7 @@ returns-clause-stand c =
       path = c.put_context.ensures.path;
       paths = c.put_context.ensures.paths;
       others = c.put_context.ensures.others;
+      keeps = c.put_context.ensures.keeps;
       outside = c.put_context.ensures.outside;
       size = c.put_context.ensures.size;
     } in
@@ -169,6 +176,7 @@ returns-clause-ready c = λ r ready.
       path = c.put_context.ensures.path;
       paths = c.put_context.ensures.paths;
       others = c.put_context.ensures.others;
+      keeps = c.put_context.ensures.keeps;
       outside = c.put_context.ensures.outside;
       size = c.put_context.ensures.size;
     } in
