@@ -1,4 +1,5 @@
 pub mod PartLemmas
 pub mod WholeLemmas
 pub mod LoadLemmas
+pub mod RoomLemmas
 pub mod ReclaimLemmas

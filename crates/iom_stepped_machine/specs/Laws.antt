@@ -1,11 +1,13 @@
 -- What a machine with walks in it has in common with the ledger machine.
-use Rattle.std.specs.Prelude.{◌≡◌, ℕ, ◌≤◌, List, [], ◌∷◌, map, Option, None, Some, option_map}
+use Rattle.std.specs.Prelude.{◌≡◌, ℕ, ◌<◌, ◌≤◌, List, [], ◌∷◌, length, map, Option, None, Some, option_map}
 use Rattle.iom_machine.specs.declared.event.Event.{Event}
 use Rattle.iom_machine.specs.declared.event.Event.TheVariants as events
 use Rattle.iom_machine.specs.declared.outcome.Outcome.{Outcome}
 use Rattle.iom_machine.specs.declared.outcome.Outcome.TheVariants.{Accepted, Busy, Fault}
+use Rattle.iom_machine.specs.declared.state.Device.{Device}
 use Rattle.iom_machine.specs.declared.state.Limits.{Limits}
 use Rattle.iom_machine.specs.declared.state.State.{State}
+use Rattle.iom_machine.specs.Devices.{IsPlugged}
 use Rattle.iom_machine.specs.Machine.{Run}
 use Rattle.iom_machine.specs.PowerOn.{opening}
 use Rattle.iom_stepped_machine.specs.Machine.{SteppedEvent, Whole, Load, SteppedOutcome, Answer, SteppedState, SteppedStep, SteppedRun, asker_of, walk_at}
@@ -80,3 +82,8 @@ IsReachedByLoads state =
 -- no walk made more loads than that since it began, or began anew
 abbrev pub WalksMakeFewLoads : Type 0
 WalksMakeFewLoads = (state : SteppedState) (id : ℕ) (walk : Walk) → IsReachedByLoads state → state.walks id ≡ Some walk → walk.loads ≤ most_loads
+
+-- a walk counts as one of its device's accesses in flight: there is room for the access whenever the walk ends
+abbrev pub WalksHaveRoom : Type 0
+WalksHaveRoom = (state : SteppedState) (id : ℕ) (walk : Walk) (device : Device) → IsReachedByLoads state → state.walks id ≡ Some walk → IsPlugged state.ledger id device
+    → length device.in_flight < state.ledger.limits.in_flight

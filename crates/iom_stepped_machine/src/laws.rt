@@ -1,4 +1,4 @@
-ghost use Rattle.iom_stepped_machine.specs.Laws.{SteppedRunsAreRuns, WalksMakeFewLoads, WholeRunsAreStepped};
+ghost use Rattle.iom_stepped_machine.specs.Laws.{SteppedRunsAreRuns, WalksHaveRoom, WalksMakeFewLoads, WholeRunsAreStepped};
 ghost use Rattle.iom_stepped_machine.specs.Reclaim.{SteppedAccessesInFlightMay, SteppedFramesAreNotTouched, SteppedGranteesTouch};
 ghost use Rattle.iom_stepped_machine.specs.Reclaim.{SteppedAccessesTouchTheirOwn, SteppedPagesAreAccepted};
 
@@ -17,6 +17,11 @@ pub fn whole_runs_are_stepped()
 /// A walk makes at most 26 loads that don't end it, since it began or began anew.
 pub fn walks_make_few_loads()
     ensures { WalksMakeFewLoads }
+{}
+
+/// A walk counts as one of its device's accesses in flight: whenever it ends there is room for the access.
+pub fn walks_have_room()
+    ensures { WalksHaveRoom }
 {}
 
 /// The reclaim theorem where walks take several events.

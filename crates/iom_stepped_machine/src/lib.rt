@@ -16,5 +16,6 @@
 mod laws;
 
 pub use laws::{
-    stepped_reclaim_theorem, stepped_runs_are_runs, walks_make_few_loads, whole_runs_are_stepped,
+    stepped_reclaim_theorem, stepped_runs_are_runs, walks_have_room, walks_make_few_loads,
+    whole_runs_are_stepped,
 };
