@@ -20,7 +20,8 @@
 //! a context for each attached device and for no other. A poll confirms the tickets that wait and
 //! whose fence isn't above the completion word, from the oldest on (`ConfirmsDone` in
 //! `specs/Polling.antt`). A device that was detached keeps its frames and its number until a poll
-//! confirms its ticket.
+//! confirms its ticket. Each table of a device that has tables before and after a call, and each page of the
+//! directory, is where it was (`specs/Standing.antt`): so a walk that stands in one between two loads stands there still.
 //!
 //! [`Mode`]: iom_base::Mode
 #![tactic(auto)]
