@@ -11,7 +11,7 @@ use iom_hardware_runner::run;
 use std::{fs, io};
 
 /// The scripts of `data/drivers`. A new one is its two files and a line here.
-static DRIVERS: [&str; 56] = [
+static DRIVERS: [&str; 57] = [
     "correct-first",
     "correct-second",
     "correct-ats",
@@ -60,6 +60,7 @@ static DRIVERS: [&str; 56] = [
     "auto-correct-ats",
     "auto-fence-first",
     "auto-no-ats-inval",
+    "auto-block",
     "quiesce",
     "ours-draining",
     "ours-second-stage",

@@ -8,12 +8,12 @@ use Rattle.iom_hardware_script.specs.declared.script.Help.{Help}
 use Rattle.iom_hardware_script.specs.Grammar.{IsSetupLine, IsHardwareLine}
 use Rattle.iom_hardware_session.specs.Runs.{LineReply, GoThrough, is_any_reply_wrong, IsSessionAtPowerOn}
 use Rattle.iom_hardware_session.specs.declared.state.Session.{Session}
-use Rattle.iom_machine.specs.declared.event.Event.TheVariants.{Read, Write, WriteThroughCache, Ask, Commit, Fetch, Deliver}
+use Rattle.iom_machine.specs.declared.event.Event.TheVariants.{Read, Write, WriteThroughCache, Ask, Commit, Fetch, Deliver, Step}
 use Rattle.iom_script.specs.Words.{IsWithout}
 use Rattle.iom_script.specs.Grammar.{SayEach, spoken, bytes_of_lines}
 use Rattle.std.specs.List.{All}
 
--- hardware or a device does this by itself: a command is taken, an access made, a message delivered, or a device asks for something
+-- hardware or a device does this by itself: a command is taken, an access made, a message delivered, a device asks for something, or a block device takes a step
 abbrev pub is_own : HardwareLine → Bool
 is_own (line.Event Fetch) = true
 is_own (line.Event (Commit device)) = true
@@ -22,6 +22,7 @@ is_own (line.Event (Read device address len)) = true
 is_own (line.Event (Write device address bytes)) = true
 is_own (line.Event (Ask device page)) = true
 is_own (line.Event (WriteThroughCache device address bytes)) = true
+is_own (line.Event (Step device)) = true
 is_own said = false
 
 -- some line asks hardware to act by itself

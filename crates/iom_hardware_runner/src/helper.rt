@@ -124,6 +124,7 @@ impl Helper {
             self.steps.push(Step::Deliver(place))?;
         }
         self.add_requests(hardware)?;
+        self.add_block_steps(hardware)?;
         Ok(self.draws.one_of(&self.steps))
     }
 
@@ -131,6 +132,16 @@ impl Helper {
         for device in hardware.devices.iter() {
             if hardware.oldest(device.id).is_some() {
                 self.steps.push(Step::Commit(device.id))?;
+            }
+        }
+        Ok(())
+    }
+
+    /// A block device takes a step whether it has work or not, as its own clock would have it.
+    fn add_block_steps(&mut self, hardware: &Board) -> Result<(), AllocError> {
+        for device in hardware.devices.iter() {
+            if device.kind.is_block_device() {
+                self.steps.push(Step::BlockStep(device.id))?;
             }
         }
         Ok(())

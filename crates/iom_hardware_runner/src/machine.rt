@@ -67,6 +67,7 @@ fn is_own(line: &HardwareLine) -> bool
                 | Event::Write { .. }
                 | Event::Ask { .. }
                 | Event::WriteThroughCache { .. }
+                | Event::Step { .. }
         ),
         _ => false,
     }

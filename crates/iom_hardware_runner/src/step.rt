@@ -19,6 +19,8 @@ pub(crate) enum Step {
     Ask(DeviceId, u64),
     /// It writes that byte through its own cache.
     WriteThroughCache(DeviceId, u64),
+    /// The block device takes a step.
+    BlockStep(DeviceId),
 }
 
 /// The address of the first byte of the page.
@@ -45,6 +47,7 @@ impl fmt::Display for Step {
                 let address = address_of(page);
                 write!(f, "awrite {device:06x} 0x{address:x} a5")
             }
+            Step::BlockStep(device) => write!(f, "step {device:06x}"),
         }
     }
 }
