@@ -7,7 +7,7 @@ use crate::layout::Layout;
 use crate::legend::{append_legend, height_of_legend};
 use crate::marks::append_marks;
 use crate::patterns::append_patterns;
-use crate::spans::{append_cuts, append_waits};
+use crate::spans::{append_quarantines, append_waits};
 use iom_svg::Svg;
 use iom_timeline::Timeline;
 use std::alloc::{AllocError, Global};
@@ -77,7 +77,7 @@ pub fn draw(alloc: Global, choice: Choice, timeline: &Timeline) -> Result<Vec<u8
     append_axis(&mut svg, &layout, numbers)?;
     append_folds(&mut svg, &layout, numbers)?;
     append_labels(&mut svg, &layout, timeline)?;
-    append_cuts(&mut svg, &layout, timeline)?;
+    append_quarantines(&mut svg, &layout, timeline)?;
     append_waits(&mut svg, &layout, timeline)?;
     append_stays(&mut svg, &layout, timeline)?;
     append_copies(&mut svg, &layout, timeline)?;
