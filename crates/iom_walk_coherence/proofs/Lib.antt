@@ -1,0 +1,5 @@
+pub mod StandingLemmas
+pub mod KeptLemmas
+pub mod TransitionLemmas
+pub mod LawLemmas
+pub mod WorkedLemmas

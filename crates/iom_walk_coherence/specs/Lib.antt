@@ -1,0 +1,5 @@
+pub mod Walks
+pub mod Faithful
+pub mod Transitions
+pub mod Laws
+pub mod Worked
