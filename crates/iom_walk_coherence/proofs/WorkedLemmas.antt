@@ -19,7 +19,7 @@ use Rattle.iom_machine.specs.declared.state.Attachment.TheVariants.{Attached, Le
 use Rattle.iom_walk_coherence.specs.Faithful.{AreFaithfulWalks, GuestTableStays, WalksBeginAnew, begins_anew}
 use Rattle.iom_walk_coherence.specs.Transitions.{SteppedInTurn}
 use Rattle.iom_walk_coherence.specs.Walks.{InDirectory, InGuestTable, InTables, SteppedScene, Walk, walk_at, without_walks}
-use Rattle.iom_walk_coherence.specs.Worked.{StaleWalksOccur, WalksMustBeginAnew, begun_again, stale_walk, walk_of_leaving}
+use Rattle.iom_walk_coherence.specs.Worked.{StaleWalksOccur, WalksMustBeginAnew, fetch_of_release, its_end, stale_walk, walk_of_leaving}
 
 -- the only element of a list
 only : {X : Type 0} (x y : X) → Contains (x ∷ []) y → y ≡ x
@@ -101,24 +101,27 @@ confirmed_ticket = record done {
   attachment_of = λ d. attachment_once_confirmed 1 (done.attachment_of d);
 }
 
-begins_again : SteppedInTurn (Stepped released_page in_guest_table) begun_again (without_walks confirmed_ticket)
-begins_again = (
+fetch_begins_anew : SteppedInTurn (Stepped released_page in_guest_table) fetch_of_release (Stepped fetched in_directory)
+fetch_begins_anew = (
   Stepped fetched in_directory,
   ((Fence 1 ∷ [], [], refl, (λ copy there. absurd (in_none copy there)), refl), λ walk there. there),
+  refl,
+)
+
+its_end_occurs : SteppedInTurn (Stepped fetched in_directory) its_end (without_walks confirmed_ticket)
+its_end_occurs = (
+  Stepped snapshot_taken in_directory,
+  (([], refl, (λ slot there. in_none slot there), refl, refl), refl),
   (
-    Stepped snapshot_taken in_directory,
-    (([], refl, (λ slot there. in_none slot there), refl, refl), refl),
+    Stepped done in_directory,
+    (([], 0, refl, refl, (λ access there. absurd (in_none access there)), refl), refl),
     (
-      Stepped done in_directory,
-      (([], 0, refl, refl, (λ access there. absurd (in_none access there)), refl), refl),
+      Stepped confirmed_ticket in_directory,
+      ((1, [], refl, omega arith, refl), refl),
       (
-        Stepped confirmed_ticket in_directory,
-        ((1, [], refl, omega arith, refl), refl),
-        (
-          Stepped confirmed_ticket in_tables,
-          (contains_head in_directory [], refl, (λ walk there. inl (only in_tables walk there)), refl),
-          (without_walks confirmed_ticket, ((λ walk there. absurd (in_none walk there)), refl), refl),
-        ),
+        Stepped confirmed_ticket in_tables,
+        (contains_head in_directory [], refl, (λ walk there. inl (only in_tables walk there)), refl),
+        (without_walks confirmed_ticket, ((λ walk there. absurd (in_none walk there)), refl), refl),
       ),
     ),
   ),
@@ -127,10 +130,13 @@ begins_again = (
 pub stale_walks_occur : StaleWalksOccur
 stale_walks_occur = (
   Stepped released_page in_guest_table,
+  Stepped fetched in_directory,
   without_walks confirmed_ticket,
   stale_walk_occurs,
   (refl, contains_head in_guest_table []),
-  begins_again,
+  fetch_begins_anew,
+  (refl, refl),
+  its_end_occurs,
   refl,
   refl,
 )

@@ -9,7 +9,7 @@ use Rattle.iom_coherence.specs.Scene.{Scene}
 use Rattle.iom_coherence.specs.Transitions.{Transition, Plug, Attach, Grant, Release, Detach, Confirm, KeepContext, FetchIotinval, FetchIodir, TakeSnapshot, CompleteFence, OccurInTurn}
 use Rattle.iom_coherence.specs.Laws.{scene_at_power_on}
 use Rattle.iom_coherence.specs.Worked.{both_rights}
-use Rattle.iom_walk_coherence.specs.Walks.{InDirectory, InTables, InGuestTable, SteppedScene, without_walks}
+use Rattle.iom_walk_coherence.specs.Walks.{InDirectory, InTables, InGuestTable, SteppedScene, walk_at, without_walks}
 use Rattle.iom_walk_coherence.specs.Faithful.{AreFaithfulWalks}
 use Rattle.iom_walk_coherence.specs.Transitions.{SteppedTransition, OfScene, BeginWalk, GoOn, EndWalk, SteppedInTurn}
 use Rattle.iom_walk_coherence.specs.Laws.{StandsIn}
@@ -24,21 +24,30 @@ stale_walk =
     ∷ BeginWalk 2 InDirectory ∷ OfScene (KeepContext 2) ∷ GoOn 2 InDirectory InTables ∷ GoOn 2 InTables (InGuestTable 5)
     ∷ OfScene (Release 2 0) ∷ []
 
--- The command of the release is fetched, the fence is done, and a poll sees it; the walk goes on from its beginning, and ends.
-abbrev pub begun_again : List SteppedTransition
-begun_again =
-    OfScene (FetchIotinval 2 WholeSpace) ∷ OfScene (TakeSnapshot 1) ∷ OfScene (CompleteFence 1) ∷ OfScene (Confirm 1)
-    ∷ GoOn 2 InDirectory InTables ∷ EndWalk ∷ []
-
 -- the device holds nothing there, and its walk is about to load from the frame
 abbrev pub IsStaleWalk : SteppedScene → Type 0
 IsStaleWalk stepped = (held_at stepped.scene.history 2 0 ≡ None) × StandsIn stepped 2 (InGuestTable 5)
 
+-- The command of the release is fetched, and the walk begins anew.
+abbrev pub fetch_of_release : List SteppedTransition
+fetch_of_release = OfScene (FetchIotinval 2 WholeSpace) ∷ []
+
+-- the ticket isn't confirmed yet, and the walk, of which there is no other, stands in the directory
+abbrev pub IsBegunAnew : SteppedScene → Type 0
+IsBegunAnew stepped = (confirms stepped.scene.history 1 ≡ false) × (stepped.walks ≡ walk_at 2 InDirectory ∷ [])
+
+-- The fence is done, and a poll sees it; the walk goes on from its beginning, and ends.
+abbrev pub its_end : List SteppedTransition
+its_end =
+    OfScene (TakeSnapshot 1) ∷ OfScene (CompleteFence 1) ∷ OfScene (Confirm 1)
+    ∷ GoOn 2 InDirectory InTables ∷ EndWalk ∷ []
+
 -- a stale walk can occur, and then its end
 abbrev pub StaleWalksOccur : Type 0
-StaleWalksOccur = (between after : SteppedScene)
-    × SteppedInTurn (without_walks scene_at_power_on) stale_walk between × IsStaleWalk between
-    × SteppedInTurn between begun_again after × (confirms after.scene.history 1 ≡ true) × (after.walks ≡ [])
+StaleWalksOccur = (stale anew after : SteppedScene)
+    × SteppedInTurn (without_walks scene_at_power_on) stale_walk stale × IsStaleWalk stale
+    × SteppedInTurn stale fetch_of_release anew × IsBegunAnew anew
+    × SteppedInTurn anew its_end after × (confirms after.scene.history 1 ≡ true) × (after.walks ≡ [])
 
 -- What fails where walks don't begin anew.
 
