@@ -112,7 +112,7 @@ walks_detached s device mode ats walks faithful = still-stand s New walks
     New : Scene
     New = LeftScene s device s.history (Leaving (s.given + 1) mode ats)
 
--- A device is attached, of whose tables walks don't care, or all stay.
+-- A device is attached, as it was before its quarantine or anew: its tables are its own.
 pub walks_attached : (s : Scene) (device : ℕ) (mode : Mode) (ats : Bool) (walks : List Walk)
     → AreFaithfulWalks s walks → AreFaithfulWalks (record s { attachment_of = attachments_with s.attachment_of device (Attached mode ats) }) walks
 walks_attached s device mode ats walks faithful = still-stand s New walks (λ d stays. by d stays (device == d) refl) (λ d stays a pair was. was) faithful

@@ -15,7 +15,7 @@ use Rattle.iom_machine.specs.declared.state.Attachment.TheVariants.{Attached, De
 use Rattle.iom_walk_coherence.specs.Faithful.{AreFaithfulWalks, MayStand, TablesStay, WalksBeginAnew, begins_anew}
 use Rattle.iom_walk_coherence.specs.Walks.{InDirectory, InGuestTable, InTables, Standing, Walk}
 
--- those of an attached device stay
+-- the tables of an attached device stay
 pub attached-stay : (s : Scene) (attachment : Attachment) → IsAttached attachment → TablesStay s attachment
 attached-stay s Detached a = absurd (false≢true a)
 attached-stay s (Attached mode ats) a = tt

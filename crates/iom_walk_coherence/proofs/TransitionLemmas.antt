@@ -17,17 +17,17 @@ use Rattle.iom_walk_coherence.specs.Laws.{IsFaithfulStepped, SteppedScenesAreFai
 use Rattle.iom_walk_coherence.specs.Transitions.{AreBegunAnew, AreOfOthers, BeginWalk, EndWalk, GoOn, LeavesWalks, MayBegin, MayGoOn, OfScene, of_scene}
 use Rattle.iom_walk_coherence.specs.Walks.{InDirectory, InGuestTable, InTables, Standing, SteppedScene, Walk, begun_anew, walk_at, without_walks}
 
--- an element of a map is what that makes of some element
-map_cases : (walks : List Walk) (one : Walk) → Contains (map begun_anew walks) one → one.standing ≡ InDirectory
-map_cases [] one there = absurd (in_none one there)
-map_cases (walk ∷ walks) one there = elim (cons_cases (begun_anew walk) (map begun_anew walks) one there) [
+-- a walk that is begun anew stands in the directory
+stands_in_directory : (walks : List Walk) (one : Walk) → Contains (map begun_anew walks) one → one.standing ≡ InDirectory
+stands_in_directory [] one there = absurd (in_none one there)
+stands_in_directory (walk ∷ walks) one there = elim (cons_cases (begun_anew walk) (map begun_anew walks) one there) [
   | inl same ↦ ap (λ (w : Walk). w.standing) (sym same)
-  | inr later ↦ map_cases walks one later
+  | inr later ↦ stands_in_directory walks one later
 ]
 
 -- walks that are begun anew stand where they may
 anew_stand : (s : Scene) (walks left : List Walk) → AreBegunAnew left walks → AreFaithfulWalks s left
-anew_stand s walks left anew walk there = subst (MayStand s walk.device) (sym (map_cases walks walk (anew walk there))) tt
+anew_stand s walks left anew walk there = subst (MayStand s walk.device) (sym (stands_in_directory walks walk (anew walk there))) tt
 
 -- fewer walks
 fewer : (s : Scene) (device : ℕ) (walks left : List Walk) → AreOfOthers left device walks → AreFaithfulWalks s walks → AreFaithfulWalks s left
@@ -37,10 +37,14 @@ fewer s device walks left others fit walk there = fit walk (others walk there).0
 so : (new is : Scene) (left walks : List Walk) → new ≡ is → left ≡ walks → AreFaithfulWalks is walks → AreFaithfulWalks new left
 so new is left walks same as_were fit = subst (λ x. AreFaithfulWalks x left) (sym same) (subst (AreFaithfulWalks is) (sym as_were) fit)
 
+-- what the facts on walks speak of is as it was, and so are the walks
+beside : (old new : Scene) (walks left : List Walk) → spoken_of new ≡ spoken_of old → left ≡ walks → AreFaithfulWalks old walks → AreFaithfulWalks new left
+beside old new walks left same as_were fit = subst (AreFaithfulWalks new) (sym as_were) (unmoved old new walks same fit)
+
 -- What occurs to the scene keeps the facts on walks.
 scene_keeps_walks : (transition : Transition) (old new : Scene) (walks left : List Walk) → IsFaithful old → Occurs transition old new → LeavesWalks transition walks left
     → AreFaithfulWalks old walks → AreFaithfulWalks new left
-scene_keeps_walks (Plug device kind) old new walks left faithful (none, is) same fit = so new new left walks refl same (unmoved old new walks (ap spoken_of is) fit)
+scene_keeps_walks (Plug device kind) old new walks left faithful (none, is) same fit = beside old new walks left (ap spoken_of is) same fit
 scene_keeps_walks (Attach device mode ats) old new walks left faithful (at, caches, is) same fit = so new _ left walks is same (walks_attached old device mode ats walks fit)
 scene_keeps_walks (Grant device page frame rights) old new walks left faithful (at, none, free, is) same fit = so new _ left walks is same (walks_granted old device page frame rights walks none fit)
 scene_keeps_walks (Release device page) old new walks left faithful (mode, ats, at, is) same fit = so new _ left walks is same (walks_released old device page mode ats walks faithful.order fit)
@@ -51,22 +55,22 @@ scene_keeps_walks (Revive device) old new walks left faithful (ticket, mode, ats
     unmoved revived new left (ap spoken_of is) (fewer revived device walks left others (walks_attached old device mode ats walks fit))
 scene_keeps_walks (Restart devices) old new walks left faithful (known, is) same fit = so new _ left walks is same (walks_restarted old devices walks known fit)
 scene_keeps_walks (Confirm ticket) old new walks left faithful (fence, later, oldest, done, is) same fit = so new _ left walks is same (walks_confirmed old ticket fence later walks faithful.order oldest done fit)
-scene_keeps_walks (KeepContext device) old new walks left faithful (kept, at, among, is) same fit = so new new left walks refl same (unmoved old new walks (ap spoken_of is) fit)
-scene_keeps_walks (KeepTranslation copy) old new walks left faithful (kept, holds, among, is) same fit = so new new left walks refl same (unmoved old new walks (ap spoken_of is) fit)
-scene_keeps_walks (Accept copy kind) old new walks left faithful (in_flight, source, allowed, among, is) same fit = so new new left walks refl same (unmoved old new walks (ap spoken_of is) fit)
-scene_keeps_walks Make old new walks left faithful (made, among, is) same fit = so new new left walks refl same (unmoved old new walks (ap spoken_of is) fit)
+scene_keeps_walks (KeepContext device) old new walks left faithful (kept, at, among, is) same fit = beside old new walks left (ap spoken_of is) same fit
+scene_keeps_walks (KeepTranslation copy) old new walks left faithful (kept, holds, among, is) same fit = beside old new walks left (ap spoken_of is) same fit
+scene_keeps_walks (Accept copy kind) old new walks left faithful (in_flight, source, allowed, among, is) same fit = beside old new walks left (ap spoken_of is) same fit
+scene_keeps_walks Make old new walks left faithful (made, among, is) same fit = beside old new walks left (ap spoken_of is) same fit
 scene_keeps_walks (FetchIotinval device extent) old new walks left faithful occurs anew fit = anew_stand new walks left anew
 scene_keeps_walks (FetchIodir device) old new walks left faithful occurs anew fit = anew_stand new walks left anew
 scene_keeps_walks (FetchAtsInval device extent) old new walks left faithful (later, messages, head, sent, is) same fit =
-    so new new left walks refl same (unmoved (record old { waiting = later }) new walks (ap spoken_of is) (walks_fetched old (Invalidate device extent) later walks head refl fit))
-scene_keeps_walks (TakeSnapshot fence) old new walks left faithful (later, head, closed, fetches, is) same fit = so new new left walks refl same (unmoved old new walks (ap spoken_of is) fit)
+    beside (record old { waiting = later }) new walks left (ap spoken_of is) same (walks_fetched old (Invalidate device extent) later walks head refl fit)
+scene_keeps_walks (TakeSnapshot fence) old new walks left faithful (later, head, closed, fetches, is) same fit = beside old new walks left (ap spoken_of is) same fit
 scene_keeps_walks (CompleteFence fence) old new walks left faithful (later, accepted, head, taken, made, is) same fit =
-    so new new left walks refl same (unmoved (record old { waiting = later }) new walks (ap spoken_of is) (walks_fetched old (Fence fence) later walks head refl fit))
-scene_keeps_walks TimeOut old new walks left faithful is same fit = so new new left walks refl same (unmoved old new walks (ap spoken_of is) fit)
-scene_keeps_walks CarryMessages old new walks left faithful (messages, sent, is) same fit = so new new left walks refl same (unmoved old new walks (ap spoken_of is) fit)
-scene_keeps_walks (DeliverAnswer copy) old new walks left faithful (epoch, kept, there, now, among, is) same fit = so new new left walks refl same (unmoved old new walks (ap spoken_of is) fit)
-scene_keeps_walks (DeliverRequest slot extent) old new walks left faithful (entries, messages, there, kept, sent, is) same fit = so new new left walks refl same (unmoved old new walks (ap spoken_of is) fit)
-scene_keeps_walks (DeliverCompletion slot) old new walks left faithful (slots, messages, there, among, others, sent, is) same fit = so new new left walks refl same (unmoved old new walks (ap spoken_of is) fit)
+    beside (record old { waiting = later }) new walks left (ap spoken_of is) same (walks_fetched old (Fence fence) later walks head refl fit)
+scene_keeps_walks TimeOut old new walks left faithful is same fit = beside old new walks left (ap spoken_of is) same fit
+scene_keeps_walks CarryMessages old new walks left faithful (messages, sent, is) same fit = beside old new walks left (ap spoken_of is) same fit
+scene_keeps_walks (DeliverAnswer copy) old new walks left faithful (epoch, kept, there, now, among, is) same fit = beside old new walks left (ap spoken_of is) same fit
+scene_keeps_walks (DeliverRequest slot extent) old new walks left faithful (entries, messages, there, kept, sent, is) same fit = beside old new walks left (ap spoken_of is) same fit
+scene_keeps_walks (DeliverCompletion slot) old new walks left faithful (slots, messages, there, among, others, sent, is) same fit = beside old new walks left (ap spoken_of is) same fit
 scene_keeps_walks (Reset device) old new walks left faithful (entries, kept, is) others fit = unmoved old new left (ap spoken_of is) (fewer old device walks left others fit)
 
 -- one walk stands where it may, and the others are those that were there
