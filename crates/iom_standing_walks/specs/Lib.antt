@@ -3,3 +3,4 @@ pub mod Standing
 pub mod Pages
 pub mod Judged
 pub mod Walks
+pub mod Driven

@@ -5,6 +5,7 @@ ghost use Rattle.iom_standing_walks.specs.Standing.{LoadsAreOfNow, StandingWalks
 ghost use Rattle.iom_standing_walks.specs.Pages.{DirectoryEndsAsNow, DirectoryGoesOn};
 ghost use Rattle.iom_standing_walks.specs.Walks.{OneStageStands, TowardEntryStands, AtEntryStands, TowardPageStands, DirectoryStands};
 ghost use Rattle.iom_standing_walks.specs.Judged.{FirstIsJudgedNow, SecondIsJudgedNow, EntryIsJudgedNow, PageIsJudgedNow};
+ghost use Rattle.iom_standing_walks.specs.Driven.{DrivenWalksStand};
 
 use iom_page_table::laws::{
     guest_walk_faults_else, guest_walk_reaches_leaf, walk_faults_else, walk_reaches_leaf,
@@ -39,6 +40,12 @@ pub fn standing_law()
 pub fn directory_law()
     ensures ends { DirectoryEndsAsNow }
     ensures goes_on { DirectoryGoesOn }
+{}
+
+/// Where a call of the driver leaves the tables of a root where they are, a walk that stands in one of them stands there
+/// still.
+pub fn driven_law()
+    ensures { DrivenWalksStand }
 {}
 
 /// In the driver's tables a load that ends a walk of one stage tells the page's leaf, as it is then: the access is
